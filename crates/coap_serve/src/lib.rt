@@ -1,0 +1,2 @@
+//! A CoAP server over reliable transports.
+#![tactic(auto)]

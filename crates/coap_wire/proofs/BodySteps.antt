@@ -1,0 +1,148 @@
+-- Reading a body step by step: the end, the marker, an option, a fault.
+use Rattle.std.proofs.Common.{◌≡◌, ℕ, zero, suc, ◌+◌, ◌-◌, ◌/◌, ◌%◌, ◌<◌, ◌≤◌, Bool, true, false, cond, eqb, ltb, List, [], ◌∷◌, ◌++◌, length, take, drop, Option, Some, None, Result, Ok, Err, refl, sym, ap, subst, ◌∙◌, arith, inl, inr}
+use Rattle.std.specs.Int.{w16, w32, from_be_bytes}
+use Rattle.std.proofs.lemmas.Bool.{eqb-true, eqb-false, eq-eqb, ne_eqb, ltb-true, ltb-false, cases_Bool}
+use Rattle.std.proofs.lemmas.List.{length-take, length-drop}
+use Rattle.coap_wire.specs.Message.{CoapOption}
+use Rattle.coap_wire.specs.declared.fault.FormatFault.{FormatFault}
+use Rattle.coap_wire.specs.declared.fault.FormatFault.TheVariants.{TokenLength, OptionDelta, OptionLength, OptionCut, OptionNumber, EmptyPayload, NotOneFrame}
+use Rattle.coap_wire.specs.Reading.{◌>>=◌, one_byte_at, two_bytes_at, plus, option_number_at, or_cut, both_at, option_head_at, value_at, option_at, body_within, body_at}
+
+-- the value of a step that did not fail
+pub bind_ok : {A B : Type 0} (r : Result A FormatFault) (f : A → Result B FormatFault) (y : B) → (r >>= f) ≡ Ok y → (x : A) × (r ≡ Ok x) × (f x ≡ Ok y)
+bind_ok (Ok x) f y e = (x, refl, e)
+bind_ok (Err d) f y e = absurd cc
+
+-- two continuations that agree where the first step does not fail
+pub bind_same : {A B : Type 0} (r : Result A FormatFault) (f g : A → Result B FormatFault) → ((x : A) → r ≡ Ok x → f x ≡ g x) → (r >>= f) ≡ (r >>= g)
+bind_same (Ok x) f g h = h x refl
+bind_same (Err d) f g h = refl
+
+-- an extension that is all there
+pub or_cut_ok : (o : Option (ℕ × List ℕ)) (y : ℕ × List ℕ) → or_cut o ≡ Ok y → o ≡ Some y
+or_cut_ok None y e = absurd cc
+or_cut_ok (Some x) y e = cc
+
+some_is : {A : Type 0} (x y : A) → Some x ≡ Some y → x ≡ y
+some_is x y e = cc
+
+ok_is : {A : Type 0} (x y : A) → ◌≡◌ {A = Result A FormatFault} (Ok x) (Ok y) → x ≡ y
+ok_is x y e = cc
+
+-- ---- what is left is no longer
+
+one_shorter : (k : ℕ) (s : List ℕ) (y : ℕ × List ℕ) → plus k (one_byte_at s) ≡ Some y → length y.1 ≤ length s
+unfolding one_byte_at
+one_shorter k [] y e = absurd cc
+one_shorter k (b ∷ s) y e =
+    let rest-is : s ≡ y.1 = ap (λ (p : ℕ × List ℕ). p.1) (some_is (b + k, s) y e) in
+    subst (λ (r : List ℕ). length r ≤ suc (length s)) rest-is (omega arith)
+
+two_shorter_at : (k : ℕ) (t : Bool) (n : ℕ) (s : List ℕ) (y : ℕ × List ℕ) → plus k (cond t None (Some (n, drop 2 s))) ≡ Some y → length y.1 ≤ length s
+two_shorter_at k true n s y e = absurd cc
+two_shorter_at k false n s y e =
+    let rest-is : drop 2 s ≡ y.1 = ap (λ (p : ℕ × List ℕ). p.1) (some_is (n + k, drop 2 s) y e) in
+    subst (λ (r : List ℕ). length r ≤ length s) rest-is (omega (arith, length-drop 2 s))
+
+two_shorter : (k : ℕ) (s : List ℕ) (y : ℕ × List ℕ) → plus k (two_bytes_at s) ≡ Some y → length y.1 ≤ length s
+unfolding two_bytes_at
+two_shorter k s y e = two_shorter_at k (ltb (length s) 2) (from_be_bytes w16 (take 2 s)) s y e
+
+number_shorter_at : (small one : Bool) (x : ℕ) (s : List ℕ) (y : ℕ × List ℕ) → cond small (Some (x, s)) (cond one (plus 13 (one_byte_at s)) (plus 269 (two_bytes_at s))) ≡ Some y → length y.1 ≤ length s
+number_shorter_at true one x s y e = subst (λ (r : ℕ × List ℕ). length r.1 ≤ length s) (some_is (x, s) y e) (omega arith)
+number_shorter_at false true x s y e = one_shorter 13 s y e
+number_shorter_at false false x s y e = two_shorter 269 s y e
+
+-- behind an extension no more is left
+pub number_shorter : (x : ℕ) (s : List ℕ) (y : ℕ × List ℕ) → option_number_at x s ≡ Some y → length y.1 ≤ length s
+unfolding option_number_at
+number_shorter x s y e = number_shorter_at (ltb x 13) (eqb x 13) x s y e
+
+both_shorter : (x y : ℕ) (s : List ℕ) (h : ℕ × ℕ × List ℕ) → both_at x y s ≡ Ok h → length h.2 ≤ length s
+both_shorter x y s h e =
+    let a = bind_ok (or_cut (option_number_at x s)) (λ delta. or_cut (option_number_at y delta.1) >>= λ len. Ok (delta.0, len.0, len.1)) h e in
+    let b = bind_ok (or_cut (option_number_at y a.0.1)) (λ len. Ok (a.0.0, len.0, len.1)) h a.2 in
+    let first : length a.0.1 ≤ length s = number_shorter x s a.0 (or_cut_ok (option_number_at x s) a.0 a.1) in
+    let second : length b.0.1 ≤ length a.0.1 = number_shorter y a.0.1 b.0 (or_cut_ok (option_number_at y a.0.1) b.0 b.1) in
+    let made : ℕ × ℕ × List ℕ = (a.0.0, b.0.0, b.0.1) in
+    subst (λ (k : ℕ × ℕ × List ℕ). length k.2 ≤ length s) (ok_is made h b.2) (omega arith)
+
+head_shorter_at : (d l : Bool) (x y : ℕ) (s : List ℕ) (h : ℕ × ℕ × List ℕ) → cond d (Err OptionDelta) (cond l (Err OptionLength) (both_at x y s)) ≡ Ok h → length h.2 ≤ length s
+head_shorter_at true l x y s h e = absurd cc
+head_shorter_at false true x y s h e = absurd cc
+head_shorter_at false false x y s h e = both_shorter x y s h e
+
+head_shorter : (b : ℕ) (s : List ℕ) (h : ℕ × ℕ × List ℕ) → option_head_at b s ≡ Ok h → length h.2 ≤ length s
+unfolding option_head_at
+head_shorter b s h e = head_shorter_at (eqb (b / 16) 15) (eqb (b % 16) 15) (b / 16) (b % 16) s h e
+
+value_shorter_at : (great cut : Bool) (number n : ℕ) (s : List ℕ) (x : CoapOption × List ℕ) → cond great (Err OptionNumber) (cond cut (Err OptionCut) (Ok (record { number = number; value = take n s }, drop n s))) ≡ Ok x → length x.1 ≤ length s
+value_shorter_at true cut number n s x e = absurd cc
+value_shorter_at false true number n s x e = absurd cc
+value_shorter_at false false number n s x e =
+    let made : CoapOption × List ℕ = (record { number = number; value = take n s }, drop n s) in
+    subst (λ (y : CoapOption × List ℕ). length y.1 ≤ length s) (ok_is made x e) (omega (arith, length-drop n s))
+
+-- an option takes bytes from the front
+pub option_shorter : (base b : ℕ) (s : List ℕ) (x : CoapOption × List ℕ) → option_at base b s ≡ Ok x → length x.1 ≤ length s
+unfolding option_at
+option_shorter base b s x e =
+    let a = bind_ok (option_head_at b s) (λ head. value_at (base + head.0) head.1 head.2) x e in
+    let first : length a.0.2 ≤ length s = head_shorter b s a.0 a.1 in
+    let second : length x.1 ≤ length a.0.2 = value_shorter_at (ltb 65535 (base + a.0.0)) (ltb (length a.0.2) a.0.1) (base + a.0.0) a.0.1 a.0.2 x a.2 in
+    omega arith
+
+-- ---- the turns do not matter
+
+within_same : (m n base : ℕ) (s : List ℕ) → length s ≤ m → length s ≤ n → body_within m base s ≡ body_within n base s
+unfolding body_within
+within_same zero zero base s p q = refl
+within_same zero (suc n) base [] p q = refl
+within_same zero (suc n) base (b ∷ s) p q = absurd (omega arith)
+within_same (suc m) zero base [] p q = refl
+within_same (suc m) zero base (b ∷ s) p q = absurd (omega arith)
+within_same (suc m) (suc n) base [] p q = refl
+within_same (suc m) (suc n) base (b ∷ s) p q =
+    let again : (x : CoapOption × List ℕ) → option_at base b s ≡ Ok x → body_within m x.0.number x.1 ≡ body_within n x.0.number x.1 =
+    λ x e. let shorter : length x.1 ≤ length s = option_shorter base b s x e in
+    within_same m n x.0.number x.1 (omega arith) (omega arith) in
+    let go : (x : CoapOption × List ℕ) → option_at base b s ≡ Ok x → (body_within m x.0.number x.1 >>= λ others. Ok (x.0 ∷ others.0, others.1)) ≡ (body_within n x.0.number x.1 >>= λ others. Ok (x.0 ∷ others.0, others.1)) =
+    λ x e. ap (λ (r : Result (List CoapOption × List ℕ) FormatFault). r >>= λ others. Ok (x.0 ∷ others.0, others.1)) (again x e) in
+    ap (λ (r : Result (List CoapOption × List ℕ) FormatFault). cond (eqb b 255) (cond (eqb (length s) 0) (Err EmptyPayload) (Ok ([], s))) r)
+    (bind_same (option_at base b s) (λ first. body_within m first.0.number first.1 >>= λ others. Ok (first.0 ∷ others.0, others.1)) (λ first. body_within n first.0.number first.1 >>= λ others. Ok (first.0 ∷ others.0, others.1)) go)
+
+-- no more turns are needed than there are bytes
+pub body_enough : (turns base : ℕ) (s : List ℕ) → length s ≤ turns → body_within turns base s ≡ body_at base s
+unfolding body_at
+body_enough turns base s h = within_same turns (length s) base s h (omega arith)
+
+-- ---- the steps
+
+-- at the end there is neither an option nor a payload
+pub body_end : (base : ℕ) → body_at base [] ≡ Ok ([], [])
+unfolding body_at body_within
+body_end base = refl
+
+-- the payload behind the marker
+pub body_marker : (base : ℕ) (s : List ℕ) → (length s ≡ 0 → ⊥) → body_at base (255 ∷ s) ≡ Ok ([], s)
+unfolding body_at body_within
+body_marker base s h = rw (ne_eqb (length s) 0 h) refl
+
+-- a marker with nothing behind it
+pub body_empty_payload : (base : ℕ) (s : List ℕ) → length s ≡ 0 → body_at base (255 ∷ s) ≡ Err EmptyPayload
+unfolding body_at body_within
+body_empty_payload base s h = rw (eq-eqb (length s) 0 h) refl
+
+body_step : (base b : ℕ) (s : List ℕ) → (b ≡ 255 → ⊥) → body_at base (b ∷ s) ≡ (option_at base b s >>= λ first. body_within (length s) first.0.number first.1 >>= λ others. Ok (first.0 ∷ others.0, others.1))
+unfolding body_at body_within
+body_step base b s h = rw (ne_eqb b 255 h) refl
+
+-- an option, and then the others
+pub body_option : (base b : ℕ) (s : List ℕ) (o : CoapOption) (rest : List ℕ) → (b ≡ 255 → ⊥) → option_at base b s ≡ Ok (o, rest) → body_at base (b ∷ s) ≡ (body_at o.number rest >>= λ others. Ok (o ∷ others.0, others.1))
+body_option base b s o rest h e =
+    let shorter : length rest ≤ length s = option_shorter base b s (o, rest) e in
+    body_step base b s h ∙ rw (e, body_enough (length s) o.number rest shorter) refl
+
+-- an option that is wrong
+pub body_fault : (base b : ℕ) (s : List ℕ) (e : FormatFault) → (b ≡ 255 → ⊥) → option_at base b s ≡ Err e → body_at base (b ∷ s) ≡ Err e
+body_fault base b s e h is = body_step base b s h ∙ rw is refl

@@ -1,0 +1,137 @@
+-- A message that has a spelling has one, and no other.
+use Rattle.std.proofs.Common.{◌≡◌, ℕ, ◌+◌, ◌-◌, ◌*◌, ◌≤◌, List, [], ◌∷◌, ◌++◌, length, refl, sym, ap, subst, ◌∙◌, append_assoc, arith}
+use Rattle.std.specs.List.{AllByRecursion}
+use Rattle.coap_wire.specs.Message.{CoapOption, Message, AreOrdered}
+use Rattle.coap_wire.specs.Forms.{length_form, greatest_length, IsOptionForm, option_form}
+use Rattle.coap_wire.specs.Spelling.{IsOneOption, IsOptionText, payload_text, IsHeadAndBody, Spells, option_spelling, options_spelling, body_spelling, head_spelling, spelling, HasOptionForm, HasSpelling}
+use Rattle.coap_wire.proofs.FormLaws.{length_form_is, length_form_only, length_form_bound, option_form_is, option_form_only, option_form_bound}
+
+-- ---- one option
+
+-- a head, its two extensions and the value, regrouped before the tail
+regrouped : (b : ℕ) (e f v tail : List ℕ) → b ∷ (e ++ (f ++ (v ++ tail))) ≡ (b ∷ (e ++ (f ++ v))) ++ tail
+regrouped b e f v tail = ap (λ (t : List ℕ). b ∷ t) (sym (append_assoc e (f ++ v) tail ∙ ap (λ (t : List ℕ). e ++ t) (append_assoc f v tail)))
+
+option_bytes : (s : List ℕ) (x y p q : ℕ) (e f g h v tail : List ℕ) → x ≡ p → y ≡ q → e ≡ g → f ≡ h → s ≡ (16 * x + y) ∷ (e ++ (f ++ (v ++ tail))) → s ≡ ((16 * p + q) ∷ (g ++ (h ++ v))) ++ tail
+option_bytes s x y p q e f g h v tail at_x at_y at_e at_f is =
+    is ∙ (λ i. (16 * at_x i + at_y i) ∷ (at_e i ++ (at_f i ++ (v ++ tail)))) ∙ regrouped (16 * p + q) g h v tail
+
+number_above : (base delta number : ℕ) → number ≡ base + delta → base ≤ number
+number_above base delta number is = omega arith
+
+delta_is : (base delta number : ℕ) → number ≡ base + delta → delta ≡ number - base
+delta_is base delta number is = omega arith
+
+number_is : (base number : ℕ) → base ≤ number → number ≡ base + (number - base)
+number_is base number le = omega arith
+
+-- The bytes that begin with an option begin with its one spelling.
+pub option_spelled_as : (base : ℕ) (o : CoapOption) (s tail : List ℕ) → IsOneOption base o s tail → s ≡ option_spelling base o ++ tail
+option_spelled_as base o s tail one =
+    let delta_form = subst (λ (k : ℕ). IsOptionForm one.head.delta_nibble one.head.delta_extension k) (delta_is base one.delta o.number one.number) one.head.delta_form in
+    let d = option_form_only one.head.delta_nibble one.head.delta_extension (o.number - base) delta_form in
+    let l = option_form_only one.head.length_nibble one.head.length_extension (length o.value) one.head.length_form in
+    option_bytes s one.head.delta_nibble one.head.length_nibble _ _ one.head.delta_extension one.head.length_extension _ _ o.value tail d.0 l.0 d.1 l.1 one.head.bytes
+
+-- An option that is not below base and has a form is spelled so.
+pub option_is_spelled : (base : ℕ) (o : CoapOption) (tail : List ℕ) → base ≤ o.number → HasOptionForm o → IsOneOption base o (option_spelling base o ++ tail) tail
+option_is_spelled base o tail le has = record {
+  delta = o.number - base;
+  number = number_is base o.number le;
+  number_fits = has.0;
+  head = record {
+    delta_nibble = (option_form (o.number - base)).0;
+    delta_extension = (option_form (o.number - base)).1;
+    length_nibble = (option_form (length o.value)).0;
+    length_extension = (option_form (length o.value)).1;
+    delta_form = option_form_is (o.number - base) (omega (arith, has.0));
+    length_form = option_form_is (length o.value) has.1;
+    bytes = sym (regrouped _ (option_form (o.number - base)).1 (option_form (length o.value)).1 o.value tail);
+  };
+}
+
+-- ---- the options
+
+-- The bytes that begin with options begin with their one spelling.
+pub options_spelled_as : (base : ℕ) (os : List CoapOption) (s tail : List ℕ) → IsOptionText base os s tail → s ≡ options_spelling base os ++ tail
+options_spelled_as base [] s tail text = text
+options_spelled_as base (o ∷ os) s tail text =
+    option_spelled_as base o s text.0 text.1
+    ∙ ap (λ (t : List ℕ). option_spelling base o ++ t) (options_spelled_as o.number os text.0 tail text.2)
+    ∙ sym (append_assoc (option_spelling base o) (options_spelling o.number os) tail)
+
+-- Options that are spelled stand in order.
+pub options_ordered : (base : ℕ) (os : List CoapOption) (s tail : List ℕ) → IsOptionText base os s tail → AreOrdered base os
+options_ordered base [] s tail text = tt
+options_ordered base (o ∷ os) s tail text =
+    (number_above base text.1.delta o.number text.1.number, options_ordered o.number os text.0 tail text.2)
+
+-- Options that are spelled have a form each.
+pub options_have_form : (base : ℕ) (os : List CoapOption) (s tail : List ℕ) → IsOptionText base os s tail → AllByRecursion HasOptionForm os
+options_have_form base [] s tail text = tt
+options_have_form base (o ∷ os) s tail text =
+    let head = text.1.head in
+    ((text.1.number_fits, (option_form_bound head.length_nibble head.length_extension (length o.value) head.length_form).1), options_have_form o.number os text.0 tail text.2)
+
+-- Options in order that have a form each are spelled so.
+pub options_are_spelled : (base : ℕ) (os : List CoapOption) (tail : List ℕ) → AreOrdered base os → AllByRecursion HasOptionForm os → IsOptionText base os (options_spelling base os ++ tail) tail
+options_are_spelled base [] tail ordered has = refl
+options_are_spelled base (o ∷ os) tail ordered has =
+    let one = option_is_spelled base o (options_spelling o.number os ++ tail) ordered.0 has.0 in
+    (options_spelling o.number os ++ tail, subst (λ (s : List ℕ). IsOneOption base o s (options_spelling o.number os ++ tail)) (sym (append_assoc (option_spelling base o) (options_spelling o.number os) tail)) one, options_are_spelled o.number os tail ordered.1 has.1)
+
+-- ---- the message
+
+head_bytes : (s : List ℕ) (x y p q code : ℕ) (e g token body : List ℕ) → x ≡ p → y ≡ q → e ≡ g → s ≡ (16 * x + y) ∷ (e ++ code ∷ (token ++ body)) → s ≡ ((16 * p + q) ∷ (g ++ code ∷ token)) ++ body
+head_bytes s x y p q code e g token body at_x at_y at_e is =
+    is ∙ (λ i. (16 * at_x i + at_y i) ∷ (at_e i ++ code ∷ (token ++ body)))
+    ∙ ap (λ (t : List ℕ). (16 * p + q) ∷ t) (sym (append_assoc g (code ∷ token) body))
+
+-- The bytes that are a head and a body are the one head of that body, and the body.
+pub head_spelled_as : (s : List ℕ) (code : ℕ) (token body : List ℕ) → IsHeadAndBody s code token body → s ≡ head_spelling code token (length body) ++ body
+head_spelled_as s code token body head =
+    let l = length_form_only head.length_nibble head.extension (length body) head.length_form in
+    head_bytes s head.length_nibble head.token_nibble _ (length token) code head.extension _ token body l.0 head.token_form.0 l.1 head.bytes
+
+-- The one head of a body, and the body, are a head and a body.
+pub head_is_spelled : (code : ℕ) (token body : List ℕ) → length token ≤ 8 → length body ≤ greatest_length → IsHeadAndBody (head_spelling code token (length body) ++ body) code token body
+head_is_spelled code token body short fits = record {
+  length_nibble = (length_form (length body)).0;
+  extension = (length_form (length body)).1;
+  token_nibble = length token;
+  length_form = length_form_is (length body) fits;
+  token_form = (refl, short);
+  bytes = ap (λ (t : List ℕ). (16 * (length_form (length body)).0 + length token) ∷ t) (append_assoc (length_form (length body)).1 (code ∷ token) body);
+}
+
+body_spelled_as : (s : List ℕ) (m : Message) → (spelled : Spells s m) → spelled.body ≡ body_spelling m
+body_spelled_as s m spelled = options_spelled_as 0 m.options spelled.body (payload_text m.payload) spelled.options
+
+-- The bytes that spell a message are its one spelling.
+pub spelled_as : (s : List ℕ) (m : Message) → Spells s m → s ≡ spelling m
+unfolding spelling
+spelled_as s m spelled =
+    head_spelled_as s m.code m.token spelled.body spelled.head
+    ∙ ap (λ (body : List ℕ). head_spelling m.code m.token (length body) ++ body) (body_spelled_as s m spelled)
+
+-- A message that bytes spell has a spelling.
+pub has_spelling : (s : List ℕ) (m : Message) → Spells s m → HasSpelling m
+has_spelling s m spelled = record {
+  token = spelled.head.token_form.1;
+  ordered = options_ordered 0 m.options spelled.body (payload_text m.payload) spelled.options;
+  each = options_have_form 0 m.options spelled.body (payload_text m.payload) spelled.options;
+  body = subst (λ (body : List ℕ). length body ≤ greatest_length) (body_spelled_as s m spelled) (length_form_bound spelled.head.length_nibble spelled.head.extension (length spelled.body) spelled.head.length_form).1;
+}
+
+-- The spelling of a message that has one spells it.
+pub spelling_spells : (m : Message) → HasSpelling m → Spells (spelling m) m
+unfolding spelling
+spelling_spells m has = record {
+  body = body_spelling m;
+  head = head_is_spelled m.code m.token (body_spelling m) has.token has.body;
+  options = options_are_spelled 0 m.options (payload_text m.payload) has.ordered has.each;
+}
+
+-- All bytes that spell a message are the same.
+pub one_spelling : (s t : List ℕ) (m : Message) → Spells s m → Spells t m → s ≡ t
+one_spelling s t m left right = spelled_as s m left ∙ sym (spelled_as t m right)

@@ -1,0 +1,74 @@
+-- Worked values of the definitions.
+use Rattle.std.proofs.Common.{◌≡◌, ℕ, List, [], ◌∷◌, refl, Ok, Err}
+use Rattle.coap_wire.specs.Forms.{length_form}
+use Rattle.coap_wire.specs.Message.{CoapOption, Message}
+use Rattle.coap_wire.specs.Spelling.{spelling, option_spelling}
+use Rattle.coap_wire.specs.Reading.{declared_of, message_of, one_byte_at, two_bytes_at, four_bytes_at, length_at, option_number_at, head_at, option_head_at, option_at, body_within, body_at}
+use Rattle.coap_wire.specs.declared.frame.Declared.TheVariants.{Size}
+use Rattle.coap_wire.specs.declared.fault.FormatFault.TheVariants.{TokenLength, OptionDelta, OptionLength, OptionCut, OptionNumber, EmptyPayload, NotOneFrame}
+
+-- a length of 1,147 is Len 14 with 03 6E
+length_1147 : length_form 1147 ≡ (14, 0x03 ∷ 0x6e ∷ [])
+length_1147 = refl
+
+-- Len 15 with FF FF FF FF is 4,295,033,100
+length_greatest : length_form 4295033100 ≡ (15, 0xff ∷ 0xff ∷ 0xff ∷ 0xff ∷ [])
+length_greatest = refl
+
+-- option 23 as the first one, with one value byte
+option_23 : option_spelling 0 (record { number = 23; value = 6 ∷ [] }) ≡ 0xd1 ∷ 0x0a ∷ 6 ∷ []
+option_23 = refl
+
+-- the own CSM with Max-Message-Size 65,536
+own_csm : spelling (record { code = 0xe1; token = []; options = record { number = 2; value = 1 ∷ 0 ∷ 0 ∷ [] } ∷ []; payload = [] }) ≡ 0x40 ∷ 0xe1 ∷ 0x23 ∷ 1 ∷ 0 ∷ 0 ∷ []
+unfolding spelling
+own_csm = refl
+
+-- the greatest size without a token
+size_greatest : declared_of (0xf0 ∷ 0xff ∷ 0xff ∷ 0xff ∷ 0xff ∷ []) ≡ Size 4295033106
+unfolding declared_of length_at four_bytes_at
+size_greatest = refl
+
+fault_1 : message_of (0x09 ∷ []) ≡ Err TokenLength
+unfolding message_of head_at
+fault_1 = refl
+
+fault_2 : message_of (0x10 ∷ 0x01 ∷ 0xf0 ∷ []) ≡ Err OptionDelta
+unfolding message_of head_at length_at body_at body_within option_at option_head_at
+fault_2 = refl
+
+fault_3 : message_of (0x10 ∷ 0x01 ∷ 0x0f ∷ []) ≡ Err OptionLength
+unfolding message_of head_at length_at body_at body_within option_at option_head_at
+fault_3 = refl
+
+fault_4 : message_of (0x10 ∷ 0x01 ∷ 0xd0 ∷ []) ≡ Err OptionCut
+unfolding message_of head_at length_at body_at body_within option_at option_head_at option_number_at one_byte_at
+fault_4 = refl
+
+fault_4_value : message_of (0x10 ∷ 0x01 ∷ 0x01 ∷ []) ≡ Err OptionCut
+unfolding message_of head_at length_at body_at body_within option_at option_head_at option_number_at
+fault_4_value = refl
+
+fault_5 : message_of (0x30 ∷ 0x01 ∷ 0xe0 ∷ 0xff ∷ 0xff ∷ []) ≡ Err OptionNumber
+unfolding message_of head_at length_at body_at body_within option_at option_head_at option_number_at two_bytes_at
+fault_5 = refl
+
+greatest_option : message_of (0x30 ∷ 0x01 ∷ 0xe0 ∷ 0xfe ∷ 0xf2 ∷ []) ≡ Ok (record { code = 1; token = []; options = record { number = 65535; value = [] } ∷ []; payload = [] })
+unfolding message_of head_at length_at body_at body_within option_at option_head_at option_number_at two_bytes_at
+greatest_option = refl
+
+fault_6 : message_of (0x10 ∷ 0x01 ∷ 0xff ∷ []) ≡ Err EmptyPayload
+unfolding message_of head_at length_at body_at body_within
+fault_6 = refl
+
+fault_7 : message_of [] ≡ Err NotOneFrame
+unfolding message_of head_at
+fault_7 = refl
+
+fault_7_short : message_of (0x00 ∷ []) ≡ Err NotOneFrame
+unfolding message_of head_at length_at
+fault_7_short = refl
+
+fault_7_long : message_of (0x00 ∷ 0x01 ∷ 0x00 ∷ []) ≡ Err NotOneFrame
+unfolding message_of head_at length_at
+fault_7_long = refl

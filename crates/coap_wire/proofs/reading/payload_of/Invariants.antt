@@ -1,0 +1,12 @@
+use Rattle.std.proofs.Common.{◌≡◌, List, length}
+use Rattle.coap_wire.specs.Message.{CoapOption}
+use Rattle.coap_wire.specs.Reading.{body_at}
+use Rattle.coap_wire.proofs.BodyLemmas.{with_front}
+use Rattle.coap_wire.proofs.reading.payload_of.Given as goal
+
+-- the options read so far, and what is still read
+abbrev pub invariant-loop-first : goal.invariant-loop-first
+invariant-loop-first l = (front : List CoapOption) × (with_front front (body_at l.base l.rest) ≡ body_at 0 l.body)
+
+abbrev pub decreases-loop-first : goal.decreases-loop-first
+decreases-loop-first l = length l.rest

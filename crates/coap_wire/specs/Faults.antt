@@ -1,0 +1,69 @@
+-- Why a frame spells no message: the first fault, in the order in which faults are looked for.
+use Rattle.std.specs.Prelude.{◌≡◌, ◌≢◌, ℕ, ◌+◌, ◌/◌, ◌%◌, ◌<◌, ◌≤◌, List, [], ◌∷◌, ◌++◌, length, ◌⊎◌, if◌then◌else◌, nat_lt, ◌==◌}
+use Rattle.coap_wire.specs.Message.{CoapOption, last_number}
+use Rattle.coap_wire.specs.Spelling.{IsOptionHead, IsOptionText, IsHeadAndBody}
+use Rattle.coap_wire.specs.Size.{IsFrame, HasBadToken}
+use Rattle.coap_wire.specs.declared.fault.FormatFault.{FormatFault}
+use Rattle.coap_wire.specs.declared.fault.FormatFault.TheVariants.{TokenLength, OptionDelta, OptionLength, OptionCut, OptionNumber, EmptyPayload, NotOneFrame}
+
+-- how many bytes extend the nibble of an option delta or an option length
+abbrev pub option_extension : ℕ → ℕ
+option_extension x = if nat_lt x 13 then 0 else (if x == 13 then 1 else 2)
+
+-- s begins with an option's first byte, and its two extensions are not all there
+pub record IsOptionHeadCut (s : List ℕ) : Type 0 where
+  pub first : ℕ
+  pub after : List ℕ
+  pub bytes : s ≡ first ∷ after
+  pub delta : first / 16 < 15
+  pub len : first % 16 < 15
+  pub cut : length after < option_extension (first / 16) + option_extension (first % 16)
+
+-- s begins with the head of an option whose number fits, and its value is not all there
+pub record IsValueCut (base : ℕ) (s : List ℕ) : Type 0 where
+  pub delta : ℕ
+  pub len : ℕ
+  pub after : List ℕ
+  pub head : IsOptionHead s delta len after
+  pub number : base + delta ≤ 65535
+  pub cut : length after < len
+
+-- s begins with the head of an option whose number is above 65,535
+pub record IsNumberTooGreat (base : ℕ) (s : List ℕ) : Type 0 where
+  pub delta : ℕ
+  pub len : ℕ
+  pub after : List ℕ
+  pub head : IsOptionHead s delta len after
+  pub number : 65535 < base + delta
+
+-- What is wrong at the front of s, where an option whose number counts from base, or the marker, should stand.
+abbrev pub IsOptionFault : ℕ → List ℕ → FormatFault → Type 0
+IsOptionFault base s EmptyPayload = s ≡ 255 ∷ []
+IsOptionFault base s OptionDelta = (b : ℕ) × (after : List ℕ) × (s ≡ b ∷ after) × (b ≢ 255) × (b / 16 ≡ 15)
+IsOptionFault base s OptionLength = (b : ℕ) × (after : List ℕ) × (s ≡ b ∷ after) × (b / 16 < 15) × (b % 16 ≡ 15)
+IsOptionFault base s OptionCut = IsOptionHeadCut s ⊎ IsValueCut base s
+IsOptionFault base s OptionNumber = IsNumberTooGreat base s
+IsOptionFault base s TokenLength = ⊥
+IsOptionFault base s NotOneFrame = ⊥
+
+-- a frame whose options, up to one that is wrong, are these
+pub record HasOptionFault (s : List ℕ) (fault : FormatFault) : Type 0 where
+  pub code : ℕ
+  pub token : List ℕ
+  pub body : List ℕ
+  pub head : IsHeadAndBody s code token body
+  pub options : List CoapOption
+  pub rest : List ℕ
+  pub text : IsOptionText 0 options body rest
+  pub wrong : IsOptionFault (last_number 0 options) rest fault
+
+-- The first fault of bytes that spell no message: a token length above 8, then bytes that are not one frame, then
+-- the first option from the left that is wrong.
+abbrev pub IsFirstFault : List ℕ → FormatFault → Type 0
+IsFirstFault s TokenLength = HasBadToken s
+IsFirstFault s NotOneFrame = (HasBadToken s → ⊥) × (IsFrame s → ⊥)
+IsFirstFault s EmptyPayload = HasOptionFault s EmptyPayload
+IsFirstFault s OptionDelta = HasOptionFault s OptionDelta
+IsFirstFault s OptionLength = HasOptionFault s OptionLength
+IsFirstFault s OptionCut = HasOptionFault s OptionCut
+IsFirstFault s OptionNumber = HasOptionFault s OptionNumber

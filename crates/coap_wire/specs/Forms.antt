@@ -1,0 +1,48 @@
+-- The forms of numbers: a nibble and the bytes that extend it, in network order.
+use Rattle.std.specs.Prelude.{◌≡◌, ℕ, ◌+◌, ◌-◌, ◌<◌, ◌≤◌, List, [], ◌∷◌, nat_lt, if◌then◌else◌}
+use Rattle.std.specs.Int.{w16, w32, to_be_bytes, from_be_bytes}
+use Rattle.coap_wire.specs.Message.{IsByte, AreBytes}
+
+-- Nibble x with extension e means the length n of a message's options and payload (RFC 8323 section 3.2).
+abbrev pub IsLengthForm : ℕ → List ℕ → ℕ → Type 0
+IsLengthForm x [] n = (x < 13) × (n ≡ x)
+IsLengthForm x (a ∷ []) n = (x ≡ 13) × IsByte a × (n ≡ a + 13)
+IsLengthForm x (a ∷ b ∷ []) n = (x ≡ 14) × AreBytes (a ∷ b ∷ []) × (n ≡ from_be_bytes w16 (a ∷ b ∷ []) + 269)
+IsLengthForm x (a ∷ b ∷ c ∷ []) n = ⊥
+IsLengthForm x (a ∷ b ∷ c ∷ d ∷ []) n =
+    (x ≡ 15) × AreBytes (a ∷ b ∷ c ∷ d ∷ []) × (n ≡ from_be_bytes w32 (a ∷ b ∷ c ∷ d ∷ []) + 65805)
+IsLengthForm x (a ∷ b ∷ c ∷ d ∷ e ∷ es) n = ⊥
+
+-- the greatest length that has a form
+abbrev pub greatest_length : ℕ
+greatest_length = 4295033100
+
+-- the one form of a length: its nibble and its extension
+abbrev pub length_form : ℕ → ℕ × List ℕ
+length_form n =
+    if nat_lt n 13 then (n, [])
+    else (if nat_lt n 269 then (13, (n - 13) ∷ [])
+    else (if nat_lt n 65805 then (14, to_be_bytes w16 (n - 269))
+    else (15, to_be_bytes w32 (n - 65805))))
+
+-- Nibble x with extension e means the option delta or option length n (RFC 7252 section 3.1). Nibble 15 means none.
+abbrev pub IsOptionForm : ℕ → List ℕ → ℕ → Type 0
+IsOptionForm x [] n = (x < 13) × (n ≡ x)
+IsOptionForm x (a ∷ []) n = (x ≡ 13) × IsByte a × (n ≡ a + 13)
+IsOptionForm x (a ∷ b ∷ []) n = (x ≡ 14) × AreBytes (a ∷ b ∷ []) × (n ≡ from_be_bytes w16 (a ∷ b ∷ []) + 269)
+IsOptionForm x (a ∷ b ∷ c ∷ es) n = ⊥
+
+-- the greatest option delta or option length that has a form
+abbrev pub greatest_option_form : ℕ
+greatest_option_form = 65804
+
+-- the one form of an option delta or an option length: its nibble and its extension
+abbrev pub option_form : ℕ → ℕ × List ℕ
+option_form n =
+    if nat_lt n 13 then (n, [])
+    else (if nat_lt n 269 then (13, (n - 13) ∷ [])
+    else (14, to_be_bytes w16 (n - 269)))
+
+-- Nibble x means a token of n bytes; 9 to 15 mean none (RFC 8323 section 3.2).
+abbrev pub IsTokenForm : ℕ → ℕ → Type 0
+IsTokenForm x n = (x ≡ n) × (n ≤ 8)

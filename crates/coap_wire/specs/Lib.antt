@@ -1,0 +1,9 @@
+pub mod Message
+pub mod Forms
+pub mod Spelling
+pub mod Size
+pub mod Faults
+pub mod Reading
+pub mod Uint
+pub mod Views
+pub mod Built

@@ -1,0 +1,65 @@
+-- How the code's values are seen in contracts.
+use Rattle.std.specs.Prelude.{◌≡◌, ℕ, ◌≤◌, List, [], ◌∷◌, ◌++◌, length, map, Option, Some, None, Result, Ok, Err, nat_lt, if◌then◌else◌}
+use Rattle.std.specs.List.{AllByRecursion}
+use Rattle.std.specs.Borrow.{Bor}
+use Rattle.coap_wire.specs.Message.{CoapOption, Message, AreOrdered, last_number}
+use Rattle.coap_wire.specs.Forms.{greatest_option_form}
+use Rattle.coap_wire.specs.Spelling.{HasOptionForm}
+use Rattle.coap_wire.specs.Reading.{options_read}
+use Rattle.coap_wire.specs.declared.fault.FormatFault.{FormatFault}
+use Rattle.coap_wire.specs.declared.fault.BuildFault.{BuildFault}
+use Rattle.coap_wire.specs.declared.fault.BuildFault.TheVariants.{Order, TooLong, Full}
+use Rattle.coap_wire.specs.declared.options.OptionRef.{OptionRef}
+
+-- an option without where its value lies in memory
+abbrev pub coap_option : OptionRef → CoapOption
+coap_option o = record { number = o.number; value = o.value.now }
+
+abbrev pub coap_options : List OptionRef → List CoapOption
+coap_options os = map coap_option os
+
+-- what a function returned, seen by view, is what reading gives
+abbrev pub Gives : {X Y : Type 0} → (X → Y) → Result X FormatFault → Result Y FormatFault → Type 0
+Gives view (Ok x) read = read ≡ Ok (view x)
+Gives view (Err e) read = read ≡ Err e
+
+-- the same for the payload alone of what reading gives
+abbrev pub GivesPayload : Result (Bor (List ℕ)) FormatFault → Result (List CoapOption × List ℕ) FormatFault → Type 0
+GivesPayload (Ok payload) read = read ≡ Ok (options_read read, payload.now)
+GivesPayload (Err e) read = read ≡ Err e
+
+-- the greatest payload that a builder takes
+abbrev pub greatest_payload : ℕ
+greatest_payload = 1048576
+
+-- the most options that a builder takes
+abbrev pub most_options : ℕ
+most_options = 40
+
+-- what a builder can hold
+pub record CanBeBuilt (m : Message) : Type 0 where
+  pub token : length m.token ≤ 8
+  pub ordered : AreOrdered 0 m.options
+  pub each : AllByRecursion HasOptionForm m.options
+  pub few : length m.options ≤ most_options
+  pub payload : length m.payload ≤ greatest_payload
+
+-- a call is refused with this, or with nothing
+abbrev pub RefusedBy : {T E : Type 0} → Result T E → Option E → Type 0
+RefusedBy (Ok x) refusal = refusal ≡ None
+RefusedBy (Err e) refusal = refusal ≡ Some e
+
+-- why a builder does not take an option
+abbrev pub option_refusal : Message → ℕ → List ℕ → Option BuildFault
+option_refusal m number value =
+    if nat_lt number (last_number 0 m.options) then Some Order
+    else (if nat_lt greatest_option_form (length value) then Some TooLong
+    else (if nat_lt (length m.options) most_options then None else Some Full))
+
+-- why a builder does not take a payload
+abbrev pub payload_refusal : List ℕ → Option BuildFault
+payload_refusal payload = if nat_lt greatest_payload (length payload) then Some TooLong else None
+
+-- a message with one option more
+abbrev pub with_option : Message → ℕ → List ℕ → Message
+with_option m number value = record m { options = m.options ++ record { number = number; value = value } ∷ [] }

@@ -1,0 +1,188 @@
+//! Builds a message and writes its one spelling.
+
+ghost use Rattle.std.specs.Prelude.{◌≡◌};
+ghost use Rattle.coap_wire.specs.Message.{last_number as number_of_last};
+ghost use Rattle.coap_wire.specs.Views.{coap_options};
+
+use crate::code::Code;
+use crate::fault::BuildFault;
+use crate::form::form_of_length;
+use crate::options::OptionRef;
+use crate::sink::Sink;
+use crate::token::{Token, token_of};
+use crate::writing::{options_size, write_head, write_options, write_payload};
+use arrayvec::ArrayVec;
+use std::marker::Model;
+
+/// The most options that a builder takes.
+const MAX_OPTIONS: usize = 40;
+
+/// The greatest length of an option's value (RFC 7252 section 3.1).
+const MAX_VALUE: usize = 65_804;
+
+/// The greatest payload that a builder takes.
+const MAX_PAYLOAD: usize = 1_048_576;
+
+/// A message that is being built, of at most 40 options. It borrows the options' values and the payload. Contracts see
+/// the `Message`.
+#[derive(Debug, Drop)]
+pub struct Builder<'a> {
+    code: Code,
+    token: Token,
+    options: ArrayVec<OptionRef<'a>, MAX_OPTIONS>,
+    payload: &'a [u8],
+}
+
+impl<'a> Model for Builder<'a> {
+    ghost use Rattle.coap_wire.specs.Message.{Message};
+
+    ghost Value = { Message };
+
+    ghost use Rattle.coap_wire.specs.Built.{built_message, CanBuild};
+
+    ghost view = { built_message };
+
+    ghost invariant = { CanBuild };
+}
+
+impl<'a> Builder<'a> {
+    ghost use Rattle.std.specs.Prelude.{◌≡◌, ◌+◌, ◌≤◌, ◌++◌, [], length, OnOk, OnErr};
+    ghost use Rattle.coap_wire.specs.Spelling.{spelling, body_spelling, HasSpelling};
+    ghost use Rattle.coap_wire.specs.Views.{RefusedBy, CanBeBuilt, option_refusal, payload_refusal, with_option};
+
+    /// A message with this code and this token, with no options and no payload.
+    pub fn new(code: Code, token: &Token) -> Builder<'a>
+        ensures { result ≡ record { code = code; token = token.now.items; options = []; payload = [] } }
+    {
+        Builder {
+            code,
+            token: token_of(token),
+            options: ArrayVec::new(),
+            payload: &[],
+        }
+    }
+
+    /// Adds an option at the end (RFC 7252 section 3.1).
+    ///
+    /// # Errors
+    ///
+    /// In this order: `Order` where the number is below that of the last option, `TooLong` where the value has more than
+    /// 65,804 bytes, `Full` where 40 options are there. The message is then as before.
+    pub fn option(&mut self, number: u16, value: &'a [u8]) -> Result<(), BuildFault>
+        ensures answer { RefusedBy result (option_refusal self.old number value.now) }
+        ensures ok { OnOk result (self.new ≡ with_option self.old number value.now) }
+        ensures err { OnErr result (self.new ≡ self.old) }
+    {
+        if number < last_number(&self.options) {
+            return Err(BuildFault::Order);
+        }
+        if value.len() > MAX_VALUE {
+            return Err(BuildFault::TooLong);
+        }
+        if self.options.is_full() {
+            return Err(BuildFault::Full);
+        }
+        self.options.push(OptionRef { number, value });
+        Ok(())
+    }
+
+    /// Sets the payload; an empty one is no payload, and no marker is written for it.
+    ///
+    /// # Errors
+    ///
+    /// `TooLong` above 1,048,576 bytes. The message is then as before.
+    pub fn payload(&mut self, payload: &'a [u8]) -> Result<(), BuildFault>
+        ensures answer { RefusedBy result (payload_refusal payload.now) }
+        ensures ok { OnOk result (self.new ≡ record self.old { payload = payload.now }) }
+        ensures err { OnErr result (self.new ≡ self.old) }
+    {
+        if payload.len() > MAX_PAYLOAD {
+            return Err(BuildFault::TooLong);
+        }
+        self.payload = payload;
+        Ok(())
+    }
+
+    /// The code.
+    pub fn code(&self) -> Code
+        ensures { result ≡ self.now.code }
+    {
+        self.code
+    }
+
+    /// The token.
+    pub fn token(&self) -> &Token
+        ensures { result.now.items ≡ self.now.token }
+    {
+        &self.token
+    }
+
+    /// The same message with another token.
+    pub fn with_token(&self, token: &Token) -> Builder<'a>
+        ensures { result ≡ record self.now { token = token.now.items } }
+    {
+        Builder {
+            code: self.code,
+            token: token_of(token),
+            options: copied(&self.options),
+            payload: self.payload,
+        }
+    }
+
+    /// The length of the spelling in bytes.
+    pub fn size(&self) -> u64
+        ensures size { result ≡ length (spelling self.now) }
+        ensures spelled { HasSpelling self.now }
+    {
+        let body = self.body_size();
+        let extension = form_of_length(body).extension.len() as u64;
+        2 + extension + self.token.len() as u64 + body
+    }
+
+    /// Appends the one spelling. There must be room for it.
+    pub fn write<S: Sink>(&self, out: &mut S)
+        requires { length (spelling self.now) ≤ S.space out.old }
+        ensures appended { S.contents out.new ≡ S.contents out.old ++ spelling self.now }
+        ensures less_room { S.space out.new + length (spelling self.now) ≡ S.space out.old }
+    {
+        write_head(out, self.code, &self.token, self.body_size());
+        write_options(out, &self.options);
+        write_payload(out, self.payload);
+    }
+
+    /// The length of the options and the payload.
+    fn body_size(&self) -> u64
+        ensures size { result ≡ length (body_spelling self.now) }
+        ensures bound { result ≤ 3680937 }
+        ensures spelled { CanBeBuilt self.now }
+    {
+        let options = options_size(&self.options);
+        if self.payload.is_empty() {
+            options
+        } else {
+            options + 1 + self.payload.len() as u64
+        }
+    }
+}
+
+/// The number of the last option, or 0 where there is none.
+fn last_number(options: &[OptionRef]) -> u16
+    ensures { result ≡ number_of_last 0 (coap_options options.now) }
+{
+    let Some(last) = options.last() else {
+        return 0;
+    };
+    last.number
+}
+
+/// The same options.
+fn copied<'a>(
+    options: &ArrayVec<OptionRef<'a>, MAX_OPTIONS>,
+) -> ArrayVec<OptionRef<'a>, MAX_OPTIONS>
+    ensures { result.items ≡ options.now.items }
+{
+    let Ok(same) = ArrayVec::try_from(options.as_slice()) else {
+        unreachable!()
+    };
+    same
+}

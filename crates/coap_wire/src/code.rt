@@ -1,0 +1,50 @@
+//! The code of a message.
+
+ghost use Rattle.std.specs.Prelude.{◌≡◌, ℕ, ◌/◌, ◌%◌};
+
+use std::marker::Model;
+
+/// A message's code: a class of 3 bits and a detail of 5 bits (RFC 7252 section 3, RFC 8323 section 3.2). Contracts
+/// see its byte, class * 32 + detail.
+#[derive(Clone, Copy, Debug, PartialEq, Eq)]
+pub struct Code {
+    byte: u8,
+}
+
+impl Model for Code {
+    ghost Value = { ℕ };
+
+    ghost view = { λ c. c.byte };
+
+    ghost inverse = { λ n. record { byte = n } };
+}
+
+impl Code {
+    /// The code with this byte. Every byte is a code.
+    pub const fn new(byte: u8) -> Code
+        ensures { result ≡ byte }
+    {
+        Code { byte }
+    }
+
+    /// The byte on the wire.
+    pub const fn byte(self) -> u8
+        ensures { result ≡ self }
+    {
+        self.byte
+    }
+
+    /// The class, 0 to 7: 0 requests and Empty, 2 to 5 responses, 7 signalling, 1 and 6 reserved.
+    pub const fn class(self) -> u8
+        ensures { result ≡ self / 32 }
+    {
+        self.byte / 32
+    }
+
+    /// The detail, 0 to 31.
+    pub const fn detail(self) -> u8
+        ensures { result ≡ self % 32 }
+    {
+        self.byte % 32
+    }
+}

@@ -1,0 +1,43 @@
+//! Why bytes spell no message, and why a message cannot be built.
+
+use thiserror::Error;
+
+/// The first fault of bytes that spell no message. The discriminants are the faults' numbers.
+#[derive(Clone, Copy, Debug, PartialEq, Eq, Error)]
+pub enum FormatFault {
+    /// The first byte states a token of more than 8 bytes (RFC 8323 section 3.2).
+    #[error("token length above 8")]
+    TokenLength = 1,
+    /// An option delta of 15 in a byte that is no payload marker (RFC 7252 section 3.1).
+    #[error("option delta 15")]
+    OptionDelta = 2,
+    /// An option length of 15 (RFC 7252 section 3.1).
+    #[error("option length 15")]
+    OptionLength = 3,
+    /// The bytes end within an option.
+    #[error("an option is cut")]
+    OptionCut = 4,
+    /// An option number above 65,535.
+    #[error("option number above 65,535")]
+    OptionNumber = 5,
+    /// A payload marker with nothing after it (RFC 7252 section 3).
+    #[error("a payload marker without a payload")]
+    EmptyPayload = 6,
+    /// No byte at all, or not exactly as many bytes as the frame declares.
+    #[error("not exactly one frame")]
+    NotOneFrame = 7,
+}
+
+/// Why a builder refused a part of a message. The discriminants are the faults' numbers.
+#[derive(Clone, Copy, Debug, PartialEq, Eq, Error)]
+pub enum BuildFault {
+    /// The option's number is below that of the option before it.
+    #[error("option number below the one before")]
+    Order = 1,
+    /// The option's value has more than 65,804 bytes, or the payload more than 1,048,576.
+    #[error("value or payload too long")]
+    TooLong = 2,
+    /// 40 options are there already.
+    #[error("40 options are there")]
+    Full = 3,
+}

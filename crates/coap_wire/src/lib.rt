@@ -1,0 +1,28 @@
+//! CoAP messages over a reliable transport: what they are, and how bytes spell them (RFC 8323 section 3.2, RFC 7252
+//! section 3.1).
+#![tactic(auto)]
+
+mod builder;
+mod code;
+mod fault;
+mod form;
+mod frame;
+mod message;
+mod options;
+mod reading;
+mod sink;
+mod size;
+mod token;
+mod uint;
+mod writing;
+
+pub use builder::Builder;
+pub use code::Code;
+pub use fault::{BuildFault, FormatFault};
+pub use frame::Declared;
+pub use message::{MessageRef, parse};
+pub use options::{OptionRef, Options};
+pub use sink::{Sink, SliceSink};
+pub use size::declared;
+pub use token::Token;
+pub use uint::{uint_bytes, uint_value};

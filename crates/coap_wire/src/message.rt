@@ -1,0 +1,79 @@
+//! A message within the bytes that spell it.
+
+use crate::code::Code;
+use crate::fault::FormatFault;
+use crate::options::Options;
+use crate::reading::{head_of, payload_of};
+use crate::token::Token;
+use std::marker::Model;
+
+/// A message within the frame that spells it. Contracts see it as a `Message`: code, token, options and payload.
+#[derive(Debug, Drop)]
+pub struct MessageRef<'a> {
+    code: Code,
+    token: Token,
+    body: &'a [u8],
+    payload: &'a [u8],
+}
+
+impl<'a> Model for MessageRef<'a> {
+    ghost use Rattle.std.specs.Prelude.{◌≡◌, Ok};
+    ghost use Rattle.coap_wire.specs.Message.{Message};
+    ghost use Rattle.coap_wire.specs.Reading.{body_at, options_in};
+
+    ghost Value = { Message };
+
+    ghost view = { λ m. record { code = m.code; token = m.token.items; options = options_in 0 m.body.now; payload = m.payload.now } };
+
+    ghost invariant = { λ m. body_at 0 m.body.now ≡ Ok (options_in 0 m.body.now, m.payload.now) };
+}
+
+impl<'a> MessageRef<'a> {
+    ghost use Rattle.std.specs.Prelude.{◌≡◌};
+
+    /// The code.
+    pub fn code(&self) -> Code
+        ensures { result ≡ self.now.code }
+    {
+        self.code
+    }
+
+    /// The token.
+    pub fn token(&self) -> &Token
+        ensures { result.now.items ≡ self.now.token }
+    {
+        &self.token
+    }
+
+    /// The options, in order of number.
+    pub fn options(&self) -> Options<'a>
+        ensures { result ≡ self.now.options }
+    {
+        Options::of_body(self.body)
+    }
+
+    /// The payload, empty where there is none.
+    pub fn payload(&self) -> &'a [u8]
+        ensures { result.now ≡ self.now.payload }
+    {
+        self.payload
+    }
+}
+
+/// Reads the message that the bytes spell (RFC 8323 section 3.2, RFC 7252 section 3.1).
+///
+/// # Errors
+///
+/// The first fault, in this order: `NotOneFrame` for no byte at all; `TokenLength`; `NotOneFrame` where the bytes are
+/// not exactly the frame that they declare; then the options in turn. Within one option: `EmptyPayload`, `OptionDelta`,
+/// `OptionLength`, `OptionCut` for an extension, `OptionNumber`, `OptionCut` for the value.
+pub fn parse(frame: &[u8]) -> Result<MessageRef<'_>, FormatFault> {
+    let (code, token, body) = head_of(frame)?;
+    let payload = payload_of(body)?;
+    Ok(MessageRef {
+        code,
+        token,
+        body,
+        payload,
+    })
+}

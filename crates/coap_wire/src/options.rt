@@ -1,0 +1,75 @@
+//! Options, and the iterator over those of a message.
+
+use crate::reading::option_after;
+use std::marker::Model;
+
+/// The byte that stands between the options and the payload (RFC 7252 section 3).
+pub(crate) const PAYLOAD_MARKER: u8 = 0xff;
+
+/// An option: its number, and its value within the bytes that it was read from or is written from.
+#[derive(Clone, Copy, Debug, Default)]
+pub struct OptionRef<'a> {
+    /// The option number, which says what the option means (RFC 7252 section 5.10).
+    pub number: u16,
+    /// The value.
+    pub value: &'a [u8],
+}
+
+/// The options of a message, in order of number. Contracts see the list of those that are left.
+#[derive(Debug, Drop)]
+pub struct Options<'a> {
+    base: u16,
+    rest: &'a [u8],
+}
+
+impl<'a> Model for Options<'a> {
+    ghost use Rattle.std.specs.Prelude.{List, IsOk};
+    ghost use Rattle.coap_wire.specs.Message.{CoapOption};
+    ghost use Rattle.coap_wire.specs.Reading.{body_at, options_in};
+
+    ghost Value = { List CoapOption };
+
+    ghost view = { λ o. options_in o.base o.rest.now };
+
+    ghost invariant = { λ o. IsOk (body_at o.base o.rest.now) };
+}
+
+impl<'a> Options<'a> {
+    ghost use Rattle.std.specs.Prelude.{◌≡◌, IsOk};
+    ghost use Rattle.coap_wire.specs.Reading.{body_at, options_in};
+
+    /// The options of a body of which each can be read.
+    pub(crate) fn of_body(body: &'a [u8]) -> Options<'a>
+        requires { IsOk (body_at 0 body.now) }
+        ensures { result ≡ options_in 0 body.now }
+    {
+        Options {
+            base: 0,
+            rest: body,
+        }
+    }
+}
+
+impl<'a> Iterator for Options<'a> {
+    ghost use Rattle.std.specs.Iterator.{YieldsFirstBy, item_count};
+    ghost use Rattle.coap_wire.specs.Views.{coap_option};
+
+    type Item = OptionRef<'a>;
+
+    ghost next_gives = { YieldsFirstBy coap_option (λ os. os) };
+
+    ghost remaining = { item_count (λ os. os) };
+
+    fn next(&mut self) -> Option<OptionRef<'a>> {
+        let (first, after) = self.rest.split_first()?;
+        if *first == PAYLOAD_MARKER {
+            return None;
+        }
+        let Ok((option, rest)) = option_after(self.base, *first, after) else {
+            unreachable!()
+        };
+        self.base = option.number;
+        self.rest = rest;
+        Some(option)
+    }
+}

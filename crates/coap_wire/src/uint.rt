@@ -1,0 +1,50 @@
+//! Option values of format uint (RFC 7252 section 3.2).
+
+ghost use Rattle.std.specs.Prelude.{◌≡◌, ◌≤◌, ◌<◌, length, Some, None};
+ghost use Rattle.coap_wire.specs.Uint.{uint_of, uint_text, without_leading_zeros};
+
+use arrayvec::ArrayVec;
+
+/// The number that the bytes mean, in network order with leading zero bytes accepted, or `None` above 4 bytes.
+pub fn uint_value(bytes: &[u8]) -> Option<u32>
+    ensures within { length bytes.now ≤ 4 → result ≡ Some (uint_of bytes.now) }
+    ensures above { 4 < length bytes.now → result ≡ None }
+{
+    match bytes {
+        [] => Some(0),
+        [a] => Some(u32::from(*a)),
+        [a, b] => Some(u32::from_be_bytes([0, 0, *a, *b])),
+        [a, b, c] => Some(u32::from_be_bytes([0, *a, *b, *c])),
+        [a, b, c, d] => Some(u32::from_be_bytes([*a, *b, *c, *d])),
+        _ => None,
+    }
+}
+
+/// The bytes from the first one that is not 0.
+#[tactic(auto, using(crate::proofs::UintLemmas::zeros))]
+fn significant(bytes: &[u8]) -> &[u8]
+    ensures rest { result.now ≡ without_leading_zeros bytes.now }
+    ensures value { uint_of result.now ≡ uint_of bytes.now }
+    ensures few { length result.now ≤ length bytes.now }
+{
+    let mut rest = bytes;
+    while let Some((first, after)) = rest.split_first() {
+        if *first != 0 {
+            return rest;
+        }
+        rest = after;
+    }
+    rest
+}
+
+/// The fewest bytes that mean the number, in network order: none for 0, at most 8.
+#[tactic(auto, unfolding(crate::specs::Uint::uint_text))]
+pub fn uint_bytes(number: u64) -> ArrayVec<u8, 8>
+    ensures bytes { result.items ≡ uint_text number }
+    ensures value { uint_of result.items ≡ number }
+{
+    let Ok(fewest) = ArrayVec::try_from(significant(&number.to_be_bytes())) else {
+        unreachable!()
+    };
+    fewest
+}
