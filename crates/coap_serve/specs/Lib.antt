@@ -1,0 +1,11 @@
+pub mod Device
+pub mod Limits
+pub mod LimitViews
+pub mod ConfigViews
+pub mod Signalling
+pub mod Progress
+pub mod StdioRun
+pub mod Connection
+pub mod ConnectionViews
+pub mod Turns
+pub mod Faults

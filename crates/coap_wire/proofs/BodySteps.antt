@@ -1,11 +1,11 @@
 -- Reading a body step by step: the end, the marker, an option, a fault.
-use Rattle.std.proofs.Common.{◌≡◌, ℕ, zero, suc, ◌+◌, ◌-◌, ◌/◌, ◌%◌, ◌<◌, ◌≤◌, Bool, true, false, cond, eqb, ltb, List, [], ◌∷◌, ◌++◌, length, take, drop, Option, Some, None, Result, Ok, Err, refl, sym, ap, subst, ◌∙◌, arith, inl, inr}
-use Rattle.std.specs.Int.{w16, w32, from_be_bytes}
-use Rattle.std.proofs.lemmas.Bool.{eqb-true, eqb-false, eq-eqb, ne_eqb, ltb-true, ltb-false, cases_Bool}
-use Rattle.std.proofs.lemmas.List.{length-take, length-drop}
+use Rattle.std.proofs.Common.{◌≡◌, ℕ, zero, suc, ◌+◌, ◌/◌, ◌%◌, ◌≤◌, Bool, true, false, cond, eqb, ltb, List, [], ◌∷◌, length, take, drop, Option, Some, None, Result, Ok, Err, refl, ap, subst, ◌∙◌, arith}
+use Rattle.std.specs.Int.{w16, from_be_bytes}
+use Rattle.std.proofs.lemmas.Bool.{eq-eqb, ne_eqb}
+use Rattle.std.proofs.lemmas.List.{length-drop}
 use Rattle.coap_wire.specs.Message.{CoapOption}
 use Rattle.coap_wire.specs.declared.fault.FormatFault.{FormatFault}
-use Rattle.coap_wire.specs.declared.fault.FormatFault.TheVariants.{TokenLength, OptionDelta, OptionLength, OptionCut, OptionNumber, EmptyPayload, NotOneFrame}
+use Rattle.coap_wire.specs.declared.fault.FormatFault.TheVariants.{OptionDelta, OptionLength, OptionCut, OptionNumber, EmptyPayload}
 use Rattle.coap_wire.specs.Reading.{◌>>=◌, one_byte_at, two_bytes_at, plus, option_number_at, or_cut, both_at, option_head_at, value_at, option_at, body_within, body_at}
 
 -- the value of a step that did not fail
@@ -23,10 +23,12 @@ pub or_cut_ok : (o : Option (ℕ × List ℕ)) (y : ℕ × List ℕ) → or_cut 
 or_cut_ok None y e = absurd cc
 or_cut_ok (Some x) y e = cc
 
-some_is : {A : Type 0} (x y : A) → Some x ≡ Some y → x ≡ y
+-- two values of one `Some`
+pub some_is : {A : Type 0} (x y : A) → Some x ≡ Some y → x ≡ y
 some_is x y e = cc
 
-ok_is : {A : Type 0} (x y : A) → ◌≡◌ {A = Result A FormatFault} (Ok x) (Ok y) → x ≡ y
+-- two values that one step gives
+pub ok_is : {A : Type 0} (x y : A) → ◌≡◌ {A = Result A FormatFault} (Ok x) (Ok y) → x ≡ y
 ok_is x y e = cc
 
 -- ---- what is left is no longer

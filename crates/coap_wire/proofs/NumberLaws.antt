@@ -1,13 +1,12 @@
 -- A number that is read behind a nibble is spelled so, and what is spelled so is read.
-use Rattle.std.proofs.Common.{◌≡◌, ℕ, zero, suc, ◌+◌, ◌-◌, ◌<◌, ◌≤◌, Bool, true, false, cond, eqb, ltb, List, [], ◌∷◌, ◌++◌, length, get_or, take, drop, Option, Some, None, refl, sym, ap, subst, ◌∙◌, arith, inl, inr}
+use Rattle.std.proofs.Common.{◌≡◌, ℕ, suc, ◌+◌, ◌<◌, List, [], ◌∷◌, ◌++◌, length, get_or, drop, Option, Some, None, refl, sym, ap, subst, ◌∙◌, arith, ◌⊎◌, inl, inr}
 use Rattle.std.specs.Int.{w16, w32, from_be_bytes}
-use Rattle.std.specs.List.{AllByRecursion}
-use Rattle.std.proofs.lemmas.Bool.{eqb-true, eqb-false, eq-eqb, ne_eqb, ltb-true, ltb-false, lt-ltb, le-ltb, cases_Bool, cases_lt, cases_eq}
-use Rattle.std.proofs.lemmas.List.{length-take, length-drop, length-append, get_or-drop}
-use Rattle.coap_wire.specs.Message.{IsByte, AreBytes}
+use Rattle.std.proofs.lemmas.Bool.{ne_eqb, lt-ltb, le-ltb, cases_lt}
+use Rattle.std.proofs.lemmas.List.{get_or-drop}
 use Rattle.coap_wire.specs.Forms.{IsLengthForm, IsOptionForm}
 use Rattle.coap_wire.specs.Faults.{option_extension}
 use Rattle.coap_wire.specs.Reading.{one_byte_at, two_bytes_at, four_bytes_at, plus, length_at, option_number_at}
+use Rattle.coap_wire.proofs.BodySteps.{some_is}
 
 -- each number in the list is a byte
 abbrev pub IsBytes : List ℕ → Type 0
@@ -26,8 +25,10 @@ pub IsBytes-tail : (front bytes : List ℕ) → IsBytes (front ++ bytes) → IsB
 IsBytes-tail [] bytes h = h
 IsBytes-tail (b ∷ front) bytes h = IsBytes-tail front bytes (λ i. h (suc i))
 
-some_is : {A : Type 0} (x y : A) → Some x ≡ Some y → x ≡ y
-some_is x y e = cc
+-- an extension, and whether it is all there
+pub option_cases : {A : Type 0} (o : Option A) → ((x : A) × (o ≡ Some x)) ⊎ (o ≡ None)
+option_cases (Some x) = inl (x, refl)
+option_cases None = inr refl
 
 -- ---- the bytes of an extension
 

@@ -5,5 +5,7 @@ pub mod Size
 pub mod Faults
 pub mod Reading
 pub mod Uint
+pub mod Refusal
 pub mod Views
 pub mod Built
+pub mod Stream

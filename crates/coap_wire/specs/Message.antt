@@ -1,5 +1,5 @@
 -- What a message is, apart from how it is spelled (RFC 7252 section 3, RFC 8323 section 3.2).
-use Rattle.std.specs.Prelude.{ℕ, ◌<◌, ◌≤◌, ◌^◌, List, [], ◌∷◌, ◌++◌, length}
+use Rattle.std.specs.Prelude.{ℕ, ◌<◌, ◌≤◌, ◌^◌, List, [], ◌∷◌, ◌++◌, length, slice_index}
 use Rattle.std.specs.List.{AllByRecursion}
 
 -- an option: its number and its value
@@ -30,3 +30,7 @@ AreOrdered base (o ∷ os) = (base ≤ o.number) × AreOrdered o.number os
 abbrev pub last_number : ℕ → List CoapOption → ℕ
 last_number base [] = base
 last_number base (o ∷ os) = last_number o.number os
+
+-- each place holds a byte
+abbrev pub AreAllBytes : List ℕ → Type 0
+AreAllBytes bytes = (i : ℕ) → slice_index bytes i < 256

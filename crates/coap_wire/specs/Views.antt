@@ -44,11 +44,6 @@ pub record CanBeBuilt (m : Message) : Type 0 where
   pub few : length m.options ≤ most_options
   pub payload : length m.payload ≤ greatest_payload
 
--- a call is refused with this, or with nothing
-abbrev pub RefusedBy : {T E : Type 0} → Result T E → Option E → Type 0
-RefusedBy (Ok x) refusal = refusal ≡ None
-RefusedBy (Err e) refusal = refusal ≡ Some e
-
 -- why a builder does not take an option
 abbrev pub option_refusal : Message → ℕ → List ℕ → Option BuildFault
 option_refusal m number value =

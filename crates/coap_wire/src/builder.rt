@@ -48,7 +48,8 @@ impl<'a> Model for Builder<'a> {
 impl<'a> Builder<'a> {
     ghost use Rattle.std.specs.Prelude.{◌≡◌, ◌+◌, ◌≤◌, ◌++◌, [], length, OnOk, OnErr};
     ghost use Rattle.coap_wire.specs.Spelling.{spelling, body_spelling, HasSpelling};
-    ghost use Rattle.coap_wire.specs.Views.{RefusedBy, CanBeBuilt, option_refusal, payload_refusal, with_option};
+    ghost use Rattle.coap_wire.specs.Refusal.{RefusedBy};
+    ghost use Rattle.coap_wire.specs.Views.{CanBeBuilt, option_refusal, payload_refusal, with_option};
 
     /// A message with this code and this token, with no options and no payload.
     pub fn new(code: Code, token: &Token) -> Builder<'a>

@@ -20,6 +20,18 @@ impl Model for Code {
 }
 
 impl Code {
+    /// 0.00, Empty (RFC 7252 section 4.1, RFC 8323 section 3.4).
+    pub const EMPTY: Code = Code { byte: 0x00 };
+
+    /// 7.01, Capabilities and Settings (RFC 8323 section 5.3).
+    pub const CSM: Code = Code { byte: 0xe1 };
+
+    /// 7.02, Ping (RFC 8323 section 5.4).
+    pub const PING: Code = Code { byte: 0xe2 };
+
+    /// 7.03, Pong (RFC 8323 section 5.4).
+    pub const PONG: Code = Code { byte: 0xe3 };
+
     /// The code with this byte. Every byte is a code.
     pub const fn new(byte: u8) -> Code
         ensures { result ≡ byte }

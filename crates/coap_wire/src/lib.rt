@@ -7,6 +7,7 @@ mod code;
 mod fault;
 mod form;
 mod frame;
+pub mod laws;
 mod message;
 mod options;
 mod reading;

@@ -5,6 +5,12 @@ use crate::fault::FormatFault;
 use crate::options::Options;
 use crate::reading::{head_of, payload_of};
 use crate::token::Token;
+ghost use Rattle.std.specs.Prelude.{◌≡◌, Ok, IfOk, IfErr};
+ghost use Rattle.coap_wire.specs.Message.{Message};
+ghost use Rattle.coap_wire.specs.Spelling.{Spells};
+ghost use Rattle.coap_wire.specs.Faults.{IsFirstFault};
+ghost use Rattle.coap_wire.specs.Reading.{message_of};
+
 use std::marker::Model;
 
 /// A message within the frame that spells it. Contracts see it as a `Message`: code, token, options and payload.
@@ -67,7 +73,23 @@ impl<'a> MessageRef<'a> {
 /// The first fault, in this order: `NotOneFrame` for no byte at all; `TokenLength`; `NotOneFrame` where the bytes are
 /// not exactly the frame that they declare; then the options in turn. Within one option: `EmptyPayload`, `OptionDelta`,
 /// `OptionLength`, `OptionCut` for an extension, `OptionNumber`, `OptionCut` for the value.
-pub fn parse(frame: &[u8]) -> Result<MessageRef<'_>, FormatFault> {
+pub fn parse(frame: &[u8]) -> Result<MessageRef<'_>, FormatFault>
+    // What is read is spelled so, and whatever is spelled so is read.
+    ensures found { IfOk result (λ m. Spells frame.now m) }
+    ensures only { (m : Message) → Spells frame.now m → result ≡ Ok m }
+    // A fault is the first one.
+    ensures fault { IfErr result (IsFirstFault frame.now) }
+    // The same as a function of the bytes.
+    ensures exact { result ≡ message_of frame.now }
+{
+    message_in(frame)
+}
+
+/// Reads a frame from left to right.
+#[tactic(auto, unfolding(crate::specs::Reading::message_of))]
+fn message_in(frame: &[u8]) -> Result<MessageRef<'_>, FormatFault>
+    ensures { result ≡ message_of frame.now }
+{
     let (code, token, body) = head_of(frame)?;
     let payload = payload_of(body)?;
     Ok(MessageRef {

@@ -1,14 +1,25 @@
 //! The size that the first bytes of a frame declare.
 
 ghost use Rattle.std.specs.Prelude.{◌≡◌};
+ghost use Rattle.coap_wire.specs.Size.{Declares};
 ghost use Rattle.coap_wire.specs.Reading.{declared_of};
 
 use crate::frame::Declared;
 use crate::reading::{MAX_TOKEN, length_after};
 
 /// What the first bytes of a frame declare of its size.
-#[tactic(auto, unfolding(crate::specs::Reading::declared_of))]
+///
+/// `Size(n)` where the first byte and all bytes that extend its length are there; only the first 5 bytes are looked at.
 pub fn declared(head: &[u8]) -> Declared
+    ensures declared { Declares head.now result }
+    // The same as a function of the bytes.
+    ensures exact { result ≡ declared_of head.now }
+{
+    declared_by(head)
+}
+
+#[tactic(auto, unfolding(crate::specs::Reading::declared_of))]
+fn declared_by(head: &[u8]) -> Declared
     ensures { result ≡ declared_of head.now }
 {
     let Some((first, after)) = head.split_first() else {

@@ -1,0 +1,133 @@
+//! Where bytes come from and go to.
+
+ghost use Rattle.std.specs.Prelude.{◌≡◌, ◌≤◌, ℕ, Bool, List, [], ◌∷◌, length, take, Option, None, is_none, IfSome, IfNone, ◌||◌};
+ghost use Rattle.coap_serve.specs.Device.{AddsPieces, AddsBytes, is_failed_write};
+
+use std::io::{Read, Write};
+
+/// A source of bytes.
+pub trait Source {
+    /// What each read gave so far, in order, where it tells; the piece that found the end is empty.
+    ghost pieces: { Self → Option (List (List ℕ)) };
+
+    /// Whether a read has failed.
+    ghost is_failed: { Self → Bool };
+
+    /// Reads up to as many bytes as the buffer has, `Some(0)` at the end, and `None` where reading fails.
+    fn read(&mut self, buffer: &mut [u8]) -> Option<usize>
+        ensures within { IfSome result (λ n. n ≤ length buffer.new) }
+        ensures given { IfSome result (λ n. AddsPieces (pieces self.old) (pieces self.new) (take n buffer.new ∷ [])) }
+        ensures nothing { IfNone result (AddsPieces (pieces self.old) (pieces self.new) []) }
+        ensures failure { is_failed self.new ≡ (is_failed self.old || is_none result) };
+
+    /// Whether a read has failed.
+    fn failed(&self) -> bool
+        ensures { result ≡ is_failed self.now };
+}
+
+/// A place to which bytes are written.
+pub trait Outlet {
+    /// The bytes written so far, where it tells.
+    ghost written: { Self → Option (List ℕ) };
+
+    /// Whether a write has failed: gave no count, or took none of at least one byte.
+    ghost is_failed: { Self → Bool };
+
+    /// Writes some of the bytes from their front and answers how many, or `None` where writing fails.
+    fn write(&mut self, bytes: &[u8]) -> Option<usize>
+        ensures within { IfSome result (λ n. n ≤ length bytes.now) }
+        ensures taken { IfSome result (λ n. AddsBytes (written self.old) (written self.new) (take n bytes.now)) }
+        ensures nothing { IfNone result (AddsBytes (written self.old) (written self.new) []) }
+        ensures failure { is_failed self.new ≡ (is_failed self.old || is_failed_write result bytes.now) };
+
+    /// Whether a write has failed.
+    fn failed(&self) -> bool
+        ensures { result ≡ is_failed self.now };
+}
+
+/// A reader of std as a source. It tells nothing of its bytes.
+#[derive(Debug, Drop)]
+pub struct ReadSource<R> {
+    reader: R,
+    failed: bool,
+}
+
+impl<R: Read> ReadSource<R> {
+    ghost use Rattle.std.specs.Prelude.{◌≡◌, false};
+
+    /// The reader as a source that has not failed.
+    pub fn new(reader: R) -> ReadSource<R>
+        ensures { result.failed ≡ false }
+    {
+        ReadSource {
+            reader,
+            failed: false,
+        }
+    }
+}
+
+impl<R: Read> Source for ReadSource<R> {
+    ghost pieces = { λ _. None };
+
+    ghost is_failed = { λ s. s.failed };
+
+    fn read(&mut self, buffer: &mut [u8]) -> Option<usize> {
+        match self.reader.read(buffer) {
+            Ok(count) => Some(count),
+            Err(_) => {
+                self.failed = true;
+                None
+            }
+        }
+    }
+
+    fn failed(&self) -> bool {
+        self.failed
+    }
+}
+
+/// A writer of std as an outlet. It tells what the writer tells.
+#[derive(Debug, Drop)]
+pub struct WriteOutlet<W> {
+    writer: W,
+    failed: bool,
+}
+
+impl<W: Write> WriteOutlet<W> {
+    ghost use Rattle.std.specs.Prelude.{◌≡◌, false};
+
+    /// The writer as an outlet that has not failed.
+    pub fn new(writer: W) -> WriteOutlet<W>
+        ensures { result.failed ≡ false }
+    {
+        WriteOutlet {
+            writer,
+            failed: false,
+        }
+    }
+}
+
+impl<W: Write> Outlet for WriteOutlet<W> {
+    ghost written = { λ _. None };
+
+    ghost is_failed = { λ s. s.failed };
+
+    fn write(&mut self, bytes: &[u8]) -> Option<usize> {
+        match self.writer.write(bytes) {
+            Ok(count) => {
+                if count == 0 && !bytes.is_empty() {
+                    self.failed = true;
+                }
+                Some(count)
+            }
+            Err(_) => {
+                self.failed = true;
+                None
+            }
+        }
+    }
+
+    fn failed(&self) -> bool {
+        self.failed
+    }
+}

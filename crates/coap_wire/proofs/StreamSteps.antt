@@ -1,0 +1,625 @@
+-- Reading a stream step by step: what stands at its front, and what more bytes behind it change.
+use Rattle.std.proofs.Common.{◌≡◌, ℕ, zero, suc, ◌+◌, ◌-◌, ◌/◌, ◌%◌, ◌<◌, ◌≤◌, Bool, true, false, cond, eqb, ltb, List, [], ◌∷◌, ◌++◌, length, take, drop, Option, Some, None, Result, Ok, Err, ◌⊎◌, inl, inr, refl, sym, ap, subst, ◌∙◌, arith}
+use Rattle.std.specs.Int.{w16, w32, from_be_bytes}
+use Rattle.std.proofs.lemmas.Bool.{lt-ltb, le-ltb, cases_lt}
+use Rattle.std.proofs.lemmas.List.{length-append, length-drop, length-take-le, take-append-drop, take-append-le, drop-append-le, take_all, drop_all}
+use Rattle.coap_wire.specs.Message.{Message}
+use Rattle.coap_wire.specs.declared.frame.Declared.{Declared}
+use Rattle.coap_wire.specs.declared.frame.Declared.TheVariants.{Unknown, Size, BadToken}
+use Rattle.coap_wire.specs.declared.fault.FormatFault.{FormatFault}
+use Rattle.coap_wire.specs.Reading.{one_byte_at, two_bytes_at, four_bytes_at, plus, length_at, size_from, declared_of, message_of}
+use Rattle.coap_wire.specs.Stream.{StreamFault, TokenLength, TooLarge, Format, Beginning, Unfinished, Whole, Faulty, begun, beginning, extension_of, size_bytes, Stream, fault_bytes, with_message, frame_then, begun_then, split_within, split}
+use Rattle.coap_wire.proofs.BodySteps.{some_is}
+use Rattle.coap_wire.proofs.NumberLaws.{option_cases}
+use Rattle.coap_wire.proofs.BodyLaws.{result_cases}
+
+-- ---- the length behind a nibble
+
+-- at reads a number from the first n bytes, and leaves the others
+record ReadsFrom (n : ℕ) (at : List ℕ → Option (ℕ × List ℕ)) : Type 0 where
+  more : (s t : List ℕ) (y : ℕ × List ℕ) → at s ≡ Some y → at (s ++ t) ≡ Some (y.0, y.1 ++ t)
+  taken : (s : List ℕ) (y : ℕ × List ℕ) → at s ≡ Some y → length s ≡ n + length y.1
+  missing : (s : List ℕ) → at s ≡ None → length s < n
+
+same_more : (n : ℕ) (s t : List ℕ) (y : ℕ × List ℕ) → ◌≡◌ {A = Option (ℕ × List ℕ)} (Some (n, s)) (Some y) → ◌≡◌ {A = Option (ℕ × List ℕ)} (Some (n, s ++ t)) (Some (y.0, y.1 ++ t))
+same_more n s t y e =
+    let longer : ℕ × List ℕ → Option (ℕ × List ℕ) = λ p. Some (p.0, p.1 ++ t) in
+    ap longer (some_is (n, s) y e)
+
+same_rest : (n : ℕ) (s : List ℕ) (y : ℕ × List ℕ) → ◌≡◌ {A = Option (ℕ × List ℕ)} (Some (n, s)) (Some y) → length s ≡ length y.1
+same_rest n s y e = ap (λ (p : ℕ × List ℕ). length p.1) (some_is (n, s) y e)
+
+none_or_some : {A : Type 0} (x : A) → ◌≡◌ {A = Option A} None (Some x) → ⊥
+none_or_some x e = cc
+
+reads_none : (x : ℕ) → ReadsFrom 0 (λ s. Some (x, s))
+reads_none x = record {
+  more = λ s t y e. same_more x s t y e;
+  taken = λ s y e. omega (arith, same_rest x s y e);
+  missing = λ s e. absurd (none_or_some (x, s) (sym e));
+}
+
+one_more : (k : ℕ) (s t : List ℕ) (y : ℕ × List ℕ) → plus k (one_byte_at s) ≡ Some y → plus k (one_byte_at (s ++ t)) ≡ Some (y.0, y.1 ++ t)
+unfolding one_byte_at
+one_more k [] t y e = absurd (none_or_some y e)
+one_more k (b ∷ s) t y e = same_more (b + k) s t y e
+
+one_taken : (k : ℕ) (s : List ℕ) (y : ℕ × List ℕ) → plus k (one_byte_at s) ≡ Some y → length s ≡ 1 + length y.1
+unfolding one_byte_at
+one_taken k [] y e = absurd (none_or_some y e)
+one_taken k (b ∷ s) y e = omega (arith, same_rest (b + k) s y e)
+
+one_missing : (k : ℕ) (s : List ℕ) → plus k (one_byte_at s) ≡ None → length s < 1
+unfolding one_byte_at
+one_missing k [] e = omega arith
+one_missing k (b ∷ s) e = absurd (none_or_some (b + k, s) (sym e))
+
+reads_one : (k : ℕ) → ReadsFrom 1 (λ s. plus k (one_byte_at s))
+reads_one k = record { more = one_more k; taken = one_taken k; missing = one_missing k }
+
+-- a number of n bytes, and the bytes after it
+abbrev number_of : ℕ → ℕ → (List ℕ → ℕ) → List ℕ → Option (ℕ × List ℕ)
+number_of k n value s = plus k (cond (ltb (length s) n) None (Some (value (take n s), drop n s)))
+
+number_short : (k n : ℕ) (value : List ℕ → ℕ) (s : List ℕ) → length s < n → number_of k n value s ≡ None
+number_short k n value s h = rw (lt-ltb (length s) n h) refl
+
+number_long : (k n : ℕ) (value : List ℕ → ℕ) (s : List ℕ) → n ≤ length s → number_of k n value s ≡ Some (value (take n s) + k, drop n s)
+number_long k n value s h = rw (le-ltb (length s) n h) refl
+
+number_more : (k n : ℕ) (value : List ℕ → ℕ) (s t : List ℕ) (y : ℕ × List ℕ) → number_of k n value s ≡ Some y → number_of k n value (s ++ t) ≡ Some (y.0, y.1 ++ t)
+number_more k n value s t y e =
+    elim (cases_lt (length s) n) [
+      | inl short ↦ absurd (none_or_some y (sym (number_short k n value s short) ∙ e))
+      | inr long ↦
+          number_long k n value (s ++ t) (omega (arith, length-append s t))
+          ∙ rw (take-append-le n s t long, drop-append-le n s t long) (same_more (value (take n s) + k) (drop n s) t y (sym (number_long k n value s long) ∙ e))
+    ]
+
+number_taken : (k n : ℕ) (value : List ℕ → ℕ) (s : List ℕ) (y : ℕ × List ℕ) → number_of k n value s ≡ Some y → length s ≡ n + length y.1
+number_taken k n value s y e =
+    elim (cases_lt (length s) n) [
+      | inl short ↦ absurd (none_or_some y (sym (number_short k n value s short) ∙ e))
+      | inr long ↦ omega (arith, length-drop n s, same_rest (value (take n s) + k) (drop n s) y (sym (number_long k n value s long) ∙ e))
+    ]
+
+number_missing : (k n : ℕ) (value : List ℕ → ℕ) (s : List ℕ) → number_of k n value s ≡ None → length s < n
+number_missing k n value s e =
+    elim (cases_lt (length s) n) [
+      | inl short ↦ short
+      | inr long ↦ absurd (none_or_some (value (take n s) + k, drop n s) (sym e ∙ number_long k n value s long))
+    ]
+
+reads_number : (k n : ℕ) (value : List ℕ → ℕ) → ReadsFrom n (λ s. number_of k n value s)
+reads_number k n value = record { more = number_more k n value; taken = number_taken k n value; missing = number_missing k n value }
+
+reads_by : (small one two : Bool) (x : ℕ) → ReadsFrom (cond small 0 (cond one 1 (cond two 2 4))) (λ s. cond small (Some (x, s)) (cond one (plus 13 (one_byte_at s)) (cond two (number_of 269 2 (from_be_bytes w16) s) (number_of 65805 4 (from_be_bytes w32) s))))
+reads_by true one two x = reads_none x
+reads_by false true two x = reads_one 13
+reads_by false false true x = reads_number 269 2 (from_be_bytes w16)
+reads_by false false false x = reads_number 65805 4 (from_be_bytes w32)
+
+reads_length : (x : ℕ) → ReadsFrom (extension_of x) (λ s. length_at x s)
+unfolding length_at two_bytes_at four_bytes_at
+reads_length x = reads_by (ltb x 13) (eqb x 13) (eqb x 14) x
+
+-- a length that is read stays read, whatever comes behind it
+pub length_at_more : (x : ℕ) (s t : List ℕ) (y : ℕ × List ℕ) → length_at x s ≡ Some y → length_at x (s ++ t) ≡ Some (y.0, y.1 ++ t)
+length_at_more x s t y e = (reads_length x).more s t y e
+
+-- a length takes its extension, and no more
+pub length_at_taken : (x : ℕ) (s : List ℕ) (y : ℕ × List ℕ) → length_at x s ≡ Some y → length s ≡ extension_of x + length y.1
+length_at_taken x s y e = (reads_length x).taken s y e
+
+-- where no length can be read, its extension is not all there
+pub length_at_missing : (x : ℕ) (s : List ℕ) → length_at x s ≡ None → length s < extension_of x
+length_at_missing x s e = (reads_length x).missing s e
+
+-- ---- the declared size
+
+declared_nothing : declared_of [] ≡ Unknown
+unfolding declared_of
+declared_nothing = refl
+
+declared_bad : (b : ℕ) (s : List ℕ) → 8 < b % 16 → declared_of (b ∷ s) ≡ BadToken
+unfolding declared_of
+declared_bad b s h = rw (lt-ltb 8 (b % 16) h) refl
+
+declared_good : (b : ℕ) (s : List ℕ) → b % 16 ≤ 8 → declared_of (b ∷ s) ≡ size_from (b % 16) s (length_at (b / 16) s)
+unfolding declared_of
+declared_good b s h = rw (le-ltb 8 (b % 16) h) refl
+
+bad_not_size : (n : ℕ) → BadToken ≡ Size n → ⊥
+bad_not_size n e = cc
+
+bad_not_unknown : BadToken ≡ Unknown → ⊥
+bad_not_unknown e = cc
+
+unknown_not_size : (n : ℕ) → Unknown ≡ Size n → ⊥
+unknown_not_size n e = cc
+
+unknown_not_bad : Unknown ≡ BadToken → ⊥
+unknown_not_bad e = cc
+
+same_size : (m n : ℕ) → Size m ≡ Size n → m ≡ n
+same_size m n e = cc
+
+-- the length y is read behind the first byte b, and the size is n
+record HasSize (b : ℕ) (s : List ℕ) (n : ℕ) : Type 0 where
+  after : ℕ × List ℕ
+  token : b % 16 ≤ 8
+  is : length_at (b / 16) s ≡ Some after
+  size : n ≡ 1 + (length s - length after.1) + 1 + b % 16 + after.0
+
+size_at : (b : ℕ) (s : List ℕ) (n : ℕ) → declared_of (b ∷ s) ≡ Size n → HasSize b s n
+size_at b s n e =
+    elim (cases_lt 8 (b % 16)) [
+      | inl bad ↦ absurd (bad_not_size n (sym (declared_bad b s bad) ∙ e))
+      | inr good ↦ elim (option_cases (length_at (b / 16) s)) [
+        | inl y ↦ record {
+          after = y.0;
+          token = good;
+          is = y.1;
+          size = same_size n _ (sym e ∙ declared_good b s good ∙ ap (size_from (b % 16) s) y.1);
+        }
+        | inr none ↦ absurd (unknown_not_size n (sym (ap (size_from (b % 16) s) none) ∙ sym (declared_good b s good) ∙ e))
+      ]
+    ]
+
+-- a size that is known has the bytes that state it
+size_at_bytes : (b : ℕ) (s : List ℕ) (n : ℕ) → declared_of (b ∷ s) ≡ Size n → (size_bytes (b ∷ s) < n) × (size_bytes (b ∷ s) ≤ length (b ∷ s))
+size_at_bytes b s n e =
+    let h = size_at b s n e in
+    let k : length s ≡ extension_of (b / 16) + length h.after.1 = length_at_taken (b / 16) s h.after h.is in
+    let size : n ≡ 1 + (length s - length h.after.1) + 1 + b % 16 + h.after.0 = h.size in
+    (omega arith, omega arith)
+
+-- the size is above the number of bytes up to the last byte of the length, and these are there
+pub size_has_bytes : (s : List ℕ) (n : ℕ) → declared_of s ≡ Size n → (size_bytes s < n) × (size_bytes s ≤ length s)
+size_has_bytes [] n e = absurd (unknown_not_size n (sym declared_nothing ∙ e))
+size_has_bytes (b ∷ s) n e = size_at_bytes b s n e
+
+-- where no size is known yet, a byte of the length is missing
+unknown_at : (b : ℕ) (s : List ℕ) → declared_of (b ∷ s) ≡ Unknown → length (b ∷ s) < size_bytes (b ∷ s)
+unknown_at b s e =
+    elim (cases_lt 8 (b % 16)) [
+      | inl bad ↦ absurd (bad_not_unknown (sym (declared_bad b s bad) ∙ e))
+      | inr good ↦ elim (option_cases (length_at (b / 16) s)) [
+        | inl y ↦ absurd (unknown_not_size _ (sym e ∙ declared_good b s good ∙ ap (size_from (b % 16) s) y.1))
+        | inr none ↦ let k : length s < extension_of (b / 16) = length_at_missing (b / 16) s none in omega arith
+      ]
+    ]
+
+-- a size that is declared stays declared, whatever comes behind it
+pub declared_more : (s t : List ℕ) (n : ℕ) → declared_of s ≡ Size n → declared_of (s ++ t) ≡ Size n
+declared_more [] t n e = absurd (unknown_not_size n (sym declared_nothing ∙ e))
+declared_more (b ∷ s) t n e =
+    let h = size_at b s n e in
+    let size : n ≡ 1 + (length s - length h.after.1) + 1 + b % 16 + h.after.0 = h.size in
+    let same : 1 + (length (s ++ t) - length (h.after.1 ++ t)) + 1 + b % 16 + h.after.0 ≡ n = omega (arith, length-append s t, length-append h.after.1 t) in
+    declared_good b (s ++ t) h.token ∙ ap (size_from (b % 16) (s ++ t)) (length_at_more (b / 16) s t h.after h.is) ∙ ap Size same
+
+bad_at : (b : ℕ) (s : List ℕ) → declared_of (b ∷ s) ≡ BadToken → 8 < b % 16
+bad_at b s e =
+    elim (cases_lt 8 (b % 16)) [
+      | inl bad ↦ bad
+      | inr good ↦ elim (option_cases (length_at (b / 16) s)) [
+        | inl y ↦ absurd (bad_not_size _ (sym e ∙ declared_good b s good ∙ ap (size_from (b % 16) s) y.1))
+        | inr none ↦ absurd (unknown_not_bad (sym (ap (size_from (b % 16) s) none) ∙ sym (declared_good b s good) ∙ e))
+      ]
+    ]
+
+-- a token length above 8 stays declared, whatever comes behind it
+pub bad_token_more : (s t : List ℕ) → declared_of s ≡ BadToken → declared_of (s ++ t) ≡ BadToken
+bad_token_more [] t e = absurd (unknown_not_bad (sym declared_nothing ∙ e))
+bad_token_more (b ∷ s) t e = declared_bad b (s ++ t) (bad_at b s e)
+
+size_bytes_positive : (s : List ℕ) (n : ℕ) → declared_of s ≡ Size n → 1 ≤ size_bytes s
+size_bytes_positive [] n e = absurd (unknown_not_size n (sym declared_nothing ∙ e))
+size_bytes_positive (b ∷ s) n e = omega arith
+
+-- a frame has its first byte and its code at least
+pub declared_positive : (s : List ℕ) (n : ℕ) → declared_of s ≡ Size n → 2 ≤ n
+declared_positive s n e =
+    let h = size_has_bytes s n e in
+    let k = size_bytes_positive s n e in
+    omega arith
+
+-- the first byte says where the length ends
+pub size_bytes_more : (s t : List ℕ) → 1 ≤ length s → size_bytes (s ++ t) ≡ size_bytes s
+size_bytes_more [] t h = absurd (omega arith)
+size_bytes_more (b ∷ s) t h = refl
+
+-- there is a byte where something is declared
+pub declared_some : (s : List ℕ) → (declared_of s ≡ Unknown → ⊥) → 1 ≤ length s
+declared_some [] h = absurd (h declared_nothing)
+declared_some (b ∷ s) h = omega arith
+
+-- a size that one more byte makes known is known at that byte
+pub size_at_last : (s : List ℕ) (b n : ℕ) → declared_of s ≡ Unknown → declared_of (s ++ b ∷ []) ≡ Size n → size_bytes (s ++ b ∷ []) ≡ length (s ++ b ∷ [])
+size_at_last [] b n u e =
+    let h = size_has_bytes (b ∷ []) n e in
+    let k = size_bytes_positive (b ∷ []) n e in
+    omega arith
+size_at_last (a ∷ s) b n u e =
+    let h = size_has_bytes (a ∷ (s ++ b ∷ [])) n e in
+    let k : length (a ∷ s) < size_bytes (a ∷ s) = unknown_at a s u in
+    omega (arith, length-append s (b ∷ []))
+
+-- ---- what stands at the front
+
+-- where no size is known yet, nothing stands at the front
+pub begin_unknown : (M : ℕ) (s : List ℕ) → declared_of s ≡ Unknown → beginning M s ≡ Unfinished
+unfolding beginning
+begin_unknown M s e = ap (begun M s) e
+
+-- a token length above 8 stands at the front
+pub begin_bad_token : (M : ℕ) (s : List ℕ) → declared_of s ≡ BadToken → beginning M s ≡ Faulty TokenLength
+unfolding beginning
+begin_bad_token M s e = ap (begun M s) e
+
+-- a size above M stands at the front
+pub begin_too_large : (M : ℕ) (s : List ℕ) (n : ℕ) → declared_of s ≡ Size n → M < n → beginning M s ≡ Faulty TooLarge
+unfolding beginning
+begin_too_large M s n e h = ap (begun M s) e ∙ rw (lt-ltb M n h) refl
+
+-- where a byte of a frame of at most M bytes is missing, nothing stands at the front
+pub begin_short : (M : ℕ) (s : List ℕ) (n : ℕ) → declared_of s ≡ Size n → n ≤ M → length s < n → beginning M s ≡ Unfinished
+unfolding beginning
+begin_short M s n e h k = ap (begun M s) e ∙ rw (le-ltb M n h, lt-ltb (length s) n k) refl
+
+-- a whole frame stands at the front
+pub begin_whole : (M : ℕ) (s : List ℕ) (n : ℕ) → declared_of s ≡ Size n → n ≤ M → n ≤ length s → beginning M s ≡ Whole (take n s) (drop n s)
+unfolding beginning
+begin_whole M s n e h k = ap (begun M s) e ∙ rw (le-ltb M n h, le-ltb (length s) n k) refl
+
+-- a size of at most M is known, and a byte of the frame is missing
+record IsShort (M : ℕ) (s : List ℕ) : Type 0 where
+  size : ℕ
+  declared : declared_of s ≡ Size size
+  small : size ≤ M
+  short : length s < size
+
+-- the frame and what stands behind it
+record IsWhole (M : ℕ) (s frame rest : List ℕ) : Type 0 where
+  size : ℕ
+  declared : declared_of s ≡ Size size
+  small : size ≤ M
+  long : size ≤ length s
+  front : take size s ≡ frame
+  behind : drop size s ≡ rest
+
+-- what is known of s where this stands at its front
+abbrev IsBegun : ℕ → List ℕ → Beginning → Type 0
+IsBegun M s Unfinished = (declared_of s ≡ Unknown) ⊎ IsShort M s
+IsBegun M s (Whole frame rest) = IsWhole M s frame rest
+IsBegun M s (Faulty TokenLength) = declared_of s ≡ BadToken
+IsBegun M s (Faulty TooLarge) = (n : ℕ) × (declared_of s ≡ Size n) × (M < n)
+IsBegun M s (Faulty Format) = ⊥
+
+begun_of_size : (M : ℕ) (s : List ℕ) (n : ℕ) → declared_of s ≡ Size n → IsBegun M s (beginning M s)
+begun_of_size M s n e =
+    elim (cases_lt M n) [
+      | inl large ↦ subst (IsBegun M s) (sym (begin_too_large M s n e large)) (n, e, large)
+      | inr small ↦ elim (cases_lt (length s) n) [
+        | inl short ↦ subst (IsBegun M s) (sym (begin_short M s n e small short)) (inr (record { size = n; declared = e; small = small; short = short }))
+        | inr long ↦ subst (IsBegun M s) (sym (begin_whole M s n e small long)) (record { size = n; declared = e; small = small; long = long; front = refl; behind = refl })
+      ]
+    ]
+
+begun_by : (M : ℕ) (s : List ℕ) (d : Declared) → declared_of s ≡ d → IsBegun M s (beginning M s)
+begun_by M s Unknown e = subst (IsBegun M s) (sym (begin_unknown M s e)) (inl e)
+begun_by M s (Size n) e = begun_of_size M s n e
+begun_by M s BadToken e = subst (IsBegun M s) (sym (begin_bad_token M s e)) e
+
+begun_is : (M : ℕ) (s : List ℕ) (b : Beginning) → beginning M s ≡ b → IsBegun M s b
+begun_is M s b e = subst (IsBegun M s) e (begun_by M s (declared_of s) refl)
+
+-- nothing stands at the front of no bytes
+pub unfinished_empty : (M : ℕ) → beginning M [] ≡ Unfinished
+unfinished_empty M = begin_unknown M [] declared_nothing
+
+-- the frame and the rest are all the bytes, and the frame is as long as it declares
+pub record IsCut (M : ℕ) (s frame rest : List ℕ) : Type 0 where
+  pub bytes : s ≡ frame ++ rest
+  pub some : 2 ≤ length frame
+  pub small : length frame ≤ M
+  pub declared : declared_of s ≡ Size (length frame)
+
+-- a frame and what stands behind it
+pub whole_parts : (M : ℕ) (s frame rest : List ℕ) → beginning M s ≡ Whole frame rest → IsCut M s frame rest
+whole_parts M s frame rest e =
+    let w : IsWhole M s frame rest = begun_is M s (Whole frame rest) e in
+    let len : length frame ≡ w.size = sym (ap (λ (l : List ℕ). length l) w.front) ∙ length-take-le w.size s w.long in
+    record {
+      bytes = sym (take-append-drop w.size s) ∙ (λ i. w.front i ++ w.behind i);
+      some = omega (arith, declared_positive s w.size w.declared);
+      small = omega (arith, w.small);
+      declared = w.declared ∙ ap Size (sym len);
+    }
+
+-- behind a frame less is left
+pub whole_shorter : (M : ℕ) (s frame rest : List ℕ) → beginning M s ≡ Whole frame rest → length rest < length s
+whole_shorter M s frame rest e =
+    let c = whole_parts M s frame rest e in
+    omega (arith, c.some, ap (λ (l : List ℕ). length l) c.bytes, length-append frame rest)
+
+-- where the front has a token length above 8, it is declared so
+pub token_length_declared : (M : ℕ) (s : List ℕ) → beginning M s ≡ Faulty TokenLength → declared_of s ≡ BadToken
+token_length_declared M s e = begun_is M s (Faulty TokenLength) e
+
+-- where the front is too large, its size is declared
+pub too_large_declared : (M : ℕ) (s : List ℕ) → beginning M s ≡ Faulty TooLarge → (n : ℕ) × (declared_of s ≡ Size n) × (M < n)
+too_large_declared M s e = begun_is M s (Faulty TooLarge) e
+
+-- the front alone is never a frame that spells no message
+pub format_not_begun : (M : ℕ) (s : List ℕ) → beginning M s ≡ Faulty Format → ⊥
+format_not_begun M s e = begun_is M s (Faulty Format) e
+
+-- a whole frame stays whole, whatever comes behind it
+pub whole_more : (M : ℕ) (s t frame rest : List ℕ) → beginning M s ≡ Whole frame rest → beginning M (s ++ t) ≡ Whole frame (rest ++ t)
+whole_more M s t frame rest e =
+    let w : IsWhole M s frame rest = begun_is M s (Whole frame rest) e in
+    begin_whole M (s ++ t) w.size (declared_more s t w.size w.declared) w.small (omega (arith, length-append s t, w.long))
+    ∙ rw (take-append-le w.size s t w.long, drop-append-le w.size s t w.long) (λ i. Whole (w.front i) (w.behind i ++ t))
+
+-- a fault stays the fault, whatever comes behind it
+pub faulty_more : (M : ℕ) (s t : List ℕ) (fault : StreamFault) → beginning M s ≡ Faulty fault → beginning M (s ++ t) ≡ Faulty fault
+faulty_more M s t TokenLength e = begin_bad_token M (s ++ t) (bad_token_more s t (begun_is M s (Faulty TokenLength) e))
+faulty_more M s t TooLarge e =
+    let f : (n : ℕ) × (declared_of s ≡ Size n) × (M < n) = begun_is M s (Faulty TooLarge) e in
+    begin_too_large M (s ++ t) f.0 (declared_more s t f.0 f.1) f.2
+faulty_more M s t Format e = absurd (begun_is M s (Faulty Format) e)
+
+bad_has_byte : (s : List ℕ) → declared_of s ≡ BadToken → 1 ≤ length s
+bad_has_byte s e = declared_some s (λ u. unknown_not_bad (sym u ∙ e))
+
+-- the byte of a fault stands among the bytes at which it was known
+pub fault_bytes_more : (M : ℕ) (s t : List ℕ) (fault : StreamFault) → beginning M s ≡ Faulty fault → fault_bytes fault (s ++ t) ≡ fault_bytes fault s
+fault_bytes_more M s t TokenLength e = take-append-le 1 s t (bad_has_byte s (begun_is M s (Faulty TokenLength) e))
+fault_bytes_more M s t TooLarge e =
+    let f : (n : ℕ) × (declared_of s ≡ Size n) × (M < n) = begun_is M s (Faulty TooLarge) e in
+    let h = size_has_bytes s f.0 f.1 in
+    ap (λ (n : ℕ). take n (s ++ t)) (size_bytes_more s t (omega (arith, size_bytes_positive s f.0 f.1))) ∙ take-append-le (size_bytes s) s t h.1
+fault_bytes_more M s t Format e = absurd (begun_is M s (Faulty Format) e)
+
+last_is_size : (M : ℕ) (s : List ℕ) (b size : ℕ) → beginning M s ≡ Unfinished → declared_of (s ++ b ∷ []) ≡ Size size → size ≤ length (s ++ b ∷ []) → size ≡ length (s ++ b ∷ [])
+last_is_size M s b size u d long =
+    let len : length (s ++ b ∷ []) ≡ length s + 1 = length-append s (b ∷ []) in
+    elim (begun_is M s Unfinished u) [
+      | inl unknown ↦ absurd (omega (arith, size_at_last s b size unknown d, size_has_bytes (s ++ b ∷ []) size d))
+      | inr short ↦
+          let same : short.size ≡ size = same_size short.size size (sym (declared_more s (b ∷ []) short.size short.declared) ∙ d) in
+          omega (arith, short.short)
+    ]
+
+-- a frame that one more byte completes ends with that byte
+pub whole_at_last : (M : ℕ) (s : List ℕ) (b : ℕ) (frame rest : List ℕ) → beginning M s ≡ Unfinished → beginning M (s ++ b ∷ []) ≡ Whole frame rest → (rest ≡ []) × (frame ≡ s ++ b ∷ [])
+whole_at_last M s b frame rest u e =
+    let w : IsWhole M (s ++ b ∷ []) frame rest = begun_is M (s ++ b ∷ []) (Whole frame rest) e in
+    let size = last_is_size M s b w.size u w.declared w.long in
+    (sym w.behind ∙ drop_all w.size (s ++ b ∷ []) (omega arith), sym w.front ∙ take_all w.size (s ++ b ∷ []) (omega arith))
+
+unfinished_not_faulty : (M : ℕ) (s : List ℕ) (fault : StreamFault) → beginning M s ≡ Unfinished → beginning M s ≡ Faulty fault → ⊥
+unfinished_not_faulty M s fault u e = cc
+
+unfinished_not_whole : (M : ℕ) (s frame rest : List ℕ) → beginning M s ≡ Unfinished → beginning M s ≡ Whole frame rest → ⊥
+unfinished_not_whole M s frame rest u e = cc
+
+bad_at_last : (M : ℕ) (s : List ℕ) (b : ℕ) → beginning M s ≡ Unfinished → declared_of (s ++ b ∷ []) ≡ BadToken → take 1 (s ++ b ∷ []) ≡ s ++ b ∷ []
+bad_at_last M [] b u e = refl
+bad_at_last M (a ∷ s) b u e =
+    let bad : 8 < a % 16 = bad_at a (s ++ b ∷ []) e in
+    absurd (unfinished_not_faulty M (a ∷ s) TokenLength u (begin_bad_token M (a ∷ s) (declared_bad a s bad)))
+
+large_at_last : (M : ℕ) (s : List ℕ) (b n : ℕ) → beginning M s ≡ Unfinished → declared_of (s ++ b ∷ []) ≡ Size n → M < n → take (size_bytes (s ++ b ∷ [])) (s ++ b ∷ []) ≡ s ++ b ∷ []
+large_at_last M s b n u e large =
+    elim (begun_is M s Unfinished u) [
+      | inl unknown ↦ take_all (size_bytes (s ++ b ∷ [])) (s ++ b ∷ []) (omega (arith, size_at_last s b n unknown e))
+      | inr short ↦
+          let same : short.size ≡ n = same_size short.size n (sym (declared_more s (b ∷ []) short.size short.declared) ∙ e) in
+          absurd (omega (arith, short.small))
+    ]
+
+-- a fault that one more byte makes known is known at that byte
+pub fault_at_last : (M : ℕ) (s : List ℕ) (b : ℕ) (fault : StreamFault) → beginning M s ≡ Unfinished → beginning M (s ++ b ∷ []) ≡ Faulty fault → fault_bytes fault (s ++ b ∷ []) ≡ s ++ b ∷ []
+fault_at_last M s b TokenLength u e = bad_at_last M s b u (begun_is M (s ++ b ∷ []) (Faulty TokenLength) e)
+fault_at_last M s b TooLarge u e =
+    let f : (n : ℕ) × (declared_of (s ++ b ∷ []) ≡ Size n) × (M < n) = begun_is M (s ++ b ∷ []) (Faulty TooLarge) e in
+    large_at_last M s b f.0 u f.1 f.2
+fault_at_last M s b Format u e = refl
+
+extension_by_small : (small one two : Bool) → cond small 0 (cond one 1 (cond two 2 4)) ≤ 4
+extension_by_small true one two = omega arith
+extension_by_small false true two = omega arith
+extension_by_small false false true = omega arith
+extension_by_small false false false = omega arith
+
+-- a length has at most four bytes of extension
+pub extension_small : (x : ℕ) → extension_of x ≤ 4
+extension_small x = extension_by_small (ltb x 13) (eqb x 13) (eqb x 14)
+
+unknown_small : (s : List ℕ) → declared_of s ≡ Unknown → length s < 5
+unknown_small [] e = omega arith
+unknown_small (b ∷ s) e =
+    let k : length (b ∷ s) < size_bytes (b ∷ s) = unknown_at b s e in
+    omega (arith, extension_small (b / 16))
+
+-- what is not finished has fewer bytes than a length takes, or than the greatest frame
+pub unfinished_small : (M : ℕ) (s : List ℕ) → beginning M s ≡ Unfinished → (length s < 5) ⊎ (length s < M)
+unfinished_small M s u =
+    elim (begun_is M s Unfinished u) [
+      | inl unknown ↦ inl (unknown_small s unknown)
+      | inr short ↦ inr (omega (arith, short.small, short.short))
+    ]
+
+-- what is not finished has fewer than M bytes, where M is at least 5
+pub unfinished_below : (M : ℕ) (s : List ℕ) → 5 ≤ M → beginning M s ≡ Unfinished → length s < M
+unfinished_below M s h u =
+    elim (unfinished_small M s u) [
+      | inl few ↦ omega arith
+      | inr below ↦ below
+    ]
+
+-- ---- the turns do not matter
+
+frame_same : (go hop : List ℕ → Stream) (frame rest : List ℕ) (r : Result Message FormatFault) → go rest ≡ hop rest → frame_then go frame rest r ≡ frame_then hop frame rest r
+frame_same go hop frame rest (Ok m) h = ap (with_message m) h
+frame_same go hop frame rest (Err e) h = refl
+
+-- two readers that agree behind each frame
+then_same : (go hop : List ℕ → Stream) (s : List ℕ) (b : Beginning) → ((frame rest : List ℕ) → b ≡ Whole frame rest → go rest ≡ hop rest) → begun_then go s b ≡ begun_then hop s b
+then_same go hop s Unfinished h = refl
+then_same go hop s (Faulty fault) h = refl
+then_same go hop s (Whole frame rest) h = frame_same go hop frame rest (message_of frame) (h frame rest refl)
+
+within_end : (turns M : ℕ) → split_within turns M [] ≡ record { messages = []; rest = []; fault = None }
+unfolding split_within
+within_end zero M = refl
+within_end (suc turns) M = ap (begun_then (split_within turns M) []) (unfinished_empty M)
+
+within_same : (m n M : ℕ) (s : List ℕ) → length s ≤ m → length s ≤ n → split_within m M s ≡ split_within n M s
+unfolding split_within
+within_same m n M [] p q = within_end m M ∙ sym (within_end n M)
+within_same zero n M (b ∷ s) p q = absurd (omega arith)
+within_same (suc m) zero M (b ∷ s) p q = absurd (omega arith)
+within_same (suc m) (suc n) M (b ∷ s) p q =
+    then_same (split_within m M) (split_within n M) (b ∷ s) (beginning M (b ∷ s))
+    (λ frame rest e.
+    let k : length rest < length (b ∷ s) = whole_shorter M (b ∷ s) frame rest e in
+    within_same m n M rest (omega arith) (omega arith))
+
+-- no more turns are needed than there are bytes
+pub split_enough : (turns M : ℕ) (s : List ℕ) → length s ≤ turns → split_within turns M s ≡ split M s
+unfolding split
+split_enough turns M s h = within_same turns (length s) M s h (omega arith)
+
+-- ---- the steps
+
+-- what bytes spell is what stands at their front, and then what the others spell
+pub split_step : (M : ℕ) (s : List ℕ) → split M s ≡ begun_then (split M) s (beginning M s)
+unfolding split_within
+split_step M s =
+    sym (split_enough (suc (length s)) M s (omega arith))
+    ∙ then_same (split_within (length s) M) (split M) s (beginning M s)
+    (λ frame rest e. split_enough (length s) M rest (omega (arith, whole_shorter M s frame rest e)))
+
+-- what is not finished is left
+pub split_unfinished : (M : ℕ) (s : List ℕ) → beginning M s ≡ Unfinished → split M s ≡ record { messages = []; rest = s; fault = None }
+split_unfinished M s e = split_step M s ∙ ap (begun_then (split M) s) e
+
+-- a fault ends the stream
+pub split_faulty : (M : ℕ) (s : List ℕ) (fault : StreamFault) → beginning M s ≡ Faulty fault → split M s ≡ record { messages = []; rest = fault_bytes fault s; fault = Some fault }
+split_faulty M s fault e = split_step M s ∙ ap (begun_then (split M) s) e
+
+-- a frame that spells a message, and then what the others spell
+pub split_message : (M : ℕ) (s frame rest : List ℕ) (m : Message) → beginning M s ≡ Whole frame rest → message_of frame ≡ Ok m → split M s ≡ with_message m (split M rest)
+split_message M s frame rest m e is = split_step M s ∙ ap (begun_then (split M) s) e ∙ ap (frame_then (split M) frame rest) is
+
+-- a frame that spells none ends the stream
+pub split_bad : (M : ℕ) (s frame rest : List ℕ) (e : FormatFault) → beginning M s ≡ Whole frame rest → message_of frame ≡ Err e → split M s ≡ record { messages = []; rest = frame; fault = Some Format }
+split_bad M s frame rest e is bad = split_step M s ∙ ap (begun_then (split M) s) is ∙ ap (frame_then (split M) frame rest) bad
+
+-- ---- the law of going on
+
+-- what the bytes t spell behind a stream that has no fault
+abbrev resumed : ℕ → Stream → List ℕ → Stream
+resumed M first t = record {
+  messages = first.messages ++ (split M (first.rest ++ t)).messages;
+  rest = (split M (first.rest ++ t)).rest;
+  fault = (split M (first.rest ++ t)).fault;
+}
+
+fault_of_faulty : (M : ℕ) (s : List ℕ) (fault : StreamFault) → beginning M s ≡ Faulty fault → (split M s).fault ≡ Some fault
+fault_of_faulty M s fault e = ap (λ (stream : Stream). stream.fault) (split_faulty M s fault e)
+
+fault_of_bad : (M : ℕ) (s frame rest : List ℕ) (e : FormatFault) → beginning M s ≡ Whole frame rest → message_of frame ≡ Err e → (split M s).fault ≡ Some Format
+fault_of_bad M s frame rest e is bad = ap (λ (stream : Stream). stream.fault) (split_bad M s frame rest e is bad)
+
+fault_of_message : (M : ℕ) (s frame rest : List ℕ) (m : Message) → beginning M s ≡ Whole frame rest → message_of frame ≡ Ok m → (split M s).fault ≡ (split M rest).fault
+fault_of_message M s frame rest m e is = ap (λ (stream : Stream). stream.fault) (split_message M s frame rest m e is)
+
+no_fault : (o : Option StreamFault) (fault : StreamFault) → o ≡ Some fault → o ≡ None → ⊥
+no_fault o fault e h = none_or_some fault (sym h ∙ e)
+
+more_step : (M : ℕ) (s t : List ℕ) (b : Beginning) → ((frame rest : List ℕ) → beginning M s ≡ Whole frame rest → (split M rest).fault ≡ None → split M (rest ++ t) ≡ resumed M (split M rest) t) → beginning M s ≡ b → (split M s).fault ≡ None → split M (s ++ t) ≡ resumed M (split M s) t
+more_step M s t Unfinished again e h = ap (λ (first : Stream). resumed M first t) (sym (split_unfinished M s e))
+more_step M s t (Faulty fault) again e h = absurd (no_fault (split M s).fault fault (fault_of_faulty M s fault e) h)
+more_step M s t (Whole frame rest) again e h =
+    elim (result_cases (message_of frame)) [
+      | inl good ↦
+          split_message M (s ++ t) frame (rest ++ t) good.0 (whole_more M s t frame rest e) good.1
+          ∙ ap (with_message good.0) (again frame rest e (sym (fault_of_message M s frame rest good.0 e good.1) ∙ h))
+          ∙ ap (λ (first : Stream). resumed M first t) (sym (split_message M s frame rest good.0 e good.1))
+      | inr bad ↦ absurd (no_fault (split M s).fault Format (fault_of_bad M s frame rest bad.0 e bad.1) h)
+    ]
+
+more_within : (turns M : ℕ) (s t : List ℕ) → length s ≤ turns → (split M s).fault ≡ None → split M (s ++ t) ≡ resumed M (split M s) t
+more_within turns M [] t k h = more_step M [] t Unfinished (λ frame rest e. absurd (unfinished_not_whole M [] frame rest (unfinished_empty M) e)) (unfinished_empty M) h
+more_within zero M (b ∷ s) t k h = absurd (omega arith)
+more_within (suc turns) M (b ∷ s) t k h =
+    more_step M (b ∷ s) t (beginning M (b ∷ s))
+    (λ frame rest e.
+    let shorter : length rest < length (b ∷ s) = whole_shorter M (b ∷ s) frame rest e in
+    more_within turns M rest t (omega arith))
+    refl h
+
+-- What bytes spell goes on from the messages and the rest that the first of them spell, where these have no fault.
+pub split_more : (M : ℕ) (s t : List ℕ) → (split M s).fault ≡ None → split M (s ++ t) ≡ record { messages = (split M s).messages ++ (split M ((split M s).rest ++ t)).messages; rest = (split M ((split M s).rest ++ t)).rest; fault = (split M ((split M s).rest ++ t)).fault }
+split_more M s t h = more_within (length s) M s t (omega arith) h
+
+rest_step : (M : ℕ) (s : List ℕ) (b : Beginning) → ((frame rest : List ℕ) → beginning M s ≡ Whole frame rest → (split M rest).fault ≡ None → beginning M (split M rest).rest ≡ Unfinished) → beginning M s ≡ b → (split M s).fault ≡ None → beginning M (split M s).rest ≡ Unfinished
+rest_step M s Unfinished again e h = ap (λ (stream : Stream). beginning M stream.rest) (split_unfinished M s e) ∙ e
+rest_step M s (Faulty fault) again e h = absurd (no_fault (split M s).fault fault (fault_of_faulty M s fault e) h)
+rest_step M s (Whole frame rest) again e h =
+    elim (result_cases (message_of frame)) [
+      | inl good ↦
+          ap (λ (stream : Stream). beginning M stream.rest) (split_message M s frame rest good.0 e good.1)
+          ∙ again frame rest e (sym (fault_of_message M s frame rest good.0 e good.1) ∙ h)
+      | inr bad ↦ absurd (no_fault (split M s).fault Format (fault_of_bad M s frame rest bad.0 e bad.1) h)
+    ]
+
+rest_within : (turns M : ℕ) (s : List ℕ) → length s ≤ turns → (split M s).fault ≡ None → beginning M (split M s).rest ≡ Unfinished
+rest_within turns M [] k h = rest_step M [] Unfinished (λ frame rest e. absurd (unfinished_not_whole M [] frame rest (unfinished_empty M) e)) (unfinished_empty M) h
+rest_within zero M (b ∷ s) k h = absurd (omega arith)
+rest_within (suc turns) M (b ∷ s) k h =
+    rest_step M (b ∷ s) (beginning M (b ∷ s))
+    (λ frame rest e.
+    let shorter : length rest < length (b ∷ s) = whole_shorter M (b ∷ s) frame rest e in
+    rest_within turns M rest (omega arith))
+    refl h
+
+-- Where there is no fault, what is left is not finished.
+pub split_rest : (M : ℕ) (s : List ℕ) → (split M s).fault ≡ None → beginning M (split M s).rest ≡ Unfinished
+split_rest M s h = rest_within (length s) M s (omega arith) h
+
+stops_step : (M : ℕ) (s t : List ℕ) (b : Beginning) (fault : StreamFault) → ((frame rest : List ℕ) → beginning M s ≡ Whole frame rest → (split M rest).fault ≡ Some fault → split M (rest ++ t) ≡ split M rest) → beginning M s ≡ b → (split M s).fault ≡ Some fault → split M (s ++ t) ≡ split M s
+stops_step M s t Unfinished fault again e h = absurd (no_fault (split M s).fault fault h (ap (λ (stream : Stream). stream.fault) (split_unfinished M s e)))
+stops_step M s t (Faulty first) fault again e h =
+    split_faulty M (s ++ t) first (faulty_more M s t first e)
+    ∙ ap (λ (r : List ℕ). record { messages = []; rest = r; fault = Some first }) (fault_bytes_more M s t first e)
+    ∙ sym (split_faulty M s first e)
+stops_step M s t (Whole frame rest) fault again e h =
+    elim (result_cases (message_of frame)) [
+      | inl good ↦
+          split_message M (s ++ t) frame (rest ++ t) good.0 (whole_more M s t frame rest e) good.1
+          ∙ ap (with_message good.0) (again frame rest e (sym (fault_of_message M s frame rest good.0 e good.1) ∙ h))
+          ∙ sym (split_message M s frame rest good.0 e good.1)
+      | inr bad ↦
+          split_bad M (s ++ t) frame (rest ++ t) bad.0 (whole_more M s t frame rest e) bad.1
+          ∙ sym (split_bad M s frame rest bad.0 e bad.1)
+    ]
+
+stops_within : (turns M : ℕ) (s t : List ℕ) (fault : StreamFault) → length s ≤ turns → (split M s).fault ≡ Some fault → split M (s ++ t) ≡ split M s
+stops_within turns M [] t fault k h = stops_step M [] t Unfinished fault (λ frame rest e. absurd (unfinished_not_whole M [] frame rest (unfinished_empty M) e)) (unfinished_empty M) h
+stops_within zero M (b ∷ s) t fault k h = absurd (omega arith)
+stops_within (suc turns) M (b ∷ s) t fault k h =
+    stops_step M (b ∷ s) t (beginning M (b ∷ s)) fault
+    (λ frame rest e.
+    let shorter : length rest < length (b ∷ s) = whole_shorter M (b ∷ s) frame rest e in
+    stops_within turns M rest t fault (omega arith))
+    refl h
+
+-- Behind a fault nothing is judged.
+pub split_stops : (M : ℕ) (s t : List ℕ) (fault : StreamFault) → (split M s).fault ≡ Some fault → split M (s ++ t) ≡ split M s
+split_stops M s t fault h = stops_within (length s) M s t fault (omega arith) h
