@@ -129,55 +129,75 @@ module _ (M turns read : ℕ) (v after : ConnectionValue) (a b c : Option (List 
   pub ended : (limit : ℕ) (report : Report) → turns < limit → AddsPieces b c ([] ∷ []) → AddsBytes y z [] → after ≡ v → report.read ≡ read → report.messages ≡ after.handled
       → report.reason ≡ end_reason after.frame → Ran M limit a c x z (Ok report)
   ended limit report lt gave wrote same read_is messages_are reason_is =
-      let shows : after ≡ shown M bytes = same ∙ so_far.shows in
-      (longer [], so_far.output ++ [], pieces_then a b c so_far.pieces ([] ∷ []) so_far.told gave, bytes_then x y z so_far.output [] so_far.written wrote, record {
-        before = so_far.pieces;
-        last = [];
-        all = refl;
-        within = omega (arith, counted_more []);
-        goes_on = so_far.goes_on;
-        ended =
-          subst (λ (p : Progress). EndsRun_at p [] report.reason) (sym no_piece)
-          (subst (λ (stop : Option Reason). EndsRun (progress M bytes).rest [] report.reason stop) (sym so_far.goes_on.no_stop) (refl, reason_is ∙ ap (λ (w : ConnectionValue). end_reason w.frame) shows));
-        read = read_is ∙ so_far.read_is ∙ ap length (sym (longer_bytes [] ∙ append-nil bytes));
-        messages = messages_are ∙ ap (λ (w : ConnectionValue). w.handled) shows ∙ ap (λ (p : Progress). p.handled) (sym no_piece);
-        written = ap (λ (o : List ℕ). spelling (own_csm M) ++ o) (append-nil so_far.output ∙ so_far.answers ∙ ap (λ (p : Progress). flat_map spelling p.answers) (sym no_piece));
-      })
+      let shows : after ≡ shown M bytes = same ∙ so_far.shows in (
+        longer [],
+        so_far.output ++ [],
+        pieces_then a b c so_far.pieces ([] ∷ []) so_far.told gave,
+        bytes_then x y z so_far.output [] so_far.written wrote,
+        record {
+          before = so_far.pieces;
+          last = [];
+          all = refl;
+          within = omega (arith, counted_more []);
+          goes_on = so_far.goes_on;
+          ended =
+              subst (λ (p : Progress). EndsRun_at p [] report.reason) (sym no_piece)
+              (subst (λ (stop : Option Reason). EndsRun (progress M bytes).rest [] report.reason stop) (sym so_far.goes_on.no_stop) (refl, reason_is ∙ ap (λ (w : ConnectionValue). end_reason w.frame) shows));
+          read = read_is ∙ so_far.read_is ∙ ap length (sym (longer_bytes [] ∙ append-nil bytes));
+          messages = messages_are ∙ ap (λ (w : ConnectionValue). w.handled) shows ∙ ap (λ (p : Progress). p.handled) (sym no_piece);
+          written = ap (λ (o : List ℕ). spelling (own_csm M) ++ o) (append-nil so_far.output ∙ so_far.answers ∙ ap (λ (p : Progress). flat_map spelling p.answers) (sym no_piece));
+        },
+      )
 
   pub stopped : (limit : ℕ) (report : Report) (byte : ℕ) (why : Reason) → turns < limit → AddsPieces b c ((byte ∷ []) ∷ []) → AddsBytes y z [] → stop_after (step v byte).taken ≡ Some why
       → after ≡ (step v byte).after → report.read ≡ read + 1 → report.messages ≡ after.handled → report.reason ≡ why → Ran M limit a c x z (Ok report)
   stopped limit report byte why lt gave wrote stop_is after_is read_is messages_are reason_is =
       let nothing : answers_of (step v byte).taken ≡ [] = no_answer (step v byte).taken why stop_is in
       let output_is : so_far.output ++ [] ≡ flat_map spelling (progress M (concat (longer (byte ∷ [])))).answers = ap (λ (ms : List Message). so_far.output ++ flat_map spelling ms) (sym nothing) ∙ answers_more byte in
-      let stopped_at : (progress M (concat (longer (byte ∷ [])))).stop ≡ Some why = ap (λ (p : Progress). p.stop) (same_progress (byte ∷ [])) ∙ (moved byte).stop ∙ stop_is in
-      (longer (byte ∷ []), so_far.output ++ [], pieces_then a b c so_far.pieces ((byte ∷ []) ∷ []) so_far.told gave, bytes_then x y z so_far.output [] so_far.written wrote, record {
-        before = so_far.pieces;
-        last = byte ∷ [];
-        all = refl;
-        within = omega (arith, counted_more (byte ∷ []));
-        goes_on = so_far.goes_on;
-        ended = subst (λ (stop : Option Reason). EndsRun (progress M (concat (longer (byte ∷ [])))).rest (byte ∷ []) report.reason stop) (sym stopped_at) reason_is;
-        read = read_is ∙ omega (arith, so_far.read_is, ap length (longer_bytes (byte ∷ [])), length-append bytes (byte ∷ []));
-        messages = messages_are ∙ ap (λ (w : ConnectionValue). w.handled) after_is ∙ sym (moved byte).handled ∙ ap (λ (p : Progress). p.handled) (sym (same_progress (byte ∷ [])));
-        written = ap (λ (o : List ℕ). spelling (own_csm M) ++ o) output_is;
-      })
+      let stopped_at : (progress M (concat (longer (byte ∷ [])))).stop ≡ Some why = ap (λ (p : Progress). p.stop) (same_progress (byte ∷ [])) ∙ (moved byte).stop ∙ stop_is in (
+        longer (byte ∷ []),
+        so_far.output ++ [],
+        pieces_then a b c so_far.pieces ((byte ∷ []) ∷ []) so_far.told gave,
+        bytes_then x y z so_far.output [] so_far.written wrote,
+        record {
+          before = so_far.pieces;
+          last = byte ∷ [];
+          all = refl;
+          within = omega (arith, counted_more (byte ∷ []));
+          goes_on = so_far.goes_on;
+          ended = subst (λ (stop : Option Reason). EndsRun (progress M (concat (longer (byte ∷ [])))).rest (byte ∷ []) report.reason stop) (sym stopped_at) reason_is;
+          read = read_is ∙ omega (arith, so_far.read_is, ap length (longer_bytes (byte ∷ [])), length-append bytes (byte ∷ []));
+          messages = messages_are ∙ ap (λ (w : ConnectionValue). w.handled) after_is ∙ sym (moved byte).handled ∙ ap (λ (p : Progress). p.handled) (sym (same_progress (byte ∷ [])));
+          written = ap (λ (o : List ℕ). spelling (own_csm M) ++ o) output_is;
+        },
+      )
 
   -- ---- the run stops short in this turn
 
   pub failed_read : (limit : ℕ) → turns < limit → AddsPieces b c [] → AddsBytes y z [] → Ran M limit a c x z (Err Read)
-  failed_read limit lt gave wrote =
-      (so_far.pieces ++ [], so_far.output ++ [], pieces_then a b c so_far.pieces [] so_far.told gave, bytes_then x y z so_far.output [] so_far.written wrote,
-      (omega (arith, so_far.counted, ap length (append-nil so_far.pieces)), rw (append-nil so_far.pieces) (record { goes_on = so_far.goes_on; written = ap (λ (o : List ℕ). spelling (own_csm M) ++ o) (append-nil so_far.output ∙ so_far.answers) })))
+  failed_read limit lt gave wrote = (
+    so_far.pieces ++ [],
+    so_far.output ++ [],
+    pieces_then a b c so_far.pieces [] so_far.told gave,
+    bytes_then x y z so_far.output [] so_far.written wrote,
+    (omega (arith, so_far.counted, ap length (append-nil so_far.pieces)), rw (append-nil so_far.pieces) (record { goes_on = so_far.goes_on; written = ap (λ (o : List ℕ). spelling (own_csm M) ++ o) (append-nil so_far.output ∙ so_far.answers) })),
+  )
 
   pub failed_write : (limit byte : ℕ) (part missing : List ℕ) → turns < limit → AddsPieces b c ((byte ∷ []) ∷ []) → AddsBytes y z part → missing ≢ [] → text_of (step v byte).taken ≡ part ++ missing
       → Ran M limit a c x z (Err Write)
   failed_write limit byte part missing lt gave wrote some parts =
       let whole : (spelling (own_csm M) ++ (so_far.output ++ part)) ++ missing ≡ stdio_output M (concat (longer (byte ∷ []))) = append_assoc (spelling (own_csm M)) (so_far.output ++ part) missing
-      ∙ ap (λ (o : List ℕ). spelling (own_csm M) ++ o) (append_assoc so_far.output part missing ∙ ap (λ (t : List ℕ). so_far.output ++ t) (sym parts) ∙ answers_more byte) in
-      (longer (byte ∷ []), so_far.output ++ part, pieces_then a b c so_far.pieces ((byte ∷ []) ∷ []) so_far.told gave, bytes_then x y z so_far.output part so_far.written wrote,
-      (omega (arith, counted_more (byte ∷ [])),
-      inr (so_far.pieces, byte ∷ [], refl, so_far.goes_on, (part, sym (append_assoc (spelling (own_csm M)) so_far.output part) ∙ ap (λ (o : List ℕ). (spelling (own_csm M) ++ o) ++ part) so_far.answers)),
-      record { missing = missing; some = some; written = whole }))
+      ∙ ap (λ (o : List ℕ). spelling (own_csm M) ++ o) (append_assoc so_far.output part missing ∙ ap (λ (t : List ℕ). so_far.output ++ t) (sym parts) ∙ answers_more byte) in (
+        longer (byte ∷ []),
+        so_far.output ++ part,
+        pieces_then a b c so_far.pieces ((byte ∷ []) ∷ []) so_far.told gave,
+        bytes_then x y z so_far.output part so_far.written wrote,
+        (
+          omega (arith, counted_more (byte ∷ [])),
+          inr (so_far.pieces, byte ∷ [], refl, so_far.goes_on, (part, sym (append_assoc (spelling (own_csm M)) so_far.output part) ∙ ap (λ (o : List ℕ). (spelling (own_csm M) ++ o) ++ part) so_far.answers)),
+          record { missing = missing; some = some; written = whole },
+        ),
+      )
 
 -- no turn is left
 pub out_of_turns : (M turns read : ℕ) (v : ConnectionValue) (a b : Option (List (List ℕ))) (x y : Option (List ℕ)) → RunsOn M turns read v a b x y → Ran M turns a b x y (Err Turns)
@@ -222,12 +242,21 @@ next_turn M turns read v after a b c x y z (Stopped why) so_far t is = absurd cc
 -- the own Capabilities and Settings were not written whole
 pub not_announced : (M limit : ℕ) (a : Option (List (List ℕ))) (x z : Option (List ℕ)) (part missing : List ℕ) → missing ≢ [] → spelling (own_csm M) ≡ part ++ missing → AddsBytes x z part
     → (pieces : List (List ℕ)) × (output : List ℕ) × AddsPieces a a pieces × AddsBytes x z output × IsStdioRun M limit pieces output (Err Write)
-not_announced M limit a x z part missing some parts wrote =
-    ([], part, pieces_none a, wrote, (omega arith, inl refl, record {
+not_announced M limit a x z part missing some parts wrote = (
+  [],
+  part,
+  pieces_none a,
+  wrote,
+  (
+    omega arith,
+    inl refl,
+    record {
       missing = missing;
       some = some;
       written = sym parts ∙ sym (append-nil (spelling (own_csm M))) ∙ ap (λ (p : Progress). spelling (own_csm M) ++ flat_map spelling p.answers) (sym (no_bytes M));
-    }))
+    },
+  ),
+)
 
 -- after the own Capabilities and Settings
 pub announced : (M limit : ℕ) (a c : Option (List (List ℕ))) (x y z : Option (List ℕ)) (result : Result Report IoFault) → AddsBytes x y (spelling (own_csm M)) → Ran M limit a c y z result

@@ -1,11 +1,10 @@
 //! A connection that takes one byte after another.
 
-use std::alloc::{AllocError, Global};
-use std::marker::Model;
-
 use crate::frame::{Standing, Taken, reaction_to, standing_of_bytes};
 use crate::reaction::Reaction;
 use crate::reason::Reason;
+use std::alloc::{AllocError, Global};
+use std::marker::Model;
 
 /// A connection: the bytes of its unfinished frame, in room for the greatest message, whether it is open, and how many
 /// messages were handled. Contracts see a `ConnectionValue`.

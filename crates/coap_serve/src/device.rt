@@ -57,7 +57,7 @@ impl<R: Read> ReadSource<R> {
 
     /// The reader as a source that has not failed.
     pub fn new(reader: R) -> ReadSource<R>
-        ensures { result.failed ≡ false }
+        ensures { ⟦<ReadSource<R> as Source>⟧.is_failed result ≡ false }
     {
         ReadSource {
             reader,
@@ -98,7 +98,8 @@ impl<W: Write> WriteOutlet<W> {
 
     /// The writer as an outlet that has not failed.
     pub fn new(writer: W) -> WriteOutlet<W>
-        ensures { result.failed ≡ false }
+        ensures works { ⟦<WriteOutlet<W> as Outlet>⟧.is_failed result ≡ false }
+        ensures written { ⟦<WriteOutlet<W> as Outlet>⟧.written result ≡ W.contents writer }
     {
         WriteOutlet {
             writer,
@@ -108,7 +109,7 @@ impl<W: Write> WriteOutlet<W> {
 }
 
 impl<W: Write> Outlet for WriteOutlet<W> {
-    ghost written = { λ _. None };
+    ghost written = { λ s. W.contents s.writer };
 
     ghost is_failed = { λ s. s.failed };
 

@@ -52,10 +52,7 @@ pub(crate) fn standing_of_bytes(max_message: usize, bytes: &[u8]) -> Standing
 }
 
 /// What a whole frame does.
-pub(crate) fn reaction_to(
-    is_open: bool,
-    frame: &[u8],
-) -> Result<Reaction<'static>, FormatFault>
+pub(crate) fn reaction_to(is_open: bool, frame: &[u8]) -> Result<Reaction<'static>, FormatFault>
     ensures { result ≡ reaction_of is_open (message_of frame.now) }
 {
     match parse(frame) {

@@ -62,9 +62,7 @@ fn is_fit_size(message: &MessageRef) -> bool
 fn asks_custody(message: &MessageRef) -> bool
     ensures { result ≡ custody_asked message.now }
 {
-    message
-        .options()
-        .any(|option| option.number == CUSTODY && option.value.is_empty())
+    message.options().any(|option| option.number == CUSTODY && option.value.is_empty())
 }
 
 /// The Pong to a Ping, with Custody where it was asked, since nothing is pending (RFC 8323 section 5.4).

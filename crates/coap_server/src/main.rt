@@ -1,8 +1,76 @@
-//! The program `coap-server`.
+//! The program `coap-server`: CoAP over reliable transports (RFC 8323).
+//!
+//! At this stage it takes exactly the one word `--stdio`, and serves one connection over standard input and output.
+//! Other words end it with status 1 and print nothing.
 #![tactic(auto)]
 
-use std::io;
+ghost use Rattle.std.specs.Prelude.{◌≡◌};
 
-fn main(_rt: HostRuntime) -> io::Result<()> {
-    Ok(())
+use coap_serve::{Config, IoFault, Limits, ReadSource, Starts, WriteOutlet, serve_one};
+use std::process::ExitCode;
+use std::rt::Env;
+use std::{env, io};
+
+/// The status of a run that ended of itself.
+const ENDED: u8 = 0;
+
+/// The status for words that are not understood.
+const USAGE: u8 = 1;
+
+/// The status for a device, memory or turns.
+const FAULT: u8 = 3;
+
+/// The limits and the configuration of a run without other words: messages of at most 65,536 bytes taken and sent, a
+/// queue of 131,072 bytes, 16 held answers, observers, outstanding requests and connections, no dynamic resource, and
+/// counts that begin at 0.
+fn defaults() -> Config
+    ensures { result.starts.ids ≡ 0 }
+{
+    let Ok(limits) = Limits::new(65_536, 65_536, 131_072, 16, 16, 16) else {
+        unreachable!()
+    };
+    let starts = Starts {
+        moment: 0,
+        versions: 0,
+        ids: 0,
+    };
+    let Ok(config) = Config::new(limits, 16, 0, 65_000, 1_000_000_000_000, starts) else {
+        unreachable!()
+    };
+    config
+}
+
+/// Whether the words after the program's name are exactly `--stdio`.
+fn is_stdio(rt: &(impl Env + AllocGlobal)) -> bool {
+    let Ok(mut words) = env::args(rt) else {
+        return false;
+    };
+    let Some(_name) = words.next() else {
+        return false;
+    };
+    match words.next() {
+        Some(word) => word.as_str() == "--stdio" && words.next().is_none(),
+        None => false,
+    }
+}
+
+/// Writes the program's line for a fault to standard error, and answers the status.
+fn tell(rt: &impl Eprint, fault: IoFault) -> u8 {
+    let _ = eprintln!(rt; "coap-server: {fault}");
+    FAULT
+}
+
+/// Serves one connection over standard input and output, and answers the status.
+fn serve(rt: &(impl Input + Print + Eprint + AllocGlobal)) -> u8 {
+    let mut input = ReadSource::new(rt.reader());
+    let mut output = WriteOutlet::new(io::writer(rt));
+    match serve_one(rt.alloc(), &mut input, &mut output, &defaults()) {
+        Ok(_) => ENDED,
+        Err(fault) => tell(rt, fault),
+    }
+}
+
+fn main(rt: HostRuntime) -> ExitCode {
+    let status = if is_stdio(&rt) { serve(&rt) } else { USAGE };
+    ExitCode::from(status)
 }

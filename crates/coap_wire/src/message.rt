@@ -1,16 +1,16 @@
 //! A message within the bytes that spell it.
 
-use crate::code::Code;
-use crate::fault::FormatFault;
-use crate::options::Options;
-use crate::reading::{head_of, payload_of};
-use crate::token::Token;
 ghost use Rattle.std.specs.Prelude.{◌≡◌, Ok, IfOk, IfErr};
 ghost use Rattle.coap_wire.specs.Message.{Message};
 ghost use Rattle.coap_wire.specs.Spelling.{Spells};
 ghost use Rattle.coap_wire.specs.Faults.{IsFirstFault};
 ghost use Rattle.coap_wire.specs.Reading.{message_of};
 
+use crate::code::Code;
+use crate::fault::FormatFault;
+use crate::options::Options;
+use crate::reading::{head_of, payload_of};
+use crate::token::Token;
 use std::marker::Model;
 
 /// A message within the frame that spells it. Contracts see it as a `Message`: code, token, options and payload.
