@@ -1,0 +1,96 @@
+"""Reads CoAP messages over a reliable transport (RFC 8323 section 3.2) and tells what they mean.
+
+It shares no line with the programs, so that what they write is read by somebody else.
+"""
+
+CODES = {
+    0x00: "Empty", 0x01: "GET", 0x02: "POST", 0x03: "PUT", 0x04: "DELETE",
+    0xE1: "Capabilities and Settings", 0xE2: "Ping", 0xE3: "Pong", 0xE4: "Release", 0xE5: "Abort",
+}
+
+SIGNAL_OPTIONS = {
+    (0xE1, 2): "Max-Message-Size", (0xE1, 4): "Block-Wise-Transfer",
+    (0xE2, 2): "Custody", (0xE3, 2): "Custody",
+    (0xE4, 2): "Alternative-Address", (0xE4, 4): "Hold-Off",
+    (0xE5, 2): "Bad-CSM-Option",
+}
+
+
+class Malformed(Exception):
+    """The bytes spell no message."""
+
+
+def length_of(stream):
+    """The size that the first bytes of `stream` declare, or None where bytes are missing."""
+    if not stream:
+        return None
+    nibble, token = stream[0] >> 4, stream[0] & 15
+    if token > 8:
+        raise Malformed("token length %d" % token)
+    extension = {13: 1, 14: 2, 15: 4}.get(nibble, 0)
+    if len(stream) < 1 + extension:
+        return None
+    number = int.from_bytes(stream[1:1 + extension], "big")
+    length = number + {13: 13, 14: 269, 15: 65805}[nibble] if extension else nibble
+    return 1 + extension + 1 + token + length
+
+
+def split(stream):
+    """The frames of a stream, and the bytes that are left."""
+    frames = []
+    while True:
+        size = length_of(stream)
+        if size is None or len(stream) < size:
+            return frames, stream
+        frames.append(stream[:size])
+        stream = stream[size:]
+
+
+def number_of(nibble, bytes_left):
+    if nibble == 15:
+        raise Malformed("reserved nibble")
+    extension = {13: 1, 14: 2}.get(nibble, 0)
+    if len(bytes_left) < extension:
+        raise Malformed("cut option")
+    if not extension:
+        return nibble, bytes_left
+    number = int.from_bytes(bytes_left[:extension], "big")
+    return number + {13: 13, 14: 269}[nibble], bytes_left[extension:]
+
+
+def parse(frame):
+    """Code, token, options (number, value) and payload of a frame."""
+    nibble, token_length = frame[0] >> 4, frame[0] & 15
+    at = 1 + {13: 1, 14: 2, 15: 4}.get(nibble, 0)
+    code, at = frame[at], at + 1
+    token, rest = frame[at:at + token_length], frame[at + token_length:]
+    options, number = [], 0
+    while rest and rest[0] != 0xFF:
+        first, rest = rest[0], rest[1:]
+        delta, rest = number_of(first >> 4, rest)
+        length, rest = number_of(first & 15, rest)
+        number += delta
+        if len(rest) < length:
+            raise Malformed("cut option")
+        options.append((number, rest[:length]))
+        rest = rest[length:]
+    if rest and len(rest) == 1:
+        raise Malformed("empty payload")
+    return code, token, options, rest[1:]
+
+
+def tell(frame):
+    """One line of what a frame means."""
+    code, token, options, payload = parse(frame)
+    words = ["%d.%02d %s" % (code >> 5, code & 31, CODES.get(code, ""))]
+    if token:
+        words.append("token %s" % token.hex())
+    for number, value in options:
+        name = SIGNAL_OPTIONS.get((code, number), "option %d" % number)
+        if name == "Max-Message-Size":
+            words.append("%s %d" % (name, int.from_bytes(value, "big")))
+        else:
+            words.append(("%s %s" % (name, value.hex())).strip())
+    if payload:
+        words.append("payload %r" % payload)
+    return ", ".join(word.strip() for word in words)
