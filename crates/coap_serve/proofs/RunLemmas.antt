@@ -5,7 +5,7 @@ use Rattle.std.proofs.lemmas.List.{append-nil, length-append}
 use Rattle.std.proofs.lemmas.List.Concat.{flat_map-append}
 use Rattle.coap_wire.specs.Message.{Message}
 use Rattle.coap_wire.specs.Spelling.{spelling}
-use Rattle.coap_serve.specs.Device.{AddsPieces, AddsBytes, WritesPart}
+use Rattle.coap_serve.specs.Device.{Told, HasGiven, AddsBytes, WritesPart}
 use Rattle.coap_serve.specs.declared.reason.Reason.{Reason}
 use Rattle.coap_serve.specs.declared.frame.Taken.{Taken}
 use Rattle.coap_serve.specs.declared.frame.Taken.TheVariants as taken
@@ -19,7 +19,7 @@ use Rattle.coap_serve.specs.Progress.{Progress, progress, stdio_output, end_reas
 use Rattle.coap_serve.specs.StdioRun.{AreNotEmpty, GoesOn, EndsRun, IsWholeRun, IsShortRun, IsCutOutput, IsWrittenBefore, LedToWrite, IsStdioRun}
 use Rattle.coap_serve.specs.Connection.{ConnectionValue, opened, step, answers_of, stop_after}
 use Rattle.coap_serve.specs.Turns.{text_of, IsTurn}
-use Rattle.coap_serve.proofs.DeviceLemmas.{bytes_none, bytes_then, pieces_none, pieces_then}
+use Rattle.coap_serve.proofs.DeviceLemmas.{bytes_none, bytes_then, given_none, given_then}
 use Rattle.coap_serve.proofs.ProgressLemmas.{Moves, moves, no_bytes, shown}
 use Rattle.coap_serve.proofs.SmallLemmas.{one_more_handled}
 
@@ -47,10 +47,10 @@ no_answer (taken.Stopped stop) why e = refl
 -- ---- a run that goes on
 
 -- after so many turns: a and b are what the source told before the run and now, x and y what the outlet told
-pub record RunsOn (M turns read : ℕ) (v : ConnectionValue) (a b : Option (List (List ℕ))) (x y : Option (List ℕ)) : Type 0 where
+pub record RunsOn (M turns read : ℕ) (v : ConnectionValue) (a b : Told) (x y : Option (List ℕ)) : Type 0 where
   pub pieces : List (List ℕ)
   pub output : List ℕ
-  pub told : AddsPieces a b pieces
+  pub told : HasGiven a b pieces
   pub written : AddsBytes x y output
   pub counted : length pieces ≡ turns
   pub goes_on : GoesOn M pieces
@@ -59,17 +59,17 @@ pub record RunsOn (M turns read : ℕ) (v : ConnectionValue) (a b : Option (List
   pub answers : output ≡ flat_map spelling (progress M (concat pieces)).answers
 
 -- what a run that ended did
-abbrev pub Ran : ℕ → ℕ → Option (List (List ℕ)) → Option (List (List ℕ)) → Option (List ℕ) → Option (List ℕ) → Result Report IoFault → Type 0
+abbrev pub Ran : ℕ → ℕ → Told → Told → Option (List ℕ) → Option (List ℕ) → Result Report IoFault → Type 0
 Ran M turns a b x y result =
-    (pieces : List (List ℕ)) × (output : List ℕ) × AddsPieces a b pieces × AddsBytes x y output × IsStdioRun M turns pieces (spelling (own_csm M) ++ output) result
+    (pieces : List (List ℕ)) × (output : List ℕ) × HasGiven a b pieces × AddsBytes x y output × IsStdioRun M turns pieces (spelling (own_csm M) ++ output) result
 
-pub begins : (M : ℕ) (v : ConnectionValue) (a : Option (List (List ℕ))) (x : Option (List ℕ)) → v ≡ opened M → RunsOn M 0 0 v a a x x
+pub begins : (M : ℕ) (v : ConnectionValue) (a : Told) (x : Option (List ℕ)) → v ≡ opened M → RunsOn M 0 0 v a a x x
 begins M v a x new =
     let none = no_bytes M in
     record {
       pieces = [];
       output = [];
-      told = pieces_none a;
+      told = given_none a;
       written = bytes_none x;
       counted = refl;
       goes_on = record { given = tt; no_stop = ap (λ (p : Progress). p.stop) none };
@@ -79,7 +79,7 @@ begins M v a x new =
     }
 
 -- one turn more: b and y are what the devices told before it, c and z what they tell after it
-module _ (M turns read : ℕ) (v after : ConnectionValue) (a b c : Option (List (List ℕ))) (x y z : Option (List ℕ)) (so_far : RunsOn M turns read v a b x y) where
+module _ (M turns read : ℕ) (v after : ConnectionValue) (a b c : Told) (x y z : Option (List ℕ)) (so_far : RunsOn M turns read v a b x y) where
   abbrev bytes : List ℕ
   bytes = concat so_far.pieces
 
@@ -110,12 +110,12 @@ module _ (M turns read : ℕ) (v after : ConnectionValue) (a b c : Option (List 
       ∙ ap (flat_map spelling) (sym (moved byte).answers)
       ∙ ap (λ (p : Progress). flat_map spelling p.answers) (sym (same_progress (byte ∷ [])))
 
-  pub goes_further : (byte : ℕ) → AddsPieces b c ((byte ∷ []) ∷ []) → AddsBytes y z (text_of (step v byte).taken) → stop_after (step v byte).taken ≡ None → after ≡ (step v byte).after
+  pub goes_further : (byte : ℕ) → HasGiven b c ((byte ∷ []) ∷ []) → AddsBytes y z (text_of (step v byte).taken) → stop_after (step v byte).taken ≡ None → after ≡ (step v byte).after
       → RunsOn M (turns + 1) (read + 1) after a c x z
   goes_further byte gave wrote going after_is = record {
     pieces = longer (byte ∷ []);
     output = so_far.output ++ text_of (step v byte).taken;
-    told = pieces_then a b c so_far.pieces ((byte ∷ []) ∷ []) so_far.told gave;
+    told = given_then a b c so_far.pieces ((byte ∷ []) ∷ []) so_far.told gave;
     written = bytes_then x y z so_far.output (text_of (step v byte).taken) so_far.written wrote;
     counted = counted_more (byte ∷ []);
     goes_on = record { given = not_empty-push so_far.pieces (byte ∷ []) so_far.goes_on.given (λ e. absurd cc); no_stop = ap (λ (p : Progress). p.stop) (same_progress (byte ∷ [])) ∙ (moved byte).stop ∙ going };
@@ -126,13 +126,13 @@ module _ (M turns read : ℕ) (v after : ConnectionValue) (a b c : Option (List 
 
   -- ---- the run ends in this turn
 
-  pub ended : (limit : ℕ) (report : Report) → turns < limit → AddsPieces b c ([] ∷ []) → AddsBytes y z [] → after ≡ v → report.read ≡ read → report.messages ≡ after.handled
+  pub ended : (limit : ℕ) (report : Report) → turns < limit → HasGiven b c ([] ∷ []) → AddsBytes y z [] → after ≡ v → report.read ≡ read → report.messages ≡ after.handled
       → report.reason ≡ end_reason after.frame → Ran M limit a c x z (Ok report)
   ended limit report lt gave wrote same read_is messages_are reason_is =
       let shows : after ≡ shown M bytes = same ∙ so_far.shows in (
         longer [],
         so_far.output ++ [],
-        pieces_then a b c so_far.pieces ([] ∷ []) so_far.told gave,
+        given_then a b c so_far.pieces ([] ∷ []) so_far.told gave,
         bytes_then x y z so_far.output [] so_far.written wrote,
         record {
           before = so_far.pieces;
@@ -149,7 +149,7 @@ module _ (M turns read : ℕ) (v after : ConnectionValue) (a b c : Option (List 
         },
       )
 
-  pub stopped : (limit : ℕ) (report : Report) (byte : ℕ) (why : Reason) → turns < limit → AddsPieces b c ((byte ∷ []) ∷ []) → AddsBytes y z [] → stop_after (step v byte).taken ≡ Some why
+  pub stopped : (limit : ℕ) (report : Report) (byte : ℕ) (why : Reason) → turns < limit → HasGiven b c ((byte ∷ []) ∷ []) → AddsBytes y z [] → stop_after (step v byte).taken ≡ Some why
       → after ≡ (step v byte).after → report.read ≡ read + 1 → report.messages ≡ after.handled → report.reason ≡ why → Ran M limit a c x z (Ok report)
   stopped limit report byte why lt gave wrote stop_is after_is read_is messages_are reason_is =
       let nothing : answers_of (step v byte).taken ≡ [] = no_answer (step v byte).taken why stop_is in
@@ -157,7 +157,7 @@ module _ (M turns read : ℕ) (v after : ConnectionValue) (a b c : Option (List 
       let stopped_at : (progress M (concat (longer (byte ∷ [])))).stop ≡ Some why = ap (λ (p : Progress). p.stop) (same_progress (byte ∷ [])) ∙ (moved byte).stop ∙ stop_is in (
         longer (byte ∷ []),
         so_far.output ++ [],
-        pieces_then a b c so_far.pieces ((byte ∷ []) ∷ []) so_far.told gave,
+        given_then a b c so_far.pieces ((byte ∷ []) ∷ []) so_far.told gave,
         bytes_then x y z so_far.output [] so_far.written wrote,
         record {
           before = so_far.pieces;
@@ -174,23 +174,23 @@ module _ (M turns read : ℕ) (v after : ConnectionValue) (a b c : Option (List 
 
   -- ---- the run stops short in this turn
 
-  pub failed_read : (limit : ℕ) → turns < limit → AddsPieces b c [] → AddsBytes y z [] → Ran M limit a c x z (Err Read)
+  pub failed_read : (limit : ℕ) → turns < limit → HasGiven b c [] → AddsBytes y z [] → Ran M limit a c x z (Err Read)
   failed_read limit lt gave wrote = (
     so_far.pieces ++ [],
     so_far.output ++ [],
-    pieces_then a b c so_far.pieces [] so_far.told gave,
+    given_then a b c so_far.pieces [] so_far.told gave,
     bytes_then x y z so_far.output [] so_far.written wrote,
     (omega (arith, so_far.counted, ap length (append-nil so_far.pieces)), rw (append-nil so_far.pieces) (record { goes_on = so_far.goes_on; written = ap (λ (o : List ℕ). spelling (own_csm M) ++ o) (append-nil so_far.output ∙ so_far.answers) })),
   )
 
-  pub failed_write : (limit byte : ℕ) (part missing : List ℕ) → turns < limit → AddsPieces b c ((byte ∷ []) ∷ []) → AddsBytes y z part → missing ≢ [] → text_of (step v byte).taken ≡ part ++ missing
+  pub failed_write : (limit byte : ℕ) (part missing : List ℕ) → turns < limit → HasGiven b c ((byte ∷ []) ∷ []) → AddsBytes y z part → missing ≢ [] → text_of (step v byte).taken ≡ part ++ missing
       → Ran M limit a c x z (Err Write)
   failed_write limit byte part missing lt gave wrote some parts =
       let whole : (spelling (own_csm M) ++ (so_far.output ++ part)) ++ missing ≡ stdio_output M (concat (longer (byte ∷ []))) = append_assoc (spelling (own_csm M)) (so_far.output ++ part) missing
       ∙ ap (λ (o : List ℕ). spelling (own_csm M) ++ o) (append_assoc so_far.output part missing ∙ ap (λ (t : List ℕ). so_far.output ++ t) (sym parts) ∙ answers_more byte) in (
         longer (byte ∷ []),
         so_far.output ++ part,
-        pieces_then a b c so_far.pieces ((byte ∷ []) ∷ []) so_far.told gave,
+        given_then a b c so_far.pieces ((byte ∷ []) ∷ []) so_far.told gave,
         bytes_then x y z so_far.output part so_far.written wrote,
         (
           omega (arith, counted_more (byte ∷ [])),
@@ -200,31 +200,31 @@ module _ (M turns read : ℕ) (v after : ConnectionValue) (a b c : Option (List 
       )
 
 -- no turn is left
-pub out_of_turns : (M turns read : ℕ) (v : ConnectionValue) (a b : Option (List (List ℕ))) (x y : Option (List ℕ)) → RunsOn M turns read v a b x y → Ran M turns a b x y (Err Turns)
+pub out_of_turns : (M turns read : ℕ) (v : ConnectionValue) (a b : Told) (x y : Option (List ℕ)) → RunsOn M turns read v a b x y → Ran M turns a b x y (Err Turns)
 out_of_turns M turns read v a b x y so_far =
     (so_far.pieces, so_far.output, so_far.told, so_far.written, (so_far.counted, record { goes_on = so_far.goes_on; written = ap (λ (o : List ℕ). spelling (own_csm M) ++ o) so_far.answers }))
 
 -- ---- how a turn ends a run that went on
 
 -- what a fault of a turn makes of the run
-pub faulted : (M turns read limit : ℕ) (v after : ConnectionValue) (a b c : Option (List (List ℕ))) (x y z : Option (List ℕ)) (e : IoFault) → RunsOn M turns read v a b x y → turns < limit
-    → IsTurn v after (AddsPieces b c) (AddsBytes y z) (Err e) → Ran M limit a c x z (Err e)
+pub faulted : (M turns read limit : ℕ) (v after : ConnectionValue) (a b c : Told) (x y z : Option (List ℕ)) (e : IoFault) → RunsOn M turns read v a b x y → turns < limit
+    → IsTurn v after (HasGiven b c) (AddsBytes y z) (Err e) → Ran M limit a c x z (Err e)
 faulted M turns read limit v after a b c x y z Read so_far lt t = failed_read M turns read v after a b c x y z so_far limit lt t.0 t.1
 faulted M turns read limit v after a b c x y z Write so_far lt t = failed_write M turns read v after a b c x y z so_far limit t.0 t.1 t.2 lt t.3 t.4 t.6 t.7
 faulted M turns read limit v after a b c x y z Memory so_far lt t = absurd t
 faulted M turns read limit v after a b c x y z Turns so_far lt t = absurd t
 
 -- a turn that found the end
-pub ended_turn : (M turns read limit : ℕ) (v after : ConnectionValue) (a b c : Option (List (List ℕ))) (x y z : Option (List ℕ)) (t : Turn) (report : Report) → RunsOn M turns read v a b x y → turns < limit
-    → IsTurn v after (AddsPieces b c) (AddsBytes y z) (Ok t) → t ≡ Ended → report.read ≡ read → report.messages ≡ after.handled → report.reason ≡ end_reason after.frame → Ran M limit a c x z (Ok report)
+pub ended_turn : (M turns read limit : ℕ) (v after : ConnectionValue) (a b c : Told) (x y z : Option (List ℕ)) (t : Turn) (report : Report) → RunsOn M turns read v a b x y → turns < limit
+    → IsTurn v after (HasGiven b c) (AddsBytes y z) (Ok t) → t ≡ Ended → report.read ≡ read → report.messages ≡ after.handled → report.reason ≡ end_reason after.frame → Ran M limit a c x z (Ok report)
 ended_turn M turns read limit v after a b c x y z Ended report so_far lt t is read_is messages_are reason_is =
     ended M turns read v after a b c x y z so_far limit report lt t.0 t.1 t.2 read_is messages_are reason_is
 ended_turn M turns read limit v after a b c x y z More report so_far lt t is read_is messages_are reason_is = absurd cc
 ended_turn M turns read limit v after a b c x y z (Stopped why) report so_far lt t is read_is messages_are reason_is = absurd cc
 
 -- a turn whose byte stops the connection
-pub stopped_turn : (M turns read limit : ℕ) (v after : ConnectionValue) (a b c : Option (List (List ℕ))) (x y z : Option (List ℕ)) (t : Turn) (why : Reason) (report : Report) → RunsOn M turns read v a b x y
-    → turns < limit → IsTurn v after (AddsPieces b c) (AddsBytes y z) (Ok t) → t ≡ Stopped why → report.read ≡ read + 1 → report.messages ≡ after.handled → report.reason ≡ why → Ran M limit a c x z (Ok report)
+pub stopped_turn : (M turns read limit : ℕ) (v after : ConnectionValue) (a b c : Told) (x y z : Option (List ℕ)) (t : Turn) (why : Reason) (report : Report) → RunsOn M turns read v a b x y
+    → turns < limit → IsTurn v after (HasGiven b c) (AddsBytes y z) (Ok t) → t ≡ Stopped why → report.read ≡ read + 1 → report.messages ≡ after.handled → report.reason ≡ why → Ran M limit a c x z (Ok report)
 stopped_turn M turns read limit v after a b c x y z (Stopped reason) why report so_far lt t is read_is messages_are reason_is =
     let same : reason ≡ why = cc in
     stopped M turns read v after a b c x y z so_far limit report t.0 reason lt t.1 t.2 t.3 t.4 read_is messages_are (reason_is ∙ sym same)
@@ -232,20 +232,20 @@ stopped_turn M turns read limit v after a b c x y z More why report so_far lt t 
 stopped_turn M turns read limit v after a b c x y z Ended why report so_far lt t is read_is messages_are reason_is = absurd cc
 
 -- a turn after which the run goes on
-pub next_turn : (M turns read : ℕ) (v after : ConnectionValue) (a b c : Option (List (List ℕ))) (x y z : Option (List ℕ)) (t : Turn) → RunsOn M turns read v a b x y
-    → IsTurn v after (AddsPieces b c) (AddsBytes y z) (Ok t) → t ≡ More → RunsOn M (turns + 1) (read + 1) after a c x z × (after.handled ≤ v.handled + 1)
+pub next_turn : (M turns read : ℕ) (v after : ConnectionValue) (a b c : Told) (x y z : Option (List ℕ)) (t : Turn) → RunsOn M turns read v a b x y
+    → IsTurn v after (HasGiven b c) (AddsBytes y z) (Ok t) → t ≡ More → RunsOn M (turns + 1) (read + 1) after a c x z × (after.handled ≤ v.handled + 1)
 next_turn M turns read v after a b c x y z More so_far t is =
     (goes_further M turns read v after a b c x y z so_far t.0 t.1 t.2 t.3 t.4, rw t.4 (one_more_handled v t.0))
 next_turn M turns read v after a b c x y z Ended so_far t is = absurd cc
 next_turn M turns read v after a b c x y z (Stopped why) so_far t is = absurd cc
 
 -- the own Capabilities and Settings were not written whole
-pub not_announced : (M limit : ℕ) (a : Option (List (List ℕ))) (x z : Option (List ℕ)) (part missing : List ℕ) → missing ≢ [] → spelling (own_csm M) ≡ part ++ missing → AddsBytes x z part
-    → (pieces : List (List ℕ)) × (output : List ℕ) × AddsPieces a a pieces × AddsBytes x z output × IsStdioRun M limit pieces output (Err Write)
+pub not_announced : (M limit : ℕ) (a : Told) (x z : Option (List ℕ)) (part missing : List ℕ) → missing ≢ [] → spelling (own_csm M) ≡ part ++ missing → AddsBytes x z part
+    → (pieces : List (List ℕ)) × (output : List ℕ) × HasGiven a a pieces × AddsBytes x z output × IsStdioRun M limit pieces output (Err Write)
 not_announced M limit a x z part missing some parts wrote = (
   [],
   part,
-  pieces_none a,
+  given_none a,
   wrote,
   (
     omega arith,
@@ -259,19 +259,19 @@ not_announced M limit a x z part missing some parts wrote = (
 )
 
 -- after the own Capabilities and Settings
-pub announced : (M limit : ℕ) (a c : Option (List (List ℕ))) (x y z : Option (List ℕ)) (result : Result Report IoFault) → AddsBytes x y (spelling (own_csm M)) → Ran M limit a c y z result
-    → (pieces : List (List ℕ)) × (output : List ℕ) × AddsPieces a c pieces × AddsBytes x z output × IsStdioRun M limit pieces output result
+pub announced : (M limit : ℕ) (a c : Told) (x y z : Option (List ℕ)) (result : Result Report IoFault) → AddsBytes x y (spelling (own_csm M)) → Ran M limit a c y z result
+    → (pieces : List (List ℕ)) × (output : List ℕ) × HasGiven a c pieces × AddsBytes x z output × IsStdioRun M limit pieces output result
 announced M limit a c x y z result wrote ran = (ran.0, spelling (own_csm M) ++ ran.1, ran.2, bytes_then x y z (spelling (own_csm M)) ran.1 wrote ran.3, ran.4)
 
 -- the same where N is M
-pub announce_failed : (M N limit : ℕ) (a : Option (List (List ℕ))) (x z : Option (List ℕ)) → N ≡ M → WritesPart x z (spelling (own_csm N))
-    → (pieces : List (List ℕ)) × (output : List ℕ) × AddsPieces a a pieces × AddsBytes x z output × IsStdioRun M limit pieces output (Err Write)
+pub announce_failed : (M N limit : ℕ) (a : Told) (x z : Option (List ℕ)) → N ≡ M → WritesPart x z (spelling (own_csm N))
+    → (pieces : List (List ℕ)) × (output : List ℕ) × HasGiven a a pieces × AddsBytes x z output × IsStdioRun M limit pieces output (Err Write)
 announce_failed M N limit a x z same w = not_announced M limit a x z w.0 w.1 w.2 (ap (λ (k : ℕ). spelling (own_csm k)) (sym same) ∙ w.3) w.4
 
 -- the same where N, the connection's M and the turns are those of the configuration
-pub ran_on : (M N limit turns : ℕ) (v : ConnectionValue) (a c : Option (List (List ℕ))) (x y z : Option (List ℕ)) (result : Result Report IoFault) → N ≡ M → v.M ≡ M → turns ≡ limit
+pub ran_on : (M N limit turns : ℕ) (v : ConnectionValue) (a c : Told) (x y z : Option (List ℕ)) (result : Result Report IoFault) → N ≡ M → v.M ≡ M → turns ≡ limit
     → AddsBytes x y (spelling (own_csm N)) → Ran v.M turns a c y z result
-    → (pieces : List (List ℕ)) × (output : List ℕ) × AddsPieces a c pieces × AddsBytes x z output × IsStdioRun M limit pieces output result
+    → (pieces : List (List ℕ)) × (output : List ℕ) × HasGiven a c pieces × AddsBytes x z output × IsStdioRun M limit pieces output result
 ran_on M N limit turns v a c x y z result same value_is turns_are wrote ran =
     announced M limit a c x y z result (subst (λ (k : ℕ). AddsBytes x y (spelling (own_csm k))) same wrote)
     (subst (λ (k : ℕ). Ran k limit a c y z result) value_is (subst (λ (t : ℕ). Ran v.M t a c y z result) turns_are ran))

@@ -1,14 +1,15 @@
 //! Where bytes come from and go to.
 
 ghost use Rattle.std.specs.Prelude.{◌≡◌, ◌≤◌, ℕ, Bool, List, [], ◌∷◌, length, take, Option, None, is_none, IfSome, IfNone, ◌||◌};
-ghost use Rattle.coap_serve.specs.Device.{AddsPieces, AddsBytes, is_failed_write};
+ghost use Rattle.coap_serve.specs.Device.{Told, HasGiven, pieces_read, AddsBytes, is_failed_write};
 
 use std::io::{Read, Write};
 
 /// A source of bytes.
 pub trait Source {
-    /// What each read gave so far, in order, where it tells; the piece that found the end is empty.
-    ghost pieces: { Self → Option (List (List ℕ)) };
+    /// What it tells: the pieces that its reads gave so far, in order, of which the one that found the end is empty; and
+    /// the bytes that are left.
+    ghost told: { Self → Told };
 
     /// Whether a read has failed.
     ghost is_failed: { Self → Bool };
@@ -16,8 +17,8 @@ pub trait Source {
     /// Reads up to as many bytes as the buffer has, `Some(0)` at the end, and `None` where reading fails.
     fn read(&mut self, buffer: &mut [u8]) -> Option<usize>
         ensures within { IfSome result (λ n. n ≤ length buffer.new) }
-        ensures given { IfSome result (λ n. AddsPieces (pieces self.old) (pieces self.new) (take n buffer.new ∷ [])) }
-        ensures nothing { IfNone result (AddsPieces (pieces self.old) (pieces self.new) []) }
+        ensures given { IfSome result (λ n. HasGiven (told self.old) (told self.new) (pieces_read buffer.new n)) }
+        ensures nothing { IfNone result (HasGiven (told self.old) (told self.new) []) }
         ensures failure { is_failed self.new ≡ (is_failed self.old || is_none result) };
 
     /// Whether a read has failed.
@@ -45,7 +46,7 @@ pub trait Outlet {
         ensures { result ≡ is_failed self.now };
 }
 
-/// A reader of std as a source. It tells nothing of its bytes.
+/// A reader of std as a source. It tells what bytes are left where the reader does.
 #[derive(Debug, Drop)]
 pub struct ReadSource<R> {
     reader: R,
@@ -57,7 +58,8 @@ impl<R: Read> ReadSource<R> {
 
     /// The reader as a source that has not failed.
     pub fn new(reader: R) -> ReadSource<R>
-        ensures { ⟦<ReadSource<R> as Source>⟧.is_failed result ≡ false }
+        ensures works { ⟦<ReadSource<R> as Source>⟧.is_failed result ≡ false }
+        ensures told { ⟦<ReadSource<R> as Source>⟧.told result ≡ record { pieces = None; remaining = R.remaining reader } }
     {
         ReadSource {
             reader,
@@ -67,7 +69,7 @@ impl<R: Read> ReadSource<R> {
 }
 
 impl<R: Read> Source for ReadSource<R> {
-    ghost pieces = { λ _. None };
+    ghost told = { λ s. record { pieces = None; remaining = R.remaining s.reader } };
 
     ghost is_failed = { λ s. s.failed };
 

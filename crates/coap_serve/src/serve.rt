@@ -3,7 +3,7 @@
 ghost use Rattle.std.specs.Prelude.{◌≡◌, ◌+◌, ◌≤◌, ◌<◌, ◌^◌, ℕ, false, List, [], ◌++◌, Err};
 ghost use Rattle.coap_wire.specs.Spelling.{spelling};
 ghost use Rattle.coap_serve.specs.declared.serve.IoFault.TheVariants.{Read, Write};
-ghost use Rattle.coap_serve.specs.Device.{AddsPieces, AddsBytes};
+ghost use Rattle.coap_serve.specs.Device.{HasGiven, AddsBytes};
 ghost use Rattle.coap_serve.specs.Signalling.{own_csm};
 ghost use Rattle.coap_serve.specs.Connection.{opened};
 ghost use Rattle.coap_serve.specs.Turns.{IsTurn};
@@ -80,7 +80,7 @@ pub fn serve_one<R: Source, W: Outlet>(
     requires id_left { config.now.starts.ids + 1 < 2 ^ 64 }
     // The standard-stream law, whatever the cuts: over what was read and written, where the devices tell it.
     ensures run { (pieces : List (List ℕ)) × (output : List ℕ)
-        × AddsPieces (R.pieces reader.old) (R.pieces reader.new) pieces
+        × HasGiven (R.told reader.old) (R.told reader.new) pieces
         × AddsBytes (W.written writer.old) (W.written writer.new) output
         × IsStdioRun config.now.limits.max_message config.now.turns pieces output result }
     // A device fault comes exactly where that device failed.
@@ -109,7 +109,7 @@ fn run<R: Source, W: Outlet>(
     requires new { connection.old ≡ opened connection.old.M }
     requires few { turns ≤ 1000000000000 }
     ensures run { (pieces : List (List ℕ)) × (output : List ℕ)
-        × AddsPieces (R.pieces reader.old) (R.pieces reader.new) pieces
+        × HasGiven (R.told reader.old) (R.told reader.new) pieces
         × AddsBytes (W.written writer.old) (W.written writer.new) output
         × IsStdioRun connection.old.M turns pieces (spelling (own_csm connection.old.M) ++ output) result }
     ensures read { R.is_failed reader.new ≡ is_read_fault result }
@@ -147,7 +147,7 @@ fn take_turn<R: Source, W: Outlet>(
     requires reader_works { R.is_failed reader.old ≡ false }
     requires writer_works { W.is_failed writer.old ≡ false }
     requires fits { connection.old.handled + 1 < 2 ^ 64 }
-    ensures turn { IsTurn connection.old connection.new (AddsPieces (R.pieces reader.old) (R.pieces reader.new)) (AddsBytes (W.written writer.old) (W.written writer.new)) result }
+    ensures turn { IsTurn connection.old connection.new (HasGiven (R.told reader.old) (R.told reader.new)) (AddsBytes (W.written writer.old) (W.written writer.new)) result }
     ensures read { R.is_failed reader.new ≡ is_read_fault result }
     ensures write { W.is_failed writer.new ≡ is_write_fault result }
 {
