@@ -2,7 +2,7 @@
 use Rattle.std.proofs.Common.{◌≡◌, ◌≢◌, ℕ, zero, suc, ◌+◌, ◌*◌, ◌/◌, ◌%◌, ◌<◌, ◌≤◌, Bool, true, false, cond, ltb, List, [], ◌∷◌, ◌++◌, length, take, drop, Result, Ok, Err, ◌⊎◌, inl, inr, refl, sym, ap, subst, ◌∙◌, arith}
 use Rattle.std.proofs.lemmas.Bool.{eq-eqb, ne_eqb, ltb-false, lt-ltb, le-ltb, cases_eq}
 use Rattle.std.proofs.lemmas.List.{append-nil, length-take, length-append, take-append-drop, take_at, drop_at}
-use Rattle.coap_wire.specs.Message.{CoapOption, AreOrdered, last_number}
+use Rattle.coap_wire.specs.Message.{CoapOption, AreOrdered, last_number, AreBytes}
 use Rattle.coap_wire.specs.Forms.{IsOptionForm}
 use Rattle.coap_wire.specs.Spelling.{IsOptionHead, IsOneOption, IsOptionText, payload_text}
 use Rattle.coap_wire.specs.declared.fault.FormatFault.{FormatFault}
@@ -10,7 +10,7 @@ use Rattle.coap_wire.specs.declared.fault.FormatFault.TheVariants.{OptionDelta, 
 use Rattle.coap_wire.specs.Reading.{◌>>=◌, option_number_at, or_cut, both_at, option_head_at, value_at, option_at, body_at}
 use Rattle.coap_wire.proofs.BodyLemmas.{with_front}
 use Rattle.coap_wire.proofs.BodySteps.{bind_ok, ok_is, or_cut_ok, option_shorter, body_end, body_marker, body_empty_payload, body_option, body_fault}
-use Rattle.coap_wire.proofs.NumberLaws.{IsBytes, IsBytes-rest, IsBytes-tail, option_number_again, option_form_nibble, option_number_takes}
+use Rattle.coap_wire.proofs.NumberLaws.{AreBytes-rest, AreBytes-tail, option_number_again, option_form_nibble, option_number_takes}
 
 -- what a step gives, or why it failed
 pub result_cases : {A : Type 0} (r : Result A FormatFault) → ((x : A) × (r ≡ Ok x)) ⊎ ((e : FormatFault) × (r ≡ Err e))
@@ -39,12 +39,12 @@ pub record TakesBoth (x y : ℕ) (s : List ℕ) (delta len : ℕ) (after : List 
   pub delta_form : IsOptionForm x delta_extension delta
   pub length_form : IsOptionForm y length_extension len
   pub parts : s ≡ delta_extension ++ (length_extension ++ after)
-  pub rest_fits : IsBytes after
+  pub rest_fits : AreBytes after
 
 joined : (s d t r : List ℕ) → s ≡ d ++ t → t ≡ r → s ≡ d ++ r
 joined s d t r p q = cc
 
-both_takes : (x y : ℕ) (s : List ℕ) (h : ℕ × ℕ × List ℕ) → x < 15 → y < 15 → IsBytes s → both_at x y s ≡ Ok h → TakesBoth x y s h.0 h.1 h.2
+both_takes : (x y : ℕ) (s : List ℕ) (h : ℕ × ℕ × List ℕ) → x < 15 → y < 15 → AreBytes s → both_at x y s ≡ Ok h → TakesBoth x y s h.0 h.1 h.2
 both_takes x y s h small small_too fits e =
     let a = bind_ok (or_cut (option_number_at x s)) (λ delta. or_cut (option_number_at y delta.1) >>= λ len. Ok (delta.0, len.0, len.1)) h e in
     let b = bind_ok (or_cut (option_number_at y a.0.1)) (λ len. Ok (a.0.0, len.0, len.1)) h a.2 in
@@ -90,13 +90,13 @@ head_nibbles b s h e =
     ]
 
 -- the head of an option that is read is spelled so
-pub option_head_takes : (b : ℕ) (s : List ℕ) (h : ℕ × ℕ × List ℕ) → IsBytes (b ∷ s) → option_head_at b s ≡ Ok h → IsOptionHead (b ∷ s) h.0 h.1 h.2 × IsBytes h.2
+pub option_head_takes : (b : ℕ) (s : List ℕ) (h : ℕ × ℕ × List ℕ) → AreBytes (b ∷ s) → option_head_at b s ≡ Ok h → IsOptionHead (b ∷ s) h.0 h.1 h.2 × AreBytes h.2
 option_head_takes b s h fits e =
     let n = head_nibbles b s h e in
     let byte : b < 256 = fits 0 in
     let delta_small : b / 16 < 15 = omega (arith, n.0) in
     let length_small : b % 16 < 15 = omega (arith, n.1) in
-    let t = both_takes (b / 16) (b % 16) s h delta_small length_small (IsBytes-rest b s fits) (sym (option_head_good b s n.0 n.1) ∙ e) in
+    let t = both_takes (b / 16) (b % 16) s h delta_small length_small (AreBytes-rest b s fits) (sym (option_head_good b s n.0 n.1) ∙ e) in
     let split : b ≡ 16 * (b / 16) + b % 16 = omega arith in (
       record {
         delta_nibble = b / 16;
@@ -181,7 +181,7 @@ value_again number value tail h =
 -- ---- an option
 
 -- an option that is read is spelled so
-pub option_takes : (base b : ℕ) (s : List ℕ) (x : CoapOption × List ℕ) → IsBytes (b ∷ s) → option_at base b s ≡ Ok x → IsOneOption base x.0 (b ∷ s) x.1 × IsBytes x.1
+pub option_takes : (base b : ℕ) (s : List ℕ) (x : CoapOption × List ℕ) → AreBytes (b ∷ s) → option_at base b s ≡ Ok x → IsOneOption base x.0 (b ∷ s) x.1 × AreBytes x.1
 unfolding option_at
 option_takes base b s x fits e =
     let a = bind_ok (option_head_at b s) (λ head. value_at (base + head.0) head.1 head.2) x e in
@@ -191,7 +191,7 @@ option_takes base b s x fits e =
     subst (λ (t : List ℕ). IsOptionHead (b ∷ s) a.0.0 (length x.0.value) t) v.parts
     (subst (λ (n : ℕ). IsOptionHead (b ∷ s) a.0.0 n a.0.2) (sym v.len) h.0) in (
       record { delta = a.0.0; number = v.number_is; number_fits = omega (arith, v.number_is, v.number_fits); head = head },
-      IsBytes-tail x.0.value x.1 (subst (λ (t : List ℕ). IsBytes t) v.parts h.1),
+      AreBytes-tail x.0.value x.1 (subst (λ (t : List ℕ). AreBytes t) v.parts h.1),
     )
 
 -- the first byte of an option that is no marker, and what is read behind it
@@ -254,7 +254,7 @@ body_induction P c base s = body_by P c (length s) base s (omega arith)
 -- ---- what a body gives
 
 TextTaken : ℕ → List ℕ → Body → Type 0
-TextTaken base s r = IsBytes s → (x : List CoapOption × List ℕ) → r ≡ Ok x → IsOptionText base x.0 s (payload_text x.1)
+TextTaken base s r = AreBytes s → (x : List CoapOption × List ℕ) → r ≡ Ok x → IsOptionText base x.0 s (payload_text x.1)
 
 text_cases : BodyCases TextTaken
 unfolding TextTaken
@@ -272,7 +272,7 @@ text_cases = record {
 }
 
 -- a body that is read is spelled so
-pub body_takes : (base : ℕ) (s : List ℕ) (x : List CoapOption × List ℕ) → IsBytes s → body_at base s ≡ Ok x → IsOptionText base x.0 s (payload_text x.1)
+pub body_takes : (base : ℕ) (s : List ℕ) (x : List CoapOption × List ℕ) → AreBytes s → body_at base s ≡ Ok x → IsOptionText base x.0 s (payload_text x.1)
 unfolding TextTaken
 body_takes base s x fits e = body_induction TextTaken text_cases base s fits x e
 

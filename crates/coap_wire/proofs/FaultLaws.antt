@@ -1,7 +1,7 @@
 -- The fault that reading meets is the first one, and where it stands reading meets it.
 use Rattle.std.proofs.Common.{◌≡◌, ◌≢◌, ℕ, ◌+◌, ◌/◌, ◌%◌, ◌<◌, List, [], ◌∷◌, length, drop, take, None, Result, Ok, Err, inl, inr, refl, sym, ap, subst, ◌∙◌, arith}
 use Rattle.std.proofs.lemmas.Bool.{cases_lt, cases_eq}
-use Rattle.coap_wire.specs.Message.{CoapOption, last_number}
+use Rattle.coap_wire.specs.Message.{CoapOption, last_number, AreBytes}
 use Rattle.coap_wire.specs.Spelling.{IsOptionHead, IsOptionText}
 use Rattle.coap_wire.specs.Faults.{option_extension, IsOptionHeadCut, IsOptionFault}
 use Rattle.coap_wire.specs.declared.fault.FormatFault.{FormatFault}
@@ -9,7 +9,7 @@ use Rattle.coap_wire.specs.declared.fault.FormatFault.TheVariants.{TokenLength, 
 use Rattle.coap_wire.specs.Reading.{◌>>=◌, option_number_at, both_at, option_head_at, value_at, option_at, body_at}
 use Rattle.coap_wire.proofs.BodyLemmas.{with_front}
 use Rattle.coap_wire.proofs.BodySteps.{body_empty_payload, body_fault}
-use Rattle.coap_wire.proofs.NumberLaws.{IsBytes, option_number_short, option_number_cut, option_cases, option_number_length}
+use Rattle.coap_wire.proofs.NumberLaws.{option_number_short, option_number_cut, option_cases, option_number_length}
 use Rattle.coap_wire.proofs.BodyLaws.{result_cases, ok_or_err, option_head_good, option_head_delta, option_head_length, option_head_takes, option_head_again, value_good, value_cut, value_too_great, option_takes, BodyCases, body_induction, body_after}
 
 -- two faults of one step
@@ -82,7 +82,7 @@ value_fault base s delta len after e head h =
     ]
 
 -- an option that cannot be read is wrong in the way that is told
-pub option_fault : (base b : ℕ) (s : List ℕ) (e : FormatFault) → IsBytes (b ∷ s) → b ≢ 255 → option_at base b s ≡ Err e → IsOptionFault base (b ∷ s) e
+pub option_fault : (base b : ℕ) (s : List ℕ) (e : FormatFault) → AreBytes (b ∷ s) → b ≢ 255 → option_at base b s ≡ Err e → IsOptionFault base (b ∷ s) e
 unfolding option_at
 option_fault base b s e fits other h =
     elim (result_cases (option_head_at b s)) [
@@ -142,7 +142,7 @@ pub record HasBodyFault (base : ℕ) (s : List ℕ) (fault : FormatFault) : Type
   pub wrong : IsOptionFault (last_number base options) rest fault
 
 FaultTaken : ℕ → List ℕ → Result (List CoapOption × List ℕ) FormatFault → Type 0
-FaultTaken base s r = IsBytes s → (e : FormatFault) → r ≡ Err e → HasBodyFault base s e
+FaultTaken base s r = AreBytes s → (e : FormatFault) → r ≡ Err e → HasBodyFault base s e
 
 -- where no second step fails, the first one did
 pub bind_fault : {A B : Type 0} (r : Result A FormatFault) (f : A → B) (e : FormatFault) → (r >>= λ x. Ok (f x)) ≡ Err e → r ≡ Err e
@@ -163,7 +163,7 @@ fault_cases = record {
 }
 
 -- a body that cannot be read is wrong in the way that is told
-pub body_fault_takes : (base : ℕ) (s : List ℕ) (e : FormatFault) → IsBytes s → body_at base s ≡ Err e → HasBodyFault base s e
+pub body_fault_takes : (base : ℕ) (s : List ℕ) (e : FormatFault) → AreBytes s → body_at base s ≡ Err e → HasBodyFault base s e
 unfolding FaultTaken
 body_fault_takes base s e fits h = body_induction FaultTaken fault_cases base s fits e h
 

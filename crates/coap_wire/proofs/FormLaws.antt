@@ -3,27 +3,28 @@ use Rattle.std.proofs.Common.{◌≡◌, ℕ, zero, suc, ◌-◌, ◌<◌, ◌�
 use Rattle.std.specs.Int.{w16, w32, to_be_bytes, from_be_bytes}
 use Rattle.std.proofs.lemmas.Bool.{cases_lt, cases_eq}
 use Rattle.std.proofs.lemmas.Nat.{be_bytes_2, be_bytes_4, from_be_bytes-to_be_bytes_2, from_be_bytes-to_be_bytes_4}
-use Rattle.coap_wire.specs.Message.{AreBytes}
+use Rattle.std.specs.List.{AllByRecursion}
+use Rattle.coap_wire.specs.Message.{IsByte}
 use Rattle.coap_wire.specs.Forms.{IsLengthForm, length_form, greatest_length, IsOptionForm, option_form, greatest_option_form}
 
 -- ---- what the forms share
 
 -- each of the bytes, and 0 behind them
-below_256 : (bytes : List ℕ) → AreBytes bytes → (i : ℕ) → get_or bytes i 0 < 256
+below_256 : (bytes : List ℕ) → AllByRecursion IsByte bytes → (i : ℕ) → get_or bytes i 0 < 256
 below_256 [] fits i = omega arith
 below_256 (b ∷ bytes) fits zero = fits.0
 below_256 (b ∷ bytes) fits (suc i) = below_256 bytes fits.1 i
 
-are_bytes_2 : (n : ℕ) → AreBytes (to_be_bytes w16 n)
+are_bytes_2 : (n : ℕ) → AllByRecursion IsByte (to_be_bytes w16 n)
 are_bytes_2 n = (omega arith, (omega arith, tt))
 
-are_bytes_4 : (n : ℕ) → AreBytes (to_be_bytes w32 n)
+are_bytes_4 : (n : ℕ) → AllByRecursion IsByte (to_be_bytes w32 n)
 are_bytes_4 n = (omega arith, (omega arith, (omega arith, (omega arith, tt))))
 
-number_2 : (a b : ℕ) → AreBytes (a ∷ b ∷ []) → from_be_bytes w16 (a ∷ b ∷ []) < 65536
+number_2 : (a b : ℕ) → AllByRecursion IsByte (a ∷ b ∷ []) → from_be_bytes w16 (a ∷ b ∷ []) < 65536
 number_2 a b fits = omega (arith, fits.0, fits.1.0)
 
-number_4 : (a b c d : ℕ) → AreBytes (a ∷ b ∷ c ∷ d ∷ []) → from_be_bytes w32 (a ∷ b ∷ c ∷ d ∷ []) < 4294967296
+number_4 : (a b c d : ℕ) → AllByRecursion IsByte (a ∷ b ∷ c ∷ d ∷ []) → from_be_bytes w32 (a ∷ b ∷ c ∷ d ∷ []) < 4294967296
 number_4 a b c d fits = omega (arith, fits.0, fits.1.0, fits.1.1.0, fits.1.1.1.0)
 
 -- two fronts of one length

@@ -11,9 +11,10 @@ use Rattle.coap_wire.specs.declared.frame.Declared.TheVariants.{Unknown, Size, B
 use Rattle.coap_wire.specs.declared.fault.FormatFault.{FormatFault}
 use Rattle.coap_wire.specs.declared.fault.FormatFault.TheVariants.{TokenLength, NotOneFrame}
 use Rattle.coap_wire.specs.Reading.{length_at, size_from, declared_of, Head, head_from, head_at}
-use Rattle.coap_wire.proofs.NumberLaws.{option_cases, IsBytes, IsBytes-tail, length_again, TakesLength, length_takes}
+use Rattle.coap_wire.proofs.NumberLaws.{option_cases, AreBytes-tail, length_again, TakesLength, length_takes}
 use Rattle.coap_wire.proofs.BodySteps.{ok_is}
 use Rattle.coap_wire.proofs.BodyLaws.{ok_or_err, nibbles}
+use Rattle.coap_wire.specs.Message.{AreBytes}
 
 -- ---- the declared size
 
@@ -96,7 +97,7 @@ declares_size b s y small t =
     )
 
 -- what the first bytes declare is what is read there
-pub declares : (s : List ℕ) → IsBytes s → Declares s (declared_of s)
+pub declares : (s : List ℕ) → AreBytes s → Declares s (declared_of s)
 declares [] fits = rw declared_nothing (declares_unknown [] declared_nothing)
 declares (b ∷ s) fits =
     elim (cases_lt 8 (b % 16)) [
@@ -105,7 +106,7 @@ declares (b ∷ s) fits =
         | inl y ↦
             let byte : b < 256 = fits 0 in
             let is : declared_of (b ∷ s) ≡ Size (1 + (length s - length y.0.1) + 1 + b % 16 + y.0.0) = declared_good b s good ∙ ap (size_from (b % 16) s) y.1 in
-            rw is (declares_size b s y.0 good (length_takes (b / 16) s y.0 (IsBytes-tail (b ∷ []) s fits) (omega arith) y.1))
+            rw is (declares_size b s y.0 good (length_takes (b / 16) s y.0 (AreBytes-tail (b ∷ []) s fits) (omega arith) y.1))
         | inr none ↦
             let is : declared_of (b ∷ s) ≡ Unknown = declared_good b s good ∙ ap (size_from (b % 16) s) none in
             rw is (declares_unknown (b ∷ s) is)
@@ -118,7 +119,7 @@ unknown_only s (Size n) p q = absurd (q.1 n p)
 unknown_only s BadToken p q = absurd (q.0 p)
 
 -- the first bytes declare nothing else
-pub declared_only : (s : List ℕ) (d : Declared) → IsBytes s → Declares s d → d ≡ declared_of s
+pub declared_only : (s : List ℕ) (d : Declared) → AreBytes s → Declares s d → d ≡ declared_of s
 declared_only s Unknown fits p = sym (unknown_only s (declared_of s) (declares s fits) p)
 declared_only s (Size n) fits p = sym (size_declared s n p)
 declared_only s BadToken fits p = sym (bad_token_declared s p)
@@ -185,7 +186,7 @@ nothing_read : (h : Head) → head_at [] ≡ Ok h → ⊥
 nothing_read h e = cc head_nothing
 
 -- a head that is read is spelled so, and its body is bytes
-pub head_takes : (s : List ℕ) (h : Head) → IsBytes s → head_at s ≡ Ok h → IsHeadAndBody s h.code h.token h.body × IsBytes h.body
+pub head_takes : (s : List ℕ) (h : Head) → AreBytes s → head_at s ≡ Ok h → IsHeadAndBody s h.code h.token h.body × AreBytes h.body
 head_takes [] h fits e = absurd (nothing_read h e)
 head_takes (b ∷ s) h fits e =
     elim (cases_lt 8 (b % 16)) [
@@ -195,7 +196,7 @@ head_takes (b ∷ s) h fits e =
           elim (option_cases (length_at (b / 16) s)) [
             | inl y ↦
                 let byte : b < 256 = fits 0 in
-                let l = length_takes (b / 16) s y.0 (IsBytes-tail (b ∷ []) s fits) (omega arith) y.1 in
+                let l = length_takes (b / 16) s y.0 (AreBytes-tail (b ∷ []) s fits) (omega arith) y.1 in
                 let p = head_parts (b % 16) y.0.0 y.0.1 h (ap (head_from (b % 16)) (sym y.1) ∙ from) in
                 let split : b ≡ 16 * (b / 16) + b % 16 = omega arith in (
                   record {
@@ -206,7 +207,7 @@ head_takes (b ∷ s) h fits e =
                     token_form = (sym p.token, omega (arith, p.token));
                     bytes = ap (λ (k : ℕ). k ∷ s) split ∙ ap (λ (r : List ℕ). (16 * (b / 16) + b % 16) ∷ r) l.parts ∙ ap (λ (r : List ℕ). (16 * (b / 16) + b % 16) ∷ (l.extension ++ r)) p.parts;
                   },
-                  IsBytes-tail (h.code ∷ h.token) h.body (subst (λ (r : List ℕ). IsBytes r) p.parts l.rest_fits),
+                  AreBytes-tail (h.code ∷ h.token) h.body (subst (λ (r : List ℕ). AreBytes r) p.parts l.rest_fits),
                 )
             | inr none ↦ absurd (ok_or_err (head_from (b % 16) (length_at (b / 16) s)) h NotOneFrame from (ap (head_from (b % 16)) none))
           ]

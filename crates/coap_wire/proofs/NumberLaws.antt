@@ -7,23 +7,20 @@ use Rattle.coap_wire.specs.Forms.{IsLengthForm, IsOptionForm}
 use Rattle.coap_wire.specs.Faults.{option_extension}
 use Rattle.coap_wire.specs.Reading.{one_byte_at, two_bytes_at, four_bytes_at, plus, length_at, option_number_at}
 use Rattle.coap_wire.proofs.BodySteps.{some_is}
-
--- each number in the list is a byte
-abbrev pub IsBytes : List ℕ → Type 0
-IsBytes bytes = (i : ℕ) → get_or bytes i 0 < 256
+use Rattle.coap_wire.specs.Message.{AreBytes}
 
 -- what stands behind n bytes are bytes
-pub IsBytes-drop : (n : ℕ) (bytes : List ℕ) → IsBytes bytes → IsBytes (drop n bytes)
-IsBytes-drop n bytes h i = rw get_or-drop (h (n + i))
+pub AreBytes-drop : (n : ℕ) (bytes : List ℕ) → AreBytes bytes → AreBytes (drop n bytes)
+AreBytes-drop n bytes h i = rw get_or-drop (h (n + i))
 
 -- what stands behind a byte are bytes
-pub IsBytes-rest : (b : ℕ) (bytes : List ℕ) → IsBytes (b ∷ bytes) → IsBytes bytes
-IsBytes-rest b bytes h i = h (suc i)
+pub AreBytes-rest : (b : ℕ) (bytes : List ℕ) → AreBytes (b ∷ bytes) → AreBytes bytes
+AreBytes-rest b bytes h i = h (suc i)
 
 -- what stands behind some of the bytes are bytes
-pub IsBytes-tail : (front bytes : List ℕ) → IsBytes (front ++ bytes) → IsBytes bytes
-IsBytes-tail [] bytes h = h
-IsBytes-tail (b ∷ front) bytes h = IsBytes-tail front bytes (λ i. h (suc i))
+pub AreBytes-tail : (front bytes : List ℕ) → AreBytes (front ++ bytes) → AreBytes bytes
+AreBytes-tail [] bytes h = h
+AreBytes-tail (b ∷ front) bytes h = AreBytes-tail front bytes (λ i. h (suc i))
 
 -- an extension, and whether it is all there
 pub option_cases : {A : Type 0} (o : Option A) → ((x : A) × (o ≡ Some x)) ⊎ (o ≡ None)
@@ -134,30 +131,30 @@ pub record TakesOptionNumber (x : ℕ) (s : List ℕ) (y : ℕ × List ℕ) : Ty
   pub extension : List ℕ
   pub form : IsOptionForm x extension y.0
   pub parts : s ≡ extension ++ y.1
-  pub rest_fits : IsBytes y.1
+  pub rest_fits : AreBytes y.1
 
 -- the length y stands in front of s, behind the nibble x
 pub record TakesLength (x : ℕ) (s : List ℕ) (y : ℕ × List ℕ) : Type 0 where
   pub extension : List ℕ
   pub form : IsLengthForm x extension y.0
   pub parts : s ≡ extension ++ y.1
-  pub rest_fits : IsBytes y.1
+  pub rest_fits : AreBytes y.1
 
-option_one_takes : (x : ℕ) (s : List ℕ) (y : ℕ × List ℕ) → IsBytes s → x ≡ 13 → plus 13 (one_byte_at s) ≡ Some y → TakesOptionNumber x s y
+option_one_takes : (x : ℕ) (s : List ℕ) (y : ℕ × List ℕ) → AreBytes s → x ≡ 13 → plus 13 (one_byte_at s) ≡ Some y → TakesOptionNumber x s y
 option_one_takes x [] y fits h e = absurd (cc (one_missing 13))
 option_one_takes x (a ∷ s) y fits h e =
     subst (λ (z : ℕ × List ℕ). TakesOptionNumber x (a ∷ s) z) (some_is (a + 13, s) y (sym (one_at 13 a s) ∙ e))
-    (record { extension = a ∷ []; form = (h, fits 0, refl); parts = refl; rest_fits = IsBytes-rest a s fits })
+    (record { extension = a ∷ []; form = (h, fits 0, refl); parts = refl; rest_fits = AreBytes-rest a s fits })
 
-option_two_takes : (x : ℕ) (s : List ℕ) (y : ℕ × List ℕ) → IsBytes s → x ≡ 14 → plus 269 (two_bytes_at s) ≡ Some y → TakesOptionNumber x s y
+option_two_takes : (x : ℕ) (s : List ℕ) (y : ℕ × List ℕ) → AreBytes s → x ≡ 14 → plus 269 (two_bytes_at s) ≡ Some y → TakesOptionNumber x s y
 option_two_takes x [] y fits h e = absurd (cc (two_missing 269 [] (omega arith)))
 option_two_takes x (a ∷ []) y fits h e = absurd (cc (two_missing 269 (a ∷ []) (omega arith)))
 option_two_takes x (a ∷ b ∷ s) y fits h e =
     subst (λ (z : ℕ × List ℕ). TakesOptionNumber x (a ∷ b ∷ s) z) (some_is (from_be_bytes w16 (a ∷ b ∷ []) + 269, s) y (sym (two_at 269 a b s) ∙ e))
-    (record { extension = a ∷ b ∷ []; form = (h, (fits 0, (fits 1, tt)), refl); parts = refl; rest_fits = IsBytes-drop 2 (a ∷ b ∷ s) fits })
+    (record { extension = a ∷ b ∷ []; form = (h, (fits 0, (fits 1, tt)), refl); parts = refl; rest_fits = AreBytes-drop 2 (a ∷ b ∷ s) fits })
 
 -- an option delta or an option length that is read is spelled so
-pub option_number_takes : (x : ℕ) (s : List ℕ) (y : ℕ × List ℕ) → IsBytes s → x < 15 → option_number_at x s ≡ Some y → TakesOptionNumber x s y
+pub option_number_takes : (x : ℕ) (s : List ℕ) (y : ℕ × List ℕ) → AreBytes s → x < 15 → option_number_at x s ≡ Some y → TakesOptionNumber x s y
 option_number_takes x s y fits small e =
     elim (cases_lt x 13) [
       | inl lt ↦ subst (λ (z : ℕ × List ℕ). TakesOptionNumber x s z) (some_is (x, s) y (sym (option_number_none x s lt) ∙ e))
@@ -168,30 +165,30 @@ option_number_takes x s y fits small e =
       ]
     ]
 
-length_one_takes : (x : ℕ) (s : List ℕ) (y : ℕ × List ℕ) → IsBytes s → x ≡ 13 → plus 13 (one_byte_at s) ≡ Some y → TakesLength x s y
+length_one_takes : (x : ℕ) (s : List ℕ) (y : ℕ × List ℕ) → AreBytes s → x ≡ 13 → plus 13 (one_byte_at s) ≡ Some y → TakesLength x s y
 length_one_takes x [] y fits h e = absurd (cc (one_missing 13))
 length_one_takes x (a ∷ s) y fits h e =
     subst (λ (z : ℕ × List ℕ). TakesLength x (a ∷ s) z) (some_is (a + 13, s) y (sym (one_at 13 a s) ∙ e))
-    (record { extension = a ∷ []; form = (h, fits 0, refl); parts = refl; rest_fits = IsBytes-rest a s fits })
+    (record { extension = a ∷ []; form = (h, fits 0, refl); parts = refl; rest_fits = AreBytes-rest a s fits })
 
-length_two_takes : (x : ℕ) (s : List ℕ) (y : ℕ × List ℕ) → IsBytes s → x ≡ 14 → plus 269 (two_bytes_at s) ≡ Some y → TakesLength x s y
+length_two_takes : (x : ℕ) (s : List ℕ) (y : ℕ × List ℕ) → AreBytes s → x ≡ 14 → plus 269 (two_bytes_at s) ≡ Some y → TakesLength x s y
 length_two_takes x [] y fits h e = absurd (cc (two_missing 269 [] (omega arith)))
 length_two_takes x (a ∷ []) y fits h e = absurd (cc (two_missing 269 (a ∷ []) (omega arith)))
 length_two_takes x (a ∷ b ∷ s) y fits h e =
     subst (λ (z : ℕ × List ℕ). TakesLength x (a ∷ b ∷ s) z) (some_is (from_be_bytes w16 (a ∷ b ∷ []) + 269, s) y (sym (two_at 269 a b s) ∙ e))
-    (record { extension = a ∷ b ∷ []; form = (h, (fits 0, (fits 1, tt)), refl); parts = refl; rest_fits = IsBytes-drop 2 (a ∷ b ∷ s) fits })
+    (record { extension = a ∷ b ∷ []; form = (h, (fits 0, (fits 1, tt)), refl); parts = refl; rest_fits = AreBytes-drop 2 (a ∷ b ∷ s) fits })
 
-length_four_takes : (x : ℕ) (s : List ℕ) (y : ℕ × List ℕ) → IsBytes s → x ≡ 15 → plus 65805 (four_bytes_at s) ≡ Some y → TakesLength x s y
+length_four_takes : (x : ℕ) (s : List ℕ) (y : ℕ × List ℕ) → AreBytes s → x ≡ 15 → plus 65805 (four_bytes_at s) ≡ Some y → TakesLength x s y
 length_four_takes x [] y fits h e = absurd (cc (four_missing 65805 [] (omega arith)))
 length_four_takes x (a ∷ []) y fits h e = absurd (cc (four_missing 65805 (a ∷ []) (omega arith)))
 length_four_takes x (a ∷ b ∷ []) y fits h e = absurd (cc (four_missing 65805 (a ∷ b ∷ []) (omega arith)))
 length_four_takes x (a ∷ b ∷ c ∷ []) y fits h e = absurd (cc (four_missing 65805 (a ∷ b ∷ c ∷ []) (omega arith)))
 length_four_takes x (a ∷ b ∷ c ∷ d ∷ s) y fits h e =
     subst (λ (z : ℕ × List ℕ). TakesLength x (a ∷ b ∷ c ∷ d ∷ s) z) (some_is (from_be_bytes w32 (a ∷ b ∷ c ∷ d ∷ []) + 65805, s) y (sym (four_at 65805 a b c d s) ∙ e))
-    (record { extension = a ∷ b ∷ c ∷ d ∷ []; form = (h, (fits 0, (fits 1, (fits 2, (fits 3, tt)))), refl); parts = refl; rest_fits = IsBytes-drop 4 (a ∷ b ∷ c ∷ d ∷ s) fits })
+    (record { extension = a ∷ b ∷ c ∷ d ∷ []; form = (h, (fits 0, (fits 1, (fits 2, (fits 3, tt)))), refl); parts = refl; rest_fits = AreBytes-drop 4 (a ∷ b ∷ c ∷ d ∷ s) fits })
 
 -- a length that is read is spelled so
-pub length_takes : (x : ℕ) (s : List ℕ) (y : ℕ × List ℕ) → IsBytes s → x < 16 → length_at x s ≡ Some y → TakesLength x s y
+pub length_takes : (x : ℕ) (s : List ℕ) (y : ℕ × List ℕ) → AreBytes s → x < 16 → length_at x s ≡ Some y → TakesLength x s y
 length_takes x s y fits small e =
     elim (cases_lt x 13) [
       | inl lt ↦ subst (λ (z : ℕ × List ℕ). TakesLength x s z) (some_is (x, s) y (sym (length_none x s lt) ∙ e))

@@ -1,6 +1,6 @@
 -- The laws of reading: what is read is spelled so, what is spelled so is read, and the fault that is told is the first one.
 use Rattle.std.proofs.Common.{◌≡◌, ℕ, List, Result, Ok, Err, inl, inr, refl, sym, subst, ◌∙◌}
-use Rattle.coap_wire.specs.Message.{CoapOption, Message}
+use Rattle.coap_wire.specs.Message.{CoapOption, Message, AreBytes}
 use Rattle.coap_wire.specs.Spelling.{Spells}
 use Rattle.coap_wire.specs.Size.{IsFrame, HasBadToken}
 use Rattle.coap_wire.specs.Faults.{HasOptionFault, IsFirstFault}
@@ -8,7 +8,6 @@ use Rattle.coap_wire.specs.declared.fault.FormatFault.{FormatFault}
 use Rattle.coap_wire.specs.declared.fault.FormatFault.TheVariants.{TokenLength, OptionDelta, OptionLength, OptionCut, OptionNumber, EmptyPayload, NotOneFrame}
 use Rattle.coap_wire.specs.Reading.{◌>>=◌, body_at, head_at, message_of}
 use Rattle.coap_wire.proofs.BodySteps.{bind_ok, ok_is}
-use Rattle.coap_wire.proofs.NumberLaws.{IsBytes}
 use Rattle.coap_wire.proofs.BodyLaws.{result_cases, body_takes, body_again}
 use Rattle.coap_wire.proofs.HeadLaws.{head_takes, head_again, head_fault, bad_token_read, head_frame}
 use Rattle.coap_wire.proofs.FaultLaws.{err_is, bind_fault, body_fault_takes, body_fault_again}
@@ -16,7 +15,7 @@ use Rattle.coap_wire.proofs.FaultLaws.{err_is, bind_fault, body_fault_takes, bod
 -- ---- the message
 
 -- a message that is read is spelled so
-pub message_spelled : (s : List ℕ) (m : Message) → IsBytes s → message_of s ≡ Ok m → Spells s m
+pub message_spelled : (s : List ℕ) (m : Message) → AreBytes s → message_of s ≡ Ok m → Spells s m
 unfolding message_of
 message_spelled s m fits e =
     let a = bind_ok (head_at s) (λ head. body_at 0 head.body >>= λ body. Ok (record { code = head.code; token = head.token; options = body.0; payload = body.1 })) m e in
@@ -47,7 +46,7 @@ first_of_option s OptionCut w = w
 first_of_option s OptionNumber w = w
 
 -- a fault that is told is the first one
-pub fault_is_first : (s : List ℕ) (f : FormatFault) → IsBytes s → message_of s ≡ Err f → IsFirstFault s f
+pub fault_is_first : (s : List ℕ) (f : FormatFault) → AreBytes s → message_of s ≡ Err f → IsFirstFault s f
 unfolding message_of
 fault_is_first s f fits e =
     elim (result_cases (head_at s)) [
@@ -79,7 +78,7 @@ no_frame_from s OptionLength p q h w = absurd (q (head_frame s w.code w.token w.
 no_frame_from s OptionCut p q h w = absurd (q (head_frame s w.code w.token w.body w.head))
 no_frame_from s OptionNumber p q h w = absurd (q (head_frame s w.code w.token w.body w.head))
 
-no_frame_read : (s : List ℕ) → IsBytes s → (HasBadToken s → ⊥) → (IsFrame s → ⊥) → head_at s ≡ Err NotOneFrame
+no_frame_read : (s : List ℕ) → AreBytes s → (HasBadToken s → ⊥) → (IsFrame s → ⊥) → head_at s ≡ Err NotOneFrame
 no_frame_read s fits p q =
     elim (result_cases (head_at s)) [
       | inl good ↦ absurd (q (head_frame s good.0.code good.0.token good.0.body (head_takes s good.0 fits good.1).0))
@@ -87,7 +86,7 @@ no_frame_read s fits p q =
     ]
 
 -- the first fault is the one that is told
-pub first_fault_again : (s : List ℕ) (f : FormatFault) → IsBytes s → IsFirstFault s f → message_of s ≡ Err f
+pub first_fault_again : (s : List ℕ) (f : FormatFault) → AreBytes s → IsFirstFault s f → message_of s ≡ Err f
 first_fault_again s TokenLength fits w = head_fault_read s TokenLength (bad_token_read s w)
 first_fault_again s NotOneFrame fits w = head_fault_read s NotOneFrame (no_frame_read s fits w.0 w.1)
 first_fault_again s EmptyPayload fits w = option_fault_read s EmptyPayload w

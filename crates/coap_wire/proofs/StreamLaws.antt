@@ -3,7 +3,7 @@ use Rattle.std.proofs.Common.{◌≡◌, ℕ, zero, suc, ◌+◌, ◌*◌, ◌<�
 use Rattle.std.specs.List.{concat}
 use Rattle.std.proofs.lemmas.Bool.{cases_lt}
 use Rattle.std.proofs.lemmas.List.{append-nil, append_assoc, get_or_append_left, get_or_past, length-append, take-append-drop, take_at, take-append-le, take_all, drop_all}
-use Rattle.coap_wire.specs.Message.{Message}
+use Rattle.coap_wire.specs.Message.{Message, AreBytes}
 use Rattle.coap_wire.specs.Forms.{IsLengthForm}
 use Rattle.coap_wire.specs.Spelling.{Spells}
 use Rattle.coap_wire.specs.Size.{IsSizeHead, IsDeclaredSize, IsFrame, HasBadToken, Declares}
@@ -11,7 +11,7 @@ use Rattle.coap_wire.specs.declared.frame.Declared.TheVariants.{Size, BadToken}
 use Rattle.coap_wire.specs.declared.fault.FormatFault.{FormatFault}
 use Rattle.coap_wire.specs.Reading.{length_at, declared_of, message_of}
 use Rattle.coap_wire.specs.Stream.{StreamFault, TokenLength, TooLarge, Format, IsTokenLengthFault, IsTooLarge, IsFormatFault, IsUnfinished, EndsWith, StandsBehind, SpellEach, AreAtMost, Splits, Beginning, Unfinished, Whole, Faulty, beginning, extension_of, size_bytes, Stream, fault_bytes, with_message, split}
-use Rattle.coap_wire.proofs.NumberLaws.{IsBytes, IsBytes-tail, length_again}
+use Rattle.coap_wire.proofs.NumberLaws.{AreBytes-tail, length_again}
 use Rattle.coap_wire.proofs.BodyLaws.{result_cases, ok_or_err, nibbles}
 use Rattle.coap_wire.proofs.HeadLaws.{bad_token_declared, size_declared, declares}
 use Rattle.coap_wire.proofs.SizeLaws.{spelling_is_frame}
@@ -19,8 +19,8 @@ use Rattle.coap_wire.proofs.ReadingLaws.{message_spelled, message_again}
 use Rattle.coap_wire.proofs.StreamSteps.{length_at_taken, size_has_bytes, begin_bad_token, begin_too_large, begin_whole, whole_parts, whole_shorter, whole_more, token_length_declared, too_large_declared, format_not_begun, faulty_more, unfinished_empty, split_unfinished, split_faulty, split_message, split_bad}
 
 -- the bytes in front are bytes
-pub IsBytes-front : (front bytes : List ℕ) → IsBytes (front ++ bytes) → IsBytes front
-IsBytes-front front bytes fits i =
+pub AreBytes-front : (front bytes : List ℕ) → AreBytes (front ++ bytes) → AreBytes front
+AreBytes-front front bytes fits i =
     elim (cases_lt i (length front)) [
       | inl lt ↦ subst (λ (b : ℕ). b < 256) (get_or_append_left front bytes 0 i lt) (fits i)
       | inr ge ↦ rw (get_or_past front i 0 ge) (omega arith)
@@ -46,15 +46,15 @@ size_head_bytes head more n h =
     ∙ sym (ap (λ (l : List ℕ). length l) h.head)
 
 -- bytes that declare a size begin with its head
-pub size_head_of : (s : List ℕ) (n : ℕ) → IsBytes s → declared_of s ≡ Size n → IsDeclaredSize s n
+pub size_head_of : (s : List ℕ) (n : ℕ) → AreBytes s → declared_of s ≡ Size n → IsDeclaredSize s n
 size_head_of s n fits e = subst (Declares s) e (declares s fits)
 
 -- bytes that declare a bad token begin with it
-pub bad_token_of : (s : List ℕ) → IsBytes s → declared_of s ≡ BadToken → HasBadToken s
+pub bad_token_of : (s : List ℕ) → AreBytes s → declared_of s ≡ BadToken → HasBadToken s
 bad_token_of s fits e = subst (Declares s) e (declares s fits)
 
 -- what declares a size that is its length, in front of others, is a frame
-pub frame_of_front : (frame rest : List ℕ) → IsBytes (frame ++ rest) → declared_of (frame ++ rest) ≡ Size (length frame) → IsFrame frame
+pub frame_of_front : (frame rest : List ℕ) → AreBytes (frame ++ rest) → declared_of (frame ++ rest) ≡ Size (length frame) → IsFrame frame
 frame_of_front frame rest fits e =
     let d : IsDeclaredSize (frame ++ rest) (length frame) = size_head_of (frame ++ rest) (length frame) fits e in
     let bytes : frame ++ rest ≡ d.0 ++ d.1 = d.2 in
@@ -65,10 +65,10 @@ frame_of_front frame rest fits e =
     (d.0, drop k frame, sym (take-append-drop k frame) ∙ ap (λ (p : List ℕ). p ++ drop k frame) head, d.3)
 
 -- a whole frame at the front is a frame
-pub whole_frame : (M : ℕ) (s frame rest : List ℕ) → IsBytes s → beginning M s ≡ Whole frame rest → IsFrame frame
+pub whole_frame : (M : ℕ) (s frame rest : List ℕ) → AreBytes s → beginning M s ≡ Whole frame rest → IsFrame frame
 whole_frame M s frame rest fits e =
     let c = whole_parts M s frame rest e in
-    frame_of_front frame rest (subst (λ (l : List ℕ). IsBytes l) c.bytes fits) (subst (λ (l : List ℕ). declared_of l ≡ Size (length frame)) c.bytes c.declared)
+    frame_of_front frame rest (subst (λ (l : List ℕ). AreBytes l) c.bytes fits) (subst (λ (l : List ℕ). declared_of l ≡ Size (length frame)) c.bytes c.declared)
 
 -- a frame of at most M bytes stands whole at the front
 pub frame_begins : (M : ℕ) (frame rest : List ℕ) → IsFrame frame → length frame ≤ M → beginning M (frame ++ rest) ≡ Whole frame rest
@@ -87,13 +87,13 @@ pub too_large_begins : (M : ℕ) (r more : List ℕ) → IsTooLarge M r → begi
 too_large_begins M r more f = faulty_more M r more TooLarge (begin_too_large M r f.0 (size_declared r f.0 (r, [], sym (append-nil r), f.1)) f.2)
 
 -- the byte of a bad token length is the first one
-pub token_length_found : (M : ℕ) (s : List ℕ) → IsBytes s → beginning M s ≡ Faulty TokenLength → IsTokenLengthFault (take 1 s)
+pub token_length_found : (M : ℕ) (s : List ℕ) → AreBytes s → beginning M s ≡ Faulty TokenLength → IsTokenLengthFault (take 1 s)
 token_length_found M s fits e =
     let bad : HasBadToken s = bad_token_of s fits (token_length_declared M s e) in
     (bad.0, ap (take 1) bad.2, bad.3)
 
 -- the byte of a size above M is the last one of the length
-pub too_large_found : (M : ℕ) (s : List ℕ) → IsBytes s → beginning M s ≡ Faulty TooLarge → IsTooLarge M (take (size_bytes s) s)
+pub too_large_found : (M : ℕ) (s : List ℕ) → AreBytes s → beginning M s ≡ Faulty TooLarge → IsTooLarge M (take (size_bytes s) s)
 too_large_found M s fits e =
     let f = too_large_declared M s e in
     let d : IsDeclaredSize s f.0 = size_head_of s f.0 fits f.1 in
@@ -102,7 +102,7 @@ too_large_found M s fits e =
     (f.0, subst (λ (r : List ℕ). IsSizeHead r f.0) (sym head) d.3, f.2)
 
 -- the bytes of a fault at the front are a fault
-pub fault_found : (M : ℕ) (s : List ℕ) (fault : StreamFault) → IsBytes s → beginning M s ≡ Faulty fault → EndsWith M (fault_bytes fault s) (Some fault)
+pub fault_found : (M : ℕ) (s : List ℕ) (fault : StreamFault) → AreBytes s → beginning M s ≡ Faulty fault → EndsWith M (fault_bytes fault s) (Some fault)
 fault_found M s TokenLength fits e = token_length_found M s fits e
 fault_found M s TooLarge fits e = too_large_found M s fits e
 fault_found M s Format fits e = absurd (format_not_begun M s e)
@@ -131,7 +131,7 @@ unfinished_is M s u p q is =
       λ f. fault_or_not M (p ++ q) TooLarge v (too_large_begins M p q f),
     )
 
-unfinished_by : (M : ℕ) (s : List ℕ) (b : Beginning) → IsBytes s → IsUnfinished M s → beginning M s ≡ b → beginning M s ≡ Unfinished
+unfinished_by : (M : ℕ) (s : List ℕ) (b : Beginning) → AreBytes s → IsUnfinished M s → beginning M s ≡ b → beginning M s ≡ Unfinished
 unfinished_by M s Unfinished fits u e = e
 unfinished_by M s (Whole frame rest) fits u e = absurd ((u frame rest (whole_parts M s frame rest e).bytes).0 (whole_frame M s frame rest fits e))
 unfinished_by M s (Faulty TokenLength) fits u e = absurd ((u (take 1 s) (drop 1 s) (sym (take-append-drop 1 s))).1 (token_length_found M s fits e))
@@ -139,7 +139,7 @@ unfinished_by M s (Faulty TooLarge) fits u e = absurd ((u (take (size_bytes s) s
 unfinished_by M s (Faulty Format) fits u e = absurd (format_not_begun M s e)
 
 -- where no front is a frame or a fault, nothing stands at the front yet
-pub unfinished_again : (M : ℕ) (s : List ℕ) → IsBytes s → IsUnfinished M s → beginning M s ≡ Unfinished
+pub unfinished_again : (M : ℕ) (s : List ℕ) → AreBytes s → IsUnfinished M s → beginning M s ≡ Unfinished
 unfinished_again M s fits u = unfinished_by M s (beginning M s) fits u refl
 
 -- ---- what the function gives, the relation allows
@@ -170,7 +170,7 @@ splits_unfinished M s u = record {
   behind = refl;
 }
 
-splits_faulty : (M : ℕ) (s : List ℕ) (fault : StreamFault) → IsBytes s → beginning M s ≡ Faulty fault → Splits M s [] (fault_bytes fault s) (Some fault)
+splits_faulty : (M : ℕ) (s : List ℕ) (fault : StreamFault) → AreBytes s → beginning M s ≡ Faulty fault → Splits M s [] (fault_bytes fault s) (Some fault)
 splits_faulty M s fault fits e = record {
   frames = [];
   more = drop (fault_size fault s) s;
@@ -181,7 +181,7 @@ splits_faulty M s fault fits e = record {
   behind = tt;
 }
 
-splits_bad : (M : ℕ) (s frame rest : List ℕ) (f : FormatFault) → IsBytes s → beginning M s ≡ Whole frame rest → message_of frame ≡ Err f → Splits M s [] frame (Some Format)
+splits_bad : (M : ℕ) (s frame rest : List ℕ) (f : FormatFault) → AreBytes s → beginning M s ≡ Whole frame rest → message_of frame ≡ Err f → Splits M s [] frame (Some Format)
 splits_bad M s frame rest f fits e bad = record {
   frames = [];
   more = rest;
@@ -208,23 +208,23 @@ splits_message M frame rest m ms r fault spelled small others = record {
   behind = others.behind;
 }
 
-splits_step : (M : ℕ) (s : List ℕ) (b : Beginning) → IsBytes s → ((frame rest : List ℕ) → beginning M s ≡ Whole frame rest → IsBytes rest → SplitsTo M rest (split M rest)) → beginning M s ≡ b → SplitsTo M s (split M s)
+splits_step : (M : ℕ) (s : List ℕ) (b : Beginning) → AreBytes s → ((frame rest : List ℕ) → beginning M s ≡ Whole frame rest → AreBytes rest → SplitsTo M rest (split M rest)) → beginning M s ≡ b → SplitsTo M s (split M s)
 splits_step M s Unfinished fits again e = subst (SplitsTo M s) (sym (split_unfinished M s e)) (splits_unfinished M s e)
 splits_step M s (Faulty fault) fits again e = subst (SplitsTo M s) (sym (split_faulty M s fault e)) (splits_faulty M s fault fits e)
 splits_step M s (Whole frame rest) fits again e =
     let c = whole_parts M s frame rest e in
-    let both : IsBytes (frame ++ rest) = subst (λ (l : List ℕ). IsBytes l) c.bytes fits in
+    let both : AreBytes (frame ++ rest) = subst (λ (l : List ℕ). AreBytes l) c.bytes fits in
     elim (result_cases (message_of frame)) [
       | inl good ↦
-          let spelled : Spells frame good.0 = message_spelled frame good.0 (IsBytes-front frame rest both) good.1 in
-          let behind : SplitsTo M rest (split M rest) = again frame rest e (IsBytes-tail frame rest both) in
+          let spelled : Spells frame good.0 = message_spelled frame good.0 (AreBytes-front frame rest both) good.1 in
+          let behind : SplitsTo M rest (split M rest) = again frame rest e (AreBytes-tail frame rest both) in
           let others = splits_message M frame rest good.0 (split M rest).messages (split M rest).rest (split M rest).fault spelled c.small behind in
           subst (SplitsTo M s) (sym (split_message M s frame rest good.0 e good.1))
           (subst (λ (l : List ℕ). SplitsTo M l (with_message good.0 (split M rest))) (sym c.bytes) others)
       | inr bad ↦ subst (SplitsTo M s) (sym (split_bad M s frame rest bad.0 e bad.1)) (splits_bad M s frame rest bad.0 fits e bad.1)
     ]
 
-splits_within : (turns M : ℕ) (s : List ℕ) → IsBytes s → length s ≤ turns → SplitsTo M s (split M s)
+splits_within : (turns M : ℕ) (s : List ℕ) → AreBytes s → length s ≤ turns → SplitsTo M s (split M s)
 splits_within turns M [] fits k = splits_step M [] Unfinished fits (λ frame rest e. absurd (two_beginnings M [] frame rest (unfinished_empty M) e)) (unfinished_empty M)
 splits_within zero M (b ∷ s) fits k = absurd (omega arith)
 splits_within (suc turns) M (b ∷ s) fits k =
@@ -235,13 +235,13 @@ splits_within (suc turns) M (b ∷ s) fits k =
     refl
 
 -- What the function gives, the relation allows.
-pub split_splits : (M : ℕ) (bytes : List ℕ) → IsBytes bytes → Splits M bytes (split M bytes).messages (split M bytes).rest (split M bytes).fault
+pub split_splits : (M : ℕ) (bytes : List ℕ) → AreBytes bytes → Splits M bytes (split M bytes).messages (split M bytes).rest (split M bytes).fault
 split_splits M bytes fits = splits_within (length bytes) M bytes fits (omega arith)
 
 -- ---- what the relation allows, the function gives
 
 -- a frame that spells no message cannot be read
-pub format_fault_read : (M : ℕ) (r : List ℕ) → IsBytes r → IsFormatFault M r → (e : FormatFault) × (message_of r ≡ Err e)
+pub format_fault_read : (M : ℕ) (r : List ℕ) → AreBytes r → IsFormatFault M r → (e : FormatFault) × (message_of r ≡ Err e)
 format_fault_read M r fits f =
     elim (result_cases (message_of r)) [
       | inl good ↦ absurd (f.2 good.0 (message_spelled r good.0 fits good.1))
@@ -254,10 +254,10 @@ too_large_bytes M r more f = take_at r more (size_bytes (r ++ more)) (sym (size_
 token_length_bytes : (r more : List ℕ) → IsTokenLengthFault r → take 1 (r ++ more) ≡ r
 token_length_bytes r more f = take_at r more 1 (ap (λ (l : List ℕ). length l) f.1)
 
-split_ending : (M : ℕ) (rest more : List ℕ) (fault : Option StreamFault) → IsBytes (rest ++ more) → EndsWith M rest fault → StandsBehind more fault → split M (rest ++ more) ≡ record { messages = []; rest = rest; fault = fault }
+split_ending : (M : ℕ) (rest more : List ℕ) (fault : Option StreamFault) → AreBytes (rest ++ more) → EndsWith M rest fault → StandsBehind more fault → split M (rest ++ more) ≡ record { messages = []; rest = rest; fault = fault }
 split_ending M rest more None fits ended behind =
     let is : rest ++ more ≡ rest = ap (λ (l : List ℕ). rest ++ l) behind ∙ append-nil rest in
-    ap (split M) is ∙ split_unfinished M rest (unfinished_again M rest (IsBytes-front rest more fits) ended)
+    ap (split M) is ∙ split_unfinished M rest (unfinished_again M rest (AreBytes-front rest more fits) ended)
 split_ending M rest more (Some TokenLength) fits ended behind =
     split_faulty M (rest ++ more) TokenLength (token_length_begins M rest more ended)
     ∙ ap (λ (r : List ℕ). record { messages = []; rest = r; fault = Some TokenLength }) (token_length_bytes rest more ended)
@@ -265,29 +265,29 @@ split_ending M rest more (Some TooLarge) fits ended behind =
     split_faulty M (rest ++ more) TooLarge (too_large_begins M rest more ended)
     ∙ ap (λ (r : List ℕ). record { messages = []; rest = r; fault = Some TooLarge }) (too_large_bytes M rest more ended)
 split_ending M rest more (Some Format) fits ended behind =
-    let bad = format_fault_read M rest (IsBytes-front rest more fits) ended in
+    let bad = format_fault_read M rest (AreBytes-front rest more fits) ended in
     split_bad M (rest ++ more) rest more bad.0 (frame_begins M rest more ended.0 ended.1) bad.1
 
-split_frames : (M : ℕ) (frames : List (List ℕ)) (ms : List Message) (rest more : List ℕ) (fault : Option StreamFault) → IsBytes (concat frames ++ (rest ++ more)) → SpellEach frames ms → AreAtMost M frames → EndsWith M rest fault → StandsBehind more fault → split M (concat frames ++ (rest ++ more)) ≡ record { messages = ms; rest = rest; fault = fault }
+split_frames : (M : ℕ) (frames : List (List ℕ)) (ms : List Message) (rest more : List ℕ) (fault : Option StreamFault) → AreBytes (concat frames ++ (rest ++ more)) → SpellEach frames ms → AreAtMost M frames → EndsWith M rest fault → StandsBehind more fault → split M (concat frames ++ (rest ++ more)) ≡ record { messages = ms; rest = rest; fault = fault }
 split_frames M [] [] rest more fault fits spelled small ended behind = split_ending M rest more fault fits ended behind
 split_frames M [] (m ∷ ms) rest more fault fits spelled small ended behind = absurd spelled
 split_frames M (f ∷ fs) [] rest more fault fits spelled small ended behind = absurd spelled
 split_frames M (f ∷ fs) (m ∷ ms) rest more fault fits spelled small ended behind =
     let others = concat fs ++ (rest ++ more) in
     let is : concat (f ∷ fs) ++ (rest ++ more) ≡ f ++ others = append_assoc f (concat fs) (rest ++ more) in
-    let tail : IsBytes others = IsBytes-tail f others (subst (λ (l : List ℕ). IsBytes l) is fits) in
+    let tail : AreBytes others = AreBytes-tail f others (subst (λ (l : List ℕ). AreBytes l) is fits) in
     ap (split M) is
     ∙ split_message M (f ++ others) f others m (frame_begins M f others (spelling_is_frame f m spelled.0) small.0) (message_again f m spelled.0)
     ∙ ap (with_message m) (split_frames M fs ms rest more fault tail spelled.1 small.1 ended behind)
 
 -- What the relation allows, the function gives.
-pub splits_split : (M : ℕ) (bytes : List ℕ) (ms : List Message) (rest : List ℕ) (fault : Option StreamFault) → IsBytes bytes → Splits M bytes ms rest fault → split M bytes ≡ record { messages = ms; rest = rest; fault = fault }
+pub splits_split : (M : ℕ) (bytes : List ℕ) (ms : List Message) (rest : List ℕ) (fault : Option StreamFault) → AreBytes bytes → Splits M bytes ms rest fault → split M bytes ≡ record { messages = ms; rest = rest; fault = fault }
 splits_split M bytes ms rest fault fits s =
     ap (split M) s.whole
-    ∙ split_frames M s.frames ms rest s.more fault (subst (λ (l : List ℕ). IsBytes l) s.whole fits) s.spelled s.small s.ended s.behind
+    ∙ split_frames M s.frames ms rest s.more fault (subst (λ (l : List ℕ). AreBytes l) s.whole fits) s.spelled s.small s.ended s.behind
 
 -- Bytes are split in one way.
-pub splits_only : (M : ℕ) (bytes : List ℕ) (ms ns : List Message) (rest tail : List ℕ) (fault other : Option StreamFault) → IsBytes bytes → Splits M bytes ms rest fault → Splits M bytes ns tail other → (ms ≡ ns) × (rest ≡ tail) × (fault ≡ other)
+pub splits_only : (M : ℕ) (bytes : List ℕ) (ms ns : List Message) (rest tail : List ℕ) (fault other : Option StreamFault) → AreBytes bytes → Splits M bytes ms rest fault → Splits M bytes ns tail other → (ms ≡ ns) × (rest ≡ tail) × (fault ≡ other)
 splits_only M bytes ms ns rest tail fault other fits left right =
     let same = sym (splits_split M bytes ms rest fault fits left) ∙ splits_split M bytes ns tail other fits right in
     (ap (λ (stream : Stream). stream.messages) same, ap (λ (stream : Stream). stream.rest) same, ap (λ (stream : Stream). stream.fault) same)

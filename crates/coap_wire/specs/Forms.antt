@@ -1,16 +1,17 @@
 -- The forms of numbers: a nibble and the bytes that extend it, in network order.
 use Rattle.std.specs.Prelude.{◌≡◌, ℕ, ◌+◌, ◌-◌, ◌<◌, ◌≤◌, List, [], ◌∷◌, nat_lt, if◌then◌else◌}
 use Rattle.std.specs.Int.{w16, w32, to_be_bytes, from_be_bytes}
-use Rattle.coap_wire.specs.Message.{IsByte, AreBytes}
+use Rattle.std.specs.List.{AllByRecursion}
+use Rattle.coap_wire.specs.Message.{IsByte}
 
 -- Nibble x with extension e means the length n of a message's options and payload (RFC 8323 section 3.2).
 abbrev pub IsLengthForm : ℕ → List ℕ → ℕ → Type 0
 IsLengthForm x [] n = (x < 13) × (n ≡ x)
 IsLengthForm x (a ∷ []) n = (x ≡ 13) × IsByte a × (n ≡ a + 13)
-IsLengthForm x (a ∷ b ∷ []) n = (x ≡ 14) × AreBytes (a ∷ b ∷ []) × (n ≡ from_be_bytes w16 (a ∷ b ∷ []) + 269)
+IsLengthForm x (a ∷ b ∷ []) n = (x ≡ 14) × AllByRecursion IsByte (a ∷ b ∷ []) × (n ≡ from_be_bytes w16 (a ∷ b ∷ []) + 269)
 IsLengthForm x (a ∷ b ∷ c ∷ []) n = ⊥
 IsLengthForm x (a ∷ b ∷ c ∷ d ∷ []) n =
-    (x ≡ 15) × AreBytes (a ∷ b ∷ c ∷ d ∷ []) × (n ≡ from_be_bytes w32 (a ∷ b ∷ c ∷ d ∷ []) + 65805)
+    (x ≡ 15) × AllByRecursion IsByte (a ∷ b ∷ c ∷ d ∷ []) × (n ≡ from_be_bytes w32 (a ∷ b ∷ c ∷ d ∷ []) + 65805)
 IsLengthForm x (a ∷ b ∷ c ∷ d ∷ e ∷ es) n = ⊥
 
 -- the greatest length that has a form
@@ -29,7 +30,7 @@ length_form n =
 abbrev pub IsOptionForm : ℕ → List ℕ → ℕ → Type 0
 IsOptionForm x [] n = (x < 13) × (n ≡ x)
 IsOptionForm x (a ∷ []) n = (x ≡ 13) × IsByte a × (n ≡ a + 13)
-IsOptionForm x (a ∷ b ∷ []) n = (x ≡ 14) × AreBytes (a ∷ b ∷ []) × (n ≡ from_be_bytes w16 (a ∷ b ∷ []) + 269)
+IsOptionForm x (a ∷ b ∷ []) n = (x ≡ 14) × AllByRecursion IsByte (a ∷ b ∷ []) × (n ≡ from_be_bytes w16 (a ∷ b ∷ []) + 269)
 IsOptionForm x (a ∷ b ∷ c ∷ es) n = ⊥
 
 -- the greatest option delta or option length that has a form

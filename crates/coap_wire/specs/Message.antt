@@ -18,9 +18,6 @@ pub record Message : Type 0 where
 abbrev pub IsByte : ℕ → Type 0
 IsByte b = b < 256
 
-abbrev pub AreBytes : List ℕ → Type 0
-AreBytes bytes = AllByRecursion IsByte bytes
-
 -- no option has a number below the one before it, nor below base
 abbrev pub AreOrdered : ℕ → List CoapOption → Type 0
 AreOrdered base [] = Unit {0}
@@ -32,5 +29,5 @@ last_number base [] = base
 last_number base (o ∷ os) = last_number o.number os
 
 -- each place holds a byte
-abbrev pub AreAllBytes : List ℕ → Type 0
-AreAllBytes bytes = (i : ℕ) → slice_index bytes i < 256
+abbrev pub AreBytes : List ℕ → Type 0
+AreBytes bytes = (i : ℕ) → slice_index bytes i < 256

@@ -99,6 +99,14 @@ pub record Stream : Type 0 where
   pub rest : List ℕ
   pub fault : Option StreamFault
 
+-- the same as a relation
+abbrev pub SplitsAs : ℕ → List ℕ → Stream → Type 0
+SplitsAs M bytes stream = Splits M bytes stream.messages stream.rest stream.fault
+
+-- what a stream spells behind these messages
+abbrev pub behind : List Message → Stream → Stream
+behind before stream = record stream { messages = before ++ stream.messages }
+
 -- the bytes of a fault, up to the one at which it is known
 abbrev pub fault_bytes : StreamFault → List ℕ → List ℕ
 fault_bytes TokenLength s = take 1 s

@@ -47,7 +47,7 @@ impl<'a> Model for Builder<'a> {
 
 impl<'a> Builder<'a> {
     ghost use Rattle.std.specs.Prelude.{◌≡◌, ◌+◌, ◌≤◌, ◌++◌, [], length, OnOk, OnErr};
-    ghost use Rattle.coap_wire.specs.Spelling.{spelling, body_spelling, HasSpelling};
+    ghost use Rattle.coap_wire.specs.Spelling.{Spells, spelling, body_spelling, HasSpelling};
     ghost use Rattle.coap_wire.specs.Refusal.{RefusedBy};
     ghost use Rattle.coap_wire.specs.Views.{CanBeBuilt, option_refusal, payload_refusal, with_option};
 
@@ -145,6 +145,7 @@ impl<'a> Builder<'a> {
         requires { length (spelling self.now) ≤ S.space out.old }
         ensures appended { S.contents out.new ≡ S.contents out.old ++ spelling self.now }
         ensures less_room { S.space out.new + length (spelling self.now) ≡ S.space out.old }
+        ensures spelled { Spells (spelling self.now) self.now }
     {
         write_head(out, self.code, &self.token, self.body_size());
         write_options(out, &self.options);

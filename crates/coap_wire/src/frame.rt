@@ -3,7 +3,7 @@
 /// What the first bytes of a frame say of its size (RFC 8323 section 3.2).
 #[derive(Clone, Copy, Debug, PartialEq, Eq)]
 pub enum Declared {
-    /// The extension of the length is not all there.
+    /// Too few bytes: none, or the extension of the length is not all there.
     Unknown,
     /// Every frame that begins so has this many bytes. The greatest is 4,295,033,114.
     Size(u64),

@@ -1,11 +1,12 @@
 //! What holds of spellings, each as the contract of a function that does nothing.
 
-ghost use Rattle.std.specs.Prelude.{◌≡◌, ℕ, ◌≤◌, List, [], ◌++◌, length};
-ghost use Rattle.coap_wire.specs.Message.{Message, AreAllBytes};
+ghost use Rattle.std.specs.Prelude.{◌≡◌, ℕ, ◌≤◌, List, [], ◌++◌, length, Some, None};
+ghost use Rattle.coap_wire.specs.Message.{Message, AreBytes};
 ghost use Rattle.coap_wire.specs.Forms.{IsLengthForm, length_form, greatest_length, IsOptionForm, option_form, greatest_option_form};
 ghost use Rattle.coap_wire.specs.Spelling.{Spells, spelling, HasSpelling};
 ghost use Rattle.coap_wire.specs.Size.{IsDeclaredSize, IsFrame};
 ghost use Rattle.coap_wire.specs.Faults.{IsFirstFault};
+ghost use Rattle.coap_wire.specs.Stream.{Stream, StreamFault, SplitsAs, split, behind};
 ghost use Rattle.coap_wire.specs.declared.fault.FormatFault.{FormatFault};
 
 /// Each length up to 4,295,033,100 has exactly one form (RFC 8323 section 3.2).
@@ -50,6 +51,20 @@ pub fn size_is_declared_once()
 
 /// Bytes that spell no message have one first fault, and those that spell one have none.
 pub fn first_fault_is_one()
-    ensures once { (s : List ℕ) (f g : FormatFault) → AreAllBytes s → IsFirstFault s f → IsFirstFault s g → f ≡ g }
-    ensures none { (s : List ℕ) (m : Message) (f : FormatFault) → AreAllBytes s → Spells s m → IsFirstFault s f → ⊥ }
+    ensures has { (s : List ℕ) → AreBytes s → ((m : Message) → Spells s m → ⊥) → (f : FormatFault) × IsFirstFault s f }
+    ensures once { (s : List ℕ) (f g : FormatFault) → AreBytes s → IsFirstFault s f → IsFirstFault s g → f ≡ g }
+    ensures none { (s : List ℕ) (m : Message) (f : FormatFault) → AreBytes s → Spells s m → IsFirstFault s f → ⊥ }
+{}
+
+/// Bytes split in one way into messages, a rest and a fault, where messages of at most `M` bytes are taken, and `split`
+/// computes it (RFC 8323 sections 3.2, 5.3.1).
+pub fn stream_is_split_once()
+    ensures has { (M : ℕ) (s : List ℕ) → AreBytes s → SplitsAs M s (split M s) }
+    ensures no_other { (M : ℕ) (s : List ℕ) (other : Stream) → AreBytes s → SplitsAs M s other → other ≡ split M s }
+{}
+
+/// Where bytes are cut does not matter: what follows is read behind the rest, unless a fault ended the stream before it.
+pub fn cuts_do_not_matter()
+    ensures goes_on { (M : ℕ) (s more : List ℕ) → (split M s).fault ≡ None → split M (s ++ more) ≡ behind (split M s).messages (split M ((split M s).rest ++ more)) }
+    ensures stopped { (M : ℕ) (s more : List ℕ) (fault : StreamFault) → (split M s).fault ≡ Some fault → split M (s ++ more) ≡ split M s }
 {}

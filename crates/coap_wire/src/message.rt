@@ -36,6 +36,7 @@ impl<'a> Model for MessageRef<'a> {
 
 impl<'a> MessageRef<'a> {
     ghost use Rattle.std.specs.Prelude.{◌≡◌};
+    ghost use Rattle.coap_wire.specs.Message.{AreOrdered};
 
     /// The code.
     pub fn code(&self) -> Code
@@ -53,7 +54,8 @@ impl<'a> MessageRef<'a> {
 
     /// The options, in order of number.
     pub fn options(&self) -> Options<'a>
-        ensures { result ≡ self.now.options }
+        ensures all { result ≡ self.now.options }
+        ensures ordered { AreOrdered 0 self.now.options }
     {
         Options::of_body(self.body)
     }

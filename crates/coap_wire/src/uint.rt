@@ -26,6 +26,7 @@ fn significant(bytes: &[u8]) -> &[u8]
     ensures rest { result.now ≡ without_leading_zeros bytes.now }
     ensures value { uint_of result.now ≡ uint_of bytes.now }
     ensures few { length result.now ≤ length bytes.now }
+    ensures fewest { without_leading_zeros result.now ≡ result.now }
 {
     let mut rest = bytes;
     while let Some((first, after)) = rest.split_first() {
@@ -42,6 +43,7 @@ fn significant(bytes: &[u8]) -> &[u8]
 pub fn uint_bytes(number: u64) -> ArrayVec<u8, 8>
     ensures bytes { result.items ≡ uint_text number }
     ensures value { uint_of result.items ≡ number }
+    ensures fewest { without_leading_zeros result.items ≡ result.items }
 {
     let Ok(fewest) = ArrayVec::try_from(significant(&number.to_be_bytes())) else {
         unreachable!()

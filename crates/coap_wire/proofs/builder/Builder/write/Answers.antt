@@ -1,3 +1,7 @@
+use Rattle.std.proofs.Common.{◌≤◌, length, arith}
+use Rattle.coap_wire.specs.Forms.{greatest_length}
+use Rattle.coap_wire.specs.Spelling.{body_spelling}
+use Rattle.coap_wire.proofs.SpellingLaws.{spelling_spells}
 use Rattle.coap_wire.specs.Built.{built_message}
 use Rattle.coap_wire.proofs.BuiltLemmas.{head_room, options_room, payload_room, all_written, all_room}
 use Rattle.coap_wire.proofs.builder.Builder.write.Goals as goal
@@ -21,3 +25,9 @@ returns-clause-appended g c =
 pub returns-clause-less_room : goal.returns-clause-less_room
 returns-clause-less_room g c =
     all_room (built_message c.self.inside) c.args.self.now c.body_size.result c.deref.result.now c.self.view_is c.body_size.ensures.size c.deref.ensures.0 _ _ _ _ c.write_head.ensures.less_room (rw c.deref-2.ensures.0 at c.write_options.ensures.less_room) c.write_payload.ensures.less_room
+
+pub returns-clause-spelled : goal.returns-clause-spelled
+returns-clause-spelled g c =
+    let small : length (body_spelling c.args.self.now) ≤ greatest_length = omega (arith, c.body_size.ensures.size, c.body_size.ensures.bound) in
+    let can = c.body_size.ensures.spelled in
+    spelling_spells c.args.self.now (record { token = can.token; ordered = can.ordered; each = can.each; body = small })
