@@ -15,6 +15,10 @@ pub record LimitValues : Type 0 where
   pub observers : ℕ
   pub outstanding : ℕ
 
+abbrev pub limits_of : (max_message max_sent queue pending observers outstanding : ℕ) → LimitValues
+limits_of max_message max_sent queue pending observers outstanding =
+    record { max_message = max_message; max_sent = max_sent; queue = queue; pending = pending; observers = observers; outstanding = outstanding }
+
 -- the ranges
 pub record AreInRange (l : LimitValues) : Type 0 where
   pub message_low : 1152 ≤ l.max_message
@@ -59,6 +63,10 @@ pub record ConfigValues : Type 0 where
   pub rep_max : ℕ
   pub turns : ℕ
   pub starts : StartValues
+
+abbrev pub config_of : (limits : LimitValues) (connections dynamic_max rep_max turns : ℕ) (starts : StartValues) → ConfigValues
+config_of limits connections dynamic_max rep_max turns starts =
+    record { limits = limits; connections = connections; dynamic_max = dynamic_max; rep_max = rep_max; turns = turns; starts = starts }
 
 pub record IsConfigInRange (c : ConfigValues) : Type 0 where
   pub connections_low : 1 ≤ c.connections

@@ -1,4 +1,4 @@
--- What the messages of this stage mean: Empty, Capabilities and Settings, Ping (RFC 8323 sections 3.4, 5.3, 5.4).
+-- What the messages that are handled so far mean: Empty, Capabilities and Settings, Ping (RFC 8323 sections 3.4, 5.3, 5.4).
 use Rattle.std.specs.Prelude.{ℕ, ◌≤◌, ◌%◌, Bool, true, false, not, ◌&&◌, List, [], ◌∷◌, length, Option, Some, None, nat_le, ◌==◌, if◌then◌else◌, find}
 use Rattle.std.specs.List.{list_any}
 use Rattle.coap_wire.specs.Message.{CoapOption, Message}
@@ -10,7 +10,7 @@ use Rattle.coap_serve.specs.declared.reaction.Reaction.TheVariants.{Ignored, Ope
 abbrev pub own_csm : ℕ → Message
 own_csm M = record { code = 0xe1; token = []; options = record { number = 2; value = uint_text M } ∷ []; payload = [] }
 
--- signalling messages have critical options where the number is odd
+-- in a Signalling Message an option is critical where its number is odd
 abbrev pub has_odd_option : Message → Bool
 has_odd_option m = list_any (λ o. o.number % 2 == 1) m.options
 

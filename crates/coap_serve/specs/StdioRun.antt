@@ -39,8 +39,8 @@ pub record IsShortRun (M : ℕ) (pieces : List (List ℕ)) (output : List ℕ) :
   pub goes_on : GoesOn M pieces
   pub written : output ≡ stdio_output M (concat pieces)
 
--- A run in which a write failed: something of what is defined for the bytes so far is missing, and nothing else was
--- written. All that is defined for the bytes before the last read was.
+-- A run in which a write failed: something at the end of what is defined for the bytes so far is missing, and nothing
+-- else was written.
 pub record IsCutOutput (M : ℕ) (pieces : List (List ℕ)) (output : List ℕ) : Type 0 where
   pub missing : List ℕ
   pub some : missing ≢ []

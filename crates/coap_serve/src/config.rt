@@ -36,7 +36,7 @@ pub struct Starts {
 }
 
 /// The configuration of a server. Contracts see its values by name.
-#[derive(Clone, Copy, Debug)]
+#[derive(Clone, Copy, Debug, PartialEq, Eq)]
 pub struct Config {
     limits: Limits,
     connections: usize,
@@ -61,7 +61,7 @@ impl Model for Config {
 }
 
 impl Config {
-    ghost use Rattle.coap_serve.specs.Limits.{config_refusal};
+    ghost use Rattle.coap_serve.specs.Limits.{config_of, config_refusal};
     ghost use Rattle.coap_serve.specs.ConfigViews.{start_values};
 
     /// The configuration with these values: the limits of each connection, connections, dynamic resources, bytes of a
@@ -78,8 +78,8 @@ impl Config {
         turns: u64,
         starts: Starts,
     ) -> Result<Config, ConfigFault>
-        ensures answer { RefusedBy result (config_refusal (record { limits = limits; connections = connections; dynamic_max = dynamic_max; rep_max = rep_max; turns = turns; starts = start_values starts })) }
-        ensures ok { IfOk result (λ c. c ≡ record { limits = limits; connections = connections; dynamic_max = dynamic_max; rep_max = rep_max; turns = turns; starts = start_values starts }) }
+        ensures answer { RefusedBy result (config_refusal (config_of limits connections dynamic_max rep_max turns (start_values starts))) }
+        ensures ok { IfOk result (λ c. c ≡ config_of limits connections dynamic_max rep_max turns (start_values starts)) }
     {
         if connections < 1 || connections > 256 {
             return Err(ConfigFault::Connections);

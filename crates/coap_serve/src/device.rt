@@ -46,7 +46,8 @@ pub trait Outlet {
         ensures { result ≡ is_failed self.now };
 }
 
-/// A reader of std as a source. It tells what bytes are left where the reader does.
+/// A reader of std as a source. It tells what bytes are left where the reader does. A read that a signal interrupts
+/// has failed.
 #[derive(Debug, Drop)]
 pub struct ReadSource<R> {
     reader: R,
@@ -88,7 +89,7 @@ impl<R: Read> Source for ReadSource<R> {
     }
 }
 
-/// A writer of std as an outlet. It tells what the writer tells.
+/// A writer of std as an outlet. It tells what the writer tells. A write that a signal interrupts has failed.
 #[derive(Debug, Drop)]
 pub struct WriteOutlet<W> {
     writer: W,

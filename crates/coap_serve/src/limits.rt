@@ -30,7 +30,7 @@ pub enum LimitFault {
 }
 
 /// The limits of one connection. Contracts see its values by name.
-#[derive(Clone, Copy, Debug)]
+#[derive(Clone, Copy, Debug, PartialEq, Eq)]
 pub struct Limits {
     max_message: usize,
     max_sent: usize,
@@ -55,7 +55,7 @@ impl Model for Limits {
 }
 
 impl Limits {
-    ghost use Rattle.coap_serve.specs.Limits.{limit_refusal};
+    ghost use Rattle.coap_serve.specs.Limits.{limits_of, limit_refusal};
 
     /// The limits with these values: bytes of the greatest message taken and of the greatest one sent, bytes of the
     /// output queue, held answers, observers, outstanding requests.
@@ -71,8 +71,8 @@ impl Limits {
         observers: usize,
         outstanding: usize,
     ) -> Result<Limits, LimitFault>
-        ensures answer { RefusedBy result (limit_refusal (record { max_message = max_message; max_sent = max_sent; queue = queue; pending = pending; observers = observers; outstanding = outstanding })) }
-        ensures ok { IfOk result (λ l. l ≡ record { max_message = max_message; max_sent = max_sent; queue = queue; pending = pending; observers = observers; outstanding = outstanding }) }
+        ensures answer { RefusedBy result (limit_refusal (limits_of max_message max_sent queue pending observers outstanding)) }
+        ensures ok { IfOk result (λ l. l ≡ limits_of max_message max_sent queue pending observers outstanding) }
     {
         if max_message < 1_152 || max_message > 1_048_576 {
             return Err(LimitFault::MaxMessage);

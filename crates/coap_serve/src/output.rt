@@ -33,7 +33,7 @@ fn write_all<W: Outlet>(writer: &mut W, bytes: &[u8]) -> Result<(), WriteFailed>
     Ok(())
 }
 
-/// The greatest message of this stage.
+/// Room for each message that is written so far: the own Capabilities and Settings, and a Pong.
 const MOST: usize = 24;
 
 /// Writes the spelling of a message.

@@ -16,7 +16,7 @@ const LEAST_SIZE: u32 = 11;
 
 /// What a message does.
 #[derive(Debug, Drop)]
-pub enum Reaction<'a> {
+pub(crate) enum Reaction<'a> {
     /// Nothing: an Empty message.
     Ignored,
     /// The connection is open: Capabilities and Settings.
@@ -27,7 +27,7 @@ pub enum Reaction<'a> {
     NotYet,
 }
 
-/// Whether an option is critical in a signalling message, as those with odd numbers are.
+/// Whether an option of a Signalling Message is critical: those with odd numbers are.
 fn has_odd_option(message: &MessageRef) -> bool
     ensures { result ≡ odd_option_in message.now }
 {

@@ -3,7 +3,7 @@
 /// Why a connection ended. The discriminants are the reasons' numbers.
 #[derive(Clone, Copy, Debug, PartialEq, Eq)]
 pub enum Reason {
-    /// A message that this stage does not handle yet, which is then not counted as handled.
+    /// A message that is not handled yet, and not counted as handled either.
     NotYet = 0,
     /// A frame that spells no message (RFC 8323 section 3.2).
     Format = 1,

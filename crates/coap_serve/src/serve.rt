@@ -147,7 +147,9 @@ fn take_turn<R: Source, W: Outlet>(
     requires reader_works { R.is_failed reader.old ≡ false }
     requires writer_works { W.is_failed writer.old ≡ false }
     requires fits { connection.old.handled + 1 < 2 ^ 64 }
-    ensures turn { IsTurn connection.old connection.new (HasGiven (R.told reader.old) (R.told reader.new)) (AddsBytes (W.written writer.old) (W.written writer.new)) result }
+    ensures turn { IsTurn connection.old connection.new
+        (HasGiven (R.told reader.old) (R.told reader.new))
+        (AddsBytes (W.written writer.old) (W.written writer.new)) result }
     ensures read { R.is_failed reader.new ≡ is_read_fault result }
     ensures write { W.is_failed writer.new ≡ is_write_fault result }
 {

@@ -1,13 +1,15 @@
 //! The program `coap-server`: CoAP over reliable transports (RFC 8323).
 //!
-//! At this stage it takes exactly the one word `--stdio`, and serves one connection over standard input and output.
-//! Other words end it with status 1 and print nothing.
+//! So far it takes exactly the one word `--stdio`, and serves one connection over standard input and output. Other words
+//! end it with status 1 and print nothing.
 #![tactic(auto)]
 
 ghost use Rattle.std.specs.Prelude.{◌≡◌};
 
 use coap_serve::{Config, IoFault, Limits, ReadSource, Starts, WriteOutlet, serve_one};
 use std::process::ExitCode;
+use std::env::Args;
+use std::io::ErrorKind;
 use std::rt::Env;
 use std::{env, io};
 
@@ -41,10 +43,7 @@ fn defaults() -> Config
 }
 
 /// Whether the words after the program's name are exactly `--stdio`.
-fn is_stdio(rt: &(impl Env + AllocGlobal)) -> bool {
-    let Ok(mut words) = env::args(rt) else {
-        return false;
-    };
+fn is_stdio(mut words: Args) -> bool {
     let Some(_name) = words.next() else {
         return false;
     };
@@ -70,7 +69,21 @@ fn serve(rt: &(impl Input + Print + Eprint + AllocGlobal)) -> u8 {
     }
 }
 
+/// Does what the program's words say, and answers the status. Words that are not UTF-8 are not understood.
+fn run(rt: &(impl Input + Print + Eprint + Env + AllocGlobal)) -> u8 {
+    match env::args(rt) {
+        Ok(words) => {
+            if is_stdio(words) {
+                serve(rt)
+            } else {
+                USAGE
+            }
+        }
+        Err(fault) if fault.kind() == ErrorKind::OutOfMemory => tell(rt, IoFault::Memory),
+        Err(_) => USAGE,
+    }
+}
+
 fn main(rt: HostRuntime) -> ExitCode {
-    let status = if is_stdio(&rt) { serve(&rt) } else { USAGE };
-    ExitCode::from(status)
+    ExitCode::from(run(&rt))
 }

@@ -7,4 +7,4 @@ use Rattle.coap_serve.proofs.reaction.has_odd_option.Goals as goal
 
 pub returns : goal.returns
 returns c =
-    any_from_yields_List (λ (o : CoapOption). o.number % 2 == 1) _ _ _ c.any.ensures.ran (YieldsList-from_first coap_option (λ os. os) _ c.options.ensures) (λ x b q k. search (rules, tests))
+    any_from_yields_List (λ (o : CoapOption). o.number % 2 == 1) _ _ _ c.any.ensures.ran (YieldsList-from_first coap_option (λ os. os) _ c.options.ensures.all) (λ x b q k. search (rules, tests))
