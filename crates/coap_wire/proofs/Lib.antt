@@ -16,3 +16,4 @@ pub mod ParseLemmas
 pub mod StreamSteps
 pub mod StreamLaws
 pub mod TokenLaws
+pub mod FramesLaws

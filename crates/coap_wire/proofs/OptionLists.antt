@@ -1,8 +1,8 @@
 -- The options of a list one after the other.
 use Rattle.std.specs.Prelude.{slice_get}
-use Rattle.std.proofs.Common.{◌≡◌, Some, ℕ, zero, suc, ◌+◌, ◌-◌, ◌*◌, ◌≤◌, ◌<◌, List, [], ◌∷◌, ◌++◌, length, get_or, take, drop, refl, sym, ap, ◌∙◌, append_assoc, arith}
+use Rattle.std.proofs.Common.{◌≡◌, Some, ℕ, zero, suc, ◌+◌, ◌-◌, ◌≤◌, ◌<◌, List, [], ◌∷◌, ◌++◌, length, get_or, take, refl, sym, ap, ◌∙◌, append_assoc, arith}
 use Rattle.std.specs.List.{AllByRecursion}
-use Rattle.std.proofs.lemmas.List.{append-nil, take_more, map_push, length-append, take-append-drop}
+use Rattle.std.proofs.lemmas.List.{append-nil, take_more, map_push, length-append}
 use Rattle.coap_wire.specs.declared.options.OptionRef.{OptionRef}
 use Rattle.coap_wire.specs.Message.{CoapOption, AreOrdered, last_number}
 use Rattle.coap_wire.specs.Spelling.{HasOptionForm, option_spelling, options_spelling}

@@ -1,7 +1,6 @@
 -- Worked values of the definitions.
-use Rattle.std.proofs.Common.{◌≡◌, ℕ, List, [], ◌∷◌, refl, Ok, Err}
+use Rattle.std.proofs.Common.{◌≡◌, [], ◌∷◌, refl, Ok, Err}
 use Rattle.coap_wire.specs.Forms.{length_form}
-use Rattle.coap_wire.specs.Message.{CoapOption, Message}
 use Rattle.coap_wire.specs.Spelling.{spelling, option_spelling}
 use Rattle.coap_wire.specs.Reading.{declared_of, message_of, one_byte_at, two_bytes_at, four_bytes_at, length_at, option_number_at, head_at, option_head_at, option_at, body_within, body_at}
 use Rattle.coap_wire.specs.declared.frame.Declared.TheVariants.{Size}

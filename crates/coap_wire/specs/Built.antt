@@ -1,5 +1,4 @@
 -- What a builder holds.
-use Rattle.std.specs.Prelude.{ℕ}
 use Rattle.coap_wire.specs.Message.{Message}
 use Rattle.coap_wire.specs.Views.{coap_options, CanBeBuilt}
 use Rattle.coap_wire.specs.declared.builder.Builder.TheInside.{Inside}

@@ -1,5 +1,5 @@
 -- Why a frame spells no message: the first fault, in the order in which faults are looked for.
-use Rattle.std.specs.Prelude.{◌≡◌, ◌≢◌, ℕ, ◌+◌, ◌/◌, ◌%◌, ◌<◌, ◌≤◌, List, [], ◌∷◌, ◌++◌, length, ◌⊎◌, if◌then◌else◌, nat_lt, ◌==◌}
+use Rattle.std.specs.Prelude.{◌≡◌, ◌≢◌, ℕ, ◌+◌, ◌/◌, ◌%◌, ◌<◌, ◌≤◌, List, [], ◌∷◌, length, ◌⊎◌, if◌then◌else◌, nat_lt, ◌==◌}
 use Rattle.coap_wire.specs.Message.{CoapOption, last_number}
 use Rattle.coap_wire.specs.Spelling.{IsOptionHead, IsOptionText, IsHeadAndBody}
 use Rattle.coap_wire.specs.Size.{IsFrame, HasBadToken}

@@ -9,3 +9,4 @@ pub mod Refusal
 pub mod Views
 pub mod Built
 pub mod Stream
+pub mod Frames

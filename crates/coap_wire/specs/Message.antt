@@ -1,6 +1,5 @@
 -- What a message is, apart from how it is spelled (RFC 7252 section 3, RFC 8323 section 3.2).
-use Rattle.std.specs.Prelude.{ℕ, ◌<◌, ◌≤◌, ◌^◌, List, [], ◌∷◌, ◌++◌, length, slice_index}
-use Rattle.std.specs.List.{AllByRecursion}
+use Rattle.std.specs.Prelude.{ℕ, ◌<◌, ◌≤◌, List, [], ◌∷◌, slice_index}
 
 -- an option: its number and its value
 pub record CoapOption : Type 0 where

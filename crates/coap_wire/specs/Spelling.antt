@@ -1,7 +1,7 @@
 -- The spelling of a message (RFC 8323 section 3.2, RFC 7252 section 3.1), as a relation and as a function.
-use Rattle.std.specs.Prelude.{◌≡◌, ℕ, ◌+◌, ◌-◌, ◌*◌, ◌<◌, ◌≤◌, List, [], ◌∷◌, ◌++◌, length}
+use Rattle.std.specs.Prelude.{◌≡◌, ℕ, ◌+◌, ◌-◌, ◌*◌, ◌≤◌, List, [], ◌∷◌, ◌++◌, length}
 use Rattle.std.specs.List.{AllByRecursion}
-use Rattle.coap_wire.specs.Message.{CoapOption, Message, IsByte, AreOrdered}
+use Rattle.coap_wire.specs.Message.{CoapOption, Message, AreOrdered}
 use Rattle.coap_wire.specs.Forms.{IsLengthForm, length_form, IsOptionForm, option_form, IsTokenForm, greatest_length, greatest_option_form}
 
 -- The option with this delta and this length begins s: a byte of two nibbles and both extensions. Behind them stands after.

@@ -7,6 +7,7 @@ ghost use Rattle.coap_wire.specs.Spelling.{Spells, spelling, HasSpelling};
 ghost use Rattle.coap_wire.specs.Size.{IsDeclaredSize, IsFrame};
 ghost use Rattle.coap_wire.specs.Faults.{IsFirstFault};
 ghost use Rattle.coap_wire.specs.Stream.{Stream, StreamFault, SplitsAs, split, behind};
+ghost use Rattle.coap_wire.specs.Frames.{Frames, FramedAs, frames_of, frames_behind, read_frames};
 ghost use Rattle.coap_wire.specs.declared.fault.FormatFault.{FormatFault};
 
 /// Each length up to 4,295,033,100 has exactly one form (RFC 8323 section 3.2).
@@ -67,4 +68,23 @@ pub fn stream_is_split_once()
 pub fn cuts_do_not_matter()
     ensures goes_on { (M : ℕ) (s more : List ℕ) → (split M s).fault ≡ None → split M (s ++ more) ≡ behind (split M s).messages (split M ((split M s).rest ++ more)) }
     ensures stopped { (M : ℕ) (s more : List ℕ) (fault : StreamFault) → (split M s).fault ≡ Some fault → split M (s ++ more) ≡ split M s }
+{}
+
+/// Bytes have one list of frames, a rest and a fault, where frames of at most `M` bytes are taken, and `frames_of`
+/// computes it.
+pub fn frames_are_found_once()
+    ensures has { (M : ℕ) (s : List ℕ) → AreBytes s → FramedAs M s (frames_of M s) }
+    ensures no_other { (M : ℕ) (s : List ℕ) (other : Frames) → AreBytes s → FramedAs M s other → other ≡ frames_of M s }
+{}
+
+/// Where bytes are cut does not matter to their frames: what follows is framed behind the rest, unless a fault ended the
+/// frames before it.
+pub fn cuts_do_not_matter_to_frames()
+    ensures goes_on { (M : ℕ) (s more : List ℕ) → (frames_of M s).fault ≡ None → frames_of M (s ++ more) ≡ frames_behind (frames_of M s).frames (frames_of M ((frames_of M s).rest ++ more)) }
+    ensures stopped { (M : ℕ) (s more : List ℕ) (fault : StreamFault) → (frames_of M s).fault ≡ Some fault → frames_of M (s ++ more) ≡ frames_of M s }
+{}
+
+/// A stream is what its frames spell, up to the first that spells no message.
+pub fn stream_is_its_frames_read()
+    ensures { (M : ℕ) (s : List ℕ) → split M s ≡ read_frames (frames_of M s).frames (frames_of M s).rest (frames_of M s).fault }
 {}

@@ -13,6 +13,8 @@ mod options;
 mod reading;
 mod sink;
 mod size;
+#[cfg(test)]
+mod tests;
 mod token;
 mod uint;
 mod writing;

@@ -1,4 +1,4 @@
-use Rattle.std.proofs.Common.{◌≡◌, ◌+◌, ◌≤◌, ◌++◌, length, take}
+use Rattle.std.proofs.Common.{◌≡◌, ◌+◌, ◌++◌, length, take}
 use Rattle.coap_wire.specs.Message.{last_number}
 use Rattle.coap_wire.specs.Spelling.{options_spelling}
 use Rattle.coap_wire.specs.Views.{coap_options}

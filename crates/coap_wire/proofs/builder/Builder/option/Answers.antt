@@ -1,4 +1,4 @@
-use Rattle.std.proofs.Common.{refl, arith, ◌≡◌, List, ◌≢◌, ◌<◌, length, sym, ◌∙◌, ap}
+use Rattle.std.proofs.Common.{refl, arith, ◌≡◌, List, ◌≢◌, length, sym, ◌∙◌, ap}
 use Rattle.std.proofs.lemmas.Bool.{eqb-false}
 use Rattle.coap_wire.specs.declared.options.OptionRef.{OptionRef}
 use Rattle.coap_wire.specs.Message.{last_number}
