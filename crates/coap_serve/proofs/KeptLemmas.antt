@@ -1,6 +1,6 @@
 -- What a connection keeps.
 use Rattle.std.proofs.Common.{◌≡◌, ℕ, ◌<◌, ◌≤◌, Bool, List, [], length, ap, ◌∙◌, arith}
-use Rattle.coap_wire.specs.Stream.{Unfinished, beginning}
+use Rattle.coap_wire.specs.Stream.{beginning}
 use Rattle.coap_wire.proofs.StreamSteps.{unfinished_empty, unfinished_below}
 use Rattle.coap_serve.specs.Connection.{ConnectionValue, IsKept}
 

@@ -1,5 +1,5 @@
 -- A run, one turn after the other.
-use Rattle.std.proofs.Common.{◌≡◌, ◌≢◌, ℕ, zero, suc, ◌+◌, ◌<◌, ◌≤◌, Bool, true, false, List, [], ◌∷◌, ◌++◌, length, Option, Some, None, Result, Ok, Err, refl, sym, ap, subst, ◌∙◌, append_assoc, arith, inl, inr}
+use Rattle.std.proofs.Common.{◌≡◌, ◌≢◌, ℕ, ◌+◌, ◌<◌, ◌≤◌, List, [], ◌∷◌, ◌++◌, length, Option, Some, None, Result, Ok, Err, refl, sym, ap, subst, ◌∙◌, append_assoc, arith, inl, inr}
 use Rattle.std.specs.List.{concat, flat_map}
 use Rattle.std.proofs.lemmas.List.{append-nil, length-append}
 use Rattle.std.proofs.lemmas.List.Concat.{flat_map-append}
@@ -16,7 +16,7 @@ use Rattle.coap_serve.specs.declared.serve.Turn.{Turn}
 use Rattle.coap_serve.specs.declared.serve.Turn.TheVariants.{More, Ended, Stopped}
 use Rattle.coap_serve.specs.Signalling.{own_csm}
 use Rattle.coap_serve.specs.Progress.{Progress, progress, stdio_output, end_reason}
-use Rattle.coap_serve.specs.StdioRun.{AreNotEmpty, GoesOn, EndsRun, IsWholeRun, IsShortRun, IsCutOutput, IsWrittenBefore, LedToWrite, IsStdioRun}
+use Rattle.coap_serve.specs.StdioRun.{AreNotEmpty, GoesOn, EndsRun, IsStdioRun}
 use Rattle.coap_serve.specs.Connection.{ConnectionValue, opened, step, answers_of, stop_after}
 use Rattle.coap_serve.specs.Turns.{text_of, IsTurn}
 use Rattle.coap_serve.proofs.DeviceLemmas.{bytes_none, bytes_then, given_none, given_then}

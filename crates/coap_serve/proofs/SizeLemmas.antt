@@ -1,10 +1,8 @@
 -- When a Max-Message-Size is handled.
-use Rattle.std.proofs.Common.{◌≡◌, ℕ, ◌<◌, ◌≤◌, Bool, true, false, ◌&&◌, List, length, Option, Some, None, refl, sym, ap, ◌∙◌, arith, inl, inr}
-use Rattle.std.specs.Prelude.{nat_le, find, ◌==◌}
+use Rattle.std.proofs.Common.{◌≡◌, ℕ, ◌<◌, ◌≤◌, false, ◌&&◌, List, length, Option, Some, None, refl, sym, ◌∙◌, inl, inr}
+use Rattle.std.specs.Prelude.{nat_le}
 use Rattle.std.proofs.lemmas.Bool.{cases_lt, le-leb, lt-leb}
-use Rattle.coap_wire.specs.Message.{CoapOption}
 use Rattle.coap_wire.specs.Uint.{uint_of}
-use Rattle.coap_serve.specs.Signalling.{is_fit_size}
 
 -- a value that is a number is as great as that number, and has at most 4 bytes
 pub fit_number : (value : List ℕ) (bytes : ℕ) (r : Option ℕ) → (length value ≤ 4 → r ≡ Some (uint_of value)) → (4 < length value → r ≡ None) → r ≡ Some bytes

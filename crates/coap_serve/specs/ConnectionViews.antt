@@ -1,5 +1,5 @@
 -- How the code's connection is seen in contracts.
-use Rattle.std.specs.Prelude.{◌≤◌, vec_len}
+use Rattle.std.specs.Prelude.{◌≤◌}
 use Rattle.std.specs.Vec.{vec_capacity}
 use Rattle.coap_serve.specs.Connection.{ConnectionValue, IsKept}
 use Rattle.coap_serve.specs.declared.connection.Connection.TheInside.{Inside}

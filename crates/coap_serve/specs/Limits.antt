@@ -1,5 +1,5 @@
 -- Limits and configurations, and why they are refused.
-use Rattle.std.specs.Prelude.{◌≡◌, ℕ, ◌≤◌, Bool, ◌&&◌, Option, Some, None, nat_le, if◌then◌else◌}
+use Rattle.std.specs.Prelude.{ℕ, ◌≤◌, Bool, ◌&&◌, Option, Some, None, nat_le, if◌then◌else◌}
 use Rattle.coap_serve.specs.declared.limits.LimitFault.{LimitFault}
 use Rattle.coap_serve.specs.declared.limits.LimitFault.TheVariants as limit
 use Rattle.coap_serve.specs.declared.config.ConfigFault.{ConfigFault}

@@ -1,5 +1,5 @@
 -- What the messages that are handled so far mean: Empty, Capabilities and Settings, Ping (RFC 8323 sections 3.4, 5.3, 5.4).
-use Rattle.std.specs.Prelude.{ℕ, ◌≤◌, ◌%◌, Bool, true, false, not, ◌&&◌, List, [], ◌∷◌, length, Option, Some, None, nat_le, ◌==◌, if◌then◌else◌, find}
+use Rattle.std.specs.Prelude.{ℕ, ◌%◌, Bool, true, false, not, ◌&&◌, List, [], ◌∷◌, length, Option, Some, None, nat_le, ◌==◌, if◌then◌else◌, find}
 use Rattle.std.specs.List.{list_any}
 use Rattle.coap_wire.specs.Message.{CoapOption, Message}
 use Rattle.coap_wire.specs.Uint.{uint_of, uint_text}

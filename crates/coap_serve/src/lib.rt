@@ -10,6 +10,8 @@ mod output;
 mod reaction;
 mod reason;
 mod serve;
+#[cfg(test)]
+mod tests;
 
 pub use config::{Config, ConfigFault, Starts};
 pub use device::{Outlet, ReadSource, Source, WriteOutlet};

@@ -7,9 +7,9 @@
 ghost use Rattle.std.specs.Prelude.{◌≡◌};
 
 use coap_serve::{Config, IoFault, Limits, ReadSource, Starts, WriteOutlet, serve_one};
-use std::process::ExitCode;
 use std::env::Args;
 use std::io::ErrorKind;
+use std::process::ExitCode;
 use std::rt::Env;
 use std::{env, io};
 
@@ -72,13 +72,7 @@ fn serve(rt: &(impl Input + Print + Eprint + AllocGlobal)) -> u8 {
 /// Does what the program's words say, and answers the status. Words that are not UTF-8 are not understood.
 fn run(rt: &(impl Input + Print + Eprint + Env + AllocGlobal)) -> u8 {
     match env::args(rt) {
-        Ok(words) => {
-            if is_stdio(words) {
-                serve(rt)
-            } else {
-                USAGE
-            }
-        }
+        Ok(words) => { if is_stdio(words) { serve(rt) } else { USAGE } }
         Err(fault) if fault.kind() == ErrorKind::OutOfMemory => tell(rt, IoFault::Memory),
         Err(_) => USAGE,
     }

@@ -371,6 +371,26 @@ faulty_more M s t TooLarge e =
     begin_too_large M (s ++ t) f.0 (declared_more s t f.0 f.1) f.2
 faulty_more M s t Format e = absurd (begun_is M s (Faulty Format) e)
 
+whole_alone : (M : ℕ) (s frame rest : List ℕ) → IsCut M s frame rest → beginning M s ≡ Whole frame rest → (d : Declared) → declared_of frame ≡ d → beginning M frame ≡ Whole frame []
+whole_alone M s [] rest c e d is = absurd (omega (arith, c.some))
+whole_alone M s (b ∷ f) rest c e Unknown is =
+    let few = unknown_at b f is in
+    let many = (size_has_bytes s (length (b ∷ f)) c.declared).0 in
+    let same : size_bytes s ≡ size_bytes (b ∷ f) = ap size_bytes c.bytes ∙ size_bytes_more (b ∷ f) rest (omega arith) in
+    absurd (omega (arith, few, many, same))
+whole_alone M s (b ∷ f) rest c e (Size n) is =
+    let same : Size n ≡ Size (length (b ∷ f)) = sym (declared_more (b ∷ f) rest n is) ∙ ap declared_of (sym c.bytes) ∙ c.declared in
+    let count : n ≡ length (b ∷ f) = cc in
+    begin_whole M (b ∷ f) (length (b ∷ f)) (is ∙ ap Size count) c.small (omega arith)
+    ∙ rw (take_all (length (b ∷ f)) (b ∷ f) (omega arith), drop_all (length (b ∷ f)) (b ∷ f) (omega arith)) refl
+whole_alone M s (b ∷ f) rest c e BadToken is =
+    let bad : ◌≡◌ {A = Beginning} (Faulty TokenLength) (Whole (b ∷ f) rest) = sym (faulty_more M (b ∷ f) rest TokenLength (begin_bad_token M (b ∷ f) is)) ∙ ap (beginning M) (sym c.bytes) ∙ e in
+    absurd cc
+
+-- a whole frame is whole without what stands behind it
+pub whole_itself : (M : ℕ) (s frame rest : List ℕ) → beginning M s ≡ Whole frame rest → beginning M frame ≡ Whole frame []
+whole_itself M s frame rest e = whole_alone M s frame rest (whole_parts M s frame rest e) e (declared_of frame) refl
+
 bad_has_byte : (s : List ℕ) → declared_of s ≡ BadToken → 1 ≤ length s
 bad_has_byte s e = declared_some s (λ u. unknown_not_bad (sym u ∙ e))
 

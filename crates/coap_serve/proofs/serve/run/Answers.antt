@@ -1,6 +1,5 @@
-use Rattle.std.proofs.Common.{ℕ, ◌+◌, ◌≤◌, refl, sym, ap, ◌∙◌, arith}
+use Rattle.std.proofs.Common.{ℕ, ◌+◌, refl, ap, arith}
 use Rattle.std.proofs.lemmas.Result.{err_from_is_err_and}
-use Rattle.coap_serve.specs.Connection.{ConnectionValue}
 use Rattle.coap_serve.proofs.RunLemmas.{begins, next_turn, ended_turn, stopped_turn, faulted}
 use Rattle.coap_serve.proofs.serve.run.Goals as goal
 

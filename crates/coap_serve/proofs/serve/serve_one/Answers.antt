@@ -1,4 +1,4 @@
-use Rattle.std.proofs.Common.{◌≡◌, ap, ◌∙◌}
+use Rattle.std.proofs.Common.{ap, ◌∙◌}
 use Rattle.coap_serve.specs.Limits.{LimitValues}
 use Rattle.coap_serve.specs.Connection.{ConnectionValue}
 use Rattle.coap_serve.proofs.RunLemmas.{announce_failed, ran_on}
