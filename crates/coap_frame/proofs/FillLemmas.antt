@@ -1,0 +1,124 @@
+-- Filling a buffer with the bytes of a frame.
+use Rattle.std.proofs.Common.{◌≡◌, ℕ, ◌+◌, ◌-◌, ◌<◌, ◌≤◌, List, [], ◌∷◌, ◌++◌, length, get_or, take, drop, refl, sym, ap, ◌∙◌, append_assoc, arith, inl, inr}
+use Rattle.std.proofs.lemmas.Bool.{cases_lt}
+use Rattle.std.proofs.lemmas.List.{append-nil, take-append-drop, take_more, take_all, length-append, length-take, length-drop}
+use Rattle.coap_wire.specs.Reading.{declared_of}
+use Rattle.coap_wire.specs.declared.frame.Declared.{Declared}
+use Rattle.coap_wire.specs.declared.frame.Declared.TheVariants.{Unknown, Size, BadToken}
+use Rattle.coap_wire.specs.Stream.{StreamFault, TokenLength, TooLarge, Beginning, Unfinished, Whole, Faulty, beginning, fault_bytes, size_bytes}
+use Rattle.coap_wire.proofs.StreamSteps.{begin_unknown, begin_bad_token, begin_too_large, begin_short, begin_whole, unfinished_small, size_has_bytes, size_at_last, declared_more, faulty_more, fault_bytes_more, fault_at_last}
+use Rattle.coap_frame.specs.Framing.{frame_fault}
+use Rattle.coap_frame.specs.Filling.{IsTakenTo, IsFilled}
+use Rattle.coap_frame.specs.declared.filling.Standing.TheVariants as standing
+use Rattle.coap_frame.specs.declared.framer.FrameFault.TheVariants as faults
+use Rattle.std.proofs.Math.Seq.{take-append-add}
+
+-- bytes that do not tell their size are few
+pub unknown_small : (s : List ℕ) → declared_of s ≡ Unknown → length s < 5
+unknown_small s e =
+    elim (unfinished_small 0 s (begin_unknown 0 s e)) [
+      | inl small ↦ small
+      | inr none ↦ absurd (omega arith)
+    ]
+
+-- a beginning that tells its size has fewer bytes, and is not too large
+told_unfinished : (M : ℕ) (s : List ℕ) (n : ℕ) → beginning M s ≡ Unfinished → declared_of s ≡ Size n → (n ≤ M) × (length s < n)
+told_unfinished M s n unfinished told =
+    elim (cases_lt M n) [
+      | inl large ↦ let bad : ◌≡◌ {A = Beginning} Unfinished (Faulty TooLarge) = sym unfinished ∙ begin_too_large M s n told large in absurd cc
+      | inr fits ↦ elim (cases_lt (length s) n) [
+        | inl short ↦ (fits, short)
+        | inr long ↦ let bad : ◌≡◌ {A = Beginning} Unfinished (Whole (take n s) (drop n s)) = sym unfinished ∙ begin_whole M s n told fits long in absurd cc
+      ]
+    ]
+
+module _ (M : ℕ) (old piece new : List ℕ) (taken : ℕ) (size : Declared) (unfinished : beginning M old ≡ Unfinished) (h : IsTakenTo old piece new taken size) where
+  -- the bytes that are not taken
+  abbrev behind : List ℕ
+  behind = drop taken piece
+
+  pub all_bytes : old ++ piece ≡ new ++ behind
+  all_bytes = ap (λ (p : List ℕ). old ++ p) (sym (take-append-drop taken piece)) ∙ sym (append_assoc old (take taken piece) behind) ∙ ap (λ (n : List ℕ). n ++ behind) (sym h.bytes)
+
+  pub length_new : length new ≡ length old + taken
+  length_new = omega (arith, ap length h.bytes, length-append old (take taken piece), length-take taken piece, h.within)
+
+  none_taken : taken ≡ 0 → new ≡ old
+  none_taken e = h.bytes ∙ ap (λ (n : ℕ). old ++ take n piece) e ∙ append-nil old
+
+  -- the last byte taken
+  one_more : (before : ℕ) → taken ≡ before + 1 → new ≡ (old ++ take before piece) ++ get_or piece before 0 ∷ []
+  one_more before e =
+      let lt : before < length piece = let w = h.within in omega arith in
+      h.bytes ∙ ap (λ (n : ℕ). old ++ take n piece) e ∙ ap (λ (p : List ℕ). old ++ p) (take_more piece before 0 lt) ∙ sym (append_assoc old (take before piece) (get_or piece before 0 ∷ []))
+
+  -- a size that is told is above what lies in the buffer
+  pub told : (n : ℕ) → size ≡ Size n → length new < n
+  told n is =
+      let now : declared_of new ≡ Size n = sym h.size_is ∙ is in
+      elim h.first [
+        | inl none ↦ (let same = none_taken none in rw same (told_unfinished M old n unfinished (ap declared_of (sym same) ∙ now)).1)
+        | inr more ↦ (let e = one_more more.0 more.1 in
+            let last = size_at_last (old ++ take more.0 piece) (get_or piece more.0 0) n more.2 (ap declared_of (sym e) ∙ now) in
+            let few = (size_has_bytes new n now).0 in
+            omega (arith, ap (λ (s : List ℕ). length s) e, ap size_bytes e, last, few))
+      ]
+
+  fault_is_new : (fault : StreamFault) → beginning M new ≡ Faulty fault → fault_bytes fault new ≡ new
+  fault_is_new fault faulty =
+      elim h.first [
+        | inl none ↦ (let bad : ◌≡◌ {A = Beginning} Unfinished (Faulty fault) = sym unfinished ∙ ap (beginning M) (sym (none_taken none)) ∙ faulty in absurd cc)
+        | inr more ↦ (let e = one_more more.0 more.1 in
+            let last = fault_at_last M (old ++ take more.0 piece) (get_or piece more.0 0) fault (begin_unknown M (old ++ take more.0 piece) more.2) (ap (beginning M) (sym e) ∙ faulty) in
+            ap (fault_bytes fault) e ∙ last ∙ sym e)
+      ]
+
+  fault_stands : (fault : StreamFault) → beginning M new ≡ Faulty fault → IsFilled M old piece new taken (standing.Fault (frame_fault fault))
+  fault_stands fault faulty =
+      let bytes : fault_bytes fault (old ++ piece) ≡ new = ap (fault_bytes fault) all_bytes ∙ fault_bytes_more M new behind fault faulty ∙ fault_is_new fault faulty in
+      record {
+        within = h.within;
+        stands = (fault, ap (beginning M) all_bytes ∙ faulty_more M new behind fault faulty, refl, sym length_new ∙ sym (ap (λ (s : List ℕ). length s) bytes));
+      }
+
+  pub filled_bad_token : size ≡ BadToken → IsFilled M old piece new taken (standing.Fault faults.TokenLength)
+  filled_bad_token is = fault_stands TokenLength (begin_bad_token M new (sym h.size_is ∙ is))
+
+  pub filled_too_large : (n : ℕ) → size ≡ Size n → M < n → IsFilled M old piece new taken (standing.Fault faults.TooLarge)
+  filled_too_large n is large = fault_stands TooLarge (begin_too_large M new n (sym h.size_is ∙ is) large)
+
+  pub filled_unknown : size ≡ Unknown → taken ≡ length piece → IsFilled M old piece new taken standing.Unfinished
+  filled_unknown is all =
+      let bytes : new ≡ old ++ piece = h.bytes ∙ ap (λ (p : List ℕ). old ++ p) (take_all taken piece (omega (arith, all))) in
+      record {
+        within = h.within;
+        stands = (ap (beginning M) (sym bytes) ∙ begin_unknown M new (sym h.size_is ∙ is), all, bytes);
+      }
+
+  -- the size of the bytes and those behind them
+  size_of_all : (n : ℕ) → size ≡ Size n → declared_of (old ++ piece) ≡ Size n
+  size_of_all n is = ap declared_of all_bytes ∙ declared_more new behind n (sym h.size_is ∙ is)
+
+  length_all : length (old ++ piece) ≡ length new + length behind
+  length_all = ap (λ (s : List ℕ). length s) all_bytes ∙ length-append new behind
+
+  pub filled_short : (n : ℕ) (after : List ℕ) → size ≡ Size n → n ≤ M → length behind < n - length new → after ≡ new ++ behind → IsFilled M old piece after (length piece) standing.Unfinished
+  filled_short n after is fits short e =
+      record {
+        within = omega arith;
+        stands = (begin_short M (old ++ piece) n (size_of_all n is) fits (omega (arith, length_all)), refl, e ∙ sym all_bytes);
+      }
+
+  pub filled_whole : (n : ℕ) (after : List ℕ) → size ≡ Size n → n ≤ M → n - length new ≤ length behind → after ≡ new ++ take (n - length new) behind → IsFilled M old piece after (taken + (n - length new)) standing.Whole
+  filled_whole n after is fits long e =
+      let more : length new < n = told n is in
+      let size_now : length new + (n - length new) ≡ n = omega arith in
+      let enough : n ≤ length (old ++ piece) = omega (arith, length_all) in
+      let frame : take n (old ++ piece) ≡ after =
+      ap (take n) all_bytes ∙ ap (λ (k : ℕ). take k (new ++ behind)) (sym size_now) ∙ take-append-add new behind (n - length new) ∙ sym e in
+      let rest = drop n (old ++ piece) in
+      let left : length rest ≡ length (old ++ piece) - n = length-drop n (old ++ piece) in
+      record {
+        within = omega (arith, length_all, length_new, length-append old piece);
+        stands = (rest, begin_whole M (old ++ piece) n (size_of_all n is) fits enough ∙ ap (λ (f : List ℕ). Whole f rest) frame, omega (arith, length_all, length_new, length-append old piece));
+      }

@@ -1,0 +1,12 @@
+-- How the code's framer is seen in contracts.
+use Rattle.std.specs.Prelude.{◌≤◌}
+use Rattle.std.specs.Vec.{vec_capacity}
+use Rattle.coap_frame.specs.Framing.{FramerValue, IsFramer}
+use Rattle.coap_frame.specs.Advance.{framer_of}
+use Rattle.coap_frame.specs.declared.framer.Framer.TheInside.{Inside}
+
+abbrev pub framer_value : Inside → FramerValue
+framer_value f = framer_of f.max f.held f.buffer.items
+
+abbrev pub is_framer : Inside → Type 0
+is_framer f = IsFramer (framer_value f) × (f.max ≤ vec_capacity f.buffer)

@@ -1,0 +1,55 @@
+-- What a framer gives over a list of calls.
+use Rattle.std.specs.Prelude.{◌≡◌, ℕ, ◌-◌, List, [], ◌∷◌, ◌++◌, Option, Some, None, length, take, drop}
+use Rattle.coap_wire.specs.Stream.{StreamFault}
+use Rattle.coap_wire.specs.Frames.{Frames, frames_of}
+use Rattle.coap_frame.specs.Framing.{FramerValue, Finding, Nothing, AFrame, AFault, frame_fault, framing, with_frame_back}
+use Rattle.coap_frame.specs.declared.framer.FrameFault.{FrameFault}
+
+-- the bytes taken in all, the frames given, the fault that ended them, and the framer afterwards
+pub record Given : Type 0 where
+  pub taken : List ℕ
+  pub frames : List (List ℕ)
+  pub fault : Option FrameFault
+  pub after : FramerValue
+
+-- bytes taken with nothing found, and then the rest
+abbrev pub taken_first : List ℕ → Given → Given
+taken_first bytes given = record given { taken = bytes ++ given.taken }
+
+-- bytes taken with which a frame was found, and then the rest
+abbrev pub frame_first : List ℕ → List ℕ → Given → Given
+frame_first bytes frame given = record given { taken = bytes ++ given.taken; frames = frame ∷ given.frames }
+
+abbrev pub given_then : (FramerValue → Given) → List ℕ → FramerValue → Finding → Given
+given_then go bytes after Nothing = taken_first bytes (go after)
+given_then go bytes after (AFrame frame) = frame_first bytes frame (go after)
+given_then go bytes after (AFault fault) = record { taken = bytes; frames = []; fault = Some fault; after = after }
+
+-- Each piece is given to one call, up to the first fault. Of a piece that is not taken whole, the rest may come again as the next.
+unfoldable pub given_by : FramerValue → List (List ℕ) → Given
+given_by v [] = record { taken = []; frames = []; fault = None; after = v }
+given_by v (p ∷ ps) =
+    given_then (λ now. given_by now ps) (take (framing v p).taken p) (framing v p).after (framing v p).finding
+
+-- the frames, the rest and the fault of the stream that the kept bytes and then the taken bytes form
+abbrev pub stream_given : FramerValue → Given → Frames
+stream_given v given = frames_of v.max (v.kept ++ given.taken)
+
+-- what a framer gave is what that stream has
+pub record IsGiven (v : FramerValue) (given : Given) : Type 0 where
+  -- the frames given are the stream's frames
+  pub frames : (stream_given v given).frames ≡ given.frames
+  -- where no fault was given, the bytes kept afterwards are the rest of the stream
+  pub rest : given.fault ≡ None → (stream_given v given).rest ≡ given.after.kept
+  -- where no fault was given, the stream has none
+  pub no_fault : given.fault ≡ None → (stream_given v given).fault ≡ None
+  -- a fault that was given is the stream's fault, and nothing is kept afterwards
+  pub fault : (fault : FrameFault) → given.fault ≡ Some fault → (f : StreamFault) × ((stream_given v given).fault ≡ Some f) × (frame_fault f ≡ fault) × (given.after.kept ≡ [])
+
+-- the framer that took a piece and then took back the last byte of the frame that it gave
+abbrev pub unread_after : FramerValue → List ℕ → FramerValue
+unread_after v piece = with_frame_back (framing v piece).after (take (framing v piece).taken piece)
+
+-- the last byte of a frame
+abbrev pub last_byte : List ℕ → List ℕ
+last_byte frame = drop (length frame - 1) frame

@@ -1,0 +1,77 @@
+//! Fills a buffer with the bytes of a frame.
+
+ghost use Rattle.std.specs.Prelude.{◌≡◌, ◌+◌, ◌≤◌, ◌<◌, ◌++◌, length, take};
+ghost use Rattle.std.specs.Vec.{vec_len, vec_capacity};
+ghost use Rattle.coap_wire.specs.Stream.{Unfinished, beginning};
+ghost use Rattle.coap_wire.specs.Reading.{declared_of};
+ghost use Rattle.coap_frame.specs.Filling.{IsHead, IsFilled};
+
+use crate::framer::FrameFault;
+use coap_wire::{Declared, declared};
+
+/// How a buffer stands.
+#[derive(Clone, Copy, Debug)]
+pub(crate) enum Standing {
+    /// More bytes are needed.
+    Unfinished,
+    /// It has a whole frame, and nothing else.
+    Whole,
+    /// It has a fault.
+    Fault(FrameFault),
+}
+
+/// Appends bytes for which there is room.
+pub(crate) fn append(buffer: &mut Vec<u8>, bytes: &[u8])
+    requires { vec_len buffer.old + length bytes.now ≤ vec_capacity buffer.old }
+    ensures items { buffer.new.items ≡ buffer.old.items ++ bytes.now }
+    ensures capacity { vec_capacity buffer.old ≤ vec_capacity buffer.new }
+{
+    let Ok(()) = buffer.extend_from_slice(bytes) else {
+        unreachable!()
+    };
+}
+
+/// Takes bytes until the buffer declares its size, or has a token length above 8, or the piece is used up. At most 5 bytes
+/// are taken one by one.
+fn fill_head(buffer: &mut Vec<u8>, piece: &[u8]) -> (usize, Declared)
+    requires { 5 ≤ vec_capacity buffer.old }
+    ensures head { IsHead buffer.old.items piece.now buffer.new.items result.0 result.1 }
+    ensures capacity { vec_capacity buffer.old ≤ vec_capacity buffer.new }
+{
+    let mut taken = 0;
+    let mut size = declared(buffer);
+    while size == Declared::Unknown && taken < piece.len() {
+        buffer.push_reserved(piece[taken]);
+        taken += 1;
+        size = declared(buffer);
+    }
+    (taken, size)
+}
+
+/// Takes bytes of the piece until the buffer has a whole frame of at most `max` bytes or a fault, or the piece is used up.
+pub(crate) fn fill(buffer: &mut Vec<u8>, max: usize, piece: &[u8]) -> (usize, Standing)
+    requires unfinished { beginning max buffer.old.items ≡ Unfinished }
+    requires low { 1152 ≤ max }
+    requires room { max ≤ vec_capacity buffer.old }
+    ensures filled { IsFilled max buffer.old.items piece.now buffer.new.items result.0 result.1 }
+    ensures capacity { vec_capacity buffer.old ≤ vec_capacity buffer.new }
+{
+    let (taken, size) = fill_head(buffer, piece);
+    match size {
+        Declared::Unknown => (taken, Standing::Unfinished),
+        Declared::BadToken => (taken, Standing::Fault(FrameFault::TokenLength)),
+        Declared::Size(size) => {
+            if size > max as u64 {
+                return (taken, Standing::Fault(FrameFault::TooLarge));
+            }
+            let missing = size as usize - buffer.len();
+            let rest = &piece[taken..];
+            if rest.len() < missing {
+                append(buffer, rest);
+                return (piece.len(), Standing::Unfinished);
+            }
+            append(buffer, &rest[..missing]);
+            (taken + missing, Standing::Whole)
+        }
+    }
+}

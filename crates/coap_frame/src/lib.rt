@@ -1,0 +1,8 @@
+//! The frames of a stream that comes in pieces (RFC 8323 section 3.2).
+#![tactic(auto)]
+
+mod filling;
+mod framer;
+pub mod laws;
+
+pub use framer::{Found, FrameFault, Framed, Framer};
