@@ -4,5 +4,7 @@
 mod filling;
 mod framer;
 pub mod laws;
+#[cfg(test)]
+mod tests;
 
 pub use framer::{Found, FrameFault, Framed, Framer};
