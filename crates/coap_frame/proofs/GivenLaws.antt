@@ -7,7 +7,7 @@ use Rattle.coap_wire.specs.Stream.{StreamFault, Beginning, Unfinished, Whole, Fa
 use Rattle.coap_wire.specs.Frames.{Frames, with_frame, frames_of}
 use Rattle.coap_wire.proofs.StreamSteps.{whole_parts, whole_itself, whole_more, faulty_more, fault_bytes_more, fault_at_last}
 use Rattle.coap_wire.proofs.FramesLaws.{frames_unfinished, frames_faulty, frames_whole}
-use Rattle.coap_frame.specs.Framing.{FramerValue, IsFramer, Finding, Nothing, AFrame, AFault, Framing, frame_fault, split_frame, framing_at, framing, without_last, frame_back, with_frame_back}
+use Rattle.coap_frame.specs.Framing.{FramerValue, IsFramer, Finding, Nothing, AFrame, AFault, Framing, frame_fault, split_frame, framing_at, framing, without_last, frame_back, with_frame_back, MayUnread}
 use Rattle.coap_frame.specs.Given.{Given, given_then, given_by, IsGiven, unread_after, last_byte}
 use Rattle.coap_frame.specs.declared.framer.FrameFault.{FrameFault}
 use Rattle.coap_frame.proofs.FramingLemmas.{framing_is_framer, frame_is_small}
@@ -195,6 +195,17 @@ unread_is : (v : FramerValue) (piece frame : List ℕ) → IsFramer v → (frami
 unread_is v piece frame is e =
     ap (λ (after : FramerValue). with_frame_back after (take (framing v piece).taken piece)) (after_frame v piece frame e)
     ∙ ap (λ (f : List ℕ). record { max = v.max; kept = without_last f; spent = [] }) (back_is v.kept (take (framing v piece).taken piece) frame (frame_taken v piece frame is e))
+
+allowed_at : (max : ℕ) (kept bytes frame : List ℕ) → beginning max frame ≡ Whole frame [] → frame ≡ kept ++ bytes → MayUnread (record { max = max; kept = []; spent = split_frame kept frame }) bytes
+allowed_at max [] bytes frame whole e = inr (ap (beginning max) (sym e) ∙ whole ∙ ap (λ (f : List ℕ). Whole f []) e, refl)
+allowed_at max (b ∷ kept) bytes frame whole e =
+    inl (λ (none : frame ≡ []). let some = (frame_is_small max frame whole).0 in absurd (omega (arith, some, ap (λ (f : List ℕ). length f) none)))
+
+-- a frame that was just given may be unread
+pub unread_allowed : (v : FramerValue) (piece frame : List ℕ) → IsFramer v → (framing v piece).finding ≡ AFrame frame → MayUnread (framing v piece).after (take (framing v piece).taken piece)
+unread_allowed v piece frame is e =
+    let found = found_is v piece (AFrame frame) is e in
+    subst (λ (after : FramerValue). MayUnread after (take (framing v piece).taken piece)) (sym (after_frame v piece frame e)) (allowed_at v.max v.kept (take (framing v piece).taken piece) frame found.1 found.0)
 
 -- a framer that keeps a frame but its last byte gives it with that byte
 last_gives : (max : ℕ) (frame : List ℕ) → beginning max frame ≡ Whole frame [] → framing (record { max = max; kept = without_last frame; spent = [] }) (last_byte frame) ≡ framing_at (record { max = max; kept = without_last frame; spent = [] }) (last_byte frame) (Whole frame [])

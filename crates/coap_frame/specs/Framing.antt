@@ -1,5 +1,5 @@
 -- What a framer does with a piece of a stream.
-use Rattle.std.specs.Prelude.{◌≡◌, ℕ, ◌-◌, ◌≤◌, List, [], ◌∷◌, ◌++◌, length, take, ◌⊎◌}
+use Rattle.std.specs.Prelude.{◌≡◌, ◌≢◌, ℕ, ◌-◌, ◌≤◌, List, [], ◌∷◌, ◌++◌, length, take, ◌⊎◌}
 use Rattle.coap_wire.specs.Stream.{StreamFault, TokenLength, TooLarge, Format, Beginning, Unfinished, Whole, Faulty, beginning, fault_bytes}
 use Rattle.coap_frame.specs.declared.framer.FrameFault.{FrameFault}
 use Rattle.coap_frame.specs.declared.framer.FrameFault.TheVariants as faults
@@ -63,3 +63,7 @@ frame_back (b ∷ spent) piece = b ∷ spent
 
 abbrev pub with_frame_back : FramerValue → List ℕ → FramerValue
 with_frame_back v piece = record { max = v.max; kept = without_last (frame_back v.spent piece); spent = [] }
+
+-- a frame was just given: it is split, or it is the piece itself, and nothing is kept
+abbrev pub MayUnread : FramerValue → List ℕ → Type 0
+MayUnread v piece = (v.spent ≢ []) ⊎ ((beginning v.max piece ≡ Whole piece []) × (v.kept ≡ []))

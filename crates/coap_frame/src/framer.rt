@@ -79,7 +79,7 @@ impl Framer {
     ghost use Rattle.std.specs.Borrow.{sem, follows_so};
     ghost use mathlib.Core.Option.{none};
     ghost use Rattle.coap_wire.specs.Stream.{Whole, beginning};
-    ghost use Rattle.coap_frame.specs.Framing.{IsFramer, framing, with_frame_back};
+    ghost use Rattle.coap_frame.specs.Framing.{IsFramer, MayUnread, framing, with_frame_back};
     ghost use Rattle.coap_frame.specs.Lending.{IsFramed};
     ghost use Rattle.coap_frame.specs.contracts.framer.Framer.{the_row};
 
@@ -156,8 +156,7 @@ impl Framer {
     /// Takes back the last byte of the frame that `next` just gave, with that call's piece cut to the bytes taken: all of
     /// the frame but that byte is kept.
     pub fn unread(&mut self, piece: &[u8])
-        requires { (self.old.spent ≢ [])
-            ⊎ ((beginning self.old.max piece.now ≡ Whole piece.now []) × (self.old.kept ≡ [])) }
+        requires { MayUnread self.old piece.now }
         ensures { self.new ≡ with_frame_back self.old piece.now }
     {
         let spent = self.spent();

@@ -2,7 +2,7 @@
 
 ghost use Rattle.std.specs.Prelude.{◌≡◌, ℕ, ◌≤◌, List, ◌++◌, length, take};
 ghost use Rattle.coap_wire.specs.Stream.{StreamFault, Faulty, beginning, fault_bytes};
-ghost use Rattle.coap_frame.specs.Framing.{FramerValue, IsFramer, Nothing, AFrame, AFault, frame_fault, framing};
+ghost use Rattle.coap_frame.specs.Framing.{FramerValue, IsFramer, Nothing, AFrame, AFault, MayUnread, frame_fault, framing};
 ghost use Rattle.coap_frame.specs.Given.{IsGiven, given_by, unread_after, last_byte};
 ghost use Rattle.coap_frame.specs.declared.framer.FrameFault.{FrameFault};
 
@@ -22,8 +22,9 @@ pub fn framer_takes_each_piece_to_its_end()
         → (f : StreamFault) × (beginning v.max (v.kept ++ piece) ≡ Faulty f) × (frame_fault f ≡ fault) × (v.kept ++ take (framing v piece).taken piece ≡ fault_bytes f (v.kept ++ piece)) }
 {}
 
-/// A frame that was just given and is unread comes again with its last byte.
+/// A frame that was just given may be unread, and comes again with its last byte.
 pub fn unread_frame_comes_again()
+    ensures allowed { (v : FramerValue) (piece frame : List ℕ) → IsFramer v → (framing v piece).finding ≡ AFrame frame → MayUnread (framing v piece).after (take (framing v piece).taken piece) }
     ensures again { (v : FramerValue) (piece frame : List ℕ) → IsFramer v → (framing v piece).finding ≡ AFrame frame → (framing (unread_after v piece) (last_byte frame)).finding ≡ AFrame frame }
     ensures taken { (v : FramerValue) (piece frame : List ℕ) → IsFramer v → (framing v piece).finding ≡ AFrame frame → (framing (unread_after v piece) (last_byte frame)).taken ≡ 1 }
 {}
