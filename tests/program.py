@@ -38,6 +38,10 @@ STREAMS = [
     ("00e100", ""),
     ("70e123100000202108" "00e2", "00e3"),
     ("f0ffffffff01" "00e1" "00e2", ""),
+    # two Pings before a request, and one behind it
+    ("00e1" "01e201" "01e202" "0001" "01e203", "01e301" "01e302"),
+    # more than one read takes
+    ("00e1" + "01e205" * 3000, "01e305" * 3000),
 ]
 
 

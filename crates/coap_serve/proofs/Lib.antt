@@ -1,6 +1,7 @@
 pub mod DeviceLemmas
 pub mod SizeLemmas
-pub mod KeptLemmas
 pub mod ProgressLemmas
+pub mod StepLemmas
 pub mod SmallLemmas
+pub mod PieceLemmas
 pub mod RunLemmas

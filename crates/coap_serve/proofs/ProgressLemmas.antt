@@ -1,20 +1,15 @@
--- How far a connection has come after one byte more.
-use Rattle.std.proofs.Common.{◌≡◌, ℕ, suc, ◌+◌, Bool, true, false, List, [], ◌∷◌, ◌++◌, Option, Some, None, Result, Ok, Err, refl, sym, ap, subst, ◌∙◌, append_assoc, arith}
+-- How far a connection has come after more bytes.
+use Rattle.std.proofs.Common.{◌≡◌, ℕ, suc, ◌+◌, Bool, true, false, List, [], ◌∷◌, ◌++◌, Option, Some, None, refl, sym, ap, ◌∙◌, append_assoc, arith}
 use Rattle.std.proofs.lemmas.List.{append-nil}
 use Rattle.coap_wire.specs.Message.{Message}
-use Rattle.coap_wire.specs.Reading.{message_of}
-use Rattle.coap_wire.specs.Stream.{StreamFault, TokenLength, TooLarge, Format, Stream, Beginning, Unfinished, Whole, Faulty, beginning, split, fault_bytes, with_message}
-use Rattle.coap_wire.specs.declared.fault.FormatFault.{FormatFault}
-use Rattle.coap_wire.proofs.StreamSteps.{split_more, split_rest, split_unfinished, split_faulty, split_message, split_bad, whole_at_last, unfinished_empty}
+use Rattle.coap_wire.specs.Stream.{StreamFault, TokenLength, TooLarge, Format, Stream, Unfinished, beginning, split}
+use Rattle.coap_wire.proofs.StreamSteps.{split_more, split_rest, split_unfinished, unfinished_empty}
 use Rattle.coap_serve.specs.declared.reaction.Reaction.{Reaction}
 use Rattle.coap_serve.specs.declared.reaction.Reaction.TheVariants.{Ignored, Opened, Answered, NotYet}
-use Rattle.coap_serve.specs.declared.reason.Reason.{Reason}
-use Rattle.coap_serve.specs.declared.reason.Reason.TheVariants as reason
-use Rattle.coap_serve.specs.declared.frame.Taken.{Taken}
-use Rattle.coap_serve.specs.declared.frame.Taken.TheVariants as taken
 use Rattle.coap_serve.specs.Signalling.{react}
 use Rattle.coap_serve.specs.Progress.{Talk, handled_first, talk_from, talk, stop_of, Progress, progress_of, progress}
-use Rattle.coap_serve.specs.Connection.{ConnectionValue, Step, handled_one, stopped, step, step_at, step_frame, step_by, reaction_of, reason_of, answers_of, stop_after}
+use Rattle.coap_serve.specs.Connection.{ConnectionValue, IsKept}
+use Rattle.coap_serve.specs.Turns.{progress_from, value_of}
 
 -- ---- talks one after the other
 
@@ -53,109 +48,46 @@ no_refusal false (Some TokenLength) e = absurd cc
 no_refusal false (Some TooLarge) e = absurd cc
 no_refusal false (Some Format) e = absurd cc
 
--- the connection that shows how far it has come
-abbrev pub value_of : ℕ → Progress → ConnectionValue
-value_of M p = record { M = M; frame = p.rest; open_now = p.open_now; handled = p.handled }
+-- ---- more bytes
 
+-- the connection that shows how far it has come
 abbrev pub shown : ℕ → List ℕ → ConnectionValue
 shown M bytes = value_of M (progress M bytes)
 
--- what a step did to the progress
-pub record Moves (M : ℕ) (old new : Progress) (s : Step) : Type 0 where
-  pub stop : new.stop ≡ stop_after s.taken
-  pub answers : new.answers ≡ old.answers ++ answers_of s.taken
-  pub handled : new.handled ≡ s.after.handled
-  pub after : stop_after s.taken ≡ None → s.after ≡ value_of M new
+-- answers, and then the progress
+abbrev pub after_answers : List Message → Progress → Progress
+after_answers answers p = record p { answers = answers ++ p.answers }
 
--- ---- one byte more
-
--- the progress of a stream that went on: t is the talk so far, fault none so far, u what stands behind the rest
-abbrev further : Stream → Talk → Stream → Progress
-further s t u = progress_of u (then_talk t (talk t.open_now u.messages))
-
-abbrev before : Stream → Talk → Progress
-before s t = progress_of s t
-
--- the connection before it
-abbrev value : ℕ → Stream → Talk → ConnectionValue
-value M s t = record { M = M; frame = s.rest; open_now = t.open_now; handled = t.handled }
-
--- nothing more is spelled
-moves_nothing : (M : ℕ) (s : Stream) (t : Talk) (rest : List ℕ)
-    → Moves M (before s t) (further s t (record { messages = []; rest = rest; fault = None })) (record { after = record (value M s t) { frame = rest }; taken = taken.Nothing })
-unfolding talk
-moves_nothing M s t rest = record {
-  stop = refl;
-  answers = refl;
-  handled = omega arith;
-  after = λ e. ap (λ (n : ℕ). record { M = M; frame = rest; open_now = t.open_now; handled = n }) (omega arith);
-}
-
--- a fault stops it
-moves_fault : (M : ℕ) (s : Stream) (t : Talk) (rest : List ℕ) (fault : StreamFault) (why : Reason) → stop_of false (Some fault) ≡ Some why
-    → Moves M (before s t) (further s t (record { messages = []; rest = rest; fault = Some fault })) (stopped (value M s t) why)
-unfolding talk
-moves_fault M s t rest fault why is = record { stop = is; answers = refl; handled = omega arith; after = λ e. absurd cc }
-
-stop_of_fault : (fault : StreamFault) → stop_of false (Some fault) ≡ Some (reason_of fault)
-stop_of_fault TokenLength = refl
-stop_of_fault TooLarge = refl
-stop_of_fault Format = refl
-
--- a message was handled, with these answers
-handled_moves : (M : ℕ) (s : Stream) (t : Talk) (open_now : Bool) (answers : List Message) (done : Taken) → answers_of done ≡ answers → stop_after done ≡ None
-    → Moves M (before s t) (progress_of (record { messages = []; rest = []; fault = None }) (then_talk t (handled_first answers (record { open_now = open_now; answers = []; handled = 0; refused = false }))))
-    (handled_one (value M s t) open_now done)
-handled_moves M s t open_now answers done answers_are goes_on = record {
-  stop = sym goes_on;
-  answers = ap (λ (a : List Message). t.answers ++ a) (append-nil answers ∙ sym answers_are);
-  handled = refl;
-  after = λ e. refl;
-}
-
-moves_message : (M : ℕ) (s : Stream) (t : Talk) (m : Message) (reaction : Reaction) → react t.open_now m ≡ reaction
-    → Moves M (before s t) (further s t (record { messages = m ∷ []; rest = []; fault = None })) (step_by (value M s t) reaction)
-unfolding talk
-moves_message M s t m Ignored e = rw e (handled_moves M s t t.open_now [] taken.Nothing refl refl)
-moves_message M s t m Opened e = rw e (handled_moves M s t true [] taken.Nothing refl refl)
-moves_message M s t m (Answered pong) e = rw e (handled_moves M s t t.open_now (pong ∷ []) (taken.Answer pong) refl refl)
-moves_message M s t m NotYet e = rw e (record { stop = refl; answers = refl; handled = omega arith; after = λ h. absurd cc })
-
--- a whole frame
-moves_frame : (M : ℕ) (s : Stream) (t : Talk) (frame : List ℕ) (read : Result Message FormatFault) → message_of frame ≡ read → beginning M frame ≡ Whole frame []
-    → Moves M (before s t) (further s t (split M frame)) (step_frame (value M s t) (reaction_of t.open_now read))
-moves_frame M s t frame (Ok m) e whole =
-    let u : split M frame ≡ record { messages = m ∷ []; rest = []; fault = None } = split_message M frame frame [] m whole e ∙ ap (with_message m) (split_unfinished M [] (unfinished_empty M)) in
-    subst (λ (u : Stream). Moves M (before s t) (further s t u) (step_by (value M s t) (react t.open_now m))) (sym u) (moves_message M s t m (react t.open_now m) refl)
-moves_frame M s t frame (Err f) e whole =
-    subst (λ (u : Stream). Moves M (before s t) (further s t u) (stopped (value M s t) reason.Format)) (sym (split_bad M frame frame [] f whole e)) (moves_fault M s t frame Format reason.Format refl)
-
--- however the bytes stand with the byte
-moves_at : (M : ℕ) (s : Stream) (t : Talk) (b : ℕ) (begun : Beginning) → beginning M s.rest ≡ Unfinished → beginning M (s.rest ++ b ∷ []) ≡ begun
-    → Moves M (before s t) (further s t (split M (s.rest ++ b ∷ []))) (step_at (value M s t) (s.rest ++ b ∷ []) begun)
-moves_at M s t b Unfinished unfinished e =
-    subst (λ (u : Stream). Moves M (before s t) (further s t u) (record { after = record (value M s t) { frame = s.rest ++ b ∷ [] }; taken = taken.Nothing })) (sym (split_unfinished M (s.rest ++ b ∷ []) e))
-    (moves_nothing M s t (s.rest ++ b ∷ []))
-moves_at M s t b (Faulty fault) unfinished e =
-    subst (λ (u : Stream). Moves M (before s t) (further s t u) (stopped (value M s t) (reason_of fault))) (sym (split_faulty M (s.rest ++ b ∷ []) fault e))
-    (moves_fault M s t (fault_bytes fault (s.rest ++ b ∷ [])) fault (reason_of fault) (stop_of_fault fault))
-moves_at M s t b (Whole frame rest) unfinished e =
-    let last = whole_at_last M s.rest b frame rest unfinished e in
-    let whole : beginning M (s.rest ++ b ∷ []) ≡ Whole (s.rest ++ b ∷ []) [] = e ∙ ap (λ (r : List ℕ). Whole frame r) last.0 ∙ ap (λ (f : List ℕ). Whole f []) last.1 in
-    moves_frame M s t (s.rest ++ b ∷ []) (message_of (s.rest ++ b ∷ [])) refl whole
-
--- one byte more moves the progress as the step says
-pub moves : (M : ℕ) (bytes : List ℕ) (b : ℕ) → (progress M bytes).stop ≡ None → Moves M (progress M bytes) (progress M (bytes ++ b ∷ [])) (step (shown M bytes) b)
-unfolding progress step
-moves M bytes b going =
+-- where nothing has stopped it, a connection goes on from where it stands
+pub progress_more : (M : ℕ) (bytes piece : List ℕ) → (progress M bytes).stop ≡ None → progress M (bytes ++ piece) ≡ after_answers (progress M bytes).answers (progress_from (shown M bytes) piece)
+unfolding progress progress_from
+progress_more M bytes piece going =
     let s : Stream = split M bytes in
     let t : Talk = talk false (split M bytes).messages in
     let n = no_refusal t.refused s.fault going in
-    let more = split_more M bytes (b ∷ []) n.1 in
-    let both = talk-append false s.messages (split M (s.rest ++ b ∷ [])).messages n.0 in
-    let same : progress_of (split M (bytes ++ b ∷ [])) (talk false (split M (bytes ++ b ∷ [])).messages) ≡ further s t (split M (s.rest ++ b ∷ [])) = rw more (ap (progress_of (split M (s.rest ++ b ∷ []))) both) in
-    subst (λ (p : Progress). Moves M (before s t) p (step_at (value M s t) (s.rest ++ b ∷ []) (beginning M (s.rest ++ b ∷ [])))) (sym same)
-    (moves_at M s t b (beginning M (s.rest ++ b ∷ [])) (split_rest M bytes n.1) refl)
+    let more = split_more M bytes piece n.1 in
+    let both = talk-append false s.messages (split M (s.rest ++ piece)).messages n.0 in
+    rw more (ap (progress_of (split M (s.rest ++ piece))) both)
+
+-- bytes that end no frame are kept
+pub no_message : (v : ConnectionValue) (bytes : List ℕ) → beginning v.M (v.frame ++ bytes) ≡ Unfinished → progress_from v bytes ≡ record { open_now = v.open_now; answers = []; handled = v.handled; rest = v.frame ++ bytes; stop = None }
+unfolding progress_from talk
+no_message v bytes e =
+    rw (split_unfinished v.M (v.frame ++ bytes) e) (ap (λ (n : ℕ). record { open_now = v.open_now; answers = []; handled = n; rest = v.frame ++ bytes; stop = None }) (omega arith))
+
+-- with no byte a connection stays where it is
+pub idle : (v : ConnectionValue) → IsKept v → progress_from v [] ≡ record { open_now = v.open_now; answers = []; handled = v.handled; rest = v.frame; stop = None }
+idle v kept =
+    no_message v [] (ap (beginning v.M) (append-nil v.frame) ∙ kept.unfinished)
+    ∙ ap (λ (r : List ℕ). record { open_now = v.open_now; answers = []; handled = v.handled; rest = r; stop = None }) (append-nil v.frame)
+
+-- a connection that goes on keeps the beginning of a frame
+pub value_kept : (v : ConnectionValue) (piece : List ℕ) → IsKept v → (progress_from v piece).stop ≡ None → IsKept (value_of v.M (progress_from v piece))
+unfolding progress_from
+value_kept v piece kept going =
+    let s : Stream = split v.M (v.frame ++ piece) in
+    let n = no_refusal (talk v.open_now s.messages).refused s.fault going in
+    record { unfinished = split_rest v.M (v.frame ++ piece) n.1; low = kept.low; high = kept.high }
 
 -- with no byte nothing has come
 pub no_bytes : (M : ℕ) → progress M [] ≡ record { open_now = false; answers = []; handled = 0; rest = []; stop = None }

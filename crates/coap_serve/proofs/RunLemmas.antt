@@ -3,12 +3,9 @@ use Rattle.std.proofs.Common.{◌≡◌, ◌≢◌, ℕ, ◌+◌, ◌<◌, ◌�
 use Rattle.std.specs.List.{concat, flat_map}
 use Rattle.std.proofs.lemmas.List.{append-nil, length-append}
 use Rattle.std.proofs.lemmas.List.Concat.{flat_map-append}
-use Rattle.coap_wire.specs.Message.{Message}
 use Rattle.coap_wire.specs.Spelling.{spelling}
 use Rattle.coap_serve.specs.Device.{Told, HasGiven, AddsBytes, WritesPart}
 use Rattle.coap_serve.specs.declared.reason.Reason.{Reason}
-use Rattle.coap_serve.specs.declared.frame.Taken.{Taken}
-use Rattle.coap_serve.specs.declared.frame.Taken.TheVariants as taken
 use Rattle.coap_serve.specs.declared.serve.Report.{Report}
 use Rattle.coap_serve.specs.declared.serve.IoFault.{IoFault}
 use Rattle.coap_serve.specs.declared.serve.IoFault.TheVariants.{Read, Write, Memory, Turns}
@@ -17,11 +14,10 @@ use Rattle.coap_serve.specs.declared.serve.Turn.TheVariants.{More, Ended, Stoppe
 use Rattle.coap_serve.specs.Signalling.{own_csm}
 use Rattle.coap_serve.specs.Progress.{Progress, progress, stdio_output, end_reason}
 use Rattle.coap_serve.specs.StdioRun.{AreNotEmpty, GoesOn, EndsRun, IsStdioRun}
-use Rattle.coap_serve.specs.Connection.{ConnectionValue, opened, step, answers_of, stop_after}
-use Rattle.coap_serve.specs.Turns.{text_of, IsTurn}
+use Rattle.coap_serve.specs.Connection.{ConnectionValue, IsKept, opened}
+use Rattle.coap_serve.specs.Turns.{progress_from, value_of, text_of, IsServed, HasRead, IsTurn}
 use Rattle.coap_serve.proofs.DeviceLemmas.{bytes_none, bytes_then, given_none, given_then}
-use Rattle.coap_serve.proofs.ProgressLemmas.{Moves, moves, no_bytes, shown}
-use Rattle.coap_serve.proofs.SmallLemmas.{one_more_handled}
+use Rattle.coap_serve.proofs.ProgressLemmas.{after_answers, progress_more, value_kept, no_bytes, shown}
 
 -- ---- pieces
 
@@ -38,12 +34,6 @@ not_empty-push (q ∷ ps) p each some = (each.0, not_empty-push ps p each.1 some
 abbrev EndsRun_at : Progress → List ℕ → Reason → Type 0
 EndsRun_at p last reason = EndsRun p.rest last reason p.stop
 
--- a connection that stops answers nothing
-no_answer : (done : Taken) (why : Reason) → stop_after done ≡ Some why → answers_of done ≡ []
-no_answer taken.Nothing why e = absurd cc
-no_answer (taken.Answer m) why e = absurd cc
-no_answer (taken.Stopped stop) why e = refl
-
 -- ---- a run that goes on
 
 -- after so many turns: a and b are what the source told before the run and now, x and y what the outlet told
@@ -55,6 +45,7 @@ pub record RunsOn (M turns read : ℕ) (v : ConnectionValue) (a b : Told) (x y :
   pub counted : length pieces ≡ turns
   pub goes_on : GoesOn M pieces
   pub shows : v ≡ shown M (concat pieces)
+  pub kept : IsKept v
   pub read_is : read ≡ length (concat pieces)
   pub answers : output ≡ flat_map spelling (progress M (concat pieces)).answers
 
@@ -63,8 +54,8 @@ abbrev pub Ran : ℕ → ℕ → Told → Told → Option (List ℕ) → Option 
 Ran M turns a b x y result =
     (pieces : List (List ℕ)) × (output : List ℕ) × HasGiven a b pieces × AddsBytes x y output × IsStdioRun M turns pieces (spelling (own_csm M) ++ output) result
 
-pub begins : (M : ℕ) (v : ConnectionValue) (a : Told) (x : Option (List ℕ)) → v ≡ opened M → RunsOn M 0 0 v a a x x
-begins M v a x new =
+pub begins : (M : ℕ) (v : ConnectionValue) (a : Told) (x : Option (List ℕ)) → v ≡ opened M → IsKept v → RunsOn M 0 0 v a a x x
+begins M v a x new kept =
     let none = no_bytes M in
     record {
       pieces = [];
@@ -74,6 +65,7 @@ begins M v a x new =
       counted = refl;
       goes_on = record { given = tt; no_stop = ap (λ (p : Progress). p.stop) none };
       shows = new ∙ ap (λ (p : Progress). record { M = M; frame = p.rest; open_now = p.open_now; handled = p.handled }) (sym none);
+      kept = kept;
       read_is = refl;
       answers = ap (λ (p : Progress). flat_map spelling p.answers) (sym none);
     }
@@ -90,9 +82,6 @@ module _ (M turns read : ℕ) (v after : ConnectionValue) (a b c : Told) (x y z 
   longer_bytes : (piece : List ℕ) → concat (longer piece) ≡ bytes ++ piece
   longer_bytes piece = concat-push so_far.pieces piece
 
-  moved : (byte : ℕ) → Moves M (progress M bytes) (progress M (bytes ++ byte ∷ [])) (step v byte)
-  moved byte = subst (λ (w : ConnectionValue). Moves M (progress M bytes) (progress M (bytes ++ byte ∷ [])) (step w byte)) (sym so_far.shows) (moves M bytes byte so_far.goes_on.no_stop)
-
   same_progress : (piece : List ℕ) → progress M (concat (longer piece)) ≡ progress M (bytes ++ piece)
   same_progress piece = ap (progress M) (longer_bytes piece)
 
@@ -102,27 +91,35 @@ module _ (M turns read : ℕ) (v after : ConnectionValue) (a b c : Told) (x y z 
   counted_more : (piece : List ℕ) → length (longer piece) ≡ turns + 1
   counted_more piece = omega (arith, length-append so_far.pieces (piece ∷ []), so_far.counted)
 
-  -- the answers so far and that to the byte are all answers
-  answers_more : (byte : ℕ) → so_far.output ++ text_of (step v byte).taken ≡ flat_map spelling (progress M (concat (longer (byte ∷ [])))).answers
-  answers_more byte =
-      ap (λ (o : List ℕ). o ++ text_of (step v byte).taken) so_far.answers
-      ∙ sym (flat_map-append spelling (progress M bytes).answers (answers_of (step v byte).taken))
-      ∙ ap (flat_map spelling) (sym (moved byte).answers)
-      ∙ ap (λ (p : Progress). flat_map spelling p.answers) (sym (same_progress (byte ∷ [])))
+  -- how far the connection comes with one piece more
+  all_progress : (piece : List ℕ) → progress M (concat (longer piece)) ≡ after_answers (progress M bytes).answers (progress_from v piece)
+  all_progress piece =
+      same_progress piece
+      ∙ progress_more M bytes piece so_far.goes_on.no_stop
+      ∙ ap (λ (w : ConnectionValue). after_answers (progress M bytes).answers (progress_from w piece)) (sym so_far.shows)
 
-  pub goes_further : (byte : ℕ) → HasGiven b c ((byte ∷ []) ∷ []) → AddsBytes y z (text_of (step v byte).taken) → stop_after (step v byte).taken ≡ None → after ≡ (step v byte).after
-      → RunsOn M (turns + 1) (read + 1) after a c x z
-  goes_further byte gave wrote going after_is = record {
-    pieces = longer (byte ∷ []);
-    output = so_far.output ++ text_of (step v byte).taken;
-    told = given_then a b c so_far.pieces ((byte ∷ []) ∷ []) so_far.told gave;
-    written = bytes_then x y z so_far.output (text_of (step v byte).taken) so_far.written wrote;
-    counted = counted_more (byte ∷ []);
-    goes_on = record { given = not_empty-push so_far.pieces (byte ∷ []) so_far.goes_on.given (λ e. absurd cc); no_stop = ap (λ (p : Progress). p.stop) (same_progress (byte ∷ [])) ∙ (moved byte).stop ∙ going };
-    shows = after_is ∙ (moved byte).after going ∙ ap (λ (p : Progress). record { M = M; frame = p.rest; open_now = p.open_now; handled = p.handled }) (sym (same_progress (byte ∷ [])));
-    read_is = omega (arith, so_far.read_is, ap length (longer_bytes (byte ∷ [])), length-append bytes (byte ∷ []));
-    answers = answers_more byte;
-  }
+  -- the answers so far and those to the piece are all answers
+  answers_more : (piece : List ℕ) → so_far.output ++ text_of (progress_from v piece) ≡ flat_map spelling (progress M (concat (longer piece))).answers
+  answers_more piece =
+      ap (λ (o : List ℕ). o ++ text_of (progress_from v piece)) so_far.answers
+      ∙ sym (flat_map-append spelling (progress M bytes).answers (progress_from v piece).answers)
+      ∙ ap (λ (p : Progress). flat_map spelling p.answers) (sym (all_progress piece))
+
+  pub goes_further : (piece : List ℕ) (count : ℕ) → HasRead (HasGiven b c) piece → count ≡ length piece → IsServed v after (progress_from v piece) (AddsBytes y z) (Ok None) → RunsOn M (turns + 1) (read + count) after a c x z
+  goes_further piece count has counted served =
+      let same : v.M ≡ M = ap (λ (w : ConnectionValue). w.M) so_far.shows in
+      record {
+        pieces = longer piece;
+        output = so_far.output ++ text_of (progress_from v piece);
+        told = given_then a b c so_far.pieces (piece ∷ []) so_far.told has.given;
+        written = bytes_then x y z so_far.output (text_of (progress_from v piece)) so_far.written served.0;
+        counted = counted_more piece;
+        goes_on = record { given = not_empty-push so_far.pieces piece so_far.goes_on.given has.some; no_stop = ap (λ (p : Progress). p.stop) (all_progress piece) ∙ served.1 };
+        shows = served.2 ∙ ap (λ (m : ℕ). value_of m (progress_from v piece)) same ∙ ap (value_of M) (sym (all_progress piece));
+        kept = subst IsKept (sym served.2) (value_kept v piece so_far.kept served.1);
+        read_is = omega (arith, so_far.read_is, counted, ap length (longer_bytes piece), length-append bytes piece);
+        answers = answers_more piece;
+      }
 
   -- ---- the run ends in this turn
 
@@ -149,26 +146,24 @@ module _ (M turns read : ℕ) (v after : ConnectionValue) (a b c : Told) (x y z 
         },
       )
 
-  pub stopped : (limit : ℕ) (report : Report) (byte : ℕ) (why : Reason) → turns < limit → HasGiven b c ((byte ∷ []) ∷ []) → AddsBytes y z [] → stop_after (step v byte).taken ≡ Some why
-      → after ≡ (step v byte).after → report.read ≡ read + 1 → report.messages ≡ after.handled → report.reason ≡ why → Ran M limit a c x z (Ok report)
-  stopped limit report byte why lt gave wrote stop_is after_is read_is messages_are reason_is =
-      let nothing : answers_of (step v byte).taken ≡ [] = no_answer (step v byte).taken why stop_is in
-      let output_is : so_far.output ++ [] ≡ flat_map spelling (progress M (concat (longer (byte ∷ [])))).answers = ap (λ (ms : List Message). so_far.output ++ flat_map spelling ms) (sym nothing) ∙ answers_more byte in
-      let stopped_at : (progress M (concat (longer (byte ∷ [])))).stop ≡ Some why = ap (λ (p : Progress). p.stop) (same_progress (byte ∷ [])) ∙ (moved byte).stop ∙ stop_is in (
-        longer (byte ∷ []),
-        so_far.output ++ [],
-        given_then a b c so_far.pieces ((byte ∷ []) ∷ []) so_far.told gave,
-        bytes_then x y z so_far.output [] so_far.written wrote,
+  pub stopped : (limit : ℕ) (report : Report) (piece : List ℕ) (count : ℕ) (why : Reason) → turns < limit → HasRead (HasGiven b c) piece → count ≡ length piece → IsServed v after (progress_from v piece) (AddsBytes y z) (Ok (Some why))
+      → report.read ≡ read + count → report.messages ≡ after.handled → report.reason ≡ why → Ran M limit a c x z (Ok report)
+  stopped limit report piece count why lt has counted served read_is messages_are reason_is =
+      let stopped_at : (progress M (concat (longer piece))).stop ≡ Some why = ap (λ (p : Progress). p.stop) (all_progress piece) ∙ served.1 in (
+        longer piece,
+        so_far.output ++ text_of (progress_from v piece),
+        given_then a b c so_far.pieces (piece ∷ []) so_far.told has.given,
+        bytes_then x y z so_far.output (text_of (progress_from v piece)) so_far.written served.0,
         record {
           before = so_far.pieces;
-          last = byte ∷ [];
+          last = piece;
           all = refl;
-          within = omega (arith, counted_more (byte ∷ []));
+          within = omega (arith, counted_more piece);
           goes_on = so_far.goes_on;
-          ended = subst (λ (stop : Option Reason). EndsRun (progress M (concat (longer (byte ∷ [])))).rest (byte ∷ []) report.reason stop) (sym stopped_at) reason_is;
-          read = read_is ∙ omega (arith, so_far.read_is, ap length (longer_bytes (byte ∷ [])), length-append bytes (byte ∷ []));
-          messages = messages_are ∙ ap (λ (w : ConnectionValue). w.handled) after_is ∙ sym (moved byte).handled ∙ ap (λ (p : Progress). p.handled) (sym (same_progress (byte ∷ [])));
-          written = ap (λ (o : List ℕ). spelling (own_csm M) ++ o) output_is;
+          ended = subst (λ (stop : Option Reason). EndsRun (progress M (concat (longer piece))).rest piece report.reason stop) (sym stopped_at) reason_is;
+          read = read_is ∙ omega (arith, so_far.read_is, counted, ap length (longer_bytes piece), length-append bytes piece);
+          messages = messages_are ∙ served.2 ∙ ap (λ (p : Progress). p.handled) (sym (all_progress piece));
+          written = ap (λ (o : List ℕ). spelling (own_csm M) ++ o) (answers_more piece);
         },
       )
 
@@ -183,18 +178,17 @@ module _ (M turns read : ℕ) (v after : ConnectionValue) (a b c : Told) (x y z 
     (omega (arith, so_far.counted, ap length (append-nil so_far.pieces)), rw (append-nil so_far.pieces) (record { goes_on = so_far.goes_on; written = ap (λ (o : List ℕ). spelling (own_csm M) ++ o) (append-nil so_far.output ∙ so_far.answers) })),
   )
 
-  pub failed_write : (limit byte : ℕ) (part missing : List ℕ) → turns < limit → HasGiven b c ((byte ∷ []) ∷ []) → AddsBytes y z part → missing ≢ [] → text_of (step v byte).taken ≡ part ++ missing
-      → Ran M limit a c x z (Err Write)
-  failed_write limit byte part missing lt gave wrote some parts =
-      let whole : (spelling (own_csm M) ++ (so_far.output ++ part)) ++ missing ≡ stdio_output M (concat (longer (byte ∷ []))) = append_assoc (spelling (own_csm M)) (so_far.output ++ part) missing
-      ∙ ap (λ (o : List ℕ). spelling (own_csm M) ++ o) (append_assoc so_far.output part missing ∙ ap (λ (t : List ℕ). so_far.output ++ t) (sym parts) ∙ answers_more byte) in (
-        longer (byte ∷ []),
+  pub failed_write : (limit : ℕ) (piece part missing : List ℕ) → turns < limit → HasRead (HasGiven b c) piece → AddsBytes y z part → missing ≢ [] → text_of (progress_from v piece) ≡ part ++ missing → Ran M limit a c x z (Err Write)
+  failed_write limit piece part missing lt has wrote some parts =
+      let whole : (spelling (own_csm M) ++ (so_far.output ++ part)) ++ missing ≡ stdio_output M (concat (longer piece)) = append_assoc (spelling (own_csm M)) (so_far.output ++ part) missing
+      ∙ ap (λ (o : List ℕ). spelling (own_csm M) ++ o) (append_assoc so_far.output part missing ∙ ap (λ (t : List ℕ). so_far.output ++ t) (sym parts) ∙ answers_more piece) in (
+        longer piece,
         so_far.output ++ part,
-        given_then a b c so_far.pieces ((byte ∷ []) ∷ []) so_far.told gave,
+        given_then a b c so_far.pieces (piece ∷ []) so_far.told has.given,
         bytes_then x y z so_far.output part so_far.written wrote,
         (
-          omega (arith, counted_more (byte ∷ [])),
-          inr (so_far.pieces, byte ∷ [], refl, so_far.goes_on, (part, sym (append_assoc (spelling (own_csm M)) so_far.output part) ∙ ap (λ (o : List ℕ). (spelling (own_csm M) ++ o) ++ part) so_far.answers)),
+          omega (arith, counted_more piece),
+          inr (so_far.pieces, piece, refl, so_far.goes_on, (part, sym (append_assoc (spelling (own_csm M)) so_far.output part) ∙ ap (λ (o : List ℕ). (spelling (own_csm M) ++ o) ++ part) so_far.answers)),
           record { missing = missing; some = some; written = whole },
         ),
       )
@@ -210,7 +204,7 @@ out_of_turns M turns read v a b x y so_far =
 pub faulted : (M turns read limit : ℕ) (v after : ConnectionValue) (a b c : Told) (x y z : Option (List ℕ)) (e : IoFault) → RunsOn M turns read v a b x y → turns < limit
     → IsTurn v after (HasGiven b c) (AddsBytes y z) (Err e) → Ran M limit a c x z (Err e)
 faulted M turns read limit v after a b c x y z Read so_far lt t = failed_read M turns read v after a b c x y z so_far limit lt t.0 t.1
-faulted M turns read limit v after a b c x y z Write so_far lt t = failed_write M turns read v after a b c x y z so_far limit t.0 t.1 t.2 lt t.3 t.4 t.6 t.7
+faulted M turns read limit v after a b c x y z Write so_far lt t = failed_write M turns read v after a b c x y z so_far limit t.0 t.1 t.2 lt t.3 t.6 t.4 t.5
 faulted M turns read limit v after a b c x y z Memory so_far lt t = absurd t
 faulted M turns read limit v after a b c x y z Turns so_far lt t = absurd t
 
@@ -219,25 +213,37 @@ pub ended_turn : (M turns read limit : ℕ) (v after : ConnectionValue) (a b c :
     → IsTurn v after (HasGiven b c) (AddsBytes y z) (Ok t) → t ≡ Ended → report.read ≡ read → report.messages ≡ after.handled → report.reason ≡ end_reason after.frame → Ran M limit a c x z (Ok report)
 ended_turn M turns read limit v after a b c x y z Ended report so_far lt t is read_is messages_are reason_is =
     ended M turns read v after a b c x y z so_far limit report lt t.0 t.1 t.2 read_is messages_are reason_is
-ended_turn M turns read limit v after a b c x y z More report so_far lt t is read_is messages_are reason_is = absurd cc
-ended_turn M turns read limit v after a b c x y z (Stopped why) report so_far lt t is read_is messages_are reason_is = absurd cc
+ended_turn M turns read limit v after a b c x y z (More count) report so_far lt t is read_is messages_are reason_is = absurd cc
+ended_turn M turns read limit v after a b c x y z (Stopped count why) report so_far lt t is read_is messages_are reason_is = absurd cc
 
--- a turn whose byte stops the connection
-pub stopped_turn : (M turns read limit : ℕ) (v after : ConnectionValue) (a b c : Told) (x y z : Option (List ℕ)) (t : Turn) (why : Reason) (report : Report) → RunsOn M turns read v a b x y
-    → turns < limit → IsTurn v after (HasGiven b c) (AddsBytes y z) (Ok t) → t ≡ Stopped why → report.read ≡ read + 1 → report.messages ≡ after.handled → report.reason ≡ why → Ran M limit a c x z (Ok report)
-stopped_turn M turns read limit v after a b c x y z (Stopped reason) why report so_far lt t is read_is messages_are reason_is =
+-- a turn whose piece stops the connection
+pub stopped_turn : (M turns read limit : ℕ) (v after : ConnectionValue) (a b c : Told) (x y z : Option (List ℕ)) (t : Turn) (count : ℕ) (why : Reason) (report : Report) → RunsOn M turns read v a b x y
+    → turns < limit → IsTurn v after (HasGiven b c) (AddsBytes y z) (Ok t) → t ≡ Stopped count why → report.read ≡ read + count → report.messages ≡ after.handled → report.reason ≡ why → Ran M limit a c x z (Ok report)
+stopped_turn M turns read limit v after a b c x y z (Stopped n reason) count why report so_far lt t is read_is messages_are reason_is =
     let same : reason ≡ why = cc in
-    stopped M turns read v after a b c x y z so_far limit report t.0 reason lt t.1 t.2 t.3 t.4 read_is messages_are (reason_is ∙ sym same)
-stopped_turn M turns read limit v after a b c x y z More why report so_far lt t is read_is messages_are reason_is = absurd cc
-stopped_turn M turns read limit v after a b c x y z Ended why report so_far lt t is read_is messages_are reason_is = absurd cc
+    let as_many : n ≡ count = cc in
+    stopped M turns read v after a b c x y z so_far limit report t.0 n reason lt t.1 t.2 t.3 (read_is ∙ ap (λ (k : ℕ). read + k) (sym as_many)) messages_are (reason_is ∙ sym same)
+stopped_turn M turns read limit v after a b c x y z (More n) count why report so_far lt t is read_is messages_are reason_is = absurd cc
+stopped_turn M turns read limit v after a b c x y z Ended count why report so_far lt t is read_is messages_are reason_is = absurd cc
 
--- a turn after which the run goes on
-pub next_turn : (M turns read : ℕ) (v after : ConnectionValue) (a b c : Told) (x y z : Option (List ℕ)) (t : Turn) → RunsOn M turns read v a b x y
-    → IsTurn v after (HasGiven b c) (AddsBytes y z) (Ok t) → t ≡ More → RunsOn M (turns + 1) (read + 1) after a c x z × (after.handled ≤ v.handled + 1)
-next_turn M turns read v after a b c x y z More so_far t is =
-    (goes_further M turns read v after a b c x y z so_far t.0 t.1 t.2 t.3 t.4, rw t.4 (one_more_handled v t.0))
-next_turn M turns read v after a b c x y z Ended so_far t is = absurd cc
-next_turn M turns read v after a b c x y z (Stopped why) so_far t is = absurd cc
+-- a run goes on after a turn in which a few bytes were read, and as few messages handled
+pub record GoesFurther (M turns read count : ℕ) (v after : ConnectionValue) (a c : Told) (x z : Option (List ℕ)) : Type 0 where
+  pub runs : RunsOn M (turns + 1) (read + count) after a c x z
+  pub few : count ≤ 4096
+  pub few_handled : after.handled ≤ v.handled + 4096
+
+pub next_turn : (M turns read : ℕ) (v after : ConnectionValue) (a b c : Told) (x y z : Option (List ℕ)) (t : Turn) (count : ℕ) → RunsOn M turns read v a b x y → IsTurn v after (HasGiven b c) (AddsBytes y z) (Ok t) → t ≡ More count
+    → GoesFurther M turns read count v after a c x z
+next_turn M turns read v after a b c x y z (More n) count so_far t is =
+    let as_many : n ≡ count = cc in
+    let further = goes_further M turns read v after a b c x y z so_far t.0 n t.1 t.2 t.4 in
+    record {
+      runs = subst (λ (k : ℕ). RunsOn M (turns + 1) (read + k) after a c x z) as_many further;
+      few = omega (arith, as_many, t.2, t.1.few);
+      few_handled = omega (arith, t.3, t.1.few);
+    }
+next_turn M turns read v after a b c x y z Ended count so_far t is = absurd cc
+next_turn M turns read v after a b c x y z (Stopped n why) count so_far t is = absurd cc
 
 -- the own Capabilities and Settings were not written whole
 pub not_announced : (M limit : ℕ) (a : Told) (x z : Option (List ℕ)) (part missing : List ℕ) → missing ≢ [] → spelling (own_csm M) ≡ part ++ missing → AddsBytes x z part

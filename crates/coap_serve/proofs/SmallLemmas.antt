@@ -8,14 +8,14 @@ use Rattle.coap_wire.specs.Forms.{length_form, option_form}
 use Rattle.coap_wire.specs.Spelling.{spelling, option_spelling, body_spelling, head_spelling}
 use Rattle.coap_wire.specs.Uint.{uint_text, without_leading_zeros}
 use Rattle.coap_wire.specs.Reading.{message_of}
-use Rattle.coap_wire.specs.Stream.{Beginning, Unfinished, Whole, Faulty, beginning}
 use Rattle.coap_wire.specs.declared.fault.FormatFault.{FormatFault}
 use Rattle.coap_serve.specs.declared.reaction.Reaction.{Reaction}
 use Rattle.coap_serve.specs.declared.reaction.Reaction.TheVariants.{Ignored, Opened, Answered, NotYet}
 use Rattle.coap_serve.specs.declared.frame.Taken.{Taken}
 use Rattle.coap_serve.specs.declared.frame.Taken.TheVariants as taken
 use Rattle.coap_serve.specs.Signalling.{own_csm, custody_options, asks_custody, pong_of, react, is_accepted_csm, has_odd_option}
-use Rattle.coap_serve.specs.Connection.{ConnectionValue, step, step_at, step_frame, step_by, reaction_of}
+use Rattle.coap_frame.specs.Framing.{Finding, Nothing, AFrame, AFault, Framing, framing}
+use Rattle.coap_serve.specs.Connection.{ConnectionValue, framer_in, step, step_found, step_frame, step_by, reaction_of}
 use Rattle.coap_wire.proofs.TokenLaws.{token_is_small}
 
 abbrev IsShort : ℕ → ℕ × List ℕ → Type 0
@@ -59,7 +59,7 @@ pub pong_small : (m : Message) (custody : Bool) → length m.token ≤ 8 → len
 pong_small m true small = omega (arith, one_option 227 m.token (record { number = 2; value = [] }))
 pong_small m false small = omega (arith, no_option 227 m.token)
 
--- ---- what a byte's answer is
+-- ---- what an answer is
 
 abbrev IsSmallAnswer : Message → Reaction → Type 0
 IsSmallAnswer m (Answered pong) = pong ≡ pong_of m
@@ -82,44 +82,22 @@ IsSmallTaken (taken.Answer m) = length (spelling m) ≤ 24
 IsSmallTaken taken.Nothing = Unit {0}
 IsSmallTaken (taken.Stopped why) = Unit {0}
 
-small_by : (v : ConnectionValue) (m : Message) (reaction : Reaction) → length m.token ≤ 8 → IsSmallAnswer m reaction → IsSmallTaken (step_by v reaction).taken
-small_by v m Ignored small answer = tt
-small_by v m Opened small answer = tt
-small_by v m (Answered pong) small answer = rw answer (pong_small m (asks_custody m) small)
-small_by v m NotYet small answer = tt
+small_by : (v : ConnectionValue) (f : Framing) (m : Message) (reaction : Reaction) → length m.token ≤ 8 → IsSmallAnswer m reaction → IsSmallTaken (step_by v f reaction).taken
+small_by v f m Ignored small answer = tt
+small_by v f m Opened small answer = tt
+small_by v f m (Answered pong) small answer = rw answer (pong_small m (asks_custody m) small)
+small_by v f m NotYet small answer = tt
 
-small_frame : (v : ConnectionValue) (frame : List ℕ) (read : Result Message FormatFault) → message_of frame ≡ read → IsSmallTaken (step_frame v (reaction_of v.open_now read)).taken
-small_frame v frame (Ok m) e = small_by v m (react v.open_now m) (token_is_small frame m e) (answers_with_pong v.open_now m)
-small_frame v frame (Err f) e = tt
+small_frame : (v : ConnectionValue) (f : Framing) (frame : List ℕ) (read : Result Message FormatFault) → message_of frame ≡ read → IsSmallTaken (step_frame v f (reaction_of v.open_now read)).taken
+small_frame v f frame (Ok m) e = small_by v f m (react v.open_now m) (token_is_small frame m e) (answers_with_pong v.open_now m)
+small_frame v f frame (Err fault) e = tt
 
-small_at : (v : ConnectionValue) (frame : List ℕ) (begun : Beginning) → IsSmallTaken (step_at v frame begun).taken
-small_at v frame Unfinished = tt
-small_at v frame (Faulty fault) = tt
-small_at v frame (Whole first rest) = small_frame v frame (message_of frame) refl
+small_found : (v : ConnectionValue) (f : Framing) (finding : Finding) → IsSmallTaken (step_found v f finding).taken
+small_found v f Nothing = tt
+small_found v f (AFault fault) = tt
+small_found v f (AFrame frame) = small_frame v f frame (message_of frame) refl
 
--- the answer to a byte is small
-pub answer_small : (v : ConnectionValue) (b : ℕ) (m : Message) → taken.Answer m ≡ (step v b).taken → length (spelling m) ≤ 24
+-- an answer is small
+pub answer_small : (v : ConnectionValue) (piece : List ℕ) (m : Message) → taken.Answer m ≡ (step v piece).taken → length (spelling m) ≤ 24
 unfolding step
-answer_small v b m e = subst IsSmallTaken (sym e) (small_at v (v.frame ++ b ∷ []) (beginning v.M (v.frame ++ b ∷ [])))
-
--- ---- how many messages a byte completes
-
-handled_by : (v : ConnectionValue) (reaction : Reaction) → (step_by v reaction).after.handled ≤ v.handled + 1
-handled_by v Ignored = omega arith
-handled_by v Opened = omega arith
-handled_by v (Answered pong) = omega arith
-handled_by v NotYet = omega arith
-
-handled_frame : (v : ConnectionValue) (read : Result Reaction FormatFault) → (step_frame v read).after.handled ≤ v.handled + 1
-handled_frame v (Ok reaction) = handled_by v reaction
-handled_frame v (Err f) = omega arith
-
-handled_at : (v : ConnectionValue) (frame : List ℕ) (begun : Beginning) → (step_at v frame begun).after.handled ≤ v.handled + 1
-handled_at v frame Unfinished = omega arith
-handled_at v frame (Faulty fault) = omega arith
-handled_at v frame (Whole first rest) = handled_frame v (reaction_of v.open_now (message_of frame))
-
--- a byte completes one message at most
-pub one_more_handled : (v : ConnectionValue) (b : ℕ) → (step v b).after.handled ≤ v.handled + 1
-unfolding step
-one_more_handled v b = handled_at v (v.frame ++ b ∷ []) (beginning v.M (v.frame ++ b ∷ []))
+answer_small v piece m e = subst IsSmallTaken (sym e) (small_found v (framing (framer_in v) piece) (framing (framer_in v) piece).finding)

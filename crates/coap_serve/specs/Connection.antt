@@ -1,15 +1,16 @@
--- A connection as the code holds it, and what one byte more does.
-use Rattle.std.specs.Prelude.{◌≡◌, ℕ, ◌+◌, ◌≤◌, Bool, true, false, List, [], ◌∷◌, ◌++◌, Option, Some, None, Result, Ok, Err}
+-- A connection as the code holds it, and what a piece of the input does to it.
+use Rattle.std.specs.Prelude.{◌≡◌, ℕ, ◌+◌, ◌≤◌, Bool, true, false, List, [], ◌∷◌, Option, Some, None, Result, Ok, Err}
 use Rattle.coap_wire.specs.Message.{Message}
 use Rattle.coap_wire.specs.Reading.{message_of}
-use Rattle.coap_wire.specs.Stream.{StreamFault, TokenLength, TooLarge, Format, Beginning, Unfinished, Whole, Faulty, beginning}
+use Rattle.coap_wire.specs.Stream.{Unfinished, beginning}
 use Rattle.coap_wire.specs.declared.fault.FormatFault.{FormatFault}
+use Rattle.coap_frame.specs.Framing.{FramerValue, Finding, Nothing, AFrame, AFault, Framing, framing}
+use Rattle.coap_frame.specs.declared.framer.FrameFault.{FrameFault}
+use Rattle.coap_frame.specs.declared.framer.FrameFault.TheVariants as faults
 use Rattle.coap_serve.specs.declared.reaction.Reaction.{Reaction}
 use Rattle.coap_serve.specs.declared.reaction.Reaction.TheVariants.{Ignored, Opened, Answered, NotYet}
 use Rattle.coap_serve.specs.declared.reason.Reason.{Reason}
 use Rattle.coap_serve.specs.declared.reason.Reason.TheVariants as reason
-use Rattle.coap_serve.specs.declared.frame.Standing.{Standing}
-use Rattle.coap_serve.specs.declared.frame.Standing.TheVariants as standing
 use Rattle.coap_serve.specs.declared.frame.Taken.{Taken}
 use Rattle.coap_serve.specs.declared.frame.Taken.TheVariants as taken
 use Rattle.coap_serve.specs.Signalling.{react}
@@ -32,52 +33,55 @@ pub record IsKept (v : ConnectionValue) : Type 0 where
 abbrev pub opened : ℕ → ConnectionValue
 opened M = record { M = M; frame = []; open_now = false; handled = 0 }
 
-abbrev pub reason_of : StreamFault → Reason
-reason_of TokenLength = reason.TokenLength
-reason_of TooLarge = reason.TooLarge
-reason_of Format = reason.Format
+-- a connection with this framer
+abbrev pub connected : FramerValue → Bool → ℕ → ConnectionValue
+connected f open_now handled = record { M = f.max; frame = f.kept; open_now = open_now; handled = handled }
 
--- how the bytes of a frame stand
-abbrev pub standing_of : Beginning → Standing
-standing_of Unfinished = standing.Unfinished
-standing_of (Whole frame rest) = standing.Whole
-standing_of (Faulty fault) = standing.Fault (reason_of fault)
+-- a framer that keeps what the connection does
+abbrev pub framer_in : ConnectionValue → FramerValue
+framer_in v = record { max = v.M; kept = v.frame; spent = [] }
 
--- what a byte did: the connection after it, and what is to be done
+abbrev pub fault_reason : FrameFault → Reason
+fault_reason faults.TokenLength = reason.TokenLength
+fault_reason faults.TooLarge = reason.TooLarge
+
+-- what the front of a piece did: how many bytes were taken, the connection after them, and what is to be done
 pub record Step : Type 0 where
+  pub count : ℕ
   pub after : ConnectionValue
   pub taken : Taken
 
-abbrev pub handled_one : ConnectionValue → Bool → Taken → Step
-handled_one v open_now done = record { after = record { M = v.M; frame = []; open_now = open_now; handled = v.handled + 1 }; taken = done }
+-- a step at which no message was handled
+abbrev pub handled_none : ConnectionValue → Framing → Taken → Step
+handled_none v f done = record { count = f.taken; after = connected f.after v.open_now v.handled; taken = done }
 
-abbrev pub stopped : ConnectionValue → Reason → Step
-stopped v why = record { after = record v { frame = [] }; taken = taken.Stopped why }
+abbrev pub handled_one : ConnectionValue → Framing → Bool → Taken → Step
+handled_one v f open_now done = record { count = f.taken; after = connected f.after open_now (v.handled + 1); taken = done }
 
-abbrev pub step_by : ConnectionValue → Reaction → Step
-step_by v Ignored = handled_one v v.open_now taken.Nothing
-step_by v Opened = handled_one v true taken.Nothing
-step_by v (Answered pong) = handled_one v v.open_now (taken.Answer pong)
-step_by v NotYet = stopped v reason.NotYet
+abbrev pub step_by : ConnectionValue → Framing → Reaction → Step
+step_by v f Ignored = handled_one v f v.open_now taken.Nothing
+step_by v f Opened = handled_one v f true taken.Nothing
+step_by v f (Answered pong) = handled_one v f v.open_now (taken.Answer pong)
+step_by v f NotYet = handled_none v f (taken.Stopped reason.NotYet)
 
 -- what a whole frame does
 abbrev pub reaction_of : Bool → Result Message FormatFault → Result Reaction FormatFault
 reaction_of open_now (Ok m) = Ok (react open_now m)
 reaction_of open_now (Err e) = Err e
 
-abbrev pub step_frame : ConnectionValue → Result Reaction FormatFault → Step
-step_frame v (Ok reaction) = step_by v reaction
-step_frame v (Err e) = stopped v reason.Format
+abbrev pub step_frame : ConnectionValue → Framing → Result Reaction FormatFault → Step
+step_frame v f (Ok reaction) = step_by v f reaction
+step_frame v f (Err e) = handled_none v f (taken.Stopped reason.Format)
 
--- frame is the frame so far, with the byte
-abbrev pub step_at : ConnectionValue → List ℕ → Beginning → Step
-step_at v frame Unfinished = record { after = record v { frame = frame }; taken = taken.Nothing }
-step_at v frame (Faulty fault) = stopped v (reason_of fault)
-step_at v frame (Whole first rest) = step_frame v (reaction_of v.open_now (message_of frame))
+-- what comes of what was found
+abbrev pub step_found : ConnectionValue → Framing → Finding → Step
+step_found v f Nothing = handled_none v f taken.Nothing
+step_found v f (AFault fault) = handled_none v f (taken.Stopped (fault_reason fault))
+step_found v f (AFrame frame) = step_frame v f (reaction_of v.open_now (message_of frame))
 
--- what one byte more does
-unfoldable pub step : ConnectionValue → ℕ → Step
-step v byte = step_at v (v.frame ++ byte ∷ []) (beginning v.M (v.frame ++ byte ∷ []))
+-- what the first frame or fault of a piece does, behind the bytes that are kept, or all of the piece
+unfoldable pub step : ConnectionValue → List ℕ → Step
+step v piece = step_found v (framing (framer_in v) piece) (framing (framer_in v) piece).finding
 
 -- ---- what is written and why the connection stops
 

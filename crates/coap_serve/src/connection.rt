@@ -1,17 +1,16 @@
-//! A connection that takes one byte after another.
+//! A connection that takes one piece of its input after another.
 
-use crate::frame::{Standing, Taken, reaction_to, standing_of_bytes};
+use crate::frame::{Taken, reaction_to, reason_for};
 use crate::reaction::Reaction;
 use crate::reason::Reason;
+use coap_frame::{Found, Framer};
 use std::alloc::{AllocError, Global};
 use std::marker::Model;
 
-/// A connection: the bytes of its unfinished frame, in room for the greatest message, whether it is open, and how many
-/// messages were handled. Contracts see a `ConnectionValue`.
+/// A connection: its framer, whether it is open, and how many messages were handled. Contracts see a `ConnectionValue`.
 #[derive(Debug, Drop)]
 pub(crate) struct Connection {
-    max_message: usize,
-    frame: Vec<u8>,
+    framer: Framer,
     is_open: bool,
     handled: u64,
 }
@@ -30,7 +29,7 @@ impl Model for Connection {
 
 impl Connection {
     ghost use Rattle.std.specs.Prelude.{◌≡◌, ◌+◌, ◌≤◌, ◌<◌, ◌^◌, IfOk, length};
-    ghost use Rattle.coap_serve.specs.Connection.{opened, step, IsKept};
+    ghost use Rattle.coap_serve.specs.Connection.{opened, step};
     ghost use Rattle.coap_serve.specs.Progress.{end_reason as reason_at_end};
 
     /// A new connection, which takes messages of at most so many bytes. It reserves their room once.
@@ -40,47 +39,43 @@ impl Connection {
         ensures { IfOk result (λ c. c ≡ opened max_message) }
     {
         Ok(Connection {
-            max_message,
-            frame: Vec::with_capacity(alloc, max_message)?,
+            framer: Framer::new(alloc, max_message)?,
             is_open: false,
             handled: 0,
         })
     }
 
-    /// Takes a byte.
-    #[tactic(auto, unfolding(crate::specs::Connection::step))]
-    pub(crate) fn take(&mut self, byte: u8) -> Taken<'static>
+    /// Takes bytes of a piece up to the end of its first message, to the byte that stops the connection, or all of them.
+    #[tactic(auto, unfolding(crate::specs::Connection::step, coap_frame::specs::Framing::framing))]
+    pub(crate) fn take(&mut self, piece: &[u8]) -> (usize, Taken<'static>)
         requires { self.old.handled + 1 < 2 ^ 64 }
-        ensures taken { result ≡ (step self.old byte).taken }
-        ensures after { self.new ≡ (step self.old byte).after }
+        ensures within { result.0 ≤ length piece.now }
+        ensures count { result.0 ≡ (step self.old piece.now).count }
+        ensures taken { result.1 ≡ (step self.old piece.now).taken }
+        ensures after { self.new ≡ (step self.old piece.now).after }
     {
-        self.frame.push_reserved(byte);
-        match standing_of_bytes(self.max_message, &self.frame) {
-            Standing::Unfinished => Taken::Nothing,
-            Standing::Fault(reason) => {
-                self.frame.clear();
-                Taken::Stopped(reason)
+        let framed = self.framer.next(piece);
+        let count = framed.taken;
+        let reaction = match framed.what {
+            Found::More => return (count, Taken::Nothing),
+            Found::Fault(fault) => return (count, Taken::Stopped(reason_for(fault))),
+            Found::Frame(frame) => reaction_to(self.is_open, frame),
+        };
+        match reaction {
+            Err(_) => (count, Taken::Stopped(Reason::Format)),
+            Ok(Reaction::NotYet) => (count, Taken::Stopped(Reason::NotYet)),
+            Ok(Reaction::Ignored) => {
+                self.handled += 1;
+                (count, Taken::Nothing)
             }
-            Standing::Whole => {
-                let reaction = reaction_to(self.is_open, &self.frame);
-                self.frame.clear();
-                match reaction {
-                    Err(_) => Taken::Stopped(Reason::Format),
-                    Ok(Reaction::NotYet) => Taken::Stopped(Reason::NotYet),
-                    Ok(Reaction::Ignored) => {
-                        self.handled += 1;
-                        Taken::Nothing
-                    }
-                    Ok(Reaction::Opened) => {
-                        self.is_open = true;
-                        self.handled += 1;
-                        Taken::Nothing
-                    }
-                    Ok(Reaction::Answered(pong)) => {
-                        self.handled += 1;
-                        Taken::Answer(pong)
-                    }
-                }
+            Ok(Reaction::Opened) => {
+                self.is_open = true;
+                self.handled += 1;
+                (count, Taken::Nothing)
+            }
+            Ok(Reaction::Answered(pong)) => {
+                self.handled += 1;
+                (count, Taken::Answer(pong))
             }
         }
     }
@@ -92,19 +87,11 @@ impl Connection {
         self.handled
     }
 
-    /// The greatest message that it takes.
-    pub(crate) fn max_message(&self) -> usize
-        ensures value { result ≡ self.now.M }
-        ensures kept { IsKept self.now }
-    {
-        self.max_message
-    }
-
     /// Why the end of input ends it.
     pub(crate) fn end_reason(&self) -> Reason
         ensures { result ≡ reason_at_end self.now.frame }
     {
-        if self.frame.is_empty() {
+        if self.framer.kept() == 0 {
             Reason::Ended
         } else {
             Reason::Cut

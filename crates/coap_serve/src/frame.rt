@@ -1,26 +1,15 @@
-//! How the bytes of a frame stand, and what a whole one does.
+//! What a frame and a fault of the stream do.
 
-ghost use Rattle.std.specs.Prelude.{◌≡◌, ◌<◌, ◌≤◌};
-ghost use Rattle.coap_wire.specs.Stream.{beginning};
+ghost use Rattle.std.specs.Prelude.{◌≡◌};
 ghost use Rattle.coap_wire.specs.Reading.{message_of};
-ghost use Rattle.coap_serve.specs.Connection.{standing_of, reaction_of};
+ghost use Rattle.coap_serve.specs.Connection.{fault_reason, reaction_of};
 
 use crate::reaction::{Reaction, react};
 use crate::reason::Reason;
-use coap_wire::{Builder, Declared, FormatFault, declared, parse};
+use coap_frame::FrameFault;
+use coap_wire::{Builder, FormatFault, parse};
 
-/// How the bytes of a frame stand.
-#[derive(Debug, Drop)]
-pub(crate) enum Standing {
-    /// More bytes are needed.
-    Unfinished,
-    /// They begin with a whole frame.
-    Whole,
-    /// They have a fault, known at their last byte.
-    Fault(Reason),
-}
-
-/// What a byte did.
+/// What bytes did.
 #[derive(Debug, Drop)]
 pub(crate) enum Taken<'a> {
     /// Nothing is to be written.
@@ -31,23 +20,13 @@ pub(crate) enum Taken<'a> {
     Stopped(Reason),
 }
 
-/// How bytes stand that begin a frame of at most `max_message` bytes.
-#[tactic(auto, unfolding(coap_wire::specs::Stream::beginning))]
-pub(crate) fn standing_of_bytes(max_message: usize, bytes: &[u8]) -> Standing
-    ensures { result ≡ standing_of (beginning max_message bytes.now) }
+/// Why a fault stops the connection.
+pub(crate) fn reason_for(fault: FrameFault) -> Reason
+    ensures { result ≡ fault_reason fault }
 {
-    match declared(bytes) {
-        Declared::Unknown => Standing::Unfinished,
-        Declared::BadToken => Standing::Fault(Reason::TokenLength),
-        Declared::Size(size) => {
-            if size > max_message as u64 {
-                Standing::Fault(Reason::TooLarge)
-            } else if (bytes.len() as u64) < size {
-                Standing::Unfinished
-            } else {
-                Standing::Whole
-            }
-        }
+    match fault {
+        FrameFault::TokenLength => Reason::TokenLength,
+        FrameFault::TooLarge => Reason::TooLarge,
     }
 }
 

@@ -1,12 +1,12 @@
 //! Serves one connection over one input and one output.
 
-ghost use Rattle.std.specs.Prelude.{◌≡◌, ◌+◌, ◌≤◌, ◌<◌, ◌^◌, ℕ, false, List, [], ◌++◌, Err};
+ghost use Rattle.std.specs.Prelude.{◌≡◌, ◌+◌, ◌≤◌, ◌<◌, ◌^◌, ℕ, false, List, [], ◌++◌, Err, length, is_err};
 ghost use Rattle.coap_wire.specs.Spelling.{spelling};
 ghost use Rattle.coap_serve.specs.declared.serve.IoFault.TheVariants.{Read, Write};
 ghost use Rattle.coap_serve.specs.Device.{HasGiven, AddsBytes};
 ghost use Rattle.coap_serve.specs.Signalling.{own_csm};
-ghost use Rattle.coap_serve.specs.Connection.{opened};
-ghost use Rattle.coap_serve.specs.Turns.{IsTurn};
+ghost use Rattle.coap_serve.specs.Connection.{opened, IsKept};
+ghost use Rattle.coap_serve.specs.Turns.{progress_from, IsServed, IsTurn};
 ghost use Rattle.coap_serve.specs.StdioRun.{IsStdioRun};
 ghost use Rattle.coap_serve.specs.Faults.{is_read_fault, is_write_fault};
 
@@ -14,7 +14,7 @@ use crate::config::Config;
 use crate::connection::Connection;
 use crate::device::{Outlet, Source};
 use crate::frame::Taken;
-use crate::output::{announce, send};
+use crate::output::{WriteFailed, announce, send};
 use crate::reason::Reason;
 use std::alloc::Global;
 use thiserror::Error;
@@ -47,19 +47,22 @@ pub enum IoFault {
     Turns = 4,
 }
 
+/// How many bytes are read at once, at most.
+const PIECE: usize = 4_096;
+
 /// How a turn went.
 #[derive(Clone, Copy, Debug)]
 enum Turn {
-    /// The connection goes on.
-    More,
+    /// So many bytes were read, and the connection goes on.
+    More(usize),
     /// The input ended.
     Ended,
-    /// The connection stopped.
-    Stopped(Reason),
+    /// So many bytes were read, and the connection stopped.
+    Stopped(usize, Reason),
 }
 
-/// Serves one connection: writes the own Capabilities and Settings, then reads a byte at a time and writes the answer to
-/// each message before the next read (RFC 8323 sections 3.3, 5.3, 5.4).
+/// Serves one connection: writes the own Capabilities and Settings, then reads pieces of at most 4,096 bytes and writes
+/// the answer to each message before it looks at the next one (RFC 8323 sections 3.3, 5.3, 5.4).
 ///
 /// It ends at the end of input or with the first message or fault that stops the connection. Every read is a turn, the
 /// one that finds the end too.
@@ -107,6 +110,7 @@ fn run<R: Source, W: Outlet>(
     requires reader_works { R.is_failed reader.old ≡ false }
     requires writer_works { W.is_failed writer.old ≡ false }
     requires new { connection.old ≡ opened connection.old.M }
+    requires kept { IsKept connection.old }
     requires few { turns ≤ 1000000000000 }
     ensures run { (pieces : List (List ℕ)) × (output : List ℕ)
         × HasGiven (R.told reader.old) (R.told reader.new) pieces
@@ -115,10 +119,11 @@ fn run<R: Source, W: Outlet>(
     ensures read { R.is_failed reader.new ≡ is_read_fault result }
     ensures write { W.is_failed writer.new ≡ is_write_fault result }
 {
+    let mut buffer = [0; PIECE];
     let mut read = 0;
     for _ in 0..turns {
-        match take_turn(reader, writer, connection)? {
-            Turn::More => read += 1,
+        match take_turn(reader, writer, connection, &mut buffer)? {
+            Turn::More(count) => read += count as u64,
             Turn::Ended => {
                 return Ok(Report {
                     read,
@@ -126,9 +131,9 @@ fn run<R: Source, W: Outlet>(
                     reason: connection.end_reason(),
                 });
             }
-            Turn::Stopped(reason) => {
+            Turn::Stopped(count, reason) => {
                 return Ok(Report {
-                    read: read + 1,
+                    read: read + count as u64,
                     messages: connection.handled(),
                     reason,
                 });
@@ -143,31 +148,56 @@ fn take_turn<R: Source, W: Outlet>(
     reader: &mut R,
     writer: &mut W,
     connection: &mut Connection,
+    buffer: &mut [u8],
 ) -> Result<Turn, IoFault>
     requires reader_works { R.is_failed reader.old ≡ false }
     requires writer_works { W.is_failed writer.old ≡ false }
-    requires fits { connection.old.handled + 1 < 2 ^ 64 }
+    requires kept { IsKept connection.old }
+    requires fits { connection.old.handled + 4096 < 2 ^ 64 }
+    requires room { length buffer.old ≡ 4096 }
     ensures turn { IsTurn connection.old connection.new
         (HasGiven (R.told reader.old) (R.told reader.new))
         (AddsBytes (W.written writer.old) (W.written writer.new)) result }
     ensures read { R.is_failed reader.new ≡ is_read_fault result }
     ensures write { W.is_failed writer.new ≡ is_write_fault result }
 {
-    let mut buffer = [0];
-    let Some(count) = reader.read(&mut buffer) else {
+    let Some(count) = reader.read(buffer) else {
         return Err(IoFault::Read);
     };
     if count == 0 {
         return Ok(Turn::Ended);
     }
-    match connection.take(buffer[0]) {
-        Taken::Nothing => Ok(Turn::More),
-        Taken::Stopped(reason) => Ok(Turn::Stopped(reason)),
-        Taken::Answer(answer) => {
-            let Ok(()) = send(writer, &answer) else {
-                return Err(IoFault::Write);
-            };
-            Ok(Turn::More)
-        }
+    match serve_piece(writer, connection, &buffer[..count]) {
+        Ok(None) => Ok(Turn::More(count)),
+        Ok(Some(reason)) => Ok(Turn::Stopped(count, reason)),
+        Err(WriteFailed) => Err(IoFault::Write),
     }
+}
+
+/// Handles the messages of a piece, and writes the answer to each before the next one is looked at. Where the connection
+/// stops, the bytes behind that are not looked at, and the reason is answered.
+fn serve_piece<W: Outlet>(
+    writer: &mut W,
+    connection: &mut Connection,
+    piece: &[u8],
+) -> Result<Option<Reason>, WriteFailed>
+    requires works { W.is_failed writer.old ≡ false }
+    requires kept { IsKept connection.old }
+    requires fits { connection.old.handled + length piece.now < 2 ^ 64 }
+    ensures served { IsServed connection.old connection.new (progress_from connection.old piece.now)
+        (AddsBytes (W.written writer.old) (W.written writer.new)) result }
+    ensures handled { connection.new.handled ≤ connection.old.handled + length piece.now }
+    ensures failure { W.is_failed writer.new ≡ is_err result }
+{
+    let mut rest = piece;
+    while !rest.is_empty() {
+        let (count, taken) = connection.take(rest);
+        match taken {
+            Taken::Nothing => {}
+            Taken::Stopped(reason) => return Ok(Some(reason)),
+            Taken::Answer(answer) => send(writer, &answer)?,
+        }
+        rest = &rest[count..];
+    }
+    Ok(None)
 }

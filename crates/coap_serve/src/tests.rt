@@ -189,12 +189,13 @@ fn serve_told(
     serve_one(alloc, source, outlet, config)
 }
 
-/// A connection: what comes in, what goes out behind the own Capabilities and Settings, and the report.
+/// A connection: what comes in, what goes out behind the own Capabilities and Settings, how many bytes there are up to the
+/// end or the stop, how many messages are handled, and the reason.
 #[derive(Clone, Copy)]
 struct Exchange {
     input: &'static [u8],
     answers: &'static [u8],
-    read: u64,
+    judged: usize,
     messages: u64,
     reason: Reason,
 }
@@ -202,21 +203,21 @@ struct Exchange {
 const fn row(
     input: &'static [u8],
     answers: &'static [u8],
-    read: u64,
+    judged: usize,
     messages: u64,
     reason: Reason,
 ) -> Exchange {
     Exchange {
         input,
         answers,
-        read,
+        judged,
         messages,
         reason,
     }
 }
 
 /// Worked connections under the usual configuration.
-fn rows() -> [Exchange; 33] {
+fn rows() -> [Exchange; 36] {
     use Reason::{Cut, Ended, Format, NotYet, TokenLength, TooLarge};
     [
         row(b"", b"", 0, 0, Ended),
@@ -258,11 +259,33 @@ fn rows() -> [Exchange; 33] {
             4,
             Ended,
         ),
+        // Several Pings, and what stands behind a stop.
+        row(
+            b"\x00\xe1\x01\xe2\x01\x00\x00\x11\xe2\x02\x20\x01\xe2\x03",
+            b"\x01\xe3\x01\x11\xe3\x02\x20\x01\xe3\x03",
+            14,
+            5,
+            Ended,
+        ),
+        row(
+            b"\x00\xe1\x01\xe2\x01\x10\x01\xff\x01\xe2\x02",
+            b"\x01\xe3\x01",
+            8,
+            2,
+            Format,
+        ),
+        row(
+            b"\x00\xe1\x01\xe2\x01\x0f\x01\xe2\x02",
+            b"\x01\xe3\x01",
+            6,
+            2,
+            TokenLength,
+        ),
         // A Ping that waits, or with a critical option.
         row(b"\x00\xe2", b"", 2, 0, NotYet),
         row(b"\x00\x00\x00\xe2", b"", 4, 1, NotYet),
         row(b"\x00\xe1\x10\xe2\x10", b"", 5, 1, NotYet),
-        // Requests and the other signals are not handled yet, and what stands behind them is not read.
+        // Requests and the other signals are not handled yet, nor is what stands behind them.
         row(b"\x00\xe1\x01\x01\x01", b"", 5, 1, NotYet),
         row(
             b"\x00\xe1\x00\xe2\x00\x01\x00\xe2",
@@ -296,11 +319,35 @@ fn rows() -> [Exchange; 33] {
     ]
 }
 
-/// How many reads a run takes that reads so many bytes one by one and ends for this reason.
-fn reads_of(read: u64, reason: Reason) -> u64 {
-    match reason {
-        Reason::Ended | Reason::Cut => read.saturating_add(1),
-        _ => read,
+/// Where the read ends that begins at this byte of so many, gives so many bytes at most and none past a cut.
+fn read_end(begin: usize, length: usize, step: usize, cuts: [usize; 2]) -> usize {
+    let [first, second] = cuts;
+    let cut = if begin < first {
+        first
+    } else if begin < second {
+        second
+    } else {
+        length
+    };
+    length
+        .min(cut)
+        .min(begin.saturating_add(step))
+        .min(begin.saturating_add(4_096))
+}
+
+/// Where the read ends that gives the last byte that is judged, and how many reads there are up to it.
+fn reads_of(row: &Exchange, step: usize, cuts: [usize; 2]) -> (usize, usize) {
+    let mut end = 0;
+    let mut reads: usize = 0;
+    for _ in 0..row.judged {
+        if end < row.judged {
+            end = read_end(end, row.input.len(), step, cuts);
+            reads = reads.saturating_add(1);
+        }
+    }
+    match row.reason {
+        Reason::Ended | Reason::Cut => (end, reads.saturating_add(1)),
+        _ => (end, reads),
     }
 }
 
@@ -316,27 +363,46 @@ fn run_row(
     let mut source = Script::new(rt.alloc(), input, source_step, cuts);
     let mut outlet = Ledger::new(rt.alloc(), outlet_step);
     let result = serve_told(rt.alloc(), &mut source, &mut outlet, &usual(rt));
+    let (read, reads) = reads_of(row, source_step, cuts);
     let report = Report {
-        read: row.read,
+        read: read as u64,
         messages: row.messages,
         reason: row.reason,
     };
-    assert_eq!(rt; result, Ok(report), "at {input:?}");
+    assert_eq!(rt;
+        result,
+        Ok(report),
+        "at {input:?}, {source_step} and {cuts:?}"
+    );
     let answers = outlet.bytes.strip_prefix(OWN_CSM);
-    assert_eq!(rt; answers, Some(row.answers), "at {input:?}");
-    // Nothing behind the end or the stop is read.
-    let reads = source.given.len() as u64;
-    assert_eq!(rt; reads, reads_of(row.read, row.reason), "at {input:?}");
-    let left = (input.len() as u64).saturating_sub(row.read);
-    assert_eq!(rt; source.rest.len() as u64, left, "at {input:?}");
+    assert_eq!(rt;
+        answers,
+        Some(row.answers),
+        "at {input:?}, {source_step} and {cuts:?}"
+    );
+    // There is no read behind that of the end or the stop.
+    assert_eq!(rt;
+        source.given.len(),
+        reads,
+        "at {input:?}, {source_step} and {cuts:?}"
+    );
+    let left = input.len().saturating_sub(read);
+    assert_eq!(rt;
+        source.rest.len(),
+        left,
+        "at {input:?}, {source_step} and {cuts:?}"
+    );
 }
 
 #[test]
 fn serves_rows(rt: HostRuntime) {
     for row in &rows() {
         let length = row.input.len();
-        run_row(&rt, row, 1, [0, 0], 1);
-        run_row(&rt, row, usize::MAX, [0, 0], usize::MAX);
+        for outlet_step in [1, usize::MAX] {
+            run_row(&rt, row, 1, [0, 0], outlet_step);
+            run_row(&rt, row, 2, [0, 0], outlet_step);
+            run_row(&rt, row, usize::MAX, [0, 0], outlet_step);
+        }
         for first in 0..length {
             for second in first..length {
                 run_row(&rt, row, usize::MAX, [first, second], 1);
@@ -345,17 +411,18 @@ fn serves_rows(rt: HostRuntime) {
     }
 }
 
-/// What a run over these devices answered and wrote.
+/// Compares what a run over these devices answered and wrote. The source gives so many bytes a read at most.
 fn run_faulty(
     rt: &(impl Abort + AllocGlobal),
-    input: &[u8],
+    source: (&[u8], usize),
     turns: u64,
     faults: (Option<usize>, Option<usize>, usize),
     want: Result<Report, IoFault>,
     output: &[u8],
 ) {
+    let (input, step) = source;
     let (read_fails_in, write_fails_in, room) = faults;
-    let mut source = Script::new(rt.alloc(), input, 1, [0, 0]);
+    let mut source = Script::new(rt.alloc(), input, step, [0, 0]);
     source.fails_in = read_fails_in;
     let mut outlet = Ledger::new(rt.alloc(), 1);
     outlet.fails_in = write_fails_in;
@@ -372,10 +439,12 @@ fn run_faulty(
     assert_eq!(rt; outlet.failed(), want == Err(IoFault::Write));
 }
 
+/// So many turns that none is missing.
+const MANY: u64 = 1_000_000_000_000;
+
 #[test]
 fn stops_at_device_faults(rt: HostRuntime) {
-    const MANY: u64 = 1_000_000_000_000;
-    let input = b"\x00\xe1\x02\xe2\x01\x02";
+    let source = (&b"\x00\xe1\x02\xe2\x01\x02"[..], 1);
     let output = b"\x40\xe1\x23\x01\x00\x00\x02\xe3\x01\x02";
     let whole = Ok(Report {
         read: 6,
@@ -384,57 +453,60 @@ fn stops_at_device_faults(rt: HostRuntime) {
     });
     // The read behind n bytes fails.
     for n in 0..6 {
-        run_faulty(
-            &rt,
-            input,
-            MANY,
-            (Some(n), None, usize::MAX),
-            Err(IoFault::Read),
-            OWN_CSM,
-        );
+        let faults = (Some(n), None, usize::MAX);
+        run_faulty(&rt, source, MANY, faults, Err(IoFault::Read), OWN_CSM);
     }
-    run_faulty(
-        &rt,
-        input,
-        MANY,
-        (Some(6), None, usize::MAX),
-        Err(IoFault::Read),
-        output,
-    );
-    run_faulty(&rt, input, MANY, (Some(7), None, usize::MAX), whole, output);
+    let faults = (Some(6), None, usize::MAX);
+    run_faulty(&rt, source, MANY, faults, Err(IoFault::Read), output);
+    let faults = (Some(7), None, usize::MAX);
+    run_faulty(&rt, source, MANY, faults, whole, output);
     // The write behind n bytes gives no count, or takes none.
     for n in 0..output.len() {
-        run_faulty(
-            &rt,
-            input,
-            MANY,
-            (None, Some(n), usize::MAX),
-            Err(IoFault::Write),
-            &output[..n],
-        );
-        run_faulty(
-            &rt,
-            input,
-            MANY,
-            (None, None, n),
-            Err(IoFault::Write),
-            &output[..n],
-        );
+        let want = Err(IoFault::Write);
+        let faults = (None, Some(n), usize::MAX);
+        run_faulty(&rt, source, MANY, faults, want, &output[..n]);
+        run_faulty(&rt, source, MANY, (None, None, n), want, &output[..n]);
     }
-    run_faulty(
-        &rt,
-        input,
-        MANY,
-        (None, Some(10), usize::MAX),
-        whole,
-        output,
-    );
-    run_faulty(&rt, input, MANY, (None, None, 10), whole, output);
+    let faults = (None, Some(10), usize::MAX);
+    run_faulty(&rt, source, MANY, faults, whole, output);
+    run_faulty(&rt, source, MANY, (None, None, 10), whole, output);
+}
+
+#[test]
+fn stops_within_a_piece(rt: HostRuntime) {
+    // Two Pings, one of them with Custody, and a request.
+    let input = b"\x00\xe1\x01\xe2\x01\x00\x00\x11\xe2\x02\x20\x00\x01\x00\xe2";
+    let output = b"\x40\xe1\x23\x01\x00\x00\x01\xe3\x01\x11\xe3\x02\x20";
+    let refused = Ok(Report {
+        read: 15,
+        messages: 4,
+        reason: Reason::NotYet,
+    });
+    let source = (&input[..], usize::MAX);
+    // The first read fails, or a second one would.
+    let faults = (Some(0), None, usize::MAX);
+    run_faulty(&rt, source, MANY, faults, Err(IoFault::Read), OWN_CSM);
+    let faults = (Some(1), None, usize::MAX);
+    run_faulty(&rt, source, 1, faults, refused, output);
+    // The write behind n bytes gives no count, or takes none.
+    for n in 0..output.len() {
+        let want = Err(IoFault::Write);
+        let faults = (None, Some(n), usize::MAX);
+        run_faulty(&rt, source, 1, faults, want, &output[..n]);
+        run_faulty(&rt, source, 1, (None, None, n), want, &output[..n]);
+    }
+    run_faulty(&rt, source, 1, (None, None, 13), refused, output);
+    // The piece ends before the request or in it, and the next read fails.
+    for step in 11..13 {
+        let source = (&input[..], step);
+        let faults = (Some(1), None, usize::MAX);
+        run_faulty(&rt, source, MANY, faults, Err(IoFault::Read), output);
+    }
 }
 
 #[test]
 fn counts_turns(rt: HostRuntime) {
-    let request = b"\x00\xe1\x01\x01\x01";
+    let request = (&b"\x00\xe1\x01\x01\x01"[..], 1);
     let refused = Ok(Report {
         read: 5,
         messages: 1,
@@ -452,9 +524,61 @@ fn counts_turns(rt: HostRuntime) {
         messages: 2,
         reason: Reason::Ended,
     });
-    run_faulty(&rt, ping, 3, sound, Err(IoFault::Turns), OWN_CSM);
-    run_faulty(&rt, ping, 4, sound, Err(IoFault::Turns), answered);
-    run_faulty(&rt, ping, 5, sound, ended, answered);
+    let turns = Err(IoFault::Turns);
+    run_faulty(&rt, (ping, 1), 3, sound, turns, OWN_CSM);
+    run_faulty(&rt, (ping, 1), 4, sound, turns, answered);
+    run_faulty(&rt, (ping, 1), 5, sound, ended, answered);
+    run_faulty(&rt, (ping, 3), 1, sound, turns, OWN_CSM);
+    run_faulty(&rt, (ping, 3), 2, sound, turns, answered);
+    run_faulty(&rt, (ping, 3), 3, sound, ended, answered);
+    run_faulty(&rt, (ping, 4), 1, sound, turns, answered);
+    run_faulty(&rt, (ping, 4), 2, sound, ended, answered);
+}
+
+#[test]
+fn reads_pieces_of_4096_bytes(rt: HostRuntime) -> Result<(), Fail> {
+    // Capabilities and Settings, and 2,000 Pings with a token of one byte.
+    let mut input = b"\x00\xe1".to_vec(rt.alloc())?;
+    let mut output = OWN_CSM.to_vec(rt.alloc())?;
+    for n in 0u32..2_000 {
+        let token = (n % 251) as u8;
+        input.extend_from_slice(&[0x01, 0xe2, token])?;
+        output.extend_from_slice(&[0x01, 0xe3, token])?;
+    }
+    let ended = Report {
+        read: 6_002,
+        messages: 2_001,
+        reason: Reason::Ended,
+    };
+    // A read of 4,096 bytes ends within a Ping; one more piece, and the end.
+    for (step, reads) in [
+        (usize::MAX, 3),
+        (5_000, 3),
+        (4_095, 3),
+        (3_001, 3),
+        (7, 859),
+    ] {
+        let mut source = Script::new(rt.alloc(), &input, step, [0, 0]);
+        let mut outlet = Ledger::new(rt.alloc(), 1_000);
+        let result = serve_told(rt.alloc(), &mut source, &mut outlet, &usual(&rt));
+        assert_eq!(rt; result, Ok(ended), "at {step}");
+        assert!(rt; outlet.bytes.as_slice() == output.as_slice(), "at {step}");
+        assert_eq!(rt; source.given.len(), reads, "at {step}");
+    }
+    // An Empty message of 65,536 bytes with a payload, in 16 pieces.
+    let mut greatest = b"\xe0\xfe\xef\x00\xff".to_vec(rt.alloc())?;
+    greatest.resize(65_536, 7)?;
+    let mut source = Script::new(rt.alloc(), &greatest, usize::MAX, [0, 0]);
+    let mut outlet = Ledger::new(rt.alloc(), 1);
+    let result = serve_told(rt.alloc(), &mut source, &mut outlet, &usual(&rt));
+    let report = Report {
+        read: 65_536,
+        messages: 1,
+        reason: Reason::Ended,
+    };
+    assert_eq!(rt; result, Ok(report));
+    assert_eq!(rt; source.given.len(), 17);
+    Ok(())
 }
 
 #[test]
@@ -465,11 +589,13 @@ fn takes_messages_up_to_its_size(rt: HostRuntime) -> Result<(), Fail> {
     let mut longer = b"\xe0\x03\x70\x00\xff".to_vec(rt.alloc())?;
     longer.resize(1_153, 7)?;
     let rows = [
-        (greatest.as_slice(), 1_152, 1, Reason::Ended),
-        (longer.as_slice(), 3, 0, Reason::TooLarge),
+        (greatest.as_slice(), 1, 1_152, 1, Reason::Ended),
+        (greatest.as_slice(), usize::MAX, 1_152, 1, Reason::Ended),
+        (longer.as_slice(), 1, 3, 0, Reason::TooLarge),
+        (longer.as_slice(), usize::MAX, 1_153, 0, Reason::TooLarge),
     ];
-    for (input, read, messages, reason) in rows {
-        let mut source = Script::new(rt.alloc(), input, 1, [0, 0]);
+    for (input, step, read, messages, reason) in rows {
+        let mut source = Script::new(rt.alloc(), input, step, [0, 0]);
         let mut outlet = Ledger::new(rt.alloc(), 1);
         let config = config(&rt, 1_152, 2_000);
         let result = serve_told(rt.alloc(), &mut source, &mut outlet, &config);
@@ -490,10 +616,11 @@ fn takes_messages_up_to_its_size(rt: HostRuntime) -> Result<(), Fail> {
     Ok(())
 }
 
-/// A reader of std, which counts its reads and of which one may fail.
+/// A reader of std, which counts its reads, each of which gives so many bytes at most, and of which one may fail.
 #[derive(Drop)]
 struct Counted {
     bytes: &'static [u8],
+    step: usize,
     reads: u64,
     fails_at: u64,
 }
@@ -505,7 +632,8 @@ impl Read for Counted {
             return Err(io::ErrorKind::Other.into());
         }
         let mut bytes = self.bytes;
-        let count = bytes.read(buf)?;
+        let room = buf.len().min(self.step);
+        let count = bytes.read(&mut buf[..room])?;
         self.bytes = bytes;
         Ok(count)
     }
@@ -560,21 +688,26 @@ fn serves_over_std(rt: HostRuntime) {
 #[test]
 fn tells_std_faults(rt: HostRuntime) {
     let bytes = b"\x00\xe1\x00\xe2";
-    // Which read fails, how many writes, whether the next one is an error, and what comes of it.
+    // How many bytes a read gives, which read fails, how many writes, whether the next one is an error, and what comes of it.
     let rows = [
-        (0, 8, true, None, 5, 8),
-        (1, 8, true, Some(IoFault::Read), 1, 6),
-        (3, 8, true, Some(IoFault::Read), 3, 6),
-        (5, 8, true, Some(IoFault::Read), 5, 8),
-        (0, 0, true, Some(IoFault::Write), 0, 0),
-        (0, 0, false, Some(IoFault::Write), 0, 0),
-        (0, 5, false, Some(IoFault::Write), 0, 5),
-        (0, 7, true, Some(IoFault::Write), 4, 7),
-        (0, 7, false, Some(IoFault::Write), 4, 7),
+        (1, 0, 8, true, None, 5, 8),
+        (1, 1, 8, true, Some(IoFault::Read), 1, 6),
+        (1, 3, 8, true, Some(IoFault::Read), 3, 6),
+        (1, 5, 8, true, Some(IoFault::Read), 5, 8),
+        (1, 0, 7, true, Some(IoFault::Write), 4, 7),
+        (9, 0, 8, true, None, 2, 8),
+        (9, 1, 8, true, Some(IoFault::Read), 1, 6),
+        (9, 2, 8, true, Some(IoFault::Read), 2, 8),
+        (9, 0, 0, true, Some(IoFault::Write), 0, 0),
+        (9, 0, 0, false, Some(IoFault::Write), 0, 0),
+        (9, 0, 5, false, Some(IoFault::Write), 0, 5),
+        (9, 0, 7, true, Some(IoFault::Write), 1, 7),
+        (9, 0, 7, false, Some(IoFault::Write), 1, 7),
     ];
-    for (fails_at, most, fails, fault, reads, writes) in rows {
+    for (step, fails_at, most, fails, fault, reads, writes) in rows {
         let mut reader = Counted {
             bytes,
+            step,
             reads: 0,
             fails_at,
         };
@@ -599,6 +732,7 @@ fn tells_std_faults(rt: HostRuntime) {
 fn leaves_devices_without_memory(rt: HostRuntime) {
     let mut reader = Counted {
         bytes: b"\x00\xe1\x00\xe2",
+        step: 9,
         reads: 0,
         fails_at: 0,
     };
@@ -612,7 +746,7 @@ fn leaves_devices_without_memory(rt: HostRuntime) {
     let result = serve_one(rt.alloc(), &mut source, &mut outlet, &usual(&rt));
     let is_refused = result == Err(IoFault::Memory);
     assert!(rt; result.is_ok() || is_refused);
-    assert_eq!(rt; reader.reads, if is_refused { 0 } else { 5 });
+    assert_eq!(rt; reader.reads, if is_refused { 0 } else { 2 });
     assert_eq!(rt; writer.writes, if is_refused { 0 } else { 8 });
 }
 

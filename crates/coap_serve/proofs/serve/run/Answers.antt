@@ -1,37 +1,39 @@
-use Rattle.std.proofs.Common.{ℕ, ◌+◌, refl, ap, arith}
+use Rattle.std.proofs.Common.{refl, arith}
 use Rattle.std.proofs.lemmas.Result.{err_from_is_err_and}
 use Rattle.coap_serve.proofs.RunLemmas.{begins, next_turn, ended_turn, stopped_turn, faulted}
 use Rattle.coap_serve.proofs.serve.run.Goals as goal
 
 pub loop-init : goal.loop-init
 loop-init g c = record {
-  runs = begins c.args.connection.now.M c.args.connection.now _ _ c.requires.new;
+  runs = begins c.args.connection.now.M c.args.connection.now _ _ c.requires.new c.requires.kept;
   reader_works = c.requires.reader_works;
   writer_works = c.requires.writer_works;
-  read = refl;
+  read = omega arith;
   handled = rw c.requires.new (omega arith);
+  room = refl;
 }
 
-pub returns-in_err-take_turn-clause-run : goal.returns-in_err-take_turn-clause-run
-returns-in_err-take_turn-clause-run g c =
+pub returns-in_err-count-clause-run : goal.returns-in_err-count-clause-run
+returns-in_err-count-clause-run g c =
     let p = err_from_is_err_and c.from_residual.result c.from_residual.ensures.1 in
-    rw (p.1, p.2) (faulted c.args.connection.now.M c.loop.counter c.loop.read c.args.turns c.loop.connection c.take_turn.new.connection _ _ _ _ _ _ c.in_err-take_turn.field-0.0 c.loop.invariant.runs c.loop-test.true c.in_err-take_turn.ensures.turn)
+    rw (p.1, p.2) (faulted c.args.connection.now.M c.loop.counter c.loop.read c.args.turns c.loop.connection c.take_turn.new.connection _ _ _ _ _ _ c.in_err-count.field-0.0 c.loop.invariant.runs c.loop-test.true c.in_err-count.ensures.turn)
 
 pub returns-in-Ended-clause-run : goal.returns-in-Ended-clause-run
 returns-in-Ended-clause-run g c =
-    ended_turn c.args.connection.now.M c.loop.counter c.loop.read c.args.turns c.loop.connection c.take_turn.new.connection _ _ _ _ _ _ c.in_ok-take_turn.field-0 _ c.loop.invariant.runs c.loop-test.true c.in_ok-take_turn.ensures.turn c.in-Ended.is refl c.handled.ensures c.end_reason.ensures
+    ended_turn c.args.connection.now.M c.loop.counter c.loop.read c.args.turns c.loop.connection c.take_turn.new.connection _ _ _ _ _ _ c.in_ok-count.field-0 _ c.loop.invariant.runs c.loop-test.true c.in_ok-count.ensures.turn c.in-Ended.is refl c.handled.ensures c.end_reason.ensures
 
 pub returns-in-Stopped-clause-run : goal.returns-in-Stopped-clause-run
 returns-in-Stopped-clause-run g c =
-    stopped_turn c.args.connection.now.M c.loop.counter c.loop.read c.args.turns c.loop.connection c.take_turn.new.connection _ _ _ _ _ _ c.in_ok-take_turn.field-0 c.in-Stopped.reason _ c.loop.invariant.runs c.loop-test.true c.in_ok-take_turn.ensures.turn c.in-Stopped.is refl c.handled-in-Stopped.ensures refl
+    stopped_turn c.args.connection.now.M c.loop.counter c.loop.read c.args.turns c.loop.connection c.take_turn.new.connection _ _ _ _ _ _ c.in_ok-count.field-0 c.in-Stopped.count c.in-Stopped.reason _ c.loop.invariant.runs c.loop-test.true c.in_ok-count.ensures.turn c.in-Stopped.is refl c.handled-in-Stopped.ensures refl
 
 pub loop-preserved : goal.loop-preserved
 loop-preserved g c =
-    let next = next_turn c.args.connection.now.M c.loop.counter c.loop.read c.loop.connection c.take_turn.new.connection _ _ _ _ _ _ c.in_ok-take_turn.field-0 c.loop.invariant.runs c.in_ok-take_turn.ensures.turn c.in-More.is in
+    let next = next_turn c.args.connection.now.M c.loop.counter c.loop.read c.loop.connection c.take_turn.new.connection _ _ _ _ _ _ c.in_ok-count.field-0 c.in-More.count c.loop.invariant.runs c.in_ok-count.ensures.turn c.in-More.is in
     record {
-      runs = next.0;
-      reader_works = c.in_ok-take_turn.ensures.read;
-      writer_works = c.in_ok-take_turn.ensures.write;
-      read = ap (λ (n : ℕ). n + 1) c.loop.invariant.read;
-      handled = omega (arith, next.1);
+      runs = next.runs;
+      reader_works = c.in_ok-count.ensures.read;
+      writer_works = c.in_ok-count.ensures.write;
+      read = omega (arith, next.few, c.loop.invariant.read);
+      handled = omega (arith, next.few_handled, c.loop.invariant.handled);
+      room = omega (arith, c.take_turn.auto.buffer, c.loop.invariant.room);
     }

@@ -1,4 +1,4 @@
-use Rattle.std.proofs.Common.{◌≡◌, ◌≤◌, false}
+use Rattle.std.proofs.Common.{◌≡◌, ◌*◌, ◌≤◌, false, length}
 use Rattle.coap_serve.proofs.RunLemmas.{RunsOn}
 use Rattle.coap_serve.proofs.serve.run.Given as goal
 
@@ -8,6 +8,7 @@ invariant-loop g l =
       runs : RunsOn l.fn.connection.M l.counter l.read l.connection (g.R.Source.told l.fn.reader) (g.R.Source.told l.reader) (g.W.Outlet.written l.fn.writer) (g.W.Outlet.written l.writer);
       reader_works : g.R.Source.is_failed l.reader ≡ false;
       writer_works : g.W.Outlet.is_failed l.writer ≡ false;
-      read : l.read ≡ l.counter;
-      handled : l.connection.handled ≤ l.counter;
+      read : l.read ≤ 4096 * l.counter;
+      handled : l.connection.handled ≤ 4096 * l.counter;
+      room : length l.buffer ≡ 4096;
     }
