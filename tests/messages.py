@@ -5,6 +5,7 @@ It shares no line with the programs, so that what they write is read by somebody
 
 CODES = {
     0x00: "Empty", 0x01: "GET", 0x02: "POST", 0x03: "PUT", 0x04: "DELETE",
+    0xA0: "Internal Server Error", 0xA1: "Not Implemented",
     0xE1: "Capabilities and Settings", 0xE2: "Ping", 0xE3: "Pong", 0xE4: "Release", 0xE5: "Abort",
 }
 

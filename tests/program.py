@@ -27,21 +27,45 @@ class Checks:
             print("FAILED %s: got %r, wanted %r" % (name, got, wanted))
 
 
+ABORTS = {
+    "bad message": "c0e5ff626164206d657373616765",
+    "message too large": "d005e5ff6d65737361676520746f6f206c61726765",
+    "bad token length": "d004e5ff62616420746f6b656e206c656e677468",
+    "reserved code": "d001e5ff726573657276656420636f6465",
+    "CSM expected": "d000e5ff43534d206578706563746564",
+    "bad CSM option 1": "d004e52101ff6261642043534d206f7074696f6e",
+    "bad CSM option 2": "d004e52102ff6261642043534d206f7074696f6e",
+    "bad signal option": "d005e5ff626164207369676e616c206f7074696f6e",
+}
+
 STREAMS = [
     # what the peer sends, and what it gets behind the own Capabilities and Settings
     ("", ""),
     ("00e102e20102", "02e30102"),
     ("000000e111e20720", "11e30720"),
     ("00e1" "0000" "11e20720", "11e30720"),
-    ("09", ""),
-    ("00e1010101", ""),
+    ("09", ABORTS["bad token length"]),
+    ("00e1010101", "01a101"),
     ("00e100", ""),
     ("70e123100000202108" "00e2", "00e3"),
-    ("f0ffffffff01" "00e1" "00e2", ""),
-    # two Pings before a request, and one behind it
-    ("00e1" "01e201" "01e202" "0001" "01e203", "01e301" "01e302"),
+    ("f0ffffffff01" "00e1" "00e2", ABORTS["message too large"]),
+    # a request between Pings
+    ("00e1" "01e201" "01e202" "0001" "01e203", "01e301" "01e302" "00a1" "01e303"),
     # more than one read takes
     ("00e1" + "01e205" * 3000, "01e305" * 3000),
+    # stops, each with more bytes behind it
+    ("01010100e1", ABORTS["CSM expected"]),
+    ("00e1" "1001ff" "00e2", ABORTS["bad message"]),
+    ("00e1" "0020" "00e2", ABORTS["reserved code"]),
+    ("00e1" "10e210" "00e2", ABORTS["bad signal option"]),
+    ("10e110" "00e2", ABORTS["bad CSM option 1"]),
+    ("60e1250000000001" "00e2", ABORTS["bad CSM option 2"]),
+    ("00e1" "00e5" "00e2", ""),
+    ("00e1" "00e2" "00e4" "00e2", "00e3"),
+    # the peer takes few bytes, and less from one message on to the next
+    ("20e12103" "11e20620" "010107", "01e306" "01a107"),
+    ("20e12104" "10e110", "20e52101"),
+    ("20e12114" "20e12102" "0001" "010107" "0001", "00a1"),
 ]
 
 

@@ -1,6 +1,6 @@
 -- What devices passed on, one call after another.
-use Rattle.std.proofs.Common.{◌≡◌, ◌≢◌, ℕ, zero, suc, ◌-◌, Bool, false, ◌||◌, List, [], ◌∷◌, ◌++◌, length, take, drop, Option, Some, None, refl, sym, ap, subst, ◌∙◌, append_assoc, inl, inr, ◌⊎◌}
-use Rattle.std.proofs.lemmas.List.{append-nil, take-append-drop, take_rest}
+use Rattle.std.proofs.Common.{◌≡◌, ◌≢◌, ℕ, zero, suc, Bool, false, ◌||◌, List, [], ◌∷◌, ◌++◌, Option, Some, None, refl, sym, ap, subst, ◌∙◌, append_assoc, inl, inr, ◌⊎◌}
+use Rattle.std.proofs.lemmas.List.{append-nil}
 use Rattle.std.specs.List.{concat}
 use Rattle.std.specs.Io.KnownBytes.{Consumes}
 use Rattle.coap_serve.specs.Device.{AddsPieces, AddsBytes, Told, FoundEnd, EndsAt, HasGiven, is_failed_write}
@@ -73,10 +73,6 @@ given_then a b c xs ys p q = record {
   fewer = rw concat-append (consumes_then a.remaining b.remaining c.remaining (concat xs) (concat ys) p.fewer q.fewer);
   end = end_then a b c xs ys p.fewer p.end q.fewer q.end;
 }
-
--- one write more: what is left shrinks from its front
-pub split_further : (bytes front rest : List ℕ) (n : ℕ) → bytes ≡ front ++ rest → bytes ≡ (front ++ take n rest) ++ take (length rest - n) (drop n rest)
-split_further bytes front rest n e = rw (take_rest rest n) (e ∙ (ap (λ (r : List ℕ). front ++ r) (sym (take-append-drop n rest)) ∙ sym (append_assoc front (take n rest) (drop n rest))))
 
 -- a write of some bytes has not failed
 pub not_failed_write : (n : ℕ) (bytes : List ℕ) (old new : Bool) → n ≢ 0 → old ≡ false → new ≡ (old || is_failed_write (Some n) bytes) → new ≡ false

@@ -1,7 +1,8 @@
 pub mod DeviceLemmas
-pub mod SizeLemmas
+pub mod TalkLemmas
 pub mod ProgressLemmas
 pub mod StepLemmas
-pub mod SmallLemmas
+pub mod FlushLemmas
 pub mod PieceLemmas
+pub mod OutcomeLemmas
 pub mod RunLemmas

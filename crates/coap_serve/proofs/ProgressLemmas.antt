@@ -1,95 +1,102 @@
 -- How far a connection has come after more bytes.
-use Rattle.std.proofs.Common.{◌≡◌, ℕ, suc, ◌+◌, Bool, true, false, List, [], ◌∷◌, ◌++◌, Option, Some, None, refl, sym, ap, ◌∙◌, append_assoc, arith}
+use Rattle.std.proofs.Common.{◌≡◌, ℕ, ◌+◌, List, [], ◌++◌, Option, None, sym, ap, subst, ◌∙◌, append_assoc, arith}
 use Rattle.std.proofs.lemmas.List.{append-nil}
-use Rattle.coap_wire.specs.Message.{Message}
-use Rattle.coap_wire.specs.Stream.{StreamFault, TokenLength, TooLarge, Format, Stream, Unfinished, beginning, split}
+use Rattle.coap_wire.specs.Stream.{StreamFault, Stream, Unfinished, beginning, split}
 use Rattle.coap_wire.proofs.StreamSteps.{split_more, split_rest, split_unfinished, unfinished_empty}
-use Rattle.coap_serve.specs.declared.reaction.Reaction.{Reaction}
-use Rattle.coap_serve.specs.declared.reaction.Reaction.TheVariants.{Ignored, Opened, Answered, NotYet}
-use Rattle.coap_serve.specs.Signalling.{react}
-use Rattle.coap_serve.specs.Progress.{Talk, handled_first, talk_from, talk, stop_of, Progress, progress_of, progress}
-use Rattle.coap_serve.specs.Connection.{ConnectionValue, IsKept}
-use Rattle.coap_serve.specs.Turns.{progress_from, value_of}
+use Rattle.coap_conn.specs.Limits.{LimitValues, AreInRange}
+use Rattle.coap_serve.specs.Connection.{ConnectionValue, IsKept, greatest, begun}
+use Rattle.coap_serve.specs.Turns.{Talk, talk, talk_end, Progress, progress_behind, progress_with, progress_from, value_of, stop_in}
+use Rattle.coap_serve.proofs.TalkLemmas.{then_talk, talk-append, talk_none, talk_limits, then_end, no_fault, all_quiet}
 
--- ---- talks one after the other
+-- text, and then the progress
+abbrev pub after_text : List ℕ → Progress → Progress
+after_text text p = record p { text = text ++ p.text }
 
--- a talk, and a second one where the first left off
-abbrev pub then_talk : Talk → Talk → Talk
-then_talk t u = record { open_now = u.open_now; answers = t.answers ++ u.answers; handled = t.handled + u.handled; refused = u.refused }
+-- a talk after another one adds its text to a progress
+behind_both : (v : ConnectionValue) (rest : List ℕ) (t u : Talk) → progress_behind v rest (then_talk t u) ≡ after_text t.text (progress_behind (record { frame = rest; link = t.link; handled = v.handled + t.handled }) rest u)
+behind_both v rest t u = ap (λ (n : ℕ). record { link = u.link; text = t.text ++ u.text; handled = n; rest = rest }) (omega arith)
 
-handled_first-then : (answers : List Message) (t u : Talk) → handled_first answers (then_talk t u) ≡ then_talk (handled_first answers t) u
-handled_first-then answers t u =
-    ap (λ (a : List Message). record { open_now = u.open_now; answers = a; handled = suc (t.handled + u.handled); refused = u.refused }) (sym (append_assoc answers t.answers u.answers))
-    ∙ ap (λ (n : ℕ). record { open_now = u.open_now; answers = (answers ++ t.answers) ++ u.answers; handled = n; refused = u.refused }) (omega arith)
+-- the greatest message stays
+abbrev links : ConnectionValue → List ℕ → Talk
+links v bytes = talk v.link (split (greatest v) (v.frame ++ bytes)).messages
 
--- what the first message does, and then the others
-first_then : (ns : List Message) (go both : Bool → Talk) (open_now : Bool) (reaction : Reaction)
-    → ((now : Bool) → (go now).refused ≡ false → both now ≡ then_talk (go now) (talk (go now).open_now ns))
-    → (talk_from go open_now reaction).refused ≡ false → talk_from both open_now reaction ≡ then_talk (talk_from go open_now reaction) (talk (talk_from go open_now reaction).open_now ns)
-first_then ns go both open_now Ignored later going = ap (handled_first []) (later open_now going) ∙ handled_first-then [] (go open_now) (talk (go open_now).open_now ns)
-first_then ns go both open_now Opened later going = ap (handled_first []) (later true going) ∙ handled_first-then [] (go true) (talk (go true).open_now ns)
-first_then ns go both open_now (Answered pong) later going =
-    ap (handled_first (pong ∷ [])) (later open_now going) ∙ handled_first-then (pong ∷ []) (go open_now) (talk (go open_now).open_now ns)
-first_then ns go both open_now NotYet later going = absurd cc
+-- a progress in which nothing stopped the connection has no fault
+going_by : (v : ConnectionValue) (xs : List ℕ) → stop_in (progress_from v xs) ≡ None → (split (greatest v) (v.frame ++ xs)).fault ≡ None
+unfolding progress_from
+going_by v xs going = no_fault (links v xs) (split (greatest v) (v.frame ++ xs)).fault going
 
-pub talk-append : (open_now : Bool) (ms ns : List Message) → (talk open_now ms).refused ≡ false → talk open_now (ms ++ ns) ≡ then_talk (talk open_now ms) (talk (talk open_now ms).open_now ns)
-unfolding talk
-talk-append open_now [] ns going =
-    ap (λ (n : ℕ). record { open_now = (talk open_now ns).open_now; answers = (talk open_now ns).answers; handled = n; refused = (talk open_now ns).refused }) (omega arith)
-talk-append open_now (m ∷ ms) ns going =
-    first_then ns (λ now. talk now ms) (λ now. talk now (ms ++ ns)) open_now (react open_now m) (λ now h. talk-append now ms ns h) going
+going_is : (v : ConnectionValue) (xs : List ℕ) → (split (greatest v) (v.frame ++ xs)).fault ≡ None → progress_from v xs ≡ progress_behind v (split (greatest v) (v.frame ++ xs)).rest (links v xs)
+unfolding progress_from
+going_is v xs none = ap (λ (f : Option StreamFault). progress_behind v (split (greatest v) (v.frame ++ xs)).rest (talk_end (links v xs) f)) none
 
--- ---- nothing stops the connection
+-- the bytes behind, read with the same bound
+read_on : (v : ConnectionValue) (xs ys : List ℕ) → progress_with (record { frame = (split (greatest v) (v.frame ++ xs)).rest; link = (links v xs).link; handled = v.handled + (links v xs).handled }) (split (greatest v) ((split (greatest v) (v.frame ++ xs)).rest ++ ys))
+    ≡ progress_from (record { frame = (split (greatest v) (v.frame ++ xs)).rest; link = (links v xs).link; handled = v.handled + (links v xs).handled }) ys
+unfolding progress_from
+read_on v xs ys =
+    let w : ConnectionValue = record { frame = (split (greatest v) (v.frame ++ xs)).rest; link = (links v xs).link; handled = v.handled + (links v xs).handled } in
+    let same : greatest w ≡ greatest v = ap (λ (l : LimitValues). l.max_message) (talk_limits v.link (split (greatest v) (v.frame ++ xs)).messages) in
+    ap (λ (M : ℕ). progress_with w (split M (w.frame ++ ys))) (sym same)
 
-pub no_refusal : (refused : Bool) (fault : Option StreamFault) → stop_of refused fault ≡ None → (refused ≡ false) × (fault ≡ None)
-no_refusal true fault e = absurd cc
-no_refusal false None e = (refl, refl)
-no_refusal false (Some TokenLength) e = absurd cc
-no_refusal false (Some TooLarge) e = absurd cc
-no_refusal false (Some Format) e = absurd cc
-
--- ---- more bytes
-
--- the connection that shows how far it has come
-abbrev pub shown : ℕ → List ℕ → ConnectionValue
-shown M bytes = value_of M (progress M bytes)
-
--- answers, and then the progress
-abbrev pub after_answers : List Message → Progress → Progress
-after_answers answers p = record p { answers = answers ++ p.answers }
+more_by : (v : ConnectionValue) (xs ys : List ℕ) → (split (greatest v) (v.frame ++ xs)).fault ≡ None
+    → progress_from v (xs ++ ys) ≡ after_text (links v xs).text (progress_with (record { frame = (split (greatest v) (v.frame ++ xs)).rest; link = (links v xs).link; handled = v.handled + (links v xs).handled }) (split (greatest v) ((split (greatest v) (v.frame ++ xs)).rest ++ ys)))
+unfolding progress_from
+more_by v xs ys none =
+    let s : Stream = split (greatest v) (v.frame ++ xs) in
+    let u : Stream = split (greatest v) (s.rest ++ ys) in
+    let t : Talk = links v xs in
+    let both : talk v.link (s.messages ++ u.messages) ≡ then_talk t (talk t.link u.messages) = talk-append v.link s.messages u.messages in
+    ap (λ (b : List ℕ). progress_with v (split (greatest v) b)) (sym (append_assoc v.frame xs ys))
+    ∙ ap (progress_with v) (split_more (greatest v) (v.frame ++ xs) ys none)
+    ∙ ap (λ (k : Talk). progress_behind v u.rest (talk_end k u.fault)) both
+    ∙ ap (progress_behind v u.rest) (then_end t (talk t.link u.messages) u.fault)
+    ∙ ap (λ (n : ℕ). record { link = (talk_end (talk t.link u.messages) u.fault).link; text = t.text ++ (talk_end (talk t.link u.messages) u.fault).text; handled = n; rest = u.rest }) (omega arith)
 
 -- where nothing has stopped it, a connection goes on from where it stands
-pub progress_more : (M : ℕ) (bytes piece : List ℕ) → (progress M bytes).stop ≡ None → progress M (bytes ++ piece) ≡ after_answers (progress M bytes).answers (progress_from (shown M bytes) piece)
-unfolding progress progress_from
-progress_more M bytes piece going =
-    let s : Stream = split M bytes in
-    let t : Talk = talk false (split M bytes).messages in
-    let n = no_refusal t.refused s.fault going in
-    let more = split_more M bytes piece n.1 in
-    let both = talk-append false s.messages (split M (s.rest ++ piece)).messages n.0 in
-    rw more (ap (progress_of (split M (s.rest ++ piece))) both)
+pub progress_more : (v : ConnectionValue) (xs ys : List ℕ) → stop_in (progress_from v xs) ≡ None → progress_from v (xs ++ ys) ≡ after_text (progress_from v xs).text (progress_from (value_of (progress_from v xs)) ys)
+progress_more v xs ys going =
+    let none = going_by v xs going in
+    more_by v xs ys none
+    ∙ ap (after_text (links v xs).text) (read_on v xs ys)
+    ∙ ap (λ (p : Progress). after_text p.text (progress_from (value_of p) ys)) (sym (going_is v xs none))
 
 -- bytes that end no frame are kept
-pub no_message : (v : ConnectionValue) (bytes : List ℕ) → beginning v.M (v.frame ++ bytes) ≡ Unfinished → progress_from v bytes ≡ record { open_now = v.open_now; answers = []; handled = v.handled; rest = v.frame ++ bytes; stop = None }
-unfolding progress_from talk
+pub no_message : (v : ConnectionValue) (bytes : List ℕ) → beginning (greatest v) (v.frame ++ bytes) ≡ Unfinished → progress_from v bytes ≡ record { link = v.link; text = []; handled = v.handled; rest = v.frame ++ bytes }
+unfolding progress_from
 no_message v bytes e =
-    rw (split_unfinished v.M (v.frame ++ bytes) e) (ap (λ (n : ℕ). record { open_now = v.open_now; answers = []; handled = n; rest = v.frame ++ bytes; stop = None }) (omega arith))
+    ap (progress_with v) (split_unfinished (greatest v) (v.frame ++ bytes) e)
+    ∙ ap (progress_behind v (v.frame ++ bytes)) (talk_none v.link)
+    ∙ ap (λ (n : ℕ). record { link = v.link; text = []; handled = n; rest = v.frame ++ bytes }) (omega arith)
 
 -- with no byte a connection stays where it is
-pub idle : (v : ConnectionValue) → IsKept v → progress_from v [] ≡ record { open_now = v.open_now; answers = []; handled = v.handled; rest = v.frame; stop = None }
+pub idle : (v : ConnectionValue) → IsKept v → progress_from v [] ≡ record { link = v.link; text = []; handled = v.handled; rest = v.frame }
 idle v kept =
-    no_message v [] (ap (beginning v.M) (append-nil v.frame) ∙ kept.unfinished)
-    ∙ ap (λ (r : List ℕ). record { open_now = v.open_now; answers = []; handled = v.handled; rest = r; stop = None }) (append-nil v.frame)
+    no_message v [] (ap (beginning (greatest v)) (append-nil v.frame) ∙ kept.unfinished)
+    ∙ ap (λ (r : List ℕ). record { link = v.link; text = []; handled = v.handled; rest = r }) (append-nil v.frame)
+
+kept_by : (v : ConnectionValue) (xs : List ℕ) → IsKept v → (split (greatest v) (v.frame ++ xs)).fault ≡ None → IsKept (record { frame = (split (greatest v) (v.frame ++ xs)).rest; link = (links v xs).link; handled = v.handled + (links v xs).handled })
+kept_by v xs kept none =
+    let limits : (links v xs).link.limits ≡ v.link.limits = talk_limits v.link (split (greatest v) (v.frame ++ xs)).messages in
+    record {
+      unfinished = ap (λ (l : LimitValues). beginning l.max_message (split (greatest v) (v.frame ++ xs)).rest) limits ∙ split_rest (greatest v) (v.frame ++ xs) none;
+      ranges = subst AreInRange (sym limits) kept.ranges;
+    }
 
 -- a connection that goes on keeps the beginning of a frame
-pub value_kept : (v : ConnectionValue) (piece : List ℕ) → IsKept v → (progress_from v piece).stop ≡ None → IsKept (value_of v.M (progress_from v piece))
+pub value_kept : (v : ConnectionValue) (xs : List ℕ) → IsKept v → stop_in (progress_from v xs) ≡ None → IsKept (value_of (progress_from v xs))
+value_kept v xs kept going =
+    let none = going_by v xs going in
+    subst (λ (p : Progress). IsKept (value_of p)) (sym (going_is v xs none)) (kept_by v xs kept none)
+
+-- a new connection keeps no byte
+pub begun_kept : (limits : LimitValues) → AreInRange limits → IsKept (begun limits)
+begun_kept limits ranges = record { unfinished = unfinished_empty limits.max_message; ranges = ranges }
+
+-- nothing waits afterwards
+pub progress_quiet : (v : ConnectionValue) (bytes : List ℕ) → v.link.waiting ≡ [] → (progress_from v bytes).link.waiting ≡ []
 unfolding progress_from
-value_kept v piece kept going =
-    let s : Stream = split v.M (v.frame ++ piece) in
-    let n = no_refusal (talk v.open_now s.messages).refused s.fault going in
-    record { unfinished = split_rest v.M (v.frame ++ piece) n.1; low = kept.low; high = kept.high }
+progress_quiet v bytes quiet = all_quiet v.link (split (greatest v) (v.frame ++ bytes)).messages (split (greatest v) (v.frame ++ bytes)).fault quiet
 
 -- with no byte nothing has come
-pub no_bytes : (M : ℕ) → progress M [] ≡ record { open_now = false; answers = []; handled = 0; rest = []; stop = None }
-unfolding progress talk
-no_bytes M = rw (split_unfinished M [] (unfinished_empty M)) refl
+pub begun_idle : (limits : LimitValues) → progress_from (begun limits) [] ≡ record { link = (begun limits).link; text = []; handled = 0; rest = [] }
+begun_idle limits = no_message (begun limits) [] (unfinished_empty limits.max_message)

@@ -1,41 +1,48 @@
 -- What one take does to a connection.
-use Rattle.std.proofs.Common.{◌≡◌, ℕ, ◌+◌, ◌-◌, ◌<◌, ◌≤◌, Bool, true, false, List, [], ◌∷◌, ◌++◌, length, take, drop, Some, None, Result, Ok, Err, refl, sym, ap, subst, ◌∙◌, arith, inl, inr}
+use Rattle.std.proofs.Common.{◌≡◌, ℕ, ◌+◌, ◌-◌, ◌<◌, ◌≤◌, false, List, [], ◌++◌, length, take, drop, Option, Some, None, Result, Ok, Err, refl, sym, ap, subst, ◌∙◌, arith, inl, inr}
 use Rattle.std.proofs.lemmas.Bool.{cases_lt}
-use Rattle.std.proofs.lemmas.List.{length-append, take-append-drop, take-append-le, take_at, drop_at, drop_all}
+use Rattle.std.proofs.lemmas.List.{append-nil, length-append, take-append-drop, take-append-le, take_at, drop_at, drop_all}
 use Rattle.std.proofs.Math.Seq.{drop-append-add}
 use Rattle.coap_wire.specs.Message.{Message}
 use Rattle.coap_wire.specs.Reading.{message_of}
-use Rattle.coap_wire.specs.Stream.{StreamFault, TokenLength, TooLarge, Format, Stream, Beginning, Unfinished, Whole, Faulty, beginning, split, with_message}
+use Rattle.coap_wire.specs.Stream.{StreamFault, TokenLength, TooLarge, Format, Stream, Beginning, Unfinished, Whole, Faulty, beginning, split, fault_bytes}
 use Rattle.coap_wire.specs.declared.fault.FormatFault.{FormatFault}
 use Rattle.coap_wire.proofs.StreamSteps.{unfinished_empty, whole_parts, whole_itself, whole_more, format_not_begun, split_faulty, split_message, split_bad}
-use Rattle.coap_frame.specs.Framing.{FramerValue, Framing, frame_fault, framing_at, framing}
-use Rattle.coap_serve.specs.declared.reaction.Reaction.{Reaction}
-use Rattle.coap_serve.specs.declared.reaction.Reaction.TheVariants.{Ignored, Opened, Answered, NotYet}
-use Rattle.coap_serve.specs.declared.reason.Reason.{Reason}
-use Rattle.coap_serve.specs.declared.reason.Reason.TheVariants as reason
-use Rattle.coap_serve.specs.Signalling.{react}
-use Rattle.coap_serve.specs.Progress.{Talk, handled_first, talk, stop_of, Progress}
-use Rattle.coap_serve.specs.Connection.{ConnectionValue, IsKept, connected, framer_in, fault_reason, Step, step_by, step_frame, step_found, step, reaction_of, answers_of, stop_after}
-use Rattle.coap_serve.specs.Turns.{progress_behind, progress_from}
-use Rattle.coap_serve.proofs.ProgressLemmas.{after_answers, no_message, idle}
+use Rattle.coap_frame.specs.Framing.{FramerValue, Framing, framing_at, framing}
+use Rattle.coap_conn.specs.declared.reason.Reason.{Reason}
+use Rattle.coap_conn.specs.declared.phase.Reject.{Reject}
+use Rattle.coap_conn.specs.declared.phase.Reject.TheVariants as reject
+use Rattle.coap_conn.specs.Limits.{LimitValues, AreInRange}
+use Rattle.coap_conn.specs.History.{takes_messages}
+use Rattle.coap_conn.specs.LinkValue.{LinkValue, IsLive, link_after_reject}
+use Rattle.coap_serve.specs.Serving.{fault_of, stop_of}
+use Rattle.coap_serve.specs.Connection.{ConnectionValue, IsKept, greatest, connected, framer_in, link_flushed, link_served, Step, step_read, step_found, step}
+use Rattle.coap_serve.specs.Turns.{Talk, talk, talk_end, Progress, progress_behind, progress_with, progress_from, stop_in}
+use Rattle.coap_serve.proofs.TalkLemmas.{takes_where_live, takes_none, none_where_live, served_limits, talk_none, talk_taken, talk_stopped, first_end, end_taken, end_stopped}
+use Rattle.coap_serve.proofs.ProgressLemmas.{after_text, no_message, idle}
 
 -- ---- what a connection keeps
 
--- a framer that keeps nothing
-pub opened_kept : (f : FramerValue) (M : ℕ) (open_now : Bool) (handled : ℕ) → f ≡ record { max = M; kept = []; spent = [] } → 1152 ≤ M → M ≤ 1048576 → IsKept (connected f open_now handled)
-opened_kept f M open_now handled is low high =
-    subst (λ (g : FramerValue). IsKept (connected g open_now handled)) (sym is) (record { unfinished = unfinished_empty M; low = low; high = high })
+kept_at : (f : FramerValue) (piece : List ℕ) (link : LinkValue) (handled : ℕ) (b : Beginning) → f.max ≡ link.limits.max_message → AreInRange link.limits → beginning f.max (f.kept ++ piece) ≡ b → IsKept (connected (framing_at f piece b).after link handled)
+kept_at f piece link handled Unfinished same ranges e = record { unfinished = ap (λ (M : ℕ). beginning M (f.kept ++ piece)) (sym same) ∙ e; ranges = ranges }
+kept_at f piece link handled (Whole frame rest) same ranges e = record { unfinished = unfinished_empty link.limits.max_message; ranges = ranges }
+kept_at f piece link handled (Faulty fault) same ranges e = record { unfinished = unfinished_empty link.limits.max_message; ranges = ranges }
 
-kept_at : (f : FramerValue) (piece : List ℕ) (open_now : Bool) (handled : ℕ) (b : Beginning) → 1152 ≤ f.max → f.max ≤ 1048576 → beginning f.max (f.kept ++ piece) ≡ b → IsKept (connected (framing_at f piece b).after open_now handled)
-kept_at f piece open_now handled Unfinished low high e = record { unfinished = e; low = low; high = high }
-kept_at f piece open_now handled (Whole frame rest) low high e = record { unfinished = unfinished_empty f.max; low = low; high = high }
-kept_at f piece open_now handled (Faulty fault) low high e = record { unfinished = unfinished_empty f.max; low = low; high = high }
+max_at : (f : FramerValue) (piece : List ℕ) (b : Beginning) → (framing_at f piece b).after.max ≡ f.max
+max_at f piece Unfinished = refl
+max_at f piece (Whole frame rest) = refl
+max_at f piece (Faulty fault) = refl
 
--- a framer that took a piece keeps what a connection is to keep
-pub framed_kept : (f now : FramerValue) (piece : List ℕ) (open_now later : Bool) (handled count : ℕ) → IsKept (connected f open_now handled) → now ≡ (framing f piece).after → IsKept (connected now later count)
+-- a connection whose framer took a piece, with a link of the same limits
+pub framed_kept : (f now : FramerValue) (piece : List ℕ) (old link : LinkValue) (handled : ℕ) → AreInRange old.limits → f.max ≡ old.limits.max_message → now ≡ (framing f piece).after → link.limits ≡ old.limits
+    → IsKept (connected now link handled) × (now.max ≡ link.limits.max_message)
 unfolding framing
-framed_kept f now piece open_now later handled count kept is =
-    subst (λ (g : FramerValue). IsKept (connected g later count)) (sym is) (kept_at f piece later count (beginning f.max (f.kept ++ piece)) kept.low kept.high refl)
+framed_kept f now piece old link handled ranges same is limits =
+    let b : Beginning = beginning f.max (f.kept ++ piece) in
+    let bound : f.max ≡ link.limits.max_message = same ∙ ap (λ (l : LimitValues). l.max_message) (sym limits) in (
+      subst (λ (g : FramerValue). IsKept (connected g link handled)) (sym is) (kept_at f piece link handled b bound (subst AreInRange (sym limits) ranges) refl),
+      ap (λ (g : FramerValue). g.max) is ∙ max_at f piece b ∙ bound,
+    )
 
 -- ---- where a frame ends in its piece
 
@@ -71,142 +78,156 @@ ends_in M kept piece frame rest u e =
 
 -- ---- what a take does to the progress
 
--- a progress that stops at once
-pub record StopsAt (p : Progress) (handled : ℕ) (why : Reason) : Type 0 where
-  pub stop : p.stop ≡ Some why
-  pub answers : p.answers ≡ []
-  pub handled_is : p.handled ≡ handled
+-- a connection whose waiting bytes were written
+abbrev pub value_flushed : ConnectionValue → ConnectionValue
+value_flushed v = record v { link = link_flushed v.link }
 
--- a connection goes on from where a take leaves it, or stops there
+-- a progress that comes no further than this connection
+pub record StopsAt (p : Progress) (after : ConnectionValue) : Type 0 where
+  pub text : p.text ≡ after.link.waiting
+  pub stop : stop_in p ≡ stop_of after.link.phase
+  pub handled_is : p.handled ≡ after.handled
+
+-- a connection goes on from where a take leaves it once what waits was written, or stops there
 pub record Steps (v : ConnectionValue) (piece : List ℕ) (s : Step) : Type 0 where
-  pub same : s.after.M ≡ v.M
   pub kept : IsKept s.after
   pub few : s.after.handled ≤ v.handled + 1
-  pub some : stop_after s.taken ≡ None → 0 < length piece → 0 < s.count
-  pub goes_on : stop_after s.taken ≡ None → progress_from v piece ≡ after_answers (answers_of s.taken) (progress_from s.after (drop s.count piece))
-  pub stops : (why : Reason) → stop_after s.taken ≡ Some why → StopsAt (progress_from v piece) s.after.handled why
+  pub some : stop_of s.after.link.phase ≡ None → 0 < length piece → 0 < s.count
+  pub text : (more : List ℕ) × ((progress_from v piece).text ≡ s.after.link.waiting ++ more)
+  pub goes_on : stop_of s.after.link.phase ≡ None → progress_from v piece ≡ after_text s.after.link.waiting (progress_from (value_flushed s.after) (drop s.count piece))
+  pub stops : (why : Reason) → stop_of s.after.link.phase ≡ Some why → StopsAt (progress_from v piece) s.after
 
--- one message more was handled before these
-one_handled : (v : ConnectionValue) (s : Stream) (t : Talk) (answers : List Message) → progress_behind v s (handled_first answers t) ≡ after_answers answers (progress_behind (record v { handled = v.handled + 1 }) s t)
-one_handled v s t answers =
-    ap (λ (n : ℕ). record { open_now = t.open_now; answers = answers ++ t.answers; handled = n; rest = s.rest; stop = stop_of t.refused s.fault }) (omega arith)
+-- where nothing waits, writing changes nothing
+quiet_stays : (v : ConnectionValue) → v.link.waiting ≡ [] → v ≡ value_flushed v
+quiet_stays v quiet = ap (λ (w : List ℕ). record v { link = record v.link { waiting = w } }) quiet
 
--- a stream that is stopped by its fault
-stopped_by : (v : ConnectionValue) (s : Stream) (rest : List ℕ) (fault : StreamFault) (why : Reason) → s ≡ record { messages = []; rest = rest; fault = Some fault } → stop_of false (Some fault) ≡ Some why → StopsAt (progress_behind v s (talk v.open_now s.messages)) v.handled why
-unfolding talk
-stopped_by v s rest fault why e is = rw e (record { stop = is; answers = refl; handled_is = omega arith })
+-- where no message is taken, no byte changes anything
+stopped_progress : (v : ConnectionValue) (bytes : List ℕ) → takes_messages v.link.phase ≡ false → StopsAt (progress_from v bytes) (record v { link = link_flushed v.link })
+unfolding progress_from
+stopped_progress v bytes e =
+    let s : Stream = split (greatest v) (v.frame ++ bytes) in
+    let nothing : Talk = record { link = v.link; text = []; handled = 0 } in
+    let none : talk_end (talk v.link s.messages) s.fault ≡ nothing = ap (λ (t : Talk). talk_end t s.fault) (talk_stopped v.link s.messages e) ∙ end_stopped nothing s.fault e in
+    record {
+      text = ap (λ (t : Talk). t.text) none;
+      stop = ap (λ (t : Talk). stop_of t.link.phase) none;
+      handled_is = ap (λ (t : Talk). v.handled + t.handled) none ∙ omega arith;
+    }
 
-module _ (v : ConnectionValue) (piece frame rest : List ℕ) (kept : IsKept v) (begun : beginning v.M (v.frame ++ piece) ≡ Whole frame rest) where
+-- ---- a fault
+
+module _ (v : ConnectionValue) (piece rest : List ℕ) (fault : StreamFault) (r : Reject) (live : IsLive v.link.phase) (is : fault_of fault ≡ r) (read : split (greatest v) (v.frame ++ piece) ≡ record { messages = []; rest = rest; fault = Some fault }) where
+  abbrev rejected : LinkValue
+  rejected = link_after_reject v.link r
+
+  rejected_progress : progress_from v piece ≡ record { link = link_flushed rejected; text = rejected.waiting; handled = v.handled; rest = rest }
+  unfolding progress_from
+  rejected_progress =
+      let nothing : Talk = record { link = v.link; text = []; handled = 0 } in
+      ap (progress_with v) read
+      ∙ ap (λ (t : Talk). progress_behind v rest (talk_end t (Some fault))) (talk_none v.link)
+      ∙ ap (progress_behind v rest) (end_taken nothing fault (takes_where_live v.link.phase live))
+      ∙ ap (λ (k : Reject). record { link = link_flushed (link_after_reject v.link k); text = (link_after_reject v.link k).waiting; handled = v.handled + 0; rest = rest }) is
+      ∙ ap (λ (n : ℕ). record { link = link_flushed rejected; text = rejected.waiting; handled = n; rest = rest }) (omega arith)
+
+  rejected_steps : (count : ℕ) (frame : List ℕ) → IsKept (record { frame = frame; link = rejected; handled = v.handled }) → Steps v piece (record { count = count; after = record { frame = frame; link = rejected; handled = v.handled } })
+  rejected_steps count frame kept = record {
+    kept = kept;
+    few = omega arith;
+    some = λ going filled. absurd cc;
+    text = ([], ap (λ (p : Progress). p.text) rejected_progress ∙ sym (append-nil rejected.waiting));
+    goes_on = λ going. absurd cc;
+    stops = λ why stop_is. record {
+      text = ap (λ (p : Progress). p.text) rejected_progress;
+      stop = ap stop_in rejected_progress;
+      handled_is = ap (λ (p : Progress). p.handled) rejected_progress;
+    };
+  }
+
+-- ---- a whole frame
+
+module _ (v : ConnectionValue) (piece frame rest : List ℕ) (kept : IsKept v) (live : IsLive v.link.phase) (begun : beginning (greatest v) (v.frame ++ piece) ≡ Whole frame rest) where
   abbrev whole : Framing
   whole = framing_at (framer_in v) piece (Whole frame rest)
 
   abbrev ends : EndsIn piece rest
-  ends = ends_in v.M v.frame piece frame rest kept.unfinished begun
+  ends = ends_in (greatest v) v.frame piece frame rest kept.unfinished begun
 
-  cleared : (open_now : Bool) (handled : ℕ) → IsKept (connected whole.after open_now handled)
-  cleared open_now handled = record { unfinished = unfinished_empty v.M; low = kept.low; high = kept.high }
+  -- the connection after a message
+  abbrev handled_to : Message → ConnectionValue
+  handled_to m = record { frame = []; link = link_served v.link m; handled = v.handled + 1 }
 
-  -- a message was handled, with these answers
-  handles : (m : Message) (open_now : Bool) (answers : List Message) → message_of frame ≡ Ok m
-      → talk v.open_now (m ∷ (split v.M rest).messages) ≡ handled_first answers (talk open_now (split v.M rest).messages)
-      → progress_from v piece ≡ after_answers answers (progress_from (connected whole.after open_now (v.handled + 1)) (drop whole.taken piece))
+  message_goes : (m : Message) → message_of frame ≡ Ok m → progress_from v piece ≡ after_text (link_served v.link m).waiting (progress_from (value_flushed (handled_to m)) (drop whole.taken piece))
   unfolding progress_from
-  handles m open_now answers read talked =
-      let s : split v.M (v.frame ++ piece) ≡ with_message m (split v.M rest) = split_message v.M (v.frame ++ piece) frame rest m begun read in
-      let after : ConnectionValue = connected whole.after open_now (v.handled + 1) in
-      let left : List ℕ → Progress = λ r. after_answers answers (progress_behind after (split v.M r) (talk open_now (split v.M r).messages)) in
-      ap (λ (stream : Stream). progress_behind v stream (talk v.open_now stream.messages)) s
-      ∙ ap (progress_behind v (split v.M rest)) talked
-      ∙ one_handled v (split v.M rest) (talk open_now (split v.M rest).messages) answers
-      ∙ ap left (sym ends.left)
+  message_goes m read =
+      let u : Stream = split (greatest v) rest in
+      let l : LinkValue = link_served v.link m in
+      let t : Talk = talk (link_flushed l) u.messages in
+      let w : ConnectionValue = value_flushed (handled_to m) in
+      let same : greatest w ≡ greatest v = ap (λ (k : LimitValues). k.max_message) (served_limits v.link m) in
+      ap (progress_with v) (split_message (greatest v) (v.frame ++ piece) frame rest m begun read)
+      ∙ ap (λ (k : Talk). progress_behind v u.rest (talk_end k u.fault)) (talk_taken v.link m u.messages (takes_where_live v.link.phase live))
+      ∙ ap (progress_behind v u.rest) (first_end l t u.fault)
+      ∙ ap (λ (n : ℕ). record { link = (talk_end t u.fault).link; text = l.waiting ++ (talk_end t u.fault).text; handled = n; rest = u.rest }) (omega arith)
+      ∙ ap (λ (M : ℕ). after_text l.waiting (progress_with w (split M rest))) (sym same)
+      ∙ ap (λ (r : List ℕ). after_text l.waiting (progress_with w (split (greatest w) r))) (sym ends.left)
 
-  -- a message was refused
-  refuses : (m : Message) → message_of frame ≡ Ok m → react v.open_now m ≡ NotYet → StopsAt (progress_from v piece) v.handled reason.NotYet
-  unfolding progress_from talk
-  refuses m read e = rw (split_message v.M (v.frame ++ piece) frame rest m begun read, e) (record { stop = refl; answers = refl; handled_is = omega arith })
+  message_stops : (m : Message) (why : Reason) → message_of frame ≡ Ok m → stop_of (link_served v.link m).phase ≡ Some why → StopsAt (progress_from v piece) (handled_to m)
+  message_stops m why read stop_is =
+      let at = stopped_progress (value_flushed (handled_to m)) (drop whole.taken piece) (takes_none (link_served v.link m).phase why stop_is) in
+      let goes = message_goes m read in
+      record {
+        text = ap (λ (p : Progress). p.text) goes ∙ ap (λ (t : List ℕ). (link_served v.link m).waiting ++ t) at.text ∙ append-nil (link_served v.link m).waiting;
+        stop = ap stop_in goes ∙ at.stop;
+        handled_is = ap (λ (p : Progress). p.handled) goes ∙ at.handled_is;
+      }
 
-  -- a frame spells no message
-  spells_none : (f : FormatFault) → message_of frame ≡ Err f → StopsAt (progress_from v piece) v.handled reason.Format
-  unfolding progress_from
-  spells_none f read = stopped_by v (split v.M (v.frame ++ piece)) frame Format reason.Format (split_bad v.M (v.frame ++ piece) frame rest f begun read) refl
-
-  reacts : (m : Message) (reaction : Reaction) → message_of frame ≡ Ok m → react v.open_now m ≡ reaction → Steps v piece (step_by v whole reaction)
-  unfolding talk
-  reacts m Ignored read e = record {
-    same = refl;
-    kept = cleared v.open_now (v.handled + 1);
+  frame_steps : (read : Result Message FormatFault) → message_of frame ≡ read → Steps v piece (step_read v whole read)
+  frame_steps (Ok m) e = record {
+    kept = record { unfinished = unfinished_empty (link_served v.link m).limits.max_message; ranges = subst AreInRange (sym (served_limits v.link m)) kept.ranges };
     few = omega arith;
     some = λ going filled. ends.some;
-    goes_on = λ going. handles m v.open_now [] read (rw e refl);
-    stops = λ why is. absurd cc;
+    text = ((progress_from (value_flushed (handled_to m)) (drop whole.taken piece)).text, ap (λ (p : Progress). p.text) (message_goes m e));
+    goes_on = λ going. message_goes m e;
+    stops = λ why is. message_stops m why e is;
   }
-  reacts m Opened read e = record {
-    same = refl;
-    kept = cleared true (v.handled + 1);
-    few = omega arith;
-    some = λ going filled. ends.some;
-    goes_on = λ going. handles m true [] read (rw e refl);
-    stops = λ why is. absurd cc;
-  }
-  reacts m (Answered pong) read e = record {
-    same = refl;
-    kept = cleared v.open_now (v.handled + 1);
-    few = omega arith;
-    some = λ going filled. ends.some;
-    goes_on = λ going. handles m v.open_now (pong ∷ []) read (rw e refl);
-    stops = λ why is. absurd cc;
-  }
-  reacts m NotYet read e = record {
-    same = refl;
-    kept = cleared v.open_now v.handled;
-    few = omega arith;
-    some = λ going filled. absurd cc;
-    goes_on = λ going. absurd cc;
-    stops = λ why is. let same : reason.NotYet ≡ why = cc in subst (StopsAt (progress_from v piece) v.handled) same (refuses m read e);
-  }
+  frame_steps (Err f) e =
+      rejected_steps v piece frame Format reject.Format live refl (split_bad (greatest v) (v.frame ++ piece) frame rest f begun e) whole.taken [] (record { unfinished = unfinished_empty (greatest v); ranges = kept.ranges })
 
-  frame_steps : (read : Result Message FormatFault) → message_of frame ≡ read → Steps v piece (step_frame v whole (reaction_of v.open_now read))
-  frame_steps (Ok m) e = reacts m (react v.open_now m) e refl
-  frame_steps (Err f) e = record {
-    same = refl;
-    kept = cleared v.open_now v.handled;
-    few = omega arith;
-    some = λ going filled. absurd cc;
-    goes_on = λ going. absurd cc;
-    stops = λ why is. let same : reason.Format ≡ why = cc in subst (StopsAt (progress_from v piece) v.handled) same (spells_none f e);
-  }
+-- ---- any piece
 
--- a fault of the stream is told as its reason
-fault_stops : (v : ConnectionValue) (piece : List ℕ) (fault : StreamFault) → beginning v.M (v.frame ++ piece) ≡ Faulty fault → StopsAt (progress_from v piece) v.handled (fault_reason (frame_fault fault))
-unfolding progress_from
-fault_stops v piece TokenLength e = stopped_by v (split v.M (v.frame ++ piece)) _ TokenLength reason.TokenLength (split_faulty v.M (v.frame ++ piece) TokenLength e) refl
-fault_stops v piece TooLarge e = stopped_by v (split v.M (v.frame ++ piece)) _ TooLarge reason.TooLarge (split_faulty v.M (v.frame ++ piece) TooLarge e) refl
-fault_stops v piece Format e = absurd (format_not_begun v.M (v.frame ++ piece) e)
+fault_steps : (v : ConnectionValue) (piece : List ℕ) (fault : StreamFault) → IsKept v → IsLive v.link.phase → beginning (greatest v) (v.frame ++ piece) ≡ Faulty fault
+    → Steps v piece (step_found v (framing_at (framer_in v) piece (Faulty fault)) (framing_at (framer_in v) piece (Faulty fault)).finding)
+fault_steps v piece TokenLength kept live e =
+    rejected_steps v piece (fault_bytes TokenLength (v.frame ++ piece)) TokenLength reject.TokenLength live refl (split_faulty (greatest v) (v.frame ++ piece) TokenLength e) _ [] (record { unfinished = unfinished_empty (greatest v); ranges = kept.ranges })
+fault_steps v piece TooLarge kept live e =
+    rejected_steps v piece (fault_bytes TooLarge (v.frame ++ piece)) TooLarge reject.TooLarge live refl (split_faulty (greatest v) (v.frame ++ piece) TooLarge e) _ [] (record { unfinished = unfinished_empty (greatest v); ranges = kept.ranges })
+fault_steps v piece Format kept live e = absurd (format_not_begun (greatest v) (v.frame ++ piece) e)
 
--- however the bytes stand with the piece
-steps_at : (v : ConnectionValue) (piece : List ℕ) (b : Beginning) → IsKept v → beginning v.M (v.frame ++ piece) ≡ b → Steps v piece (step_found v (framing_at (framer_in v) piece b) (framing_at (framer_in v) piece b).finding)
-steps_at v piece Unfinished kept e =
+steps_at : (v : ConnectionValue) (piece : List ℕ) (b : Beginning) → IsKept v → v.link.waiting ≡ [] → IsLive v.link.phase → beginning (greatest v) (v.frame ++ piece) ≡ b
+    → Steps v piece (step_found v (framing_at (framer_in v) piece b) (framing_at (framer_in v) piece b).finding)
+steps_at v piece Unfinished kept quiet live e =
     let after : ConnectionValue = record v { frame = v.frame ++ piece } in
-    let now : IsKept after = record { unfinished = e; low = kept.low; high = kept.high } in
+    let now : IsKept after = record { unfinished = e; ranges = kept.ranges } in
     let none : drop (length piece) piece ≡ [] = drop_all (length piece) piece (omega arith) in
+    let here = no_message v piece e in
+    let left : Progress = progress_from (value_flushed after) (drop (length piece) piece) in
     record {
-      same = refl;
       kept = now;
       few = omega arith;
       some = λ going filled. filled;
-      goes_on = λ going. no_message v piece e ∙ sym (idle after now) ∙ ap (progress_from after) (sym none);
-      stops = λ why is. absurd cc;
+      text = ([], ap (λ (p : Progress). p.text) here ∙ sym (ap (λ (t : List ℕ). t ++ []) quiet));
+      goes_on = λ going.
+          here
+          ∙ sym (idle after now)
+          ∙ ap (λ (w : ConnectionValue). progress_from w []) (quiet_stays after quiet)
+          ∙ ap (progress_from (value_flushed after)) (sym none)
+          ∙ ap (λ (t : List ℕ). after_text t left) (sym quiet);
+      stops = λ why is. let bad : ◌≡◌ {A = Option Reason} None (Some why) = sym (none_where_live v.link.phase live) ∙ is in absurd cc;
     }
-steps_at v piece (Faulty fault) kept e = record {
-  same = refl;
-  kept = record { unfinished = unfinished_empty v.M; low = kept.low; high = kept.high };
-  few = omega arith;
-  some = λ going filled. absurd cc;
-  goes_on = λ going. absurd cc;
-  stops = λ why is. let same : fault_reason (frame_fault fault) ≡ why = cc in subst (StopsAt (progress_from v piece) v.handled) same (fault_stops v piece fault e);
-}
-steps_at v piece (Whole frame rest) kept e = frame_steps v piece frame rest kept e (message_of frame) refl
+steps_at v piece (Faulty fault) kept quiet live e = fault_steps v piece fault kept live e
+steps_at v piece (Whole frame rest) kept quiet live e = frame_steps v piece frame rest kept live e (message_of frame) refl
 
-pub steps : (v : ConnectionValue) (piece : List ℕ) → IsKept v → Steps v piece (step v piece)
+pub steps : (v : ConnectionValue) (piece : List ℕ) → IsKept v → v.link.waiting ≡ [] → IsLive v.link.phase → Steps v piece (step v piece)
 unfolding step framing
-steps v piece kept = steps_at v piece (beginning v.M (v.frame ++ piece)) kept refl
+steps v piece kept quiet live = steps_at v piece (beginning (greatest v) (v.frame ++ piece)) kept quiet live refl

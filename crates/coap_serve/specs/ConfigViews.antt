@@ -1,5 +1,5 @@
 -- How the code's configuration is seen in contracts.
-use Rattle.coap_serve.specs.Limits.{StartValues, ConfigValues, IsConfigInRange}
+use Rattle.coap_serve.specs.Configs.{StartValues, ConfigValues, IsConfigInRange}
 use Rattle.coap_serve.specs.declared.config.Starts.{Starts}
 use Rattle.coap_serve.specs.declared.config.Config.TheInside.{Inside}
 

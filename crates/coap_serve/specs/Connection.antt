@@ -1,5 +1,5 @@
 -- A connection as the code holds it, and what a piece of the input does to it.
-use Rattle.std.specs.Prelude.{◌≡◌, ℕ, ◌+◌, ◌≤◌, Bool, true, false, List, [], ◌∷◌, Option, Some, None, Result, Ok, Err}
+use Rattle.std.specs.Prelude.{◌≡◌, ℕ, ◌+◌, List, [], Result, Ok, Err}
 use Rattle.coap_wire.specs.Message.{Message}
 use Rattle.coap_wire.specs.Reading.{message_of}
 use Rattle.coap_wire.specs.Stream.{Unfinished, beginning}
@@ -7,90 +7,90 @@ use Rattle.coap_wire.specs.declared.fault.FormatFault.{FormatFault}
 use Rattle.coap_frame.specs.Framing.{FramerValue, Finding, Nothing, AFrame, AFault, Framing, framing}
 use Rattle.coap_frame.specs.declared.framer.FrameFault.{FrameFault}
 use Rattle.coap_frame.specs.declared.framer.FrameFault.TheVariants as faults
-use Rattle.coap_serve.specs.declared.reaction.Reaction.{Reaction}
-use Rattle.coap_serve.specs.declared.reaction.Reaction.TheVariants.{Ignored, Opened, Answered, NotYet}
-use Rattle.coap_serve.specs.declared.reason.Reason.{Reason}
-use Rattle.coap_serve.specs.declared.reason.Reason.TheVariants as reason
-use Rattle.coap_serve.specs.declared.frame.Taken.{Taken}
-use Rattle.coap_serve.specs.declared.frame.Taken.TheVariants as taken
-use Rattle.coap_serve.specs.Signalling.{react}
+use Rattle.coap_conn.specs.declared.phase.Role.TheVariants.{Server}
+use Rattle.coap_conn.specs.declared.phase.Reject.{Reject}
+use Rattle.coap_conn.specs.declared.phase.Reject.TheVariants as reject
+use Rattle.coap_conn.specs.Limits.{LimitValues, AreInRange}
+use Rattle.coap_conn.specs.Verdicts.{VerdictValue}
+use Rattle.coap_conn.specs.Verdicts as verdict
+use Rattle.coap_conn.specs.Reaction.{react, not_implemented}
+use Rattle.coap_conn.specs.LinkValue.{LinkValue, link_begun, link_after_message, link_after_reply, link_after_reject, standing_in}
 
--- the bytes of the unfinished frame, whether the connection is open, and how many messages were handled; M is the
--- greatest message that it takes
+-- the bytes of the unfinished frame, the link, and how many messages were handled
 pub record ConnectionValue : Type 0 where
-  pub M : ℕ
   pub frame : List ℕ
-  pub open_now : Bool
+  pub link : LinkValue
   pub handled : ℕ
+
+-- the greatest message that it takes
+abbrev pub greatest : ConnectionValue → ℕ
+greatest v = v.link.limits.max_message
 
 -- what a connection keeps
 pub record IsKept (v : ConnectionValue) : Type 0 where
-  pub unfinished : beginning v.M v.frame ≡ Unfinished
-  pub low : 1152 ≤ v.M
-  pub high : v.M ≤ 1048576
+  pub unfinished : beginning (greatest v) v.frame ≡ Unfinished
+  pub ranges : AreInRange v.link.limits
 
--- a new connection
-abbrev pub opened : ℕ → ConnectionValue
-opened M = record { M = M; frame = []; open_now = false; handled = 0 }
+-- a link whose waiting bytes were written
+abbrev pub link_flushed : LinkValue → LinkValue
+link_flushed l = record l { waiting = [] }
+
+-- a new connection, whose own Capabilities and Settings wait
+abbrev pub opened : LimitValues → ConnectionValue
+opened limits = record { frame = []; link = link_begun Server limits 0; handled = 0 }
+
+-- the bytes of the own Capabilities and Settings
+abbrev pub own_announcement : LimitValues → List ℕ
+own_announcement limits = (opened limits).link.waiting
+
+-- a new connection that has announced itself
+abbrev pub begun : LimitValues → ConnectionValue
+begun limits = record { frame = []; link = link_flushed (opened limits).link; handled = 0 }
 
 -- a connection with this framer
-abbrev pub connected : FramerValue → Bool → ℕ → ConnectionValue
-connected f open_now handled = record { M = f.max; frame = f.kept; open_now = open_now; handled = handled }
+abbrev pub connected : FramerValue → LinkValue → ℕ → ConnectionValue
+connected f link handled = record { frame = f.kept; link = link; handled = handled }
 
 -- a framer that keeps what the connection does
 abbrev pub framer_in : ConnectionValue → FramerValue
-framer_in v = record { max = v.M; kept = v.frame; spent = [] }
+framer_in v = record { max = greatest v; kept = v.frame; spent = [] }
 
-abbrev pub fault_reason : FrameFault → Reason
-fault_reason faults.TokenLength = reason.TokenLength
-fault_reason faults.TooLarge = reason.TooLarge
+abbrev pub fault_in : FrameFault → Reject
+fault_in faults.TokenLength = reject.TokenLength
+fault_in faults.TooLarge = reject.TooLarge
 
--- what the front of a piece did: how many bytes were taken, the connection after them, and what is to be done
+-- a request is answered by 5.01
+abbrev pub link_answered : LinkValue → Message → VerdictValue → LinkValue
+link_answered l m verdict.Request = link_after_reply l (not_implemented m)
+link_answered l m verdict.Opened = l
+link_answered l m verdict.Done = l
+link_answered l m (verdict.Answer token last) = l
+link_answered l m (verdict.Pong token custody) = l
+link_answered l m verdict.Stranger = l
+link_answered l m (verdict.Stopped why) = l
+
+-- the link after a message, before what waits is written
+abbrev pub link_served : LinkValue → Message → LinkValue
+link_served l m = link_answered (link_after_message l m) m (react (standing_in l) m).verdict
+
+-- what the front of a piece did: how many bytes were taken, and the connection after them
 pub record Step : Type 0 where
   pub count : ℕ
   pub after : ConnectionValue
-  pub taken : Taken
 
--- a step at which no message was handled
-abbrev pub handled_none : ConnectionValue → Framing → Taken → Step
-handled_none v f done = record { count = f.taken; after = connected f.after v.open_now v.handled; taken = done }
+abbrev pub step_by : ConnectionValue → Framing → LinkValue → ℕ → Step
+step_by v f link handled = record { count = f.taken; after = connected f.after link handled }
 
-abbrev pub handled_one : ConnectionValue → Framing → Bool → Taken → Step
-handled_one v f open_now done = record { count = f.taken; after = connected f.after open_now (v.handled + 1); taken = done }
-
-abbrev pub step_by : ConnectionValue → Framing → Reaction → Step
-step_by v f Ignored = handled_one v f v.open_now taken.Nothing
-step_by v f Opened = handled_one v f true taken.Nothing
-step_by v f (Answered pong) = handled_one v f v.open_now (taken.Answer pong)
-step_by v f NotYet = handled_none v f (taken.Stopped reason.NotYet)
-
--- what a whole frame does
-abbrev pub reaction_of : Bool → Result Message FormatFault → Result Reaction FormatFault
-reaction_of open_now (Ok m) = Ok (react open_now m)
-reaction_of open_now (Err e) = Err e
-
-abbrev pub step_frame : ConnectionValue → Framing → Result Reaction FormatFault → Step
-step_frame v f (Ok reaction) = step_by v f reaction
-step_frame v f (Err e) = handled_none v f (taken.Stopped reason.Format)
+abbrev pub step_read : ConnectionValue → Framing → Result Message FormatFault → Step
+step_read v f (Ok m) = step_by v f (link_served v.link m) (v.handled + 1)
+step_read v f (Err e) = step_by v f (link_after_reject v.link reject.Format) v.handled
 
 -- what comes of what was found
 abbrev pub step_found : ConnectionValue → Framing → Finding → Step
-step_found v f Nothing = handled_none v f taken.Nothing
-step_found v f (AFault fault) = handled_none v f (taken.Stopped (fault_reason fault))
-step_found v f (AFrame frame) = step_frame v f (reaction_of v.open_now (message_of frame))
+step_found v f Nothing = step_by v f v.link v.handled
+step_found v f (AFault fault) = step_by v f (link_after_reject v.link (fault_in fault)) v.handled
+step_found v f (AFrame frame) = step_read v f (message_of frame)
 
 -- what the first frame or fault of a piece does, behind the bytes that are kept, or all of the piece
 unfoldable pub step : ConnectionValue → List ℕ → Step
 step v piece = step_found v (framing (framer_in v) piece) (framing (framer_in v) piece).finding
-
--- ---- what is written and why the connection stops
-
-abbrev pub answers_of : Taken → List Message
-answers_of taken.Nothing = []
-answers_of (taken.Answer m) = m ∷ []
-answers_of (taken.Stopped why) = []
-
-abbrev pub stop_after : Taken → Option Reason
-stop_after taken.Nothing = None
-stop_after (taken.Answer m) = None
-stop_after (taken.Stopped why) = Some why

@@ -1,9 +1,7 @@
 pub mod Device
-pub mod Limits
-pub mod LimitViews
+pub mod Configs
 pub mod ConfigViews
-pub mod Signalling
-pub mod Progress
+pub mod Serving
 pub mod StdioRun
 pub mod Connection
 pub mod ConnectionViews

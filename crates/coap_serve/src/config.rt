@@ -3,7 +3,7 @@
 ghost use Rattle.std.specs.Prelude.{◌≡◌, ◌≤◌, IfOk};
 ghost use Rattle.coap_wire.specs.Refusal.{RefusedBy};
 
-use crate::limits::Limits;
+use coap_conn::Limits;
 use std::marker::Model;
 use thiserror::Error;
 
@@ -47,7 +47,7 @@ pub struct Config {
 }
 
 impl Model for Config {
-    ghost use Rattle.coap_serve.specs.Limits.{ConfigValues};
+    ghost use Rattle.coap_serve.specs.Configs.{ConfigValues};
 
     ghost Value = { ConfigValues };
 
@@ -61,7 +61,7 @@ impl Model for Config {
 }
 
 impl Config {
-    ghost use Rattle.coap_serve.specs.Limits.{config_of, config_refusal};
+    ghost use Rattle.coap_serve.specs.Configs.{config_of, config_refusal};
     ghost use Rattle.coap_serve.specs.ConfigViews.{start_values};
 
     /// The configuration with these values: the limits of each connection, connections, dynamic resources, bytes of a

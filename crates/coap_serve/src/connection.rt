@@ -1,17 +1,22 @@
 //! A connection that takes one piece of its input after another.
 
-use crate::frame::{Taken, reaction_to, reason_for};
-use crate::reaction::Reaction;
-use crate::reason::Reason;
-use coap_frame::{Found, Framer};
+ghost use Rattle.std.specs.Prelude.{◌≡◌, []};
+ghost use Rattle.coap_conn.specs.LinkValue.{IsReady, IsLive};
+ghost use Rattle.coap_serve.specs.Connection.{fault_in, link_served};
+
+use crate::device::Outlet;
+use crate::output::{WriteFailed, flush};
+use coap_conn::{Limits, Link, Phase, Reason, Reject, Role, Verdict};
+use coap_frame::{Found, FrameFault, Framer};
+use coap_wire::{Builder, Code, MessageRef, parse};
 use std::alloc::{AllocError, Global};
 use std::marker::Model;
 
-/// A connection: its framer, whether it is open, and how many messages were handled. Contracts see a `ConnectionValue`.
+/// A connection: its framer, its link, and how many messages were handled. Contracts see a `ConnectionValue`.
 #[derive(Debug, Drop)]
 pub(crate) struct Connection {
     framer: Framer,
-    is_open: bool,
+    link: Link,
     handled: u64,
 }
 
@@ -28,55 +33,71 @@ impl Model for Connection {
 }
 
 impl Connection {
-    ghost use Rattle.std.specs.Prelude.{◌≡◌, ◌+◌, ◌≤◌, ◌<◌, ◌^◌, IfOk, length};
-    ghost use Rattle.coap_serve.specs.Connection.{opened, step};
-    ghost use Rattle.coap_serve.specs.Progress.{end_reason as reason_at_end};
+    ghost use Rattle.std.specs.Prelude.{◌≡◌, ◌+◌, ◌≤◌, ◌<◌, ◌^◌, false, [], IfOk, OnOk, OnErr, is_err, length};
+    ghost use Rattle.coap_conn.specs.LinkValue.{IsLive};
+    ghost use Rattle.coap_serve.specs.Device.{AddsBytes, WritesPart};
+    ghost use Rattle.coap_serve.specs.Connection.{opened, step, link_flushed, IsKept};
+    ghost use Rattle.coap_serve.specs.Serving.{end_reason as reason_at_end, stop_of};
 
-    /// A new connection, which takes messages of at most so many bytes. It reserves their room once.
-    pub(crate) fn open(alloc: Global, max_message: usize) -> Result<Connection, AllocError>
-        requires low { 1152 ≤ max_message }
-        requires high { max_message ≤ 1048576 }
-        ensures { IfOk result (λ c. c ≡ opened max_message) }
+    /// A new connection with these limits, whose own Capabilities and Settings wait. It reserves its room here.
+    pub(crate) fn open(alloc: Global, limits: Limits) -> Result<Connection, AllocError>
+        ensures opened { IfOk result (λ c. c ≡ opened limits) }
+        ensures kept { IfOk result (λ c. IsKept c) }
     {
         Ok(Connection {
-            framer: Framer::new(alloc, max_message)?,
-            is_open: false,
+            framer: Framer::new(alloc, limits.max_message())?,
+            link: Link::open(alloc, Role::Server, limits, 0)?,
             handled: 0,
         })
     }
 
     /// Takes bytes of a piece up to the end of its first message, to the byte that stops the connection, or all of them.
+    /// Nothing may wait, and the connection must take messages.
     #[tactic(auto, unfolding(crate::specs::Connection::step, coap_frame::specs::Framing::framing))]
-    pub(crate) fn take(&mut self, piece: &[u8]) -> (usize, Taken<'static>)
-        requires { self.old.handled + 1 < 2 ^ 64 }
-        ensures within { result.0 ≤ length piece.now }
-        ensures count { result.0 ≡ (step self.old piece.now).count }
-        ensures taken { result.1 ≡ (step self.old piece.now).taken }
+    pub(crate) fn take(&mut self, piece: &[u8]) -> usize
+        requires quiet { self.old.link.waiting ≡ [] }
+        requires live { IsLive self.old.link.phase }
+        requires fits { self.old.handled + 1 < 2 ^ 64 }
+        ensures within { result ≤ length piece.now }
+        ensures count { result ≡ (step self.old piece.now).count }
         ensures after { self.new ≡ (step self.old piece.now).after }
     {
         let framed = self.framer.next(piece);
         let count = framed.taken;
-        let reaction = match framed.what {
-            Found::More => return (count, Taken::Nothing),
-            Found::Fault(fault) => return (count, Taken::Stopped(reason_for(fault))),
-            Found::Frame(frame) => reaction_to(self.is_open, frame),
-        };
-        match reaction {
-            Err(_) => (count, Taken::Stopped(Reason::Format)),
-            Ok(Reaction::NotYet) => (count, Taken::Stopped(Reason::NotYet)),
-            Ok(Reaction::Ignored) => {
-                self.handled += 1;
-                (count, Taken::Nothing)
-            }
-            Ok(Reaction::Opened) => {
-                self.is_open = true;
-                self.handled += 1;
-                (count, Taken::Nothing)
-            }
-            Ok(Reaction::Answered(pong)) => {
-                self.handled += 1;
-                (count, Taken::Answer(pong))
-            }
+        match framed.what {
+            Found::More => {}
+            Found::Fault(fault) => self.link.reject(fault_for(fault)),
+            Found::Frame(frame) => match parse(frame) {
+                Err(_) => self.link.reject(Reject::Format),
+                Ok(message) => {
+                    handle(&mut self.link, &message);
+                    self.handled += 1;
+                }
+            },
+        }
+        count
+    }
+
+    /// Writes until nothing waits.
+    pub(crate) fn flush<W: Outlet>(&mut self, writer: &mut W) -> Result<(), WriteFailed>
+        requires { W.is_failed writer.old ≡ false }
+        ensures ok { OnOk result (AddsBytes (W.written writer.old) (W.written writer.new) self.old.link.waiting) }
+        ensures after { OnOk result (self.new ≡ record self.old { link = link_flushed self.old.link }) }
+        ensures part { OnErr result (WritesPart (W.written writer.old) (W.written writer.new) self.old.link.waiting) }
+        ensures failure { W.is_failed writer.new ≡ is_err result }
+    {
+        flush(writer, &mut self.link)
+    }
+
+    /// Why it takes no message any more, if it does not.
+    pub(crate) fn stop(&self) -> Option<Reason>
+        ensures { result ≡ stop_of self.now.link.phase }
+    {
+        match self.link.phase() {
+            Phase::Waiting => None,
+            Phase::Open => None,
+            Phase::Releasing(reason) => Some(reason),
+            Phase::Stopped(reason) => Some(reason),
         }
     }
 
@@ -96,5 +117,27 @@ impl Connection {
         } else {
             Reason::Cut
         }
+    }
+}
+
+/// What is wrong with bytes that have this fault.
+fn fault_for(fault: FrameFault) -> Reject
+    ensures { result ≡ fault_in fault }
+{
+    match fault {
+        FrameFault::TokenLength => Reject::TokenLength,
+        FrameFault::TooLarge => Reject::TooLarge,
+    }
+}
+
+/// Handles a message, and answers a request: by 5.01, until there are resources.
+fn handle(link: &mut Link, message: &MessageRef)
+    requires quiet { link.old.waiting ≡ [] }
+    requires ready { IsReady link.old }
+    requires live { IsLive link.old.phase }
+    ensures { link.new ≡ link_served link.old message.now }
+{
+    if let Verdict::Request = link.on(message) {
+        link.reply(&Builder::new(Code::NOT_IMPLEMENTED, message.token()));
     }
 }

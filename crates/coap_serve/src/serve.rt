@@ -1,11 +1,10 @@
 //! Serves one connection over one input and one output.
 
-ghost use Rattle.std.specs.Prelude.{◌≡◌, ◌+◌, ◌≤◌, ◌<◌, ◌^◌, ℕ, false, List, [], ◌++◌, Err, length, is_err};
-ghost use Rattle.coap_wire.specs.Spelling.{spelling};
+ghost use Rattle.std.specs.Prelude.{◌≡◌, ◌+◌, ◌≤◌, ◌<◌, ◌^◌, ℕ, false, List, [], ◌++◌, Err, length, is_err, OnOk};
+ghost use Rattle.coap_conn.specs.LinkValue.{IsLive};
 ghost use Rattle.coap_serve.specs.declared.serve.IoFault.TheVariants.{Read, Write};
 ghost use Rattle.coap_serve.specs.Device.{HasGiven, AddsBytes};
-ghost use Rattle.coap_serve.specs.Signalling.{own_csm};
-ghost use Rattle.coap_serve.specs.Connection.{opened, IsKept};
+ghost use Rattle.coap_serve.specs.Connection.{IsKept, begun, own_announcement};
 ghost use Rattle.coap_serve.specs.Turns.{progress_from, IsServed, IsTurn};
 ghost use Rattle.coap_serve.specs.StdioRun.{IsStdioRun};
 ghost use Rattle.coap_serve.specs.Faults.{is_read_fault, is_write_fault};
@@ -13,9 +12,8 @@ ghost use Rattle.coap_serve.specs.Faults.{is_read_fault, is_write_fault};
 use crate::config::Config;
 use crate::connection::Connection;
 use crate::device::{Outlet, Source};
-use crate::frame::Taken;
-use crate::output::{WriteFailed, announce, send};
-use crate::reason::Reason;
+use crate::output::WriteFailed;
+use coap_conn::Reason;
 use std::alloc::Global;
 use thiserror::Error;
 
@@ -85,16 +83,15 @@ pub fn serve_one<R: Source, W: Outlet>(
     ensures run { (pieces : List (List ℕ)) × (output : List ℕ)
         × HasGiven (R.told reader.old) (R.told reader.new) pieces
         × AddsBytes (W.written writer.old) (W.written writer.new) output
-        × IsStdioRun config.now.limits.max_message config.now.turns pieces output result }
+        × IsStdioRun config.now.limits config.now.turns pieces output result }
     // A device fault comes exactly where that device failed.
     ensures read { R.is_failed reader.new ≡ is_read_fault result }
     ensures write { W.is_failed writer.new ≡ is_write_fault result }
 {
-    let limits = config.limits();
-    let Ok(mut connection) = Connection::open(alloc, limits.max_message()) else {
+    let Ok(mut connection) = Connection::open(alloc, config.limits()) else {
         return Err(IoFault::Memory);
     };
-    let Ok(()) = announce(writer, limits.max_message()) else {
+    let Ok(()) = connection.flush(writer) else {
         return Err(IoFault::Write);
     };
     run(reader, writer, &mut connection, config.turns())
@@ -109,13 +106,13 @@ fn run<R: Source, W: Outlet>(
 ) -> Result<Report, IoFault>
     requires reader_works { R.is_failed reader.old ≡ false }
     requires writer_works { W.is_failed writer.old ≡ false }
-    requires new { connection.old ≡ opened connection.old.M }
+    requires new { connection.old ≡ begun connection.old.link.limits }
     requires kept { IsKept connection.old }
     requires few { turns ≤ 1000000000000 }
     ensures run { (pieces : List (List ℕ)) × (output : List ℕ)
         × HasGiven (R.told reader.old) (R.told reader.new) pieces
         × AddsBytes (W.written writer.old) (W.written writer.new) output
-        × IsStdioRun connection.old.M turns pieces (spelling (own_csm connection.old.M) ++ output) result }
+        × IsStdioRun connection.old.link.limits turns pieces (own_announcement connection.old.link.limits ++ output) result }
     ensures read { R.is_failed reader.new ≡ is_read_fault result }
     ensures write { W.is_failed writer.new ≡ is_write_fault result }
 {
@@ -153,6 +150,8 @@ fn take_turn<R: Source, W: Outlet>(
     requires reader_works { R.is_failed reader.old ≡ false }
     requires writer_works { W.is_failed writer.old ≡ false }
     requires kept { IsKept connection.old }
+    requires quiet { connection.old.link.waiting ≡ [] }
+    requires live { IsLive connection.old.link.phase }
     requires fits { connection.old.handled + 4096 < 2 ^ 64 }
     requires room { length buffer.old ≡ 4096 }
     ensures turn { IsTurn connection.old connection.new
@@ -174,8 +173,8 @@ fn take_turn<R: Source, W: Outlet>(
     }
 }
 
-/// Handles the messages of a piece, and writes the answer to each before the next one is looked at. Where the connection
-/// stops, the bytes behind that are not looked at, and the reason is answered.
+/// Handles the messages of a piece, and writes what each queues before the next one is looked at. Where the connection takes
+/// no message any more, the bytes behind that are not looked at, and the reason is answered.
 fn serve_piece<W: Outlet>(
     writer: &mut W,
     connection: &mut Connection,
@@ -183,19 +182,20 @@ fn serve_piece<W: Outlet>(
 ) -> Result<Option<Reason>, WriteFailed>
     requires works { W.is_failed writer.old ≡ false }
     requires kept { IsKept connection.old }
+    requires quiet { connection.old.link.waiting ≡ [] }
+    requires live { IsLive connection.old.link.phase }
     requires fits { connection.old.handled + length piece.now < 2 ^ 64 }
-    ensures served { IsServed connection.old connection.new (progress_from connection.old piece.now)
+    ensures served { IsServed connection.new (progress_from connection.old piece.now)
         (AddsBytes (W.written writer.old) (W.written writer.new)) result }
-    ensures handled { connection.new.handled ≤ connection.old.handled + length piece.now }
+    ensures handled { OnOk result (connection.new.handled ≤ connection.old.handled + length piece.now) }
     ensures failure { W.is_failed writer.new ≡ is_err result }
 {
     let mut rest = piece;
     while !rest.is_empty() {
-        let (count, taken) = connection.take(rest);
-        match taken {
-            Taken::Nothing => {}
-            Taken::Stopped(reason) => return Ok(Some(reason)),
-            Taken::Answer(answer) => send(writer, &answer)?,
+        let count = connection.take(rest);
+        connection.flush(writer)?;
+        if let Some(reason) = connection.stop() {
+            return Ok(Some(reason));
         }
         rest = &rest[count..];
     }

@@ -3,9 +3,13 @@
 ghost use Rattle.std.specs.Prelude.{◌≡◌, ◌≤◌, ◌+◌, ◌<◌, ◌^◌, false, [], Some, None, length, map, vec_items};
 ghost use Rattle.coap_serve.specs.StdioRun.{IsStdioRun};
 
+use crate::Reason::{
+    BadCsm, BadSignalOption, CsmExpected, Cut, Ended, Format, PeerAbort, PeerRelease, PeerTooSmall,
+    ReservedCode, TokenLength, TooLarge,
+};
 use crate::{
-    Config, ConfigFault, IoFault, LimitFault, Limits, Outlet, ReadSource, Reason, Report, Source,
-    Starts, WriteOutlet, serve_one,
+    Config, ConfigFault, IoFault, Limits, Outlet, ReadSource, Reason, Report, Source, Starts,
+    WriteOutlet, serve_one,
 };
 use std::alloc::Global;
 use std::io;
@@ -184,140 +188,426 @@ fn serve_told(
     requires nothing_given { source.old.given.items ≡ [] }
     requires nothing_written { outlet.old.bytes.items ≡ [] }
     requires id_left { config.now.starts.ids + 1 < 2 ^ 64 }
-    ensures { IsStdioRun config.now.limits.max_message config.now.turns (map vec_items source.new.given.items) outlet.new.bytes.items result }
+    ensures { IsStdioRun config.now.limits config.now.turns (map vec_items source.new.given.items) outlet.new.bytes.items result }
 {
     serve_one(alloc, source, outlet, config)
 }
 
-/// A connection: what comes in, what goes out behind the own Capabilities and Settings, how many bytes there are up to the
-/// end or the stop, how many messages are handled, and the reason.
-#[derive(Clone, Copy)]
-struct Exchange {
-    input: &'static [u8],
-    answers: &'static [u8],
-    judged: usize,
-    messages: u64,
-    reason: Reason,
-}
+/// What comes in, what goes out behind the own Capabilities and Settings, how many bytes there are up to the end or the
+/// stop, how many messages are handled, and the reason.
+type Row = (&'static [u8], &'static [u8], usize, u64, Reason);
 
-const fn row(
-    input: &'static [u8],
-    answers: &'static [u8],
-    judged: usize,
-    messages: u64,
-    reason: Reason,
-) -> Exchange {
-    Exchange {
-        input,
-        answers,
-        judged,
-        messages,
-        reason,
-    }
-}
+// The Aborts that tell why the connection stops.
+const BAD_MESSAGE: &[u8] = b"\xc0\xe5\xffbad message";
 
-/// Worked connections under the usual configuration.
-fn rows() -> [Exchange; 36] {
-    use Reason::{Cut, Ended, Format, NotYet, TokenLength, TooLarge};
-    [
-        row(b"", b"", 0, 0, Ended),
-        // A Ping is answered with its token, and with Custody where it is asked.
-        row(
-            b"\x00\xe1\x02\xe2\x01\x02",
-            b"\x02\xe3\x01\x02",
-            6,
-            2,
-            Ended,
-        ),
-        row(
-            b"\x00\x00\x00\xe1\x11\xe2\x07\x20",
-            b"\x11\xe3\x07\x20",
-            8,
-            3,
-            Ended,
-        ),
-        row(
-            b"\x00\xe1\x18\xe2\x01\x02\x03\x04\x05\x06\x07\x08\x20",
-            b"\x18\xe3\x01\x02\x03\x04\x05\x06\x07\x08\x20",
-            13,
-            2,
-            Ended,
-        ),
-        row(b"\x00\xe1\x20\xe2\x21\x00", b"\x00\xe3", 6, 2, Ended),
-        row(b"\x00\xe1\x20\xe2\xff\x41", b"\x00\xe3", 6, 2, Ended),
-        row(
-            b"\x00\xe1\x30\xe2\x21\x00\x00",
-            b"\x10\xe3\x20",
-            7,
-            2,
-            Ended,
-        ),
-        row(
-            b"\x00\xe1\x00\xe2\x00\xe1\x01\xe2\x09",
-            b"\x00\xe3\x01\xe3\x09",
-            9,
-            4,
-            Ended,
-        ),
-        // Several Pings, and what stands behind a stop.
-        row(
-            b"\x00\xe1\x01\xe2\x01\x00\x00\x11\xe2\x02\x20\x01\xe2\x03",
-            b"\x01\xe3\x01\x11\xe3\x02\x20\x01\xe3\x03",
-            14,
-            5,
-            Ended,
-        ),
-        row(
-            b"\x00\xe1\x01\xe2\x01\x10\x01\xff\x01\xe2\x02",
-            b"\x01\xe3\x01",
-            8,
-            2,
-            Format,
-        ),
-        row(
-            b"\x00\xe1\x01\xe2\x01\x0f\x01\xe2\x02",
-            b"\x01\xe3\x01",
-            6,
-            2,
-            TokenLength,
-        ),
-        // A Ping that waits, or with a critical option.
-        row(b"\x00\xe2", b"", 2, 0, NotYet),
-        row(b"\x00\x00\x00\xe2", b"", 4, 1, NotYet),
-        row(b"\x00\xe1\x10\xe2\x10", b"", 5, 1, NotYet),
-        // Requests and the other signals are not handled yet, nor is what stands behind them.
-        row(b"\x00\xe1\x01\x01\x01", b"", 5, 1, NotYet),
-        row(
-            b"\x00\xe1\x00\xe2\x00\x01\x00\xe2",
-            b"\x00\xe3",
-            6,
-            2,
-            NotYet,
-        ),
-        row(b"\x00\xe1\x00\xe3", b"", 4, 1, NotYet),
-        row(b"\x00\xe1\x00\xe4", b"", 4, 1, NotYet),
-        row(b"\x00\xe1\x00\xe5", b"", 4, 1, NotYet),
-        // Capabilities and Settings: a critical option, and the first Max-Message-Size.
-        row(b"\x10\xe1\x10", b"", 3, 0, NotYet),
-        row(b"\x10\xe1\x40\x00\xe2", b"\x00\xe3", 5, 2, Ended),
-        row(b"\x20\xe1\x21\x0a", b"", 4, 0, NotYet),
-        row(b"\x20\xe1\x21\x0b\x00\xe2", b"\x00\xe3", 6, 2, Ended),
-        row(b"\x10\xe1\x20", b"", 3, 0, NotYet),
-        row(b"\x50\xe1\x24\x00\x00\x00\x0b", b"", 7, 1, Ended),
-        row(b"\x60\xe1\x25\x00\x00\x00\x00\x0b", b"", 8, 0, NotYet),
-        row(b"\x40\xe1\x21\x0b\x01\x05", b"", 6, 1, Ended),
-        row(b"\x40\xe1\x21\x0a\x01\x0b", b"", 6, 0, NotYet),
-        // Faults of the stream, each known at its byte.
-        row(b"\x09", b"", 1, 0, TokenLength),
-        row(b"\x00\xe1\x0f\x00", b"", 3, 1, TokenLength),
-        row(b"\xf0\xff\xff\xff\xff\x01", b"", 5, 0, TooLarge),
-        row(b"\xe0\xfe\xf0", b"", 3, 0, TooLarge),
-        row(b"\xe0\xfe\xef", b"", 3, 0, Cut),
-        row(b"\xe1\xfe\xef\x00", b"", 3, 0, TooLarge),
-        row(b"\x00\xe1\x10\x01\xff", b"", 5, 1, Format),
-        row(b"\x00\xe1\x00", b"", 3, 1, Cut),
-    ]
-}
+const TOO_LARGE: &[u8] = b"\xd0\x05\xe5\xffmessage too large";
+
+const BAD_TOKEN_LENGTH: &[u8] = b"\xd0\x04\xe5\xffbad token length";
+
+const RESERVED_CODE: &[u8] = b"\xd0\x01\xe5\xffreserved code";
+
+const CSM_EXPECTED: &[u8] = b"\xd0\x00\xe5\xffCSM expected";
+
+const BAD_SIGNAL_OPTION: &[u8] = b"\xd0\x05\xe5\xffbad signal option";
+
+const BAD_CSM_OPTION_1: &[u8] = b"\xd0\x04\xe5\x21\x01\xffbad CSM option";
+
+const BAD_CSM_OPTION_2: &[u8] = b"\xd0\x04\xe5\x21\x02\xffbad CSM option";
+
+const BAD_CSM_OPTION_3: &[u8] = b"\xd0\x04\xe5\x21\x03\xffbad CSM option";
+
+/// Pings: each is answered with its token, and with Custody where it is asked.
+const PINGS: [Row; 12] = [
+    (b"", b"", 0, 0, Ended),
+    (
+        b"\x00\xe1\x02\xe2\x01\x02",
+        b"\x02\xe3\x01\x02",
+        6,
+        2,
+        Ended,
+    ),
+    (
+        b"\x00\x00\x00\xe1\x11\xe2\x07\x20",
+        b"\x11\xe3\x07\x20",
+        8,
+        3,
+        Ended,
+    ),
+    (
+        b"\x00\xe1\x18\xe2\x01\x02\x03\x04\x05\x06\x07\x08\x20",
+        b"\x18\xe3\x01\x02\x03\x04\x05\x06\x07\x08\x20",
+        13,
+        2,
+        Ended,
+    ),
+    (b"\x00\xe1\x20\xe2\x21\x00", b"\x00\xe3", 6, 2, Ended),
+    (b"\x00\xe1\x20\xe2\xff\x41", b"\x00\xe3", 6, 2, Ended),
+    (
+        b"\x00\xe1\x30\xe2\x21\x00\x00",
+        b"\x10\xe3\x20",
+        7,
+        2,
+        Ended,
+    ),
+    (
+        b"\x00\xe1\x00\xe2\x00\xe1\x01\xe2\x09",
+        b"\x00\xe3\x01\xe3\x09",
+        9,
+        4,
+        Ended,
+    ),
+    (
+        b"\x00\xe1\x01\xe2\x01\x00\x00\x11\xe2\x02\x20\x01\xe2\x03",
+        b"\x01\xe3\x01\x11\xe3\x02\x20\x01\xe3\x03",
+        14,
+        5,
+        Ended,
+    ),
+    // A critical option stops.
+    (
+        b"\x00\xe1\x10\xe2\x10",
+        BAD_SIGNAL_OPTION,
+        5,
+        2,
+        BadSignalOption,
+    ),
+    (
+        b"\x00\xe1\x20\xe2\x20\x10",
+        BAD_SIGNAL_OPTION,
+        6,
+        2,
+        BadSignalOption,
+    ),
+    (
+        b"\x00\xe1\x01\xe2\x01\x11\xe2\x02\x10\x01\xe2\x03",
+        b"\x01\xe3\x01\xd0\x05\xe5\xffbad signal option",
+        9,
+        3,
+        BadSignalOption,
+    ),
+];
+
+/// Requests: each is answered by 5.01 with its token.
+const REQUESTS: [Row; 7] = [
+    (b"\x00\xe1\x01\x01\x01", b"\x01\xa1\x01", 5, 2, Ended),
+    (
+        b"\x00\xe1\x00\xe2\x00\x01\x00\xe2",
+        b"\x00\xe3\x00\xa1\x00\xe3",
+        8,
+        4,
+        Ended,
+    ),
+    (b"\x00\xe1\x10\x01\x10", b"\x00\xa1", 5, 2, Ended),
+    (
+        b"\x00\xe1\x08\x05\x01\x02\x03\x04\x05\x06\x07\x08",
+        b"\x08\xa1\x01\x02\x03\x04\x05\x06\x07\x08",
+        12,
+        2,
+        Ended,
+    ),
+    (
+        b"\x00\xe1\x00\x02\x00\x1f",
+        b"\x00\xa1\x00\xa1",
+        6,
+        3,
+        Ended,
+    ),
+    // Up to a Release or a fault.
+    (
+        b"\x00\xe1\x01\x01\x01\x01\xe2\x02\x42\x02\x03\x04\xb1\x61\xff\x7a\x10\xe2\x20\x01\x04\x05\x00\xe4\x00\xe2\x0f",
+        b"\x01\xa1\x01\x01\xe3\x02\x02\xa1\x03\x04\x10\xe3\x20\x01\xa1\x05",
+        24,
+        7,
+        PeerRelease,
+    ),
+    (
+        b"\x00\xe1\x01\x01\x01\x0f\x01\x01\x02",
+        b"\x01\xa1\x01\xd0\x04\xe5\xffbad token length",
+        6,
+        2,
+        TokenLength,
+    ),
+];
+
+/// The other messages on an open connection.
+const OTHERS: [Row; 16] = [
+    // Pongs, responses and further signals are ignored.
+    (b"\x00\xe1\x00\xe3", b"", 4, 2, Ended),
+    (b"\x00\xe1\x02\xe3\x01\x02\x10\xe3\x20", b"", 9, 3, Ended),
+    (
+        b"\x00\xe1\x00\x45\x01\x45\x02\x00\x84\x00\xa0",
+        b"",
+        11,
+        5,
+        Ended,
+    ),
+    (b"\x00\xe1\x00\x60\x00\x7f", b"", 6, 3, Ended),
+    (
+        b"\x00\xe1\x00\xe0\x00\xe6\x00\xff\x10\xe6\x10",
+        b"",
+        11,
+        5,
+        Ended,
+    ),
+    (b"\x00\xe1\x00\x00\x00\xe2", b"\x00\xe3", 6, 3, Ended),
+    // A critical option, Release and Abort stop.
+    (
+        b"\x00\xe1\x10\xe3\x10",
+        BAD_SIGNAL_OPTION,
+        5,
+        2,
+        BadSignalOption,
+    ),
+    (
+        b"\x00\xe1\x10\xe4\x10",
+        BAD_SIGNAL_OPTION,
+        5,
+        2,
+        BadSignalOption,
+    ),
+    (b"\x00\xe1\x00\xe4", b"", 4, 2, PeerRelease),
+    (b"\x00\xe1\x10\xe4\x20\x00\xe2", b"", 5, 2, PeerRelease),
+    (b"\x00\xe1\x00\xe5", b"", 4, 2, PeerAbort),
+    (b"\x00\xe1\x10\xe5\x10\x00\xe2", b"", 5, 2, PeerAbort),
+    // So do codes of the classes 1 and 6.
+    (b"\x00\xe1\x00\x20", RESERVED_CODE, 4, 2, ReservedCode),
+    (
+        b"\x00\xe1\x00\x3f\x00\xe2",
+        RESERVED_CODE,
+        4,
+        2,
+        ReservedCode,
+    ),
+    (b"\x00\xe1\x00\xc0", RESERVED_CODE, 4, 2, ReservedCode),
+    (b"\x00\xe1\x01\xdf\x01", RESERVED_CODE, 5, 2, ReservedCode),
+];
+
+/// What comes before the peer's Capabilities and Settings.
+const EARLY: [Row; 12] = [
+    (b"\x00\xe2", CSM_EXPECTED, 2, 1, CsmExpected),
+    (b"\x00\x00\x00\xe2", CSM_EXPECTED, 4, 2, CsmExpected),
+    (b"\x01\x01\x01\x00\xe1", CSM_EXPECTED, 3, 1, CsmExpected),
+    (b"\x00\x45", CSM_EXPECTED, 2, 1, CsmExpected),
+    (b"\x00\xe3", CSM_EXPECTED, 2, 1, CsmExpected),
+    (b"\x00\xe4", CSM_EXPECTED, 2, 1, CsmExpected),
+    (b"\x00\xe6", CSM_EXPECTED, 2, 1, CsmExpected),
+    (b"\x10\xe2\x10", CSM_EXPECTED, 3, 1, CsmExpected),
+    (b"\x00\xe5", b"", 2, 1, PeerAbort),
+    (b"\x00\x20", RESERVED_CODE, 2, 1, ReservedCode),
+    (b"\x00\xc0", RESERVED_CODE, 2, 1, ReservedCode),
+    (b"\x00\x00\x00", b"", 3, 1, Cut),
+];
+
+/// Capabilities and Settings. The first critical option stops, or a first Max-Message-Size of more than 4 bytes.
+const SETTINGS: [Row; 15] = [
+    (b"\x10\xe1\x10", BAD_CSM_OPTION_1, 3, 1, BadCsm(1)),
+    (b"\x10\xe1\x40\x00\xe2", b"\x00\xe3", 5, 2, Ended),
+    (b"\x20\xe1\x20\x10", BAD_CSM_OPTION_3, 4, 1, BadCsm(3)),
+    (
+        b"\x30\xe1\xe0\x00\x20",
+        b"\xd0\x05\xe5\x22\x01\x2d\xffbad CSM option",
+        5,
+        1,
+        BadCsm(301),
+    ),
+    (b"\x10\xe1\x20", b"", 3, 1, Ended),
+    (b"\x50\xe1\x24\x00\x00\x00\x0b", b"", 7, 1, Ended),
+    (
+        b"\x60\xe1\x25\x00\x00\x00\x00\x0b",
+        BAD_CSM_OPTION_2,
+        8,
+        1,
+        BadCsm(2),
+    ),
+    (
+        b"\x60\xe1\x25\x00\x00\x00\x00\x01",
+        BAD_CSM_OPTION_2,
+        8,
+        1,
+        BadCsm(2),
+    ),
+    (
+        b"\x70\xe1\x10\x15\x00\x00\x00\x00\x01",
+        BAD_CSM_OPTION_1,
+        9,
+        1,
+        BadCsm(1),
+    ),
+    (
+        b"\x70\xe1\x25\x00\x00\x00\x00\x01\x10",
+        BAD_CSM_OPTION_2,
+        9,
+        1,
+        BadCsm(2),
+    ),
+    (b"\x70\xe1\x20\x05\x00\x00\x00\x00\x01", b"", 9, 1, Ended),
+    // Later ones too.
+    (b"\x00\xe1\x10\xe1\x10", BAD_CSM_OPTION_1, 5, 2, BadCsm(1)),
+    (
+        b"\x00\xe1\x01\xe2\x01\x10\xe1\x10\x01\xe2\x02",
+        b"\x01\xe3\x01\xd0\x04\xe5\x21\x01\xffbad CSM option",
+        8,
+        3,
+        BadCsm(1),
+    ),
+    // With a last option whose value is cut, and with all of it.
+    (b"\x70\xe1\x23\x10\x00\x00\x20\x21", b"", 8, 0, Cut),
+    (b"\x70\xe1\x23\x10\x00\x00\x20\x21\x08", b"", 9, 1, Ended),
+];
+
+/// What is sent fits the size that the peer announced.
+const SIZES: [Row; 22] = [
+    (b"\x20\xe1\x21\x0a", b"", 4, 1, Ended),
+    (b"\x20\xe1\x21\x0b\x00\xe2", b"\x00\xe3", 6, 2, Ended),
+    // A response, bare as it is, or a stop.
+    (b"\x20\xe1\x21\x02\x01\x01\x01", b"", 7, 2, PeerTooSmall),
+    (
+        b"\x20\xe1\x21\x02\x01\x01\x01\x00\xe2",
+        b"",
+        7,
+        2,
+        PeerTooSmall,
+    ),
+    (b"\x20\xe1\x21\x02\x00\x01", b"\x00\xa1", 6, 2, Ended),
+    (
+        b"\x20\xe1\x21\x03\x01\x01\x01",
+        b"\x01\xa1\x01",
+        7,
+        2,
+        Ended,
+    ),
+    (b"\x20\xe1\x21\x03\x02\x01\x01\x02", b"", 8, 2, PeerTooSmall),
+    // A Pong, without its options, or a stop.
+    (
+        b"\x20\xe1\x21\x04\x11\xe2\x06\x20",
+        b"\x11\xe3\x06\x20",
+        8,
+        2,
+        Ended,
+    ),
+    (
+        b"\x20\xe1\x21\x03\x11\xe2\x06\x20",
+        b"\x01\xe3\x06",
+        8,
+        2,
+        Ended,
+    ),
+    (b"\x20\xe1\x21\x02\x11\xe2\x06\x20", b"", 8, 2, PeerTooSmall),
+    (b"\x20\xe1\x21\x02\x01\xe2\x06", b"", 7, 2, PeerTooSmall),
+    (b"\x20\xe1\x21\x02\x10\xe2\x20", b"\x00\xe3", 7, 2, Ended),
+    // An Abort, without its text, or none.
+    (
+        b"\x20\xe1\x21\x14\x10\xe1\x10",
+        BAD_CSM_OPTION_1,
+        7,
+        2,
+        BadCsm(1),
+    ),
+    (
+        b"\x20\xe1\x21\x13\x10\xe1\x10",
+        b"\x20\xe5\x21\x01",
+        7,
+        2,
+        BadCsm(1),
+    ),
+    (
+        b"\x20\xe1\x21\x04\x10\xe1\x10",
+        b"\x20\xe5\x21\x01",
+        7,
+        2,
+        BadCsm(1),
+    ),
+    (b"\x20\xe1\x21\x03\x10\xe1\x10", b"", 7, 2, BadCsm(1)),
+    (b"\x10\xe1\x20\x10\xe1\x10", b"", 6, 2, BadCsm(1)),
+    (b"\x20\xe1\x21\x02\x00\x20", b"\x00\xe5", 6, 2, ReservedCode),
+    (b"\x20\xe1\x21\x01\x00\x20", b"", 6, 2, ReservedCode),
+    (b"\x20\xe1\x21\x14\x09", BAD_TOKEN_LENGTH, 5, 1, TokenLength),
+    (b"\x20\xe1\x21\x13\x09", b"\x00\xe5", 5, 1, TokenLength),
+    (b"\x20\xe1\x21\x01\x09", b"", 5, 1, TokenLength),
+];
+
+/// Which size counts: the first one of the last Capabilities and Settings that have any and do not stop.
+const ANNOUNCED: [Row; 9] = [
+    (b"\x40\xe1\x21\x0b\x01\x05", b"", 6, 1, Ended),
+    (b"\x40\xe1\x21\x0a\x01\x0b", b"", 6, 1, Ended),
+    (
+        b"\x40\xe1\x21\x03\x01\x02\x01\x01\x01",
+        b"\x01\xa1\x01",
+        9,
+        2,
+        Ended,
+    ),
+    (
+        b"\x40\xe1\x21\x02\x01\x03\x01\x01\x01",
+        b"",
+        9,
+        2,
+        PeerTooSmall,
+    ),
+    (
+        b"\x20\xe1\x21\x02\x20\xe1\x21\x03\x01\x01\x01",
+        b"\x01\xa1\x01",
+        11,
+        3,
+        Ended,
+    ),
+    (
+        b"\x20\xe1\x21\x03\x20\xe1\x21\x02\x01\x01\x01",
+        b"",
+        11,
+        3,
+        PeerTooSmall,
+    ),
+    (
+        b"\x20\xe1\x21\x02\x00\xe1\x01\x01\x01",
+        b"",
+        9,
+        3,
+        PeerTooSmall,
+    ),
+    (
+        b"\x20\xe1\x21\x04\x40\xe1\x11\x00\x11\x02",
+        b"\x20\xe5\x21\x01",
+        10,
+        2,
+        BadCsm(1),
+    ),
+    (
+        b"\x40\xe1\x21\x02\x11\x00",
+        BAD_CSM_OPTION_3,
+        6,
+        1,
+        BadCsm(3),
+    ),
+];
+
+/// Faults of the stream, each known at its byte, and ends within a frame.
+const FAULTS: [Row; 12] = [
+    (b"\x09", BAD_TOKEN_LENGTH, 1, 0, TokenLength),
+    (b"\x09\x00", BAD_TOKEN_LENGTH, 1, 0, TokenLength),
+    (b"\x00\xe1\x0f\x00", BAD_TOKEN_LENGTH, 3, 1, TokenLength),
+    (b"\xf0\xff\xff\xff\xff\x01", TOO_LARGE, 5, 0, TooLarge),
+    (b"\xe0\xfe\xf0", TOO_LARGE, 3, 0, TooLarge),
+    (b"\xe0\xfe\xef", b"", 3, 0, Cut),
+    (b"\xe1\xfe\xef\x00", TOO_LARGE, 3, 0, TooLarge),
+    (b"\x10\x01\xff", BAD_MESSAGE, 3, 0, Format),
+    (b"\x00\xe1\x10\x01\xff", BAD_MESSAGE, 5, 1, Format),
+    (b"\x00\xe1\x00", b"", 3, 1, Cut),
+    (
+        b"\x00\xe1\x01\xe2\x01\x10\x01\xff\x01\xe2\x02",
+        b"\x01\xe3\x01\xc0\xe5\xffbad message",
+        8,
+        2,
+        Format,
+    ),
+    (
+        b"\x00\xe1\x01\xe2\x01\x0f\x01\xe2\x02",
+        b"\x01\xe3\x01\xd0\x04\xe5\xffbad token length",
+        6,
+        2,
+        TokenLength,
+    ),
+];
 
 /// Where the read ends that begins at this byte of so many, gives so many bytes at most and none past a cut.
 fn read_end(begin: usize, length: usize, step: usize, cuts: [usize; 2]) -> usize {
@@ -336,17 +626,18 @@ fn read_end(begin: usize, length: usize, step: usize, cuts: [usize; 2]) -> usize
 }
 
 /// Where the read ends that gives the last byte that is judged, and how many reads there are up to it.
-fn reads_of(row: &Exchange, step: usize, cuts: [usize; 2]) -> (usize, usize) {
+fn reads_of(row: &Row, step: usize, cuts: [usize; 2]) -> (usize, usize) {
+    let &(input, _, judged, _, reason) = row;
     let mut end = 0;
     let mut reads: usize = 0;
-    for _ in 0..row.judged {
-        if end < row.judged {
-            end = read_end(end, row.input.len(), step, cuts);
+    for _ in 0..judged {
+        if end < judged {
+            end = read_end(end, input.len(), step, cuts);
             reads = reads.saturating_add(1);
         }
     }
-    match row.reason {
-        Reason::Ended | Reason::Cut => (end, reads.saturating_add(1)),
+    match reason {
+        Ended | Cut => (end, reads.saturating_add(1)),
         _ => (end, reads),
     }
 }
@@ -354,30 +645,29 @@ fn reads_of(row: &Exchange, step: usize, cuts: [usize; 2]) -> (usize, usize) {
 /// Runs a row over these devices, and compares all that is seen.
 fn run_row(
     rt: &(impl Abort + AllocGlobal),
-    row: &Exchange,
+    row: &Row,
     source_step: usize,
     cuts: [usize; 2],
     outlet_step: usize,
 ) {
-    let input = row.input;
+    let &(input, answers, _, messages, reason) = row;
     let mut source = Script::new(rt.alloc(), input, source_step, cuts);
     let mut outlet = Ledger::new(rt.alloc(), outlet_step);
     let result = serve_told(rt.alloc(), &mut source, &mut outlet, &usual(rt));
     let (read, reads) = reads_of(row, source_step, cuts);
     let report = Report {
         read: read as u64,
-        messages: row.messages,
-        reason: row.reason,
+        messages,
+        reason,
     };
     assert_eq!(rt;
         result,
         Ok(report),
         "at {input:?}, {source_step} and {cuts:?}"
     );
-    let answers = outlet.bytes.strip_prefix(OWN_CSM);
     assert_eq!(rt;
-        answers,
-        Some(row.answers),
+        outlet.bytes.strip_prefix(OWN_CSM),
+        Some(answers),
         "at {input:?}, {source_step} and {cuts:?}"
     );
     // There is no read behind that of the end or the stop.
@@ -394,21 +684,33 @@ fn run_row(
     );
 }
 
-#[test]
-fn serves_rows(rt: HostRuntime) {
-    for row in &rows() {
-        let length = row.input.len();
+/// Runs each row with reads of one byte, of two and of all, and with every cut and pair of cuts.
+fn run_rows(rt: &(impl Abort + AllocGlobal), rows: &[Row]) {
+    for row in rows {
+        let length = row.0.len();
         for outlet_step in [1, usize::MAX] {
-            run_row(&rt, row, 1, [0, 0], outlet_step);
-            run_row(&rt, row, 2, [0, 0], outlet_step);
-            run_row(&rt, row, usize::MAX, [0, 0], outlet_step);
+            run_row(rt, row, 1, [0, 0], outlet_step);
+            run_row(rt, row, 2, [0, 0], outlet_step);
+            run_row(rt, row, usize::MAX, [0, 0], outlet_step);
         }
         for first in 0..length {
             for second in first..length {
-                run_row(&rt, row, usize::MAX, [first, second], 1);
+                run_row(rt, row, usize::MAX, [first, second], 1);
             }
         }
     }
+}
+
+#[test]
+fn serves_rows(rt: HostRuntime) {
+    run_rows(&rt, &PINGS);
+    run_rows(&rt, &REQUESTS);
+    run_rows(&rt, &OTHERS);
+    run_rows(&rt, &EARLY);
+    run_rows(&rt, &SETTINGS);
+    run_rows(&rt, &SIZES);
+    run_rows(&rt, &ANNOUNCED);
+    run_rows(&rt, &FAULTS);
 }
 
 /// Compares what a run over these devices answered and wrote. The source gives so many bytes a read at most.
@@ -449,7 +751,7 @@ fn stops_at_device_faults(rt: HostRuntime) {
     let whole = Ok(Report {
         read: 6,
         messages: 2,
-        reason: Reason::Ended,
+        reason: Ended,
     });
     // The read behind n bytes fails.
     for n in 0..6 {
@@ -474,20 +776,22 @@ fn stops_at_device_faults(rt: HostRuntime) {
 
 #[test]
 fn stops_within_a_piece(rt: HostRuntime) {
-    // Two Pings, one of them with Custody, and a request.
-    let input = b"\x00\xe1\x01\xe2\x01\x00\x00\x11\xe2\x02\x20\x00\x01\x00\xe2";
-    let output = b"\x40\xe1\x23\x01\x00\x00\x01\xe3\x01\x11\xe3\x02\x20";
-    let refused = Ok(Report {
+    // Two Pings, one of them with Custody, a message with a reserved code, and a Ping that is not looked at.
+    let input = b"\x00\xe1\x01\xe2\x01\x00\x00\x11\xe2\x02\x20\x00\x20\x00\xe2";
+    let pongs = b"\x40\xe1\x23\x01\x00\x00\x01\xe3\x01\x11\xe3\x02\x20";
+    let output =
+        b"\x40\xe1\x23\x01\x00\x00\x01\xe3\x01\x11\xe3\x02\x20\xd0\x01\xe5\xffreserved code";
+    let stopped = Ok(Report {
         read: 15,
-        messages: 4,
-        reason: Reason::NotYet,
+        messages: 5,
+        reason: ReservedCode,
     });
     let source = (&input[..], usize::MAX);
     // The first read fails, or a second one would.
     let faults = (Some(0), None, usize::MAX);
     run_faulty(&rt, source, MANY, faults, Err(IoFault::Read), OWN_CSM);
     let faults = (Some(1), None, usize::MAX);
-    run_faulty(&rt, source, 1, faults, refused, output);
+    run_faulty(&rt, source, 1, faults, stopped, output);
     // The write behind n bytes gives no count, or takes none.
     for n in 0..output.len() {
         let want = Err(IoFault::Write);
@@ -495,36 +799,38 @@ fn stops_within_a_piece(rt: HostRuntime) {
         run_faulty(&rt, source, 1, faults, want, &output[..n]);
         run_faulty(&rt, source, 1, (None, None, n), want, &output[..n]);
     }
-    run_faulty(&rt, source, 1, (None, None, 13), refused, output);
-    // The piece ends before the request or in it, and the next read fails.
+    run_faulty(&rt, source, 1, (None, None, 30), stopped, output);
+    // The piece ends before the message that stops or in it, and the next read fails.
     for step in 11..13 {
         let source = (&input[..], step);
         let faults = (Some(1), None, usize::MAX);
-        run_faulty(&rt, source, MANY, faults, Err(IoFault::Read), output);
+        run_faulty(&rt, source, MANY, faults, Err(IoFault::Read), pongs);
     }
 }
 
 #[test]
 fn counts_turns(rt: HostRuntime) {
-    let request = (&b"\x00\xe1\x01\x01\x01"[..], 1);
-    let refused = Ok(Report {
-        read: 5,
-        messages: 1,
-        reason: Reason::NotYet,
-    });
     let sound = (None, None, usize::MAX);
-    run_faulty(&rt, request, 2, sound, Err(IoFault::Turns), OWN_CSM);
-    run_faulty(&rt, request, 4, sound, Err(IoFault::Turns), OWN_CSM);
-    run_faulty(&rt, request, 5, sound, refused, OWN_CSM);
+    let turns = Err(IoFault::Turns);
+    // A Ping with a critical option stops at its last byte.
+    let odd = (&b"\x00\xe1\x10\xe2\x10"[..], 1);
+    let aborted = b"\x40\xe1\x23\x01\x00\x00\xd0\x05\xe5\xffbad signal option";
+    let stopped = Ok(Report {
+        read: 5,
+        messages: 2,
+        reason: BadSignalOption,
+    });
+    run_faulty(&rt, odd, 2, sound, turns, OWN_CSM);
+    run_faulty(&rt, odd, 4, sound, turns, OWN_CSM);
+    run_faulty(&rt, odd, 5, sound, stopped, aborted);
     // The read that finds the end is a turn.
     let ping = b"\x00\xe1\x00\xe2";
     let answered = b"\x40\xe1\x23\x01\x00\x00\x00\xe3";
     let ended = Ok(Report {
         read: 4,
         messages: 2,
-        reason: Reason::Ended,
+        reason: Ended,
     });
-    let turns = Err(IoFault::Turns);
     run_faulty(&rt, (ping, 1), 3, sound, turns, OWN_CSM);
     run_faulty(&rt, (ping, 1), 4, sound, turns, answered);
     run_faulty(&rt, (ping, 1), 5, sound, ended, answered);
@@ -537,20 +843,25 @@ fn counts_turns(rt: HostRuntime) {
 
 #[test]
 fn reads_pieces_of_4096_bytes(rt: HostRuntime) -> Result<(), Fail> {
-    // Capabilities and Settings, and 2,000 Pings with a token of one byte.
+    // Capabilities and Settings, and 1,000 Pings and 1,000 requests, each with a token of one byte.
     let mut input = b"\x00\xe1".to_vec(rt.alloc())?;
     let mut output = OWN_CSM.to_vec(rt.alloc())?;
     for n in 0u32..2_000 {
         let token = (n % 251) as u8;
-        input.extend_from_slice(&[0x01, 0xe2, token])?;
-        output.extend_from_slice(&[0x01, 0xe3, token])?;
+        let (code, answer) = if n % 2 == 0 {
+            (0xe2, 0xe3)
+        } else {
+            (0x01, 0xa1)
+        };
+        input.extend_from_slice(&[0x01, code, token])?;
+        output.extend_from_slice(&[0x01, answer, token])?;
     }
     let ended = Report {
         read: 6_002,
         messages: 2_001,
-        reason: Reason::Ended,
+        reason: Ended,
     };
-    // A read of 4,096 bytes ends within a Ping; one more piece, and the end.
+    // A read of 4,096 bytes ends within a message; one more piece, and the end.
     for (step, reads) in [
         (usize::MAX, 3),
         (5_000, 3),
@@ -574,7 +885,7 @@ fn reads_pieces_of_4096_bytes(rt: HostRuntime) -> Result<(), Fail> {
     let report = Report {
         read: 65_536,
         messages: 1,
-        reason: Reason::Ended,
+        reason: Ended,
     };
     assert_eq!(rt; result, Ok(report));
     assert_eq!(rt; source.given.len(), 17);
@@ -588,13 +899,15 @@ fn takes_messages_up_to_its_size(rt: HostRuntime) -> Result<(), Fail> {
     greatest.resize(1_152, 7)?;
     let mut longer = b"\xe0\x03\x70\x00\xff".to_vec(rt.alloc())?;
     longer.resize(1_153, 7)?;
+    let csm = &b"\x30\xe1\x22\x04\x80"[..];
+    let aborted = &b"\x30\xe1\x22\x04\x80\xd0\x05\xe5\xffmessage too large"[..];
     let rows = [
-        (greatest.as_slice(), 1, 1_152, 1, Reason::Ended),
-        (greatest.as_slice(), usize::MAX, 1_152, 1, Reason::Ended),
-        (longer.as_slice(), 1, 3, 0, Reason::TooLarge),
-        (longer.as_slice(), usize::MAX, 1_153, 0, Reason::TooLarge),
+        (greatest.as_slice(), 1, 1_152, 1, Ended, csm),
+        (greatest.as_slice(), usize::MAX, 1_152, 1, Ended, csm),
+        (longer.as_slice(), 1, 3, 0, TooLarge, aborted),
+        (longer.as_slice(), usize::MAX, 1_153, 0, TooLarge, aborted),
     ];
-    for (input, step, read, messages, reason) in rows {
+    for (input, step, read, messages, reason, output) in rows {
         let mut source = Script::new(rt.alloc(), input, step, [0, 0]);
         let mut outlet = Ledger::new(rt.alloc(), 1);
         let config = config(&rt, 1_152, 2_000);
@@ -605,7 +918,7 @@ fn takes_messages_up_to_its_size(rt: HostRuntime) -> Result<(), Fail> {
             reason,
         };
         assert_eq!(rt; result, Ok(report));
-        assert_eq!(rt; outlet.bytes.as_slice(), &b"\x30\xe1\x22\x04\x80"[..]);
+        assert_eq!(rt; outlet.bytes.as_slice(), output);
     }
     let mut source = Script::new(rt.alloc(), b"", 1, [0, 0]);
     let mut outlet = Ledger::new(rt.alloc(), 1);
@@ -675,7 +988,7 @@ fn serves_over_std(rt: HostRuntime) {
     let report = Report {
         read: 6,
         messages: 2,
-        reason: Reason::Ended,
+        reason: Ended,
     };
     assert_eq!(rt; result, Ok(report));
     assert!(rt; !source.failed() && !outlet.failed());
@@ -727,7 +1040,8 @@ fn tells_std_faults(rt: HostRuntime) {
     }
 }
 
-/// `rt try --test --fail-alloc 1` refuses the only allocation of this test, that of `serve_one`.
+/// `rt try --test --fail-alloc 1` refuses the first allocation of this test, that of the framer in `serve_one`, and
+/// `--fail-alloc 2` the second and last one, that of the output queue.
 #[test]
 fn leaves_devices_without_memory(rt: HostRuntime) {
     let mut reader = Counted {
@@ -748,57 +1062,6 @@ fn leaves_devices_without_memory(rt: HostRuntime) {
     assert!(rt; result.is_ok() || is_refused);
     assert_eq!(rt; reader.reads, if is_refused { 0 } else { 2 });
     assert_eq!(rt; writer.writes, if is_refused { 0 } else { 8 });
-}
-
-#[test]
-fn refuses_limits(rt: HostRuntime) {
-    use LimitFault::{MaxMessage, MaxSent, Observers, Outstanding, Pending, Queue};
-    let rows = [
-        ((1_151, 65_536, 131_072, 16, 16, 16), Some((MaxMessage, 1))),
-        (
-            (1_048_577, 65_536, 131_072, 16, 16, 16),
-            Some((MaxMessage, 1)),
-        ),
-        ((65_536, 1_151, 131_072, 16, 16, 16), Some((MaxSent, 2))),
-        ((65_536, 65_537, 131_072, 16, 16, 16), Some((MaxSent, 2))),
-        ((65_536, 65_536, 65_535, 16, 16, 16), Some((Queue, 3))),
-        ((65_536, 65_536, 4_194_305, 16, 16, 16), Some((Queue, 3))),
-        ((65_536, 65_536, 131_072, 257, 16, 16), Some((Pending, 4))),
-        ((65_536, 65_536, 131_072, 16, 257, 16), Some((Observers, 5))),
-        ((65_536, 65_536, 131_072, 16, 16, 0), Some((Outstanding, 6))),
-        (
-            (65_536, 65_536, 131_072, 16, 16, 257),
-            Some((Outstanding, 6)),
-        ),
-        // The first fault is told.
-        ((0, 0, 0, 257, 257, 0), Some((MaxMessage, 1))),
-        ((65_536, 65_536, 131_072, 257, 257, 257), Some((Pending, 4))),
-        ((1_152, 1_152, 1_152, 0, 0, 1), None),
-        ((1_048_576, 65_536, 4_194_304, 256, 256, 256), None),
-        ((65_536, 65_536, 65_536, 16, 17, 18), None),
-    ];
-    for (values, fault) in rows {
-        let (max_message, max_sent, queue, pending, observers, outstanding) = values;
-        match Limits::new(
-            max_message,
-            max_sent,
-            queue,
-            pending,
-            observers,
-            outstanding,
-        ) {
-            Ok(limits) => {
-                assert_eq!(rt; fault, None, "at {queue}");
-                assert_eq!(rt; limits.max_message(), max_message);
-                assert_eq!(rt; limits.max_sent(), max_sent);
-                assert_eq!(rt; limits.queue(), queue);
-                assert_eq!(rt; limits.pending(), pending);
-                assert_eq!(rt; limits.observers(), observers);
-                assert_eq!(rt; limits.outstanding(), outstanding);
-            }
-            Err(told) => assert_eq!(rt; fault, Some((told, told as u8)), "at {queue}"),
-        }
-    }
 }
 
 #[test]
@@ -841,17 +1104,6 @@ fn refuses_configurations(rt: HostRuntime) {
 
 #[test]
 fn numbers_and_texts(rt: HostRuntime) -> Result<(), Fail> {
-    let reasons = [
-        (Reason::NotYet, 0),
-        (Reason::Format, 1),
-        (Reason::TooLarge, 2),
-        (Reason::TokenLength, 3),
-        (Reason::Ended, 11),
-        (Reason::Cut, 12),
-    ];
-    for (reason, number) in reasons {
-        assert_eq!(rt; reason as u8, number);
-    }
     let faults = [
         (IoFault::Read, 1, "cannot read"),
         (IoFault::Write, 2, "cannot write"),
@@ -862,11 +1114,18 @@ fn numbers_and_texts(rt: HostRuntime) -> Result<(), Fail> {
         assert_eq!(rt; fault as u8, number);
         assert_eq!(rt; format!(in rt.alloc(); "{fault}")?.as_str(), text);
     }
-    let text = format!(in rt.alloc(); "{}; {}", LimitFault::Pending, ConfigFault::Dynamic)?;
-    assert_eq!(rt;
-        text.as_str(),
-        "at most 256 held answers; at most 1,000 dynamic resources"
-    );
+    let faults = [
+        (ConfigFault::Connections, "1 to 256 connections"),
+        (ConfigFault::Dynamic, "at most 1,000 dynamic resources"),
+        (
+            ConfigFault::Representation,
+            "a representation has at most 1,048,576 bytes",
+        ),
+        (ConfigFault::Turns, "1 to 1,000,000,000,000 turns"),
+    ];
+    for (fault, text) in faults {
+        assert_eq!(rt; format!(in rt.alloc(); "{fault}")?.as_str(), text);
+    }
     assert_eq!(rt;
         Starts::default(),
         Starts {

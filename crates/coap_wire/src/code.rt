@@ -23,6 +23,21 @@ impl Code {
     /// 0.00, Empty (RFC 7252 section 4.1, RFC 8323 section 3.4).
     pub const EMPTY: Code = Code { byte: 0x00 };
 
+    /// 2.01, Created (RFC 7252 section 5.9.1.1).
+    pub const CREATED: Code = Code { byte: 0x41 };
+
+    /// 2.02, Deleted (RFC 7252 section 5.9.1.2).
+    pub const DELETED: Code = Code { byte: 0x42 };
+
+    /// 2.04, Changed (RFC 7252 section 5.9.1.4).
+    pub const CHANGED: Code = Code { byte: 0x44 };
+
+    /// 5.00, Internal Server Error (RFC 7252 section 5.9.3.1).
+    pub const INTERNAL_SERVER_ERROR: Code = Code { byte: 0xa0 };
+
+    /// 5.01, Not Implemented (RFC 7252 section 5.9.3.2).
+    pub const NOT_IMPLEMENTED: Code = Code { byte: 0xa1 };
+
     /// 7.01, Capabilities and Settings (RFC 8323 section 5.3).
     pub const CSM: Code = Code { byte: 0xe1 };
 
@@ -31,6 +46,12 @@ impl Code {
 
     /// 7.03, Pong (RFC 8323 section 5.4).
     pub const PONG: Code = Code { byte: 0xe3 };
+
+    /// 7.04, Release (RFC 8323 section 5.5).
+    pub const RELEASE: Code = Code { byte: 0xe4 };
+
+    /// 7.05, Abort (RFC 8323 section 5.6).
+    pub const ABORT: Code = Code { byte: 0xe5 };
 
     /// The code with this byte. Every byte is a code.
     pub const fn new(byte: u8) -> Code
@@ -60,3 +81,25 @@ impl Code {
         self.byte % 32
     }
 }
+
+const _: () = prove!(Code::EMPTY.byte == 0);
+
+const _: () = prove!(Code::CREATED.byte == 2 * 32 + 1);
+
+const _: () = prove!(Code::DELETED.byte == 2 * 32 + 2);
+
+const _: () = prove!(Code::CHANGED.byte == 2 * 32 + 4);
+
+const _: () = prove!(Code::INTERNAL_SERVER_ERROR.byte == 5 * 32);
+
+const _: () = prove!(Code::NOT_IMPLEMENTED.byte == 5 * 32 + 1);
+
+const _: () = prove!(Code::CSM.byte == 7 * 32 + 1);
+
+const _: () = prove!(Code::PING.byte == 7 * 32 + 2);
+
+const _: () = prove!(Code::PONG.byte == 7 * 32 + 3);
+
+const _: () = prove!(Code::RELEASE.byte == 7 * 32 + 4);
+
+const _: () = prove!(Code::ABORT.byte == 7 * 32 + 5);

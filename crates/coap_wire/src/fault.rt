@@ -41,3 +41,23 @@ pub enum BuildFault {
     #[error("40 options are there")]
     Full = 3,
 }
+
+const _: () = prove!(FormatFault::TokenLength as u8 == 1);
+
+const _: () = prove!(FormatFault::OptionDelta as u8 == 2);
+
+const _: () = prove!(FormatFault::OptionLength as u8 == 3);
+
+const _: () = prove!(FormatFault::OptionCut as u8 == 4);
+
+const _: () = prove!(FormatFault::OptionNumber as u8 == 5);
+
+const _: () = prove!(FormatFault::EmptyPayload as u8 == 6);
+
+const _: () = prove!(FormatFault::NotOneFrame as u8 == 7);
+
+const _: () = prove!(BuildFault::Order as u8 == 1);
+
+const _: () = prove!(BuildFault::TooLong as u8 == 2);
+
+const _: () = prove!(BuildFault::Full as u8 == 3);

@@ -5,7 +5,7 @@ use Rattle.coap_serve.proofs.serve.run.Given as goal
 abbrev pub invariant-loop : goal.invariant-loop
 invariant-loop g l =
     record {
-      runs : RunsOn l.fn.connection.M l.counter l.read l.connection (g.R.Source.told l.fn.reader) (g.R.Source.told l.reader) (g.W.Outlet.written l.fn.writer) (g.W.Outlet.written l.writer);
+      runs : RunsOn l.fn.connection.link.limits l.counter l.read l.connection (g.R.Source.told l.fn.reader) (g.R.Source.told l.reader) (g.W.Outlet.written l.fn.writer) (g.W.Outlet.written l.writer);
       reader_works : g.R.Source.is_failed l.reader ≡ false;
       writer_works : g.W.Outlet.is_failed l.writer ≡ false;
       read : l.read ≤ 4096 * l.counter;

@@ -1,0 +1,46 @@
+-- What Capabilities and Settings announce.
+use Rattle.std.proofs.Common.{◌≡◌, ℕ, ◌<◌, ◌≤◌, Bool, true, false, ◌||◌, ◌&&◌, cond, List, [], ◌∷◌, length, Option, Some, None, refl, sym, ap, subst, ◌∙◌, inl, inr}
+use Rattle.std.specs.Prelude.{nat_lt, option_map, is_none, find}
+use Rattle.std.proofs.lemmas.Bool.{cases_lt, lt-ltb, le-ltb}
+use Rattle.coap_wire.specs.Message.{CoapOption, Message}
+use Rattle.coap_wire.specs.Uint.{uint_of}
+use Rattle.coap_conn.specs.Announced.{is_odd, is_size, is_bad, is_long, first_size, bad_csm_option}
+
+bad_step : (x o : CoapOption) (r s : Option CoapOption) (odd size : Bool) → cond size (Some x) r ≡ Some o → cond (odd || (size && true)) (Some x) s ≡ None → (r ≡ Some o → s ≡ None → ⊥) → ⊥
+bad_step x o r s true size e f go = let bad : ◌≡◌ {A = Option CoapOption} (Some x) None = f in cc
+bad_step x o r s false true e f go = let bad : ◌≡◌ {A = Option CoapOption} (Some x) None = f in cc
+bad_step x o r s false false e f go = go e f
+
+-- where the first Max-Message-Size is too long, there is an option that may not be there
+bad_when_long : (os : List CoapOption) (o : CoapOption) → find is_size os ≡ Some o → find (is_bad true) os ≡ None → ⊥
+bad_when_long [] o e f = let bad : ◌≡◌ {A = Option CoapOption} None (Some o) = e in cc
+bad_when_long (x ∷ xs) o e f = bad_step x o (find is_size xs) (find (is_bad true) xs) (is_odd x) (is_size x) e f (bad_when_long xs o)
+
+no_number : (r : Option CoapOption) → option_map (λ (o : CoapOption). o.number) r ≡ None → r ≡ None
+no_number None e = refl
+no_number (Some o) e = let bad : ◌≡◌ {A = Option ℕ} (Some o.number) None = e in absurd cc
+
+-- a value of at most 4 bytes is a number, and a longer one is none
+pub long_is_no_number : (o : CoapOption) (bytes : Option ℕ) → (length o.value ≤ 4 → bytes ≡ Some (uint_of o.value)) → (4 < length o.value → bytes ≡ None) → is_none bytes ≡ is_long (Some o)
+long_is_no_number o bytes within above =
+    elim (cases_lt 4 (length o.value)) [
+      | inl long ↦ rw (above long, lt-ltb 4 (length o.value) long) refl
+      | inr short ↦ rw (within short, le-ltb 4 (length o.value) short) refl
+    ]
+
+-- where no option may not be there, the first Max-Message-Size is a number
+pub announced_is : (m : Message) (o : CoapOption) (bytes : Option ℕ) → first_size m ≡ Some o → (length o.value ≤ 4 → bytes ≡ Some (uint_of o.value)) → (4 < length o.value → bytes ≡ None)
+    → option_map (λ (p : CoapOption). p.number) (find (is_bad (is_none bytes)) m.options) ≡ None → bytes ≡ option_map (λ (p : CoapOption). uint_of p.value) (first_size m)
+announced_is m o bytes first within above none =
+    elim (cases_lt 4 (length o.value)) [
+      | inl long ↦ (
+          let bad : find (is_bad true) m.options ≡ None = no_number (find (is_bad true) m.options) (ap (λ (b : Option ℕ). option_map (λ (p : CoapOption). p.number) (find (is_bad (is_none b)) m.options)) (sym (above long)) ∙ none) in
+          absurd (bad_when_long m.options o first bad))
+      | inr short ↦ within short ∙ ap (option_map (λ (p : CoapOption). uint_of p.value)) (sym first)
+    ]
+
+-- the option that may not be there, by whether the first Max-Message-Size is a number
+pub bad_is : (m : Message) (o : CoapOption) (bytes : Option ℕ) → first_size m ≡ Some o → (length o.value ≤ 4 → bytes ≡ Some (uint_of o.value)) → (4 < length o.value → bytes ≡ None)
+    → bad_csm_option m ≡ option_map (λ (p : CoapOption). p.number) (find (is_bad (is_none bytes)) m.options)
+bad_is m o bytes first within above =
+    ap (λ (long : Bool). option_map (λ (p : CoapOption). p.number) (find (is_bad long) m.options)) (ap is_long first ∙ sym (long_is_no_number o bytes within above))

@@ -1,0 +1,114 @@
+-- What was announced last counts, and whatever is queued fits.
+use Rattle.std.proofs.Common.{◌≡◌, ℕ, ◌≤◌, Bool, true, false, not, ◌&&◌, ◌||◌, ◌==◌, List, [], ◌∷◌, ◌++◌, length, min, Option, Some, None, refl, sym, ap, ◌∙◌, arith}
+use Rattle.std.specs.Prelude.{nat_le}
+use Rattle.std.specs.List.{AllByRecursion, filter_map}
+use Rattle.std.proofs.lemmas.Bool.{cond_both, leb-true}
+use Rattle.std.proofs.lemmas.List.Elements.{filter_map-append}
+use Rattle.coap_wire.specs.Message.{Message}
+use Rattle.coap_wire.specs.Spelling.{spelling}
+use Rattle.coap_conn.specs.declared.reason.Reason.{Reason}
+use Rattle.coap_conn.specs.declared.reason.Reason.TheVariants as reason
+use Rattle.coap_conn.specs.declared.phase.Role.{Role}
+use Rattle.coap_conn.specs.declared.phase.Role.TheVariants.{Server, Client}
+use Rattle.coap_conn.specs.declared.phase.Reply.{Reply}
+use Rattle.coap_conn.specs.declared.phase.Reply.TheVariants.{Whole, Bare, Stopped}
+use Rattle.coap_conn.specs.Reasons.{abort_of}
+use Rattle.coap_conn.specs.Announced.{announcement, announced, last_or, has_odd_option, bad_csm_option}
+use Rattle.coap_conn.specs.Fit.{AllFit, fit, fitted, abort_fitted, without_payload, without_options, bare_response}
+use Rattle.coap_conn.specs.Limits.{LimitValues, AreInRange}
+use Rattle.coap_conn.specs.Reaction.{Standing, Reaction, react, open_reaction, csm_reaction, request_reaction, send, send_as, stop, stops, becomes, is_reserved, is_signal, is_request, is_waiting, minds_odd_options, pong_of, not_implemented}
+use Rattle.coap_conn.specs.History.{History, begun, limit_now, standing_now, release, own_csm}
+use Rattle.coap_conn.proofs.LinkLemmas.{announced_none}
+use Rattle.coap_conn.proofs.SmallLemmas.{csm_small, release_small}
+
+-- ---- the last announcement
+
+nothing_announced : (n : ℕ) (ms : List Message) → AllByRecursion (λ m. announcement m ≡ None) ms → last_or n (filter_map announcement ms) ≡ n
+nothing_announced n [] each = refl
+nothing_announced n (m ∷ ms) each = rw each.0 (nothing_announced n ms each.1)
+
+pub base_where_none : (ms : List Message) → AllByRecursion (λ m. announcement m ≡ None) ms → announced ms ≡ 1152
+unfolding announced
+base_where_none ms each = nothing_announced 1152 ms each
+
+last_behind : (n x : ℕ) (xs ys : List ℕ) → last_or n (xs ++ x ∷ ys) ≡ last_or x ys
+last_behind n x [] ys = refl
+last_behind n x (y ∷ xs) ys = last_behind y x xs ys
+
+announced_first : (m : Message) (n : ℕ) (ms : List Message) → announcement m ≡ Some n → filter_map announcement (m ∷ ms) ≡ n ∷ filter_map announcement ms
+announced_first m n ms e = rw e refl
+
+pub last_counts : (before after : List Message) (m : Message) (n : ℕ) → announcement m ≡ Some n → AllByRecursion (λ m. announcement m ≡ None) after → announced (before ++ m ∷ after) ≡ n
+unfolding announced
+last_counts before after m n e each =
+    ap (last_or 1152) (filter_map-append announcement before (m ∷ after) ∙ ap (λ (xs : List ℕ). filter_map announcement before ++ xs) (announced_first m n after e))
+    ∙ last_behind 1152 n (filter_map announcement before) (filter_map announcement after)
+    ∙ nothing_announced n after each
+
+-- ---- whatever is queued fits
+
+fitted_fit : (limit : ℕ) (m less : Message) → AllFit limit (fitted m less (fit limit m less))
+fitted_fit limit m less =
+    cond_both (nat_le (length (spelling m)) limit) Whole _ (λ r. AllFit limit (fitted m less r)) (λ e. (leb-true (length (spelling m)) limit e, tt))
+    (λ e. cond_both (nat_le (length (spelling less)) limit) Bare Stopped (λ r. AllFit limit (fitted m less r)) (λ f. (leb-true (length (spelling less)) limit f, tt)) (λ f. tt))
+
+abort_fit : (limit : ℕ) (abort : Option Message) → AllFit limit (abort_fitted limit abort)
+abort_fit limit None = tt
+abort_fit limit (Some m) = fitted_fit limit m (without_payload m)
+
+stop_fit : (s : Standing) (why : Reason) → AllFit s.limit (stop s why).queued
+stop_fit s why = abort_fit s.limit (abort_of why)
+
+sent_as : (s : Standing) (m less : Message) (r : Reply) → AllFit s.limit (fitted m less r) → AllFit s.limit (send_as s m less r).queued
+sent_as s m less Whole each = each
+sent_as s m less Bare each = each
+sent_as s m less Stopped each = tt
+
+send_fit : (s : Standing) (m less : Message) → AllFit s.limit (send s m less).queued
+send_fit s m less = sent_as s m less (fit s.limit m less) (fitted_fit s.limit m less)
+
+abbrev Fits : Standing → Reaction → Type 0
+Fits s r = AllFit s.limit r.effect.queued
+
+csm_fit : (s : Standing) (bad : Option ℕ) → Fits s (csm_reaction s bad)
+csm_fit s None = tt
+csm_fit s (Some number) = stop_fit s (reason.BadCsm number)
+
+request_fit : (s : Standing) (m : Message) (role : Role) → Fits s (request_reaction s m role)
+request_fit s m Server = tt
+request_fit s m Client = send_fit s (not_implemented m) (bare_response (not_implemented m))
+
+open_fit : (s : Standing) (m : Message) → Fits s (open_reaction s m)
+open_fit s m =
+    cond_both (minds_odd_options m.code && has_odd_option m) _ _ (Fits s) (λ e. stop_fit s reason.BadSignalOption)
+    (λ e. cond_both (m.code == 0xe2) _ _ (Fits s) (λ e. send_fit s (pong_of m) (without_options (pong_of m)))
+    (λ e. cond_both (m.code == 0xe4) _ _ (Fits s) (λ e. tt)
+    (λ e. cond_both (m.code == 0xe3) _ _ (Fits s) (λ e. tt)
+    (λ e. cond_both (is_signal m.code) _ _ (Fits s) (λ e. tt)
+    (λ e. cond_both (is_request m.code) _ _ (Fits s) (λ e. request_fit s m s.role) (λ e. tt))))))
+
+react_fit : (s : Standing) (m : Message) → Fits s (react s m)
+unfolding react
+react_fit s m =
+    cond_both (is_reserved m.code) _ _ (Fits s) (λ e. stop_fit s reason.ReservedCode)
+    (λ e. cond_both (m.code == 0x00) _ _ (Fits s) (λ e. tt)
+    (λ e. cond_both (m.code == 0xe5) _ _ (Fits s) (λ e. stop_fit s reason.PeerAbort)
+    (λ e. cond_both (m.code == 0xe1) _ _ (Fits s) (λ e. csm_fit s (bad_csm_option m))
+    (λ e. cond_both (is_waiting s.phase) _ _ (Fits s) (λ e. stop_fit s reason.CsmExpected) (λ e. open_fit s m)))))
+
+pub begun_fits : (role : Role) (limits : LimitValues) (tokens : ℕ) → AreInRange limits → AllFit (limit_now (begun role limits tokens)) (begun role limits tokens).queued
+begun_fits role limits tokens ranges =
+    let low = ranges.sent_low in
+    (omega (arith, low, csm_small limits.max_message, ap (λ (n : ℕ). min limits.max_sent n) announced_none), tt)
+
+pub reaction_fits : (h : History) (m : Message) → AllFit (limit_now h) (react (standing_now h) m).effect.queued
+reaction_fits h m = react_fit (standing_now h) m
+
+pub sent_fits : (h : History) (m less : Message) → AllFit (limit_now h) (send (standing_now h) m less).queued
+sent_fits h m less = send_fit (standing_now h) m less
+
+pub stopped_fits : (h : History) (why : Reason) → AllFit (limit_now h) (stop (standing_now h) why).queued
+stopped_fits h why = stop_fit (standing_now h) why
+
+pub released_fits : (h : History) → 2 ≤ limit_now h → AllFit (limit_now h) (release ∷ [])
+released_fits h enough = (omega (arith, enough, release_small), tt)

@@ -1,0 +1,6 @@
+pub mod LinkLemmas
+pub mod SmallLemmas
+pub mod CsmLemmas
+pub mod HistoryLaws
+pub mod RequestLemmas
+pub mod FirstLaws

@@ -1,0 +1,52 @@
+-- The messages of the connection itself are small.
+use Rattle.std.proofs.Common.{◌≡◌, ℕ, zero, suc, ◌+◌, ◌-◌, ◌≤◌, ltb, List, [], ◌∷◌, ◌++◌, length, refl, ap, ◌∙◌, arith}
+use Rattle.std.specs.Int.{w64, to_be_bytes}
+use Rattle.std.proofs.lemmas.Bool.{cond_both}
+use Rattle.std.proofs.lemmas.List.{append-nil, length-append}
+use Rattle.coap_wire.specs.Message.{CoapOption, Message}
+use Rattle.coap_wire.specs.Forms.{length_form, option_form}
+use Rattle.coap_wire.specs.Spelling.{spelling, option_spelling, body_spelling, head_spelling}
+use Rattle.coap_wire.specs.Uint.{uint_text, without_leading_zeros}
+use Rattle.coap_conn.specs.History.{own_csm, release}
+
+abbrev IsShort : ℕ → ℕ × List ℕ → Type 0
+IsShort most form = length form.1 ≤ most
+
+length_extension : (n : ℕ) → IsShort 4 (length_form n)
+length_extension n =
+    cond_both (ltb n 13) (n, []) _ (IsShort 4) (λ e. omega arith) (λ e. cond_both (ltb n 269) (13, (n - 13) ∷ []) _ (IsShort 4) (λ e. omega arith) (λ e. cond_both (ltb n 65805) _ _ (IsShort 4) (λ e. omega arith) (λ e. omega arith)))
+
+option_extension : (n : ℕ) → IsShort 2 (option_form n)
+option_extension n = cond_both (ltb n 13) (n, []) _ (IsShort 2) (λ e. omega arith) (λ e. cond_both (ltb n 269) (13, (n - 13) ∷ []) _ (IsShort 2) (λ e. omega arith) (λ e. omega arith))
+
+option_size : (base : ℕ) (o : CoapOption) → length (option_spelling base o) ≤ 5 + length o.value
+option_size base o =
+    omega (arith, option_extension (o.number - base), option_extension (length o.value), length-append (option_form (o.number - base)).1 ((option_form (length o.value)).1 ++ o.value), length-append (option_form (length o.value)).1 o.value)
+
+head_size : (code : ℕ) (token : List ℕ) (n : ℕ) → length (head_spelling code token n) ≤ 6 + length token
+head_size code token n = omega (arith, length_extension n, length-append (length_form n).1 (code ∷ token))
+
+one_option : (code : ℕ) (token : List ℕ) (o : CoapOption) → length (spelling (record { code = code; token = token; options = o ∷ []; payload = [] })) ≤ 11 + (length token + length o.value)
+unfolding spelling
+one_option code token o =
+    let m : Message = record { code = code; token = token; options = o ∷ []; payload = [] } in
+    omega (arith, head_size code token (length (body_spelling m)), option_size 0 o, length-append (head_spelling code token (length (body_spelling m))) (body_spelling m), length-append (option_spelling 0 o ++ []) [], length-append (option_spelling 0 o) [])
+
+few_zeros : (s : List ℕ) → length (without_leading_zeros s) ≤ length s
+few_zeros [] = omega arith
+few_zeros (zero ∷ s) = let h = few_zeros s in omega (arith, few_zeros s)
+few_zeros (suc b ∷ s) = omega arith
+
+pub csm_small : (M : ℕ) → length (spelling (own_csm M)) ≤ 24
+unfolding uint_text
+csm_small M = omega (arith, one_option 225 [] (record { number = 2; value = uint_text M }), few_zeros (to_be_bytes w64 M))
+
+pub release_small : length (spelling release) ≡ 2
+unfolding spelling
+release_small = refl
+
+pub csm_text_small : (M : ℕ) → length (spelling (own_csm M) ++ []) ≤ 24
+csm_text_small M = omega (arith, csm_small M, ap (λ (t : List ℕ). length t) (append-nil (spelling (own_csm M))))
+
+pub release_text_small : length (spelling release ++ []) ≡ 2
+release_text_small = ap (λ (t : List ℕ). length t) (append-nil (spelling release)) ∙ release_small

@@ -1,0 +1,17 @@
+use Rattle.coap_conn.proofs.HistoryLaws.{begun_fits, reaction_fits, sent_fits, stopped_fits, released_fits}
+use Rattle.coap_conn.proofs.laws.what_is_queued_fits.Goals as goal
+
+pub returns-clause-begun : goal.returns-clause-begun
+returns-clause-begun c = begun_fits
+
+pub returns-clause-message : goal.returns-clause-message
+returns-clause-message c = reaction_fits
+
+pub returns-clause-sent : goal.returns-clause-sent
+returns-clause-sent c = sent_fits
+
+pub returns-clause-stopped : goal.returns-clause-stopped
+returns-clause-stopped c = stopped_fits
+
+pub returns-clause-released : goal.returns-clause-released
+returns-clause-released c = released_fits

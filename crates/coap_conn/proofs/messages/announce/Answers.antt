@@ -1,0 +1,14 @@
+use Rattle.std.proofs.Common.{rules, ◌≡◌, ℕ, length, ap, arith}
+use Rattle.coap_wire.specs.Message.{Message}
+use Rattle.coap_wire.specs.Spelling.{spelling}
+use Rattle.coap_conn.specs.History.{own_csm}
+use Rattle.coap_conn.proofs.SmallLemmas.{csm_small, csm_text_small}
+use Rattle.coap_conn.proofs.messages.announce.Goals as goal
+
+pub put-requires : goal.put-requires
+put-requires c =
+    let same : c.option.new.self ≡ own_csm c.args.max_message = search rules in
+    omega (arith, csm_small c.args.max_message, ap (λ (m : Message). length (spelling m)) same, c.requires)
+
+pub returns-clause-small : goal.returns-clause-small
+returns-clause-small c = csm_text_small c.args.max_message

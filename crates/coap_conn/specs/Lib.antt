@@ -1,0 +1,13 @@
+pub mod Limits
+pub mod LimitViews
+pub mod Reasons
+pub mod Announced
+pub mod Fit
+pub mod Verdicts
+pub mod Reaction
+pub mod History
+pub mod LinkValue
+pub mod LinkViews
+pub mod QueueValue
+pub mod QueueViews
+pub mod Release

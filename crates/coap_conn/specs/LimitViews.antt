@@ -1,0 +1,12 @@
+-- How the code's limits are seen in contracts.
+use Rattle.coap_conn.specs.Limits.{LimitValues, AreInRange}
+use Rattle.coap_conn.specs.declared.limits.Limits.TheInside.{Inside}
+
+abbrev pub limit_values : Inside → LimitValues
+limit_values l = record { max_message = l.max_message; max_sent = l.max_sent; queue = l.queue; pending = l.pending; observers = l.observers; outstanding = l.outstanding }
+
+abbrev pub are_limits : Inside → Type 0
+are_limits l = AreInRange (limit_values l)
+
+abbrev pub limit_fields : LimitValues → Inside
+limit_fields l = record { max_message = l.max_message; max_sent = l.max_sent; queue = l.queue; pending = l.pending; observers = l.observers; outstanding = l.outstanding }

@@ -1,0 +1,49 @@
+-- The limits of a connection, and why values are refused as limits.
+use Rattle.std.specs.Prelude.{ℕ, ◌≤◌, Bool, ◌&&◌, Option, Some, None, nat_le, if◌then◌else◌}
+use Rattle.coap_conn.specs.declared.limits.LimitFault.{LimitFault}
+use Rattle.coap_conn.specs.declared.limits.LimitFault.TheVariants as limit
+
+-- the limits of a connection: bytes of a message taken and of one sent, bytes of the output queue, held answers,
+-- observers, outstanding requests
+pub record LimitValues : Type 0 where
+  pub max_message : ℕ
+  pub max_sent : ℕ
+  pub queue : ℕ
+  pub pending : ℕ
+  pub observers : ℕ
+  pub outstanding : ℕ
+
+abbrev pub limits_of : (max_message max_sent queue pending observers outstanding : ℕ) → LimitValues
+limits_of max_message max_sent queue pending observers outstanding =
+    record { max_message = max_message; max_sent = max_sent; queue = queue; pending = pending; observers = observers; outstanding = outstanding }
+
+-- the ranges
+pub record AreInRange (l : LimitValues) : Type 0 where
+  pub message_low : 1152 ≤ l.max_message
+  pub message_high : l.max_message ≤ 1048576
+  pub sent_low : 1152 ≤ l.max_sent
+  pub sent_high : l.max_sent ≤ 65536
+  pub queue_low : l.max_sent ≤ l.queue
+  pub queue_high : l.queue ≤ 4194304
+  pub pending_high : l.pending ≤ 256
+  pub observers_high : l.observers ≤ 256
+  pub outstanding_low : 1 ≤ l.outstanding
+  pub outstanding_high : l.outstanding ≤ 256
+
+abbrev pub is_within : ℕ → ℕ → ℕ → Bool
+is_within low n high = nat_le low n && nat_le n high
+
+-- the first value out of its range
+abbrev pub limit_refusal : LimitValues → Option LimitFault
+limit_refusal l =
+    if is_within 1152 l.max_message 1048576
+    then (if is_within 1152 l.max_sent 65536
+    then (if is_within l.max_sent l.queue 4194304
+    then (if nat_le l.pending 256
+    then (if nat_le l.observers 256
+    then (if is_within 1 l.outstanding 256 then None else Some limit.Outstanding)
+    else Some limit.Observers)
+    else Some limit.Pending)
+    else Some limit.Queue)
+    else Some limit.MaxSent)
+    else Some limit.MaxMessage

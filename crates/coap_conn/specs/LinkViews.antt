@@ -1,0 +1,26 @@
+-- How the code's link and its verdicts are seen in contracts.
+use Rattle.std.specs.Prelude.{◌≡◌}
+use Rattle.coap_conn.specs.LinkValue.{LinkValue, IsLink}
+use Rattle.coap_conn.specs.Verdicts.{VerdictValue}
+use Rattle.coap_conn.specs.Verdicts as value
+use Rattle.coap_conn.specs.declared.phase.Verdict.{Verdict}
+use Rattle.coap_conn.specs.declared.phase.Verdict.TheVariants.{Opened, Done, Request, Answer, Pong, Stranger, Stopped}
+use Rattle.coap_conn.specs.declared.link.Link.TheInside.{Inside}
+
+abbrev pub link_value : Inside → LinkValue
+link_value l =
+    record { role = l.role; limits = l.limits; waiting = l.queue.waiting; phase = l.phase; peer_max = l.peer_max; tokens = l.tokens }
+
+-- the queue has the room that the limits name
+abbrev pub is_link : Inside → Type 0
+is_link l = IsLink (link_value l) × (l.queue.bytes ≡ l.limits.queue)
+
+-- a verdict without where its token lies
+abbrev pub verdict_value : Verdict → VerdictValue
+verdict_value Opened = value.Opened
+verdict_value Done = value.Done
+verdict_value Request = value.Request
+verdict_value (Answer token last) = value.Answer token.items last
+verdict_value (Pong token custody) = value.Pong token.items custody
+verdict_value Stranger = value.Stranger
+verdict_value (Stopped why) = value.Stopped why

@@ -1,0 +1,69 @@
+-- Why a connection stops, and the Abort that tells the peer so (RFC 8323 section 5.6).
+use Rattle.std.specs.Prelude.{ℕ, List, [], ◌∷◌, Option, Some, None, codes, option_map, unwrap_or}
+use Rattle.coap_wire.specs.Message.{CoapOption, Message}
+use Rattle.coap_wire.specs.Uint.{uint_text}
+use Rattle.coap_conn.specs.declared.reason.Reason.{Reason}
+use Rattle.coap_conn.specs.declared.reason.Reason.TheVariants.{Format, TooLarge, TokenLength, ReservedCode, CsmExpected, BadCsm, BadSignalOption, PeerAbort, PeerRelease, PeerTooSmall, Ended, Cut, ReleasedHere}
+
+abbrev pub reason_number : Reason → ℕ
+reason_number Format = 1
+reason_number TooLarge = 2
+reason_number TokenLength = 3
+reason_number ReservedCode = 4
+reason_number CsmExpected = 5
+reason_number (BadCsm number) = 6
+reason_number BadSignalOption = 7
+reason_number PeerAbort = 8
+reason_number PeerRelease = 9
+reason_number PeerTooSmall = 10
+reason_number Ended = 11
+reason_number Cut = 12
+reason_number ReleasedHere = 13
+
+-- the text of the Abort, where one is sent
+abbrev pub abort_text : Reason → Option (List ℕ)
+abort_text Format = Some (codes "bad message")
+abort_text TooLarge = Some (codes "message too large")
+abort_text TokenLength = Some (codes "bad token length")
+abort_text ReservedCode = Some (codes "reserved code")
+abort_text CsmExpected = Some (codes "CSM expected")
+abort_text (BadCsm number) = Some (codes "bad CSM option")
+abort_text BadSignalOption = Some (codes "bad signal option")
+abort_text PeerAbort = None
+abort_text PeerRelease = None
+abort_text PeerTooSmall = None
+abort_text Ended = None
+abort_text Cut = None
+abort_text ReleasedHere = None
+
+-- the number that Abort tells
+abbrev pub number_told : Reason → Option ℕ
+number_told Format = None
+number_told TooLarge = None
+number_told TokenLength = None
+number_told ReservedCode = None
+number_told CsmExpected = None
+number_told (BadCsm number) = Some number
+number_told BadSignalOption = None
+number_told PeerAbort = None
+number_told PeerRelease = None
+number_told PeerTooSmall = None
+number_told Ended = None
+number_told Cut = None
+number_told ReleasedHere = None
+
+-- Bad-CSM-Option, option 2 of Abort, with this value where there is a number (RFC 8323 section 5.6)
+abbrev pub told_options : Option ℕ → List ℕ → List CoapOption
+told_options None text = []
+told_options (Some number) text = record { number = 2; value = text } ∷ []
+
+abbrev pub abort_options : Option ℕ → List CoapOption
+abort_options number = told_options number (uint_text (unwrap_or number 0))
+
+-- an Abort with these options and this text
+abbrev pub abort_with : List CoapOption → List ℕ → Message
+abort_with options text = record { code = 0xe5; token = []; options = options; payload = text }
+
+-- the Abort for a reason, where one is sent
+abbrev pub abort_of : Reason → Option Message
+abort_of why = option_map (abort_with (abort_options (number_told why))) (abort_text why)

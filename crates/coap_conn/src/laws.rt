@@ -1,0 +1,50 @@
+//! What holds of every connection, each as the contract of a function that does nothing.
+
+ghost use Rattle.std.specs.Prelude.{◌≡◌, ℕ, ◌≤◌, List, [], ◌∷◌, ◌++◌, Bool, Some, None};
+ghost use Rattle.std.specs.List.{AllByRecursion};
+ghost use Rattle.coap_wire.specs.Message.{Message};
+ghost use Rattle.coap_conn.specs.Announced.{bad_csm_option, announcement, announced};
+ghost use Rattle.coap_conn.specs.Fit.{AllFit};
+ghost use Rattle.coap_conn.specs.Limits.{LimitValues, AreInRange};
+ghost use Rattle.coap_conn.specs.History.{History, AnnouncedFirst, begun, limit_now, standing_now, release, after_message, after_send, after_reject, after_end, after_release, after_written};
+ghost use Rattle.coap_conn.specs.Reaction.{Standing, react, send, stop};
+ghost use Rattle.coap_conn.specs.Verdicts.{Request};
+ghost use Rattle.coap_conn.specs.declared.phase.Phase.TheVariants.{Waiting, Open};
+ghost use Rattle.coap_conn.specs.declared.phase.Reject.{Reject};
+ghost use Rattle.coap_conn.specs.declared.phase.Role.{Role};
+ghost use Rattle.coap_conn.specs.declared.reason.Reason.{Reason};
+
+/// The greatest message that the peer takes is the one that it announced last, and 1,152 bytes where it announced none
+/// (RFC 8323 section 5.3.1).
+pub fn last_announcement_counts()
+    ensures none { (ms : List Message) → AllByRecursion (λ m. announcement m ≡ None) ms → announced ms ≡ 1152 }
+    ensures last { (before after : List Message) (m : Message) (n : ℕ) → announcement m ≡ Some n → AllByRecursion (λ m. announcement m ≡ None) after → announced (before ++ m ∷ after) ≡ n }
+{}
+
+/// Whatever is queued is at most as great as the peer takes at that moment, and as the own greatest message.
+pub fn what_is_queued_fits()
+    ensures begun { (role : Role) (limits : LimitValues) (tokens : ℕ) → AreInRange limits → AllFit (limit_now (begun role limits tokens)) (begun role limits tokens).queued }
+    ensures message { (h : History) (m : Message) → AllFit (limit_now h) (react (standing_now h) m).effect.queued }
+    ensures sent { (h : History) (m less : Message) → AllFit (limit_now h) (send (standing_now h) m less).queued }
+    ensures stopped { (h : History) (why : Reason) → AllFit (limit_now h) (stop (standing_now h) why).queued }
+    ensures released { (h : History) → 2 ≤ limit_now h → AllFit (limit_now h) (release ∷ []) }
+{}
+
+/// The own Capabilities and Settings are the first message queued, and stay so (RFC 8323 section 5.3).
+pub fn own_announcement_comes_first()
+    ensures begun { (role : Role) (limits : LimitValues) (tokens : ℕ) → AnnouncedFirst (begun role limits tokens) }
+    ensures message { (h : History) (m : Message) → AnnouncedFirst h → AnnouncedFirst (after_message h m) }
+    ensures sent { (h : History) (m less : Message) → AnnouncedFirst h → AnnouncedFirst (after_send h m less) }
+    ensures rejected { (h : History) (fault : Reject) → AnnouncedFirst h → AnnouncedFirst (after_reject h fault) }
+    ensures ended { (h : History) (cut : Bool) → AnnouncedFirst h → AnnouncedFirst (after_end h cut) }
+    ensures released { (h : History) → AnnouncedFirst h → AnnouncedFirst (after_release h) }
+    ensures written { (h : History) (n : ℕ) → AnnouncedFirst h → AnnouncedFirst (after_written h n) }
+{}
+
+/// Before the peer's Capabilities and Settings no request is handled, and nothing but they open the connection (RFC 8323
+/// section 3.3).
+pub fn peer_announces_before_requests()
+    ensures request { (s : Standing) (m : Message) → s.phase ≡ Waiting → (react s m).verdict ≡ Request → ⊥ }
+    ensures opens_by_code { (s : Standing) (m : Message) → s.phase ≡ Waiting → (react s m).effect.phase ≡ Open → m.code ≡ 0xe1 }
+    ensures opens_whole { (s : Standing) (m : Message) → s.phase ≡ Waiting → (react s m).effect.phase ≡ Open → bad_csm_option m ≡ None }
+{}

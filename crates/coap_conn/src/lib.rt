@@ -1,0 +1,20 @@
+//! One connection of CoAP over reliable transports: its signalling messages and its output queue (RFC 8323 sections 3.3,
+//! 3.4 and 5).
+#![tactic(auto)]
+
+mod csm;
+pub mod laws;
+mod limits;
+mod link;
+mod messages;
+mod phase;
+mod queue;
+mod reason;
+#[cfg(test)]
+mod tests;
+
+pub use limits::{LimitFault, Limits};
+pub use link::Link;
+pub use phase::{Phase, Reject, Reply, Role, SendFault, Verdict};
+pub use queue::OutQueue;
+pub use reason::Reason;

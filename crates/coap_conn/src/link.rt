@@ -1,0 +1,462 @@
+//! One side of a connection.
+
+ghost use Rattle.std.specs.Prelude.{◌≡◌};
+ghost use Rattle.coap_conn.specs.Reaction.{is_waiting as waits, is_reserved as reserved, minds_odd_options as minds_odd};
+ghost use Rattle.coap_conn.specs.LinkValue.{is_over as over};
+ghost use Rattle.coap_conn.specs.History.{reject_reason};
+
+use crate::csm::{announced_size, has_odd_option};
+use crate::limits::Limits;
+use crate::messages::{
+    abort_text, abort_with, announce, bad_csm_number, bare_of, pong_to, queue_release,
+};
+use crate::phase::{Phase, Reject, Reply, Role, SendFault, Verdict};
+use crate::queue::OutQueue;
+use crate::reason::Reason;
+use coap_wire::{Builder, Code, MessageRef, uint_bytes};
+use std::alloc::{AllocError, Global};
+use std::marker::Model;
+
+/// The greatest message that a peer takes which has announced none (RFC 8323 section 5.3.1).
+const BASE_SIZE: u32 = 1_152;
+
+/// The bytes of Release.
+const RELEASE_SIZE: usize = 2;
+
+/// One side of a connection: what was announced, how it stands, and the bytes that wait to be written. Contracts see a
+/// `LinkValue`, and which history of messages it shows.
+#[derive(Debug, Drop)]
+pub struct Link {
+    role: Role,
+    limits: Limits,
+    queue: OutQueue,
+    phase: Phase,
+    peer_max: u32,
+    tokens: u64,
+}
+
+impl Model for Link {
+    ghost use Rattle.coap_conn.specs.LinkValue.{LinkValue};
+
+    ghost Value = { LinkValue };
+
+    ghost use Rattle.coap_conn.specs.LinkViews.{link_value, is_link};
+
+    ghost view = { link_value };
+
+    ghost invariant = { is_link };
+}
+
+impl Link {
+    ghost use Rattle.std.specs.Prelude.{◌≡◌, ◌≤◌, ◌++◌, ◌↔◌, ⊤, length, if◌then◌else◌, IsTrue, IfOk, OnOk, OnErr};
+    ghost use Rattle.std.specs.Borrow.{sem, follows_so};
+    ghost use mathlib.Core.Option.{none};
+    ghost use Rattle.coap_wire.specs.Spelling.{spelling};
+    ghost use Rattle.coap_wire.specs.Refusal.{RefusedBy};
+    ghost use Rattle.coap_conn.specs.Announced.{bad_csm_option};
+    ghost use Rattle.coap_conn.specs.Fit.{fit, fitted, bare_response};
+    ghost use Rattle.coap_conn.specs.Reaction.{react, stop, told_of, csm_reaction, open_reaction, request_reaction};
+    ghost use Rattle.coap_conn.specs.Verdicts as verdict;
+    ghost use Rattle.coap_conn.specs.declared.phase.Phase.TheVariants as phase;
+    ghost use Rattle.coap_conn.specs.History.{History, text_of, begun, after_message, after_reject, after_end, after_reply, after_release, after_written};
+    ghost use Rattle.coap_conn.specs.LinkValue.{Shows, IsLink, IsReady, IsLive, IsAnswering, free_in, limit_in, standing_in, is_finished, link_begun, link_with, link_after_message, link_after_csm, link_after_send, link_after_reply, link_after_reject, link_after_end, link_after_release, link_after_written};
+    ghost use Rattle.coap_conn.specs.LinkViews.{verdict_value};
+    ghost use Rattle.coap_conn.specs.Release.{release_refusal};
+    ghost use Rattle.coap_conn.specs.contracts.link.Link.{the_row};
+
+    /// A new connection, with the own Capabilities and Settings queued. The room of its queue is reserved here. The first
+    /// token that it gives is the number after `tokens_from`.
+    ///
+    /// # Errors
+    ///
+    /// Where the room is refused.
+    pub fn open(
+        alloc: Global,
+        role: Role,
+        limits: Limits,
+        tokens_from: u64,
+    ) -> Result<Link, AllocError>
+        ensures begun { IfOk result (λ l. l ≡ link_begun role limits tokens_from) }
+        ensures shows { IfOk result (λ l. Shows l (begun role limits tokens_from)) }
+    {
+        let mut queue = OutQueue::new(alloc, limits.queue())?;
+        announce(&mut queue, limits.max_message());
+        Ok(Link {
+            role,
+            limits,
+            queue,
+            phase: Phase::Waiting,
+            peer_max: BASE_SIZE,
+            tokens: tokens_from,
+        })
+    }
+
+    /// All bytes that wait.
+    pub fn front<'a>(&'a mut self) -> &'a [u8]
+        ensures* unchanged { sem 𝓛 (follows_so the_row the_row self.entry.ghost_name none (λ _ _. ⊤) (λ l. l ≡ self.old)) }
+        ensures front { result.now ≡ self.old.waiting }
+    {
+        self.queue.front()
+    }
+
+    /// The first so many bytes were written, and wait no more.
+    pub fn written(&mut self, count: usize)
+        requires { count ≤ length self.old.waiting }
+        ensures after { self.new ≡ link_after_written self.old count }
+        ensures shows { (h : History) → Shows self.old h → Shows self.new (after_written h count) }
+    {
+        self.queue.written(count);
+    }
+
+    /// How many bytes wait.
+    pub fn waiting(&self) -> usize
+        ensures count { result ≡ length self.now.waiting }
+        ensures kept { IsLink self.now }
+    {
+        self.queue.waiting()
+    }
+
+    /// How many bytes more can be queued.
+    pub fn free(&self) -> usize
+        ensures { result ≡ free_in self.now }
+    {
+        self.queue.free()
+    }
+
+    /// Whether there is room for the greatest message sent.
+    pub fn ready(&self) -> bool
+        ensures { IsTrue result ↔ IsReady self.now }
+    {
+        self.limits.max_sent() <= self.queue.free()
+    }
+
+    /// How it stands.
+    pub fn phase(&self) -> Phase
+        ensures { result ≡ self.now.phase }
+    {
+        self.phase
+    }
+
+    /// The greatest message that the peer takes, as it announced it last, or 1,152 bytes (RFC 8323 section 5.3.1).
+    pub fn peer_max(&self) -> u32
+        ensures { result ≡ self.now.peer_max }
+    {
+        self.peer_max
+    }
+
+    /// How many answers are held: none are yet.
+    pub fn pending(&self) -> usize
+        ensures { result ≡ 0 }
+    {
+        0
+    }
+
+    /// How many requests are outstanding: none are yet.
+    pub fn outstanding(&self) -> usize
+        ensures { result ≡ 0 }
+    {
+        0
+    }
+
+    /// Whether nothing more is to be written: it stopped, or its peer released it, and no byte waits. A request that the
+    /// caller has yet to answer is not counted.
+    pub fn finished(&self) -> bool
+        ensures { result ≡ is_finished self.now }
+    {
+        is_over(self.phase) && self.queue.waiting() == 0
+    }
+
+    /// Handles a message (RFC 8323 sections 3.3, 3.4 and 5). There must be room for the greatest message sent, and the
+    /// connection must take messages. Where it is a request, the caller answers it by `reply` before it hands over the next
+    /// message.
+    pub fn on(&mut self, message: &MessageRef) -> Verdict
+        requires ready { IsReady self.old }
+        requires live { IsLive self.old.phase }
+        ensures verdict { verdict_value result ≡ (react (standing_in self.old) message.now).verdict }
+        ensures after { self.new ≡ link_after_message self.old message.now }
+        ensures shows { (h : History) → Shows self.old h → Shows self.new (after_message h message.now) }
+        // A request can be answered at once.
+        ensures asked { verdict_value result ≡ verdict.Request → IsReady self.new × IsAnswering self.new.phase }
+    {
+        self.handle(message)
+    }
+
+    /// Stops on bytes that have a fault, with the Abort for it. The conditions are those of `on`.
+    pub fn reject(&mut self, fault: Reject)
+        requires ready { IsReady self.old }
+        requires live { IsLive self.old.phase }
+        ensures after { self.new ≡ link_after_reject self.old fault }
+        ensures shows { (h : History) → Shows self.old h → Shows self.new (after_reject h fault) }
+    {
+        let reason = reason_of(fault);
+        self.stop(reason);
+    }
+
+    /// Stops as the input ends, within a frame where it was cut. Nothing changes where no message is taken any more.
+    pub fn end(&mut self, cut: bool)
+        ensures after { self.new ≡ link_after_end self.old cut }
+        ensures shows { (h : History) → Shows self.old h → Shows self.new (after_end h cut) }
+    {
+        let reason = if cut { Reason::Cut } else { Reason::Ended };
+        match self.phase {
+            Phase::Waiting | Phase::Open => self.phase = Phase::Stopped(reason),
+            Phase::Releasing(_) | Phase::Stopped(_) => {}
+        }
+    }
+
+    /// Sends a response as it fits the peer: whole, or else its bare code and token, where a code other than 2.01, 2.02 and
+    /// 2.04 becomes 5.00, or else the connection stops. There must be room for the greatest message sent, and the connection
+    /// must be open or releasing.
+    pub fn reply(&mut self, response: &Builder) -> Reply
+        requires ready { IsReady self.old }
+        requires answering { IsAnswering self.old.phase }
+        ensures reply { result ≡ fit (limit_in self.old) response.now (bare_response response.now) }
+        ensures after { self.new ≡ link_after_reply self.old response.now }
+        ensures shows { (h : History) → Shows self.old h → Shows self.new (after_reply h response.now) }
+    {
+        let bare = bare_of(response);
+        self.send(response, &bare)
+    }
+
+    /// Sends Release and stops (RFC 8323 section 5.5).
+    ///
+    /// # Errors
+    ///
+    /// In this order: `NotOpen` where the connection is not open, `NoRoom` where fewer than 2 bytes are free, `PeerTooSmall`
+    /// where less than 2 bytes may be sent. Nothing has changed then.
+    pub fn release(&mut self) -> Result<(), SendFault>
+        ensures answer { RefusedBy result (release_refusal self.old) }
+        ensures after { OnOk result (self.new ≡ link_after_release self.old) }
+        ensures shows { OnOk result ((h : History) → Shows self.old h → Shows self.new (after_release h)) }
+        ensures err { OnErr result (self.new ≡ self.old) }
+    {
+        let Phase::Open = self.phase else {
+            return Err(SendFault::NotOpen);
+        };
+        if self.queue.free() < RELEASE_SIZE {
+            return Err(SendFault::NoRoom);
+        }
+        if self.limit() < RELEASE_SIZE {
+            return Err(SendFault::PeerTooSmall);
+        }
+        queue_release(&mut self.queue);
+        self.phase = Phase::Stopped(Reason::ReleasedHere);
+        Ok(())
+    }
+
+    /// The greatest message that may be sent.
+    fn limit(&self) -> usize
+        ensures { result ≡ limit_in self.now }
+    {
+        self.limits.max_sent().min(self.peer_max as usize)
+    }
+
+    /// Handles a message.
+    #[tactic(auto, unfolding(crate::specs::Reaction::react))]
+    fn handle(&mut self, message: &MessageRef) -> Verdict
+        requires { IsReady self.old }
+        ensures verdict { verdict_value result ≡ (react (standing_in self.old) message.now).verdict }
+        ensures after { self.new ≡ link_after_message self.old message.now }
+    {
+        let code = message.code();
+        if code == Code::CSM {
+            return self.on_csm(message);
+        }
+        if is_reserved(code) {
+            return self.stop(Reason::ReservedCode);
+        }
+        if code == Code::EMPTY {
+            return Verdict::Done;
+        }
+        if code == Code::ABORT {
+            return self.stop(Reason::PeerAbort);
+        }
+        if is_waiting(self.phase) {
+            return self.stop(Reason::CsmExpected);
+        }
+        self.on_open(message)
+    }
+
+    /// Queues a message as it fits the peer, or less in its place, or neither.
+    fn queue_fitted(&mut self, whole: &Builder, less: &Builder) -> Reply
+        requires { IsReady self.old }
+        ensures reply { result ≡ fit (limit_in self.old) whole.now less.now }
+        ensures after { self.new ≡ record self.old { waiting = self.old.waiting ++ text_of (fitted whole.now less.now result) } }
+    {
+        let limit = self.limit() as u64;
+        if whole.size() <= limit {
+            self.queue.put(whole);
+            return Reply::Whole;
+        }
+        if less.size() <= limit {
+            self.queue.put(less);
+            return Reply::Bare;
+        }
+        Reply::Stopped
+    }
+
+    /// Sends a message as it fits the peer, or less in its place, or stops.
+    fn send(&mut self, whole: &Builder, less: &Builder) -> Reply
+        requires { IsReady self.old }
+        ensures reply { result ≡ fit (limit_in self.old) whole.now less.now }
+        ensures after { self.new ≡ link_after_send self.old whole.now less.now }
+    {
+        let reply = self.queue_fitted(whole, less);
+        match reply {
+            Reply::Whole => {}
+            Reply::Bare => {}
+            Reply::Stopped => self.phase = Phase::Stopped(Reason::PeerTooSmall),
+        }
+        reply
+    }
+
+    /// Stops with the Abort for the reason, where there is one, as it fits the peer.
+    fn stop(&mut self, reason: Reason) -> Verdict
+        requires { IsReady self.old }
+        ensures verdict { verdict_value result ≡ verdict.Stopped reason }
+        ensures after { self.new ≡ link_with self.old (stop (standing_in self.old) reason) }
+    {
+        if let Some(text) = abort_text(reason) {
+            let number = bad_csm_number(reason);
+            let bytes = uint_bytes(number.unwrap_or(0) as u64);
+            let whole = abort_with(number, &bytes, text);
+            let less = abort_with(number, &bytes, &[]);
+            self.queue_fitted(&whole, &less);
+        }
+        self.phase = Phase::Stopped(reason);
+        Verdict::Stopped(reason)
+    }
+
+    /// Handles Capabilities and Settings (RFC 8323 section 5.3).
+    fn on_csm(&mut self, message: &MessageRef) -> Verdict
+        requires { IsReady self.old }
+        ensures verdict { verdict_value result ≡ (csm_reaction (standing_in self.old) (bad_csm_option message.now)).verdict }
+        ensures after { self.new ≡ link_after_csm self.old message.now }
+    {
+        match announced_size(message) {
+            Err(number) => self.stop(Reason::BadCsm(number)),
+            Ok(size) => {
+                if let Some(bytes) = size {
+                    self.peer_max = bytes;
+                }
+                self.open_now()
+            }
+        }
+    }
+
+    /// The connection is open.
+    fn open_now(&mut self) -> Verdict
+        ensures verdict { verdict_value result ≡ (if waits self.old.phase then verdict.Opened else verdict.Done) }
+        ensures after { self.new ≡ record self.old { phase = phase.Open } }
+    {
+        let was_waiting = is_waiting(self.phase);
+        self.phase = Phase::Open;
+        if was_waiting {
+            Verdict::Opened
+        } else {
+            Verdict::Done
+        }
+    }
+
+    /// Handles any other message on an open connection.
+    fn on_open(&mut self, message: &MessageRef) -> Verdict
+        requires { IsReady self.old }
+        ensures verdict { verdict_value result ≡ (open_reaction (standing_in self.old) message.now).verdict }
+        ensures after { self.new ≡ link_with self.old (open_reaction (standing_in self.old) message.now).effect }
+    {
+        let code = message.code();
+        if minds_odd_options(code) && has_odd_option(message) {
+            return self.stop(Reason::BadSignalOption);
+        }
+        if code == Code::PING {
+            let pong = pong_to(message);
+            return self.answer(&pong, &Builder::new(Code::PONG, message.token()));
+        }
+        if code == Code::RELEASE {
+            self.phase = Phase::Releasing(Reason::PeerRelease);
+            return Verdict::Stopped(Reason::PeerRelease);
+        }
+        if code == Code::PONG {
+            return Verdict::Stranger;
+        }
+        match code.class() {
+            7 => Verdict::Done,
+            0 => self.on_request(message),
+            _ => Verdict::Stranger,
+        }
+    }
+
+    /// Handles a request: the caller answers it at the server, and at the client it is not implemented.
+    fn on_request(&mut self, message: &MessageRef) -> Verdict
+        requires { IsReady self.old }
+        ensures verdict { verdict_value result ≡ (request_reaction (standing_in self.old) message.now self.old.role).verdict }
+        ensures after { self.new ≡ link_with self.old (request_reaction (standing_in self.old) message.now self.old.role).effect }
+    {
+        match self.role {
+            Role::Server => Verdict::Request,
+            Role::Client => {
+                let response = Builder::new(Code::NOT_IMPLEMENTED, message.token());
+                let bare = bare_of(&response);
+                self.answer(&response, &bare)
+            }
+        }
+    }
+
+    /// Sends the answer to a message.
+    fn answer(&mut self, whole: &Builder, less: &Builder) -> Verdict
+        requires { IsReady self.old }
+        ensures verdict { verdict_value result ≡ told_of (fit (limit_in self.old) whole.now less.now) }
+        ensures after { self.new ≡ link_after_send self.old whole.now less.now }
+    {
+        match self.send(whole, less) {
+            Reply::Whole => Verdict::Done,
+            Reply::Bare => Verdict::Done,
+            Reply::Stopped => Verdict::Stopped(Reason::PeerTooSmall),
+        }
+    }
+}
+
+/// Whether a code has the reserved class 1 or 6 (RFC 7252 section 12.1).
+fn is_reserved(code: Code) -> bool
+    ensures { result ≡ reserved code }
+{
+    code.class() == 1 || code.class() == 6
+}
+
+/// Whether a message with this code must have no critical option: Ping, Pong and Release.
+fn minds_odd_options(code: Code) -> bool
+    ensures { result ≡ minds_odd code }
+{
+    code == Code::PING || code == Code::PONG || code == Code::RELEASE
+}
+
+/// Whether the peer's Capabilities and Settings have not come.
+fn is_waiting(phase: Phase) -> bool
+    ensures { result ≡ waits phase }
+{
+    match phase {
+        Phase::Waiting => true,
+        Phase::Open | Phase::Releasing(_) | Phase::Stopped(_) => false,
+    }
+}
+
+/// Whether nothing is queued any more.
+fn is_over(phase: Phase) -> bool
+    ensures { result ≡ over phase }
+{
+    match phase {
+        Phase::Waiting | Phase::Open => false,
+        Phase::Releasing(_) | Phase::Stopped(_) => true,
+    }
+}
+
+/// Why a connection stops on such bytes.
+fn reason_of(fault: Reject) -> Reason
+    ensures { result ≡ reject_reason fault }
+{
+    match fault {
+        Reject::Format => Reason::Format,
+        Reject::TooLarge => Reason::TooLarge,
+        Reject::TokenLength => Reason::TokenLength,
+    }
+}

@@ -1,0 +1,115 @@
+//! The messages that a connection sends of itself.
+
+ghost use Rattle.std.specs.Prelude.{◌≡◌, ◌≤◌, ◌∷◌, ◌++◌, [], length, option_copied};
+ghost use Rattle.coap_conn.specs.Reasons.{abort_text as text_for, abort_with as abort_message, number_told, told_options};
+ghost use Rattle.coap_conn.specs.Reaction.{pong_of};
+ghost use Rattle.coap_conn.specs.Fit.{bare_response};
+ghost use Rattle.coap_conn.specs.History.{text_of, own_csm, release};
+ghost use Rattle.coap_conn.specs.QueueValue.{free_of};
+
+use crate::csm::{CUSTODY, MAX_MESSAGE_SIZE, asks_custody};
+use crate::queue::OutQueue;
+use crate::reason::Reason;
+use coap_wire::{Builder, Code, MessageRef, Token, uint_bytes};
+
+/// Bad-CSM-Option, an option of Abort (RFC 8323 section 5.6).
+const BAD_CSM_OPTION: u16 = 2;
+
+/// Queues the own Capabilities and Settings: Max-Message-Size, and nothing else (RFC 8323 section 5.3).
+pub(crate) fn announce(queue: &mut OutQueue, max_message: usize)
+    requires { 24 ≤ free_of queue.old }
+    ensures csm { queue.new ≡ record queue.old { waiting = queue.old.waiting ++ text_of (own_csm max_message ∷ []) } }
+    ensures small { length (text_of (own_csm max_message ∷ [])) ≤ 24 }
+{
+    let size = uint_bytes(max_message as u64);
+    let mut csm = Builder::new(Code::CSM, &Token::new());
+    let Ok(()) = csm.option(MAX_MESSAGE_SIZE, &size) else {
+        unreachable!()
+    };
+    queue.put(&csm);
+}
+
+/// Queues Release.
+pub(crate) fn queue_release(queue: &mut OutQueue)
+    requires { 2 ≤ free_of queue.old }
+    ensures queued { queue.new ≡ record queue.old { waiting = queue.old.waiting ++ text_of (release ∷ []) } }
+    ensures small { length (text_of (release ∷ [])) ≡ 2 }
+{
+    queue.put(&Builder::new(Code::RELEASE, &Token::new()));
+}
+
+/// The Pong to a Ping, with Custody where it was asked, since nothing is pending (RFC 8323 section 5.4).
+pub(crate) fn pong_to(message: &MessageRef) -> Builder<'static>
+    ensures { result ≡ pong_of message.now }
+{
+    let mut pong = Builder::new(Code::PONG, message.token());
+    if asks_custody(message) {
+        let Ok(()) = pong.option(CUSTODY, &[]) else {
+            unreachable!()
+        };
+    }
+    pong
+}
+
+/// What is sent in place of a response that is too large: its code and token, where a code other than 2.01, 2.02 and 2.04
+/// becomes 5.00.
+pub(crate) fn bare_of(response: &Builder) -> Builder<'static>
+    ensures { result ≡ bare_response response.now }
+{
+    let code = response.code();
+    let bare = if code == Code::CREATED || code == Code::DELETED || code == Code::CHANGED {
+        code
+    } else {
+        Code::INTERNAL_SERVER_ERROR
+    };
+    Builder::new(bare, response.token())
+}
+
+/// The number that Bad-CSM-Option tells.
+pub(crate) fn bad_csm_number(reason: Reason) -> Option<u16>
+    ensures { result ≡ number_told reason }
+{
+    match reason {
+        Reason::BadCsm(number) => Some(number),
+        _ => None,
+    }
+}
+
+/// The text of the Abort for a reason, where one is sent.
+pub(crate) fn abort_text(reason: Reason) -> Option<&'static [u8]>
+    ensures { option_copied result ≡ text_for reason }
+{
+    match reason {
+        Reason::Format => Some(b"bad message"),
+        Reason::TooLarge => Some(b"message too large"),
+        Reason::TokenLength => Some(b"bad token length"),
+        Reason::ReservedCode => Some(b"reserved code"),
+        Reason::CsmExpected => Some(b"CSM expected"),
+        Reason::BadCsm(_) => Some(b"bad CSM option"),
+        Reason::BadSignalOption => Some(b"bad signal option"),
+        Reason::PeerAbort => None,
+        Reason::PeerRelease => None,
+        Reason::PeerTooSmall => None,
+        Reason::Ended => None,
+        Reason::Cut => None,
+        Reason::ReleasedHere => None,
+    }
+}
+
+/// An Abort with this text, and with Bad-CSM-Option where there is a number (RFC 8323 section 5.6).
+pub(crate) fn abort_with<'a>(number: Option<u16>, bytes: &'a [u8], text: &'a [u8]) -> Builder<'a>
+    requires short { length bytes.now ≤ 8 }
+    requires small { length text.now ≤ 100 }
+    ensures { result ≡ abort_message (told_options number bytes.now) text.now }
+{
+    let mut abort = Builder::new(Code::ABORT, &Token::new());
+    if let Some(_) = number {
+        let Ok(()) = abort.option(BAD_CSM_OPTION, bytes) else {
+            unreachable!()
+        };
+    }
+    let Ok(()) = abort.payload(text) else {
+        unreachable!()
+    };
+    abort
+}

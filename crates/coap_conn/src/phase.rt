@@ -1,0 +1,93 @@
+//! How a connection stands, and what its calls answer.
+
+use crate::reason::Reason;
+use coap_wire::Token;
+use thiserror::Error;
+
+/// Which end of the connection this is.
+#[derive(Clone, Copy, Debug, PartialEq, Eq)]
+pub enum Role {
+    /// It answers requests.
+    Server,
+    /// It sends them.
+    Client,
+}
+
+/// How a connection stands.
+#[derive(Clone, Copy, Debug, PartialEq, Eq)]
+pub enum Phase {
+    /// The peer's Capabilities and Settings have not come (RFC 8323 section 3.3).
+    Waiting,
+    /// They have.
+    Open,
+    /// The peer released the connection: nothing more is taken, and what is pending is still answered (RFC 8323 section
+    /// 5.5).
+    Releasing(Reason),
+    /// Nothing more is taken or queued. What waits is still written.
+    Stopped(Reason),
+}
+
+/// What a message was.
+#[derive(Debug, Drop)]
+pub enum Verdict {
+    /// The peer's first Capabilities and Settings: the connection is open.
+    Opened,
+    /// It is dealt with.
+    Done,
+    /// A request, which the caller answers.
+    Request,
+    /// The response to an outstanding request.
+    Answer {
+        /// The request's token.
+        token: Token,
+        /// Whether it is the last one, so that the request is outstanding no more.
+        last: bool,
+    },
+    /// The Pong to an outstanding Ping.
+    Pong {
+        /// The Ping's token.
+        token: Token,
+        /// Whether it has Custody (RFC 8323 section 5.4.1).
+        custody: bool,
+    },
+    /// A response or a Pong to nothing that is outstanding. It is ignored.
+    Stranger,
+    /// It stopped the connection, or released it.
+    Stopped(Reason),
+}
+
+/// What became of a message that was to be sent.
+#[derive(Clone, Copy, Debug, PartialEq, Eq)]
+pub enum Reply {
+    /// It was queued.
+    Whole,
+    /// It is too large for the peer: a smaller one was queued in its place.
+    Bare,
+    /// Even that one is too large: the connection stopped.
+    Stopped,
+}
+
+/// What is wrong with the bytes behind the messages so far.
+#[derive(Clone, Copy, Debug, PartialEq, Eq)]
+pub enum Reject {
+    /// A frame that spells no message.
+    Format,
+    /// A frame of more bytes than the own Max-Message-Size.
+    TooLarge,
+    /// A token length above 8.
+    TokenLength,
+}
+
+/// Why Release was not sent. The discriminants are the faults' numbers.
+#[derive(Clone, Copy, Debug, PartialEq, Eq, Error)]
+pub enum SendFault {
+    /// The connection is not open.
+    #[error("the connection is not open")]
+    NotOpen = 1,
+    /// The queue has no room for the message.
+    #[error("no room in the queue")]
+    NoRoom = 2,
+    /// The peer takes no message as small as this one.
+    #[error("the peer takes no message as small as this one")]
+    PeerTooSmall = 3,
+}

@@ -1,0 +1,115 @@
+//! The bytes that wait to be written.
+
+ghost use Rattle.std.specs.Prelude.{◌≡◌, ◌≤◌};
+
+use coap_wire::{Builder, Sink};
+use std::alloc::{AllocError, Global};
+use std::marker::Model;
+
+/// A queue of bytes that wait to be written, in room that was reserved once. Contracts see a `QueueValue`: the room of the
+/// whole queue, and the bytes that wait.
+#[derive(Debug, Drop)]
+pub struct OutQueue {
+    bytes: usize,
+    buffer: Vec<u8>,
+}
+
+impl Model for OutQueue {
+    ghost use Rattle.coap_conn.specs.QueueValue.{QueueValue};
+
+    ghost Value = { QueueValue };
+
+    ghost use Rattle.coap_conn.specs.QueueViews.{queue_value, is_queue};
+
+    ghost view = { queue_value };
+
+    ghost invariant = { is_queue };
+}
+
+impl OutQueue {
+    ghost use Rattle.std.specs.Prelude.{◌≡◌, ◌≤◌, ◌++◌, IfOk, [], ⊤, length, drop};
+    ghost use Rattle.std.specs.Borrow.{sem, follows_so};
+    ghost use mathlib.Core.Option.{none};
+    ghost use Rattle.coap_wire.specs.Spelling.{spelling};
+    ghost use Rattle.coap_conn.specs.QueueValue.{IsQueue, free_of};
+    ghost use Rattle.coap_conn.specs.contracts.queue.OutQueue.{the_row};
+
+    /// A queue of so many bytes, 1,152 to 4,194,304, with none waiting.
+    ///
+    /// # Errors
+    ///
+    /// Where the room is refused.
+    pub fn new(alloc: Global, bytes: usize) -> Result<OutQueue, AllocError>
+        requires low { 1152 ≤ bytes }
+        requires high { bytes ≤ 4194304 }
+        ensures { IfOk result (λ q. q ≡ record { bytes = bytes; waiting = [] }) }
+    {
+        Ok(OutQueue {
+            bytes,
+            buffer: Vec::with_capacity(alloc, bytes)?,
+        })
+    }
+
+    /// How many bytes more it can take.
+    pub fn free(&self) -> usize
+        ensures { result ≡ free_of self.now }
+    {
+        self.bytes - self.buffer.len()
+    }
+
+    /// How many bytes wait.
+    pub fn waiting(&self) -> usize
+        ensures count { result ≡ length self.now.waiting }
+        ensures within { IsQueue self.now }
+    {
+        self.buffer.len()
+    }
+
+    /// All bytes that wait.
+    pub fn front<'a>(&'a mut self) -> &'a [u8]
+        ensures* unchanged { sem 𝓛 (follows_so the_row the_row self.entry.ghost_name none (λ _ _. ⊤) (λ q. q ≡ self.old)) }
+        ensures front { result.now ≡ self.old.waiting }
+    {
+        &self.buffer
+    }
+
+    /// Queues the spelling of a message, for which there must be room.
+    pub(crate) fn put(&mut self, message: &Builder)
+        requires { length (spelling message.now) ≤ free_of self.old }
+        ensures { self.new ≡ record self.old { waiting = self.old.waiting ++ spelling message.now } }
+    {
+        let _ = &self.bytes;
+        message.write(self);
+        let _ = &self.bytes;
+    }
+
+    /// The first so many bytes were written, and wait no more.
+    pub fn written(&mut self, count: usize)
+        requires { count ≤ length self.old.waiting }
+        ensures { self.new ≡ record self.old { waiting = drop count self.old.waiting } }
+    {
+        drop(self.buffer.drain(..count));
+    }
+}
+
+impl Sink for OutQueue {
+    ghost use Rattle.coap_conn.specs.QueueValue.{free_of};
+
+    ghost contents = { λ q. q.waiting };
+
+    ghost space = { free_of };
+
+    fn room(&self) -> usize {
+        self.free()
+    }
+
+    fn push(&mut self, byte: u8) {
+        self.buffer.push_reserved(byte);
+    }
+
+    fn append(&mut self, bytes: &[u8]) {
+        let Ok(()) = self.buffer.extend_from_slice(bytes) else {
+            unreachable!()
+        };
+    }
+}
