@@ -67,9 +67,9 @@ enum Turn {
 ///
 /// # Errors
 ///
-/// `Memory` where the room of the greatest message was refused: then nothing was read or written. `Write` where a write
-/// failed, with a part of the output written. `Read` where a read failed, and `Turns` where one more turn would be needed:
-/// then all that is defined for the bytes so far was written.
+/// `Memory` where the room of the greatest message or of the output queue was refused: then nothing was read or written.
+/// `Write` where a write failed, with a part of the output written. `Read` where a read failed, and `Turns` where one more
+/// turn would be needed: then all that is defined for the bytes so far was written.
 pub fn serve_one<R: Source, W: Outlet>(
     alloc: Global,
     reader: &mut R,
