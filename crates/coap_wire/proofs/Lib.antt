@@ -17,3 +17,4 @@ pub mod StreamSteps
 pub mod StreamLaws
 pub mod TokenLaws
 pub mod FramesLaws
+pub mod RecognitionLaws

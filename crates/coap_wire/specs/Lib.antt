@@ -10,3 +10,6 @@ pub mod Views
 pub mod Built
 pub mod Stream
 pub mod Frames
+pub mod Codes
+pub mod OptionNumbers
+pub mod Recognition

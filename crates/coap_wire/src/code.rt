@@ -23,20 +23,65 @@ impl Code {
     /// 0.00, Empty (RFC 7252 section 4.1, RFC 8323 section 3.4).
     pub const EMPTY: Code = Code { byte: 0x00 };
 
+    /// 0.01, GET (RFC 7252 section 5.8.1).
+    pub const GET: Code = Code { byte: 0x01 };
+
+    /// 0.02, POST (RFC 7252 section 5.8.2).
+    pub const POST: Code = Code { byte: 0x02 };
+
+    /// 0.03, PUT (RFC 7252 section 5.8.3).
+    pub const PUT: Code = Code { byte: 0x03 };
+
+    /// 0.04, DELETE (RFC 7252 section 5.8.4).
+    pub const DELETE: Code = Code { byte: 0x04 };
+
     /// 2.01, Created (RFC 7252 section 5.9.1.1).
     pub const CREATED: Code = Code { byte: 0x41 };
 
     /// 2.02, Deleted (RFC 7252 section 5.9.1.2).
     pub const DELETED: Code = Code { byte: 0x42 };
 
+    /// 2.03, Valid (RFC 7252 section 5.9.1.3).
+    pub const VALID: Code = Code { byte: 0x43 };
+
     /// 2.04, Changed (RFC 7252 section 5.9.1.4).
     pub const CHANGED: Code = Code { byte: 0x44 };
+
+    /// 2.05, Content (RFC 7252 section 5.9.1.5).
+    pub const CONTENT: Code = Code { byte: 0x45 };
+
+    /// 4.00, Bad Request (RFC 7252 section 5.9.2.1).
+    pub const BAD_REQUEST: Code = Code { byte: 0x80 };
+
+    /// 4.02, Bad Option (RFC 7252 section 5.9.2.3).
+    pub const BAD_OPTION: Code = Code { byte: 0x82 };
+
+    /// 4.04, Not Found (RFC 7252 section 5.9.2.5).
+    pub const NOT_FOUND: Code = Code { byte: 0x84 };
+
+    /// 4.05, Method Not Allowed (RFC 7252 section 5.9.2.6).
+    pub const METHOD_NOT_ALLOWED: Code = Code { byte: 0x85 };
+
+    /// 4.06, Not Acceptable (RFC 7252 section 5.9.2.7).
+    pub const NOT_ACCEPTABLE: Code = Code { byte: 0x86 };
+
+    /// 4.12, Precondition Failed (RFC 7252 section 5.9.2.8).
+    pub const PRECONDITION_FAILED: Code = Code { byte: 0x8c };
+
+    /// 4.13, Request Entity Too Large (RFC 7252 section 5.9.2.9).
+    pub const REQUEST_ENTITY_TOO_LARGE: Code = Code { byte: 0x8d };
 
     /// 5.00, Internal Server Error (RFC 7252 section 5.9.3.1).
     pub const INTERNAL_SERVER_ERROR: Code = Code { byte: 0xa0 };
 
     /// 5.01, Not Implemented (RFC 7252 section 5.9.3.2).
     pub const NOT_IMPLEMENTED: Code = Code { byte: 0xa1 };
+
+    /// 5.03, Service Unavailable (RFC 7252 section 5.9.3.4).
+    pub const SERVICE_UNAVAILABLE: Code = Code { byte: 0xa3 };
+
+    /// 5.05, Proxying Not Supported (RFC 7252 section 5.9.3.6).
+    pub const PROXYING_NOT_SUPPORTED: Code = Code { byte: 0xa5 };
 
     /// 7.01, Capabilities and Settings (RFC 8323 section 5.3).
     pub const CSM: Code = Code { byte: 0xe1 };
@@ -84,15 +129,45 @@ impl Code {
 
 const _: () = prove!(Code::EMPTY.byte == 0);
 
+const _: () = prove!(Code::GET.byte == 1);
+
+const _: () = prove!(Code::POST.byte == 2);
+
+const _: () = prove!(Code::PUT.byte == 3);
+
+const _: () = prove!(Code::DELETE.byte == 4);
+
 const _: () = prove!(Code::CREATED.byte == 2 * 32 + 1);
 
 const _: () = prove!(Code::DELETED.byte == 2 * 32 + 2);
 
+const _: () = prove!(Code::VALID.byte == 2 * 32 + 3);
+
 const _: () = prove!(Code::CHANGED.byte == 2 * 32 + 4);
+
+const _: () = prove!(Code::CONTENT.byte == 2 * 32 + 5);
+
+const _: () = prove!(Code::BAD_REQUEST.byte == 4 * 32);
+
+const _: () = prove!(Code::BAD_OPTION.byte == 4 * 32 + 2);
+
+const _: () = prove!(Code::NOT_FOUND.byte == 4 * 32 + 4);
+
+const _: () = prove!(Code::METHOD_NOT_ALLOWED.byte == 4 * 32 + 5);
+
+const _: () = prove!(Code::NOT_ACCEPTABLE.byte == 4 * 32 + 6);
+
+const _: () = prove!(Code::PRECONDITION_FAILED.byte == 4 * 32 + 12);
+
+const _: () = prove!(Code::REQUEST_ENTITY_TOO_LARGE.byte == 4 * 32 + 13);
 
 const _: () = prove!(Code::INTERNAL_SERVER_ERROR.byte == 5 * 32);
 
 const _: () = prove!(Code::NOT_IMPLEMENTED.byte == 5 * 32 + 1);
+
+const _: () = prove!(Code::SERVICE_UNAVAILABLE.byte == 5 * 32 + 3);
+
+const _: () = prove!(Code::PROXYING_NOT_SUPPORTED.byte == 5 * 32 + 5);
 
 const _: () = prove!(Code::CSM.byte == 7 * 32 + 1);
 

@@ -1,13 +1,14 @@
 //! What holds of spellings, each as the contract of a function that does nothing.
 
-ghost use Rattle.std.specs.Prelude.{◌≡◌, ℕ, ◌≤◌, List, [], ◌++◌, length, Some, None};
-ghost use Rattle.coap_wire.specs.Message.{Message, AreBytes};
+ghost use Rattle.std.specs.Prelude.{◌≡◌, ◌≢◌, ◌↔◌, ℕ, ◌≤◌, List, [], ◌∷◌, ◌++◌, length, Some, None, IsTrue};
+ghost use Rattle.coap_wire.specs.Message.{Message, CoapOption, AreBytes, AreOrdered};
 ghost use Rattle.coap_wire.specs.Forms.{IsLengthForm, length_form, greatest_length, IsOptionForm, option_form, greatest_option_form};
 ghost use Rattle.coap_wire.specs.Spelling.{Spells, spelling, HasSpelling};
 ghost use Rattle.coap_wire.specs.Size.{IsDeclaredSize, IsFrame};
 ghost use Rattle.coap_wire.specs.Faults.{IsFirstFault};
 ghost use Rattle.coap_wire.specs.Stream.{Stream, StreamFault, SplitsAs, split, behind};
 ghost use Rattle.coap_wire.specs.Frames.{Frames, FramedAs, frames_of, frames_behind, read_frames};
+ghost use Rattle.coap_wire.specs.Recognition.{IsFirstWithNumber, IsRecognised, is_recognised};
 ghost use Rattle.coap_wire.specs.declared.fault.FormatFault.{FormatFault};
 
 /// Each length up to 4,295,033,100 has exactly one form (RFC 8323 section 3.2).
@@ -87,4 +88,16 @@ pub fn cuts_do_not_matter_to_frames()
 /// A stream is what its frames spell, up to the first that spells no message.
 pub fn stream_is_its_frames_read()
     ensures { (M : ℕ) (s : List ℕ) → split M s ≡ read_frames (frames_of M s).frames (frames_of M s).rest (frames_of M s).fault }
+{}
+
+/// Where options are ordered, one is the first with its number exactly where the one before it has another number.
+pub fn first_has_another_number_than_the_one_before()
+    ensures alone { (o : CoapOption) → IsFirstWithNumber [] o }
+    ensures behind { (earlier after : List CoapOption) (p o : CoapOption) → AreOrdered 0 (earlier ++ (p ∷ o ∷ after)) → (IsFirstWithNumber (earlier ++ p ∷ []) o ↔ (p.number ≢ o.number)) }
+{}
+
+/// The test that `known_options` and `first_critical` are made of holds exactly of the options that are recognised (RFC 7252
+/// sections 5.4.3, 5.4.5).
+pub fn recognised_is_tested()
+    ensures { (before : List CoapOption) (o : CoapOption) → (IsTrue (is_recognised before o) ↔ IsRecognised before o) }
 {}

@@ -10,6 +10,7 @@ use crate::code::Code;
 use crate::fault::FormatFault;
 use crate::options::Options;
 use crate::reading::{head_of, payload_of};
+use crate::recognition::{Known, critical_of};
 use crate::token::Token;
 use std::marker::Model;
 
@@ -37,6 +38,7 @@ impl<'a> Model for MessageRef<'a> {
 impl<'a> MessageRef<'a> {
     ghost use Rattle.std.specs.Prelude.{◌≡◌};
     ghost use Rattle.coap_wire.specs.Message.{AreOrdered};
+    ghost use Rattle.coap_wire.specs.Recognition.{known_options, first_critical};
 
     /// The code.
     pub fn code(&self) -> Code
@@ -58,6 +60,22 @@ impl<'a> MessageRef<'a> {
         ensures ordered { AreOrdered 0 self.now.options }
     {
         Options::of_body(self.body)
+    }
+
+    /// The recognised options, in order of number (RFC 7252 sections 5.4, 5.10): those with a number that `kind` knows and
+    /// a value of a length in its range, and of those that are not repeatable only the first with its number.
+    pub fn known(&self) -> Known<'a>
+        ensures { result ≡ known_options self.now.options }
+    {
+        Known::of_options(self.options())
+    }
+
+    /// The number of the first option that is critical, its number being odd, and not recognised (RFC 7252 section
+    /// 5.4.1).
+    pub fn first_critical(&self) -> Option<u16>
+        ensures { result ≡ first_critical self.now.options }
+    {
+        critical_of(self.options())
     }
 
     /// The payload, empty where there is none.

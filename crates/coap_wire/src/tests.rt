@@ -422,3 +422,226 @@ fn uints(rt: HostRuntime) {
         assert_eq!(rt; uint_bytes(number).as_slice(), bytes, "of {number}");
     }
 }
+
+/// The options of RFC 7252 section 5.10, and Observe of RFC 7641: number, least and greatest length, whether repeatable.
+const KINDS: [(u16, u16, u16, bool); 16] = [
+    (1, 0, 8, true),
+    (3, 1, 255, false),
+    (4, 1, 8, true),
+    (5, 0, 0, false),
+    (6, 0, 3, false),
+    (7, 0, 2, false),
+    (8, 0, 255, true),
+    (11, 0, 255, true),
+    (12, 0, 2, false),
+    (14, 0, 4, false),
+    (15, 0, 255, true),
+    (17, 0, 2, false),
+    (20, 0, 255, true),
+    (35, 1, 1034, false),
+    (39, 1, 255, false),
+    (60, 0, 4, false),
+];
+
+/// The bytes of a GET with these options.
+fn get_with(rt: &impl Abort, alloc: Global, options: &[(u16, &[u8])]) -> Result<Vec<u8>, Fail> {
+    let mut message = Builder::new(Code::new(0x01), &Token::new());
+    for (number, value) in options {
+        assert_eq!(rt; message.option(*number, value), Ok(()));
+    }
+    written(rt, alloc, &message)
+}
+
+/// Asserts that the recognised options of the message are these, and its first critical one that is not recognised this.
+fn recognises(
+    rt: &impl Abort,
+    message: &MessageRef,
+    wanted: &[(u16, &[u8])],
+    critical: Option<u16>,
+) {
+    let mut known = message.known();
+    for (number, value) in wanted {
+        match known.next() {
+            None => assert!(rt; false, "no option {number}"),
+            Some(option) => {
+                assert_eq!(rt; option.number, *number);
+                assert!(rt; option.value == *value, "the value of option {number}");
+            }
+        }
+    }
+    assert!(rt; known.next().is_none());
+    assert!(rt; known.next().is_none());
+    assert_eq!(rt; message.first_critical(), critical);
+}
+
+/// Asserts that an option with a value of this length is recognised, or else that it is not, and critical where its number
+/// is odd.
+fn takes_length(
+    rt: &impl Abort,
+    alloc: Global,
+    number: u16,
+    length: usize,
+    taken: bool,
+) -> Result<(), Fail> {
+    let value = filled_up(alloc, &[], length)?;
+    let frame = get_with(rt, alloc, &[(number, &value)])?;
+    let message = parse(&frame)?;
+    if taken {
+        recognises(rt, &message, &[(number, &value)], None);
+    } else if number % 2 == 1 {
+        recognises(rt, &message, &[], Some(number));
+    } else {
+        recognises(rt, &message, &[], None);
+    }
+    Ok(())
+}
+
+/// Asserts that of two options with this number and these lengths both are recognised, or else only the first.
+fn takes_two(
+    rt: &impl Abort,
+    alloc: Global,
+    number: u16,
+    lengths: (usize, usize),
+    both: bool,
+) -> Result<(), Fail> {
+    let one = filled_up(alloc, &[], lengths.0)?;
+    let other = filled_up(alloc, &[], lengths.1)?;
+    let frame = get_with(rt, alloc, &[(number, &one), (number, &other)])?;
+    let message = parse(&frame)?;
+    if both {
+        recognises(rt, &message, &[(number, &one), (number, &other)], None);
+    } else if number % 2 == 1 {
+        recognises(rt, &message, &[(number, &one)], Some(number));
+    } else {
+        recognises(rt, &message, &[(number, &one)], None);
+    }
+    Ok(())
+}
+
+#[test]
+fn kinds_of_options(rt: HostRuntime) {
+    for (number, min, max, repeatable) in KINDS {
+        let wanted = OptionKind {
+            min,
+            max,
+            repeatable,
+        };
+        assert_eq!(rt; kind(number), Some(wanted), "of {number}");
+    }
+    for number in [
+        0, 2, 9, 10, 13, 16, 18, 19, 21, 23, 27, 28, 34, 36, 38, 40, 59, 61, 258, 65_535,
+    ] {
+        assert_eq!(rt; kind(number), None, "of {number}");
+    }
+}
+
+#[test]
+fn lengths_of_options(rt: HostRuntime) -> Result<(), Fail> {
+    for (number, min, max, repeatable) in KINDS {
+        let least = usize::from(min);
+        let greatest = usize::from(max);
+        takes_length(&rt, rt.alloc(), number, least, true)?;
+        takes_length(&rt, rt.alloc(), number, greatest, true)?;
+        takes_length(&rt, rt.alloc(), number, greatest + 1, false)?;
+        if least > 0 {
+            takes_length(&rt, rt.alloc(), number, least - 1, false)?;
+        }
+        takes_two(&rt, rt.alloc(), number, (least, greatest), repeatable)?;
+        takes_two(&rt, rt.alloc(), number, (greatest, least), repeatable)?;
+    }
+    Ok(())
+}
+
+#[test]
+fn options_that_nobody_knows(rt: HostRuntime) -> Result<(), Fail> {
+    for number in [9, 13, 19, 21, 23, 27, 37, 61, 259, 65_535] {
+        takes_length(&rt, rt.alloc(), number, 0, false)?;
+        takes_length(&rt, rt.alloc(), number, 1, false)?;
+    }
+    for number in [0, 2, 10, 16, 18, 28, 36, 40, 258, 65_534] {
+        takes_length(&rt, rt.alloc(), number, 0, false)?;
+        takes_length(&rt, rt.alloc(), number, 1, false)?;
+    }
+    Ok(())
+}
+
+#[test]
+fn block_options_are_critical(rt: HostRuntime) -> Result<(), Fail> {
+    let block2 = parse(&[0x20, 0x01, 0xd0, 0x0a])?;
+    recognises(&rt, &block2, &[], Some(23));
+    let block1 = parse(&[0x20, 0x01, 0xd0, 0x0e])?;
+    recognises(&rt, &block1, &[], Some(27));
+    let both = parse(&[0x50, 0x01, 0xb1, 0x61, 0xc0, 0x41, 0x00])?;
+    recognises(&rt, &both, &[(11, b"a")], Some(23));
+    Ok(())
+}
+
+#[test]
+fn only_the_first_counts(rt: HostRuntime) -> Result<(), Fail> {
+    // A second Uri-Host behind an empty one, which has no right length.
+    let hosts = parse(&[0x30, 0x01, 0x30, 0x01, 0x68])?;
+    recognises(&rt, &hosts, &[], Some(3));
+    // Observe with 4 bytes, and then with 1.
+    let observes = parse(&[0x70, 0x01, 0x64, 0x00, 0x00, 0x00, 0x01, 0x01, 0x05])?;
+    recognises(&rt, &observes, &[], None);
+    // The third Content-Format is no first one either.
+    let frame = get_with(
+        &rt,
+        rt.alloc(),
+        &[(12, &[1, 2, 3]), (12, &[4]), (12, &[5]), (14, &[6])],
+    )?;
+    recognises(&rt, &parse(&frame)?, &[(14, &[6])], None);
+    // An If-Match or an ETag is recognised behind one of a wrong length.
+    let frame = get_with(
+        &rt,
+        rt.alloc(),
+        &[
+            (1, &[1, 2, 3, 4, 5, 6, 7, 8, 9]),
+            (1, &[7]),
+            (4, &[]),
+            (4, &[8]),
+        ],
+    )?;
+    recognises(&rt, &parse(&frame)?, &[(1, &[7]), (4, &[8])], Some(1));
+    Ok(())
+}
+
+#[test]
+fn first_of_several_critical_options(rt: HostRuntime) -> Result<(), Fail> {
+    let known = parse(&GET_TIME)?;
+    recognises(&rt, &known, &[(11, b"time")], None);
+    let none = parse(&[0x00, 0x01])?;
+    recognises(&rt, &none, &[], None);
+    let frame = get_with(
+        &rt,
+        rt.alloc(),
+        &[
+            (2, b"x"),
+            (3, b"h"),
+            (7, &[1, 2, 3]),
+            (9, &[]),
+            (11, b"a"),
+            (27, &[]),
+        ],
+    )?;
+    recognises(&rt, &parse(&frame)?, &[(3, b"h"), (11, b"a")], Some(7));
+    let frame = get_with(
+        &rt,
+        rt.alloc(),
+        &[
+            (0, &[]),
+            (5, &[]),
+            (11, &[]),
+            (12, &[0]),
+            (17, &[0]),
+            (65_535, b"z"),
+        ],
+    )?;
+    recognises(
+        &rt,
+        &parse(&frame)?,
+        &[(5, &[]), (11, &[]), (12, &[0]), (17, &[0])],
+        Some(65_535),
+    );
+    Ok(())
+}

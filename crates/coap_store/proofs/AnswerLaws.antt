@@ -1,0 +1,345 @@
+-- What holds of every answer.
+use Rattle.std.proofs.Common.{◌≡◌, ℕ, ◌+◌, ◌<◌, ◌≤◌, ◌^◌, Bool, true, false, ◌&&◌, ◌||◌, List, [], ◌∷◌, length, Option, Some, None, refl, sym, ap, subst, ◌∙◌, arith}
+use Rattle.std.specs.Prelude.{codes, is_some, is_none, nat_le, nat_lt, ◌==◌, not, if◌then◌else◌}
+use Rattle.std.specs.Fmt.{decimal}
+use Rattle.std.proofs.lemmas.Bool.{leb-false, ltb-false, eqb-false, lt-ltb}
+use Rattle.std.proofs.lemmas.Fmt.{length-decimal-le}
+use Rattle.coap_wire.specs.Message.{Message}
+use Rattle.coap_wire.specs.Codes as code
+use Rattle.coap_wire.specs.OptionNumbers as numbers
+use Rattle.coap_wire.specs.Recognition.{first_critical}
+use Rattle.coap_store.specs.Paths.{Path, is_path}
+use Rattle.coap_store.specs.Store.{Representation, StoreValue, found_in}
+use Rattle.coap_store.specs.State.{is_dynamic, is_async, place_of, key_for, stored_at, state_at, Target, target_of}
+use Rattle.coap_store.specs.Listing.{listing}
+use Rattle.coap_store.specs.Requests.{values_of, value_of, number_of, has_option, is_get, is_delete, is_method, path_of, preconditions_hold, is_good_query}
+use Rattle.coap_store.specs.Answer.{Response, Answer, only, says, when, refuse, first_of, is_accepted, etag_at, is_among, valid, content, watched, held, get_answer, greatest_version, stored_under, too_large, store_answer, deletion, delete_answer, needs_resource, read_answer, method_answer, resource_answer, answer_at, removes_watch, finally, answer_of, unheld_by, unheld, prompt_answer}
+use Rattle.coap_store.specs.Changes.{TakesPut, TakesChange, changes}
+use Rattle.coap_store.specs.declared.place.Place.{Place}
+use Rattle.coap_store.specs.declared.place.Place.TheVariants.{Root, Time, Async, Listing, Dynamic}
+
+-- ---- answers by cases
+
+-- a check gives its answer, or those behind it do
+checked : (P : Answer → Type 0) (b : Bool) (a : Answer) (checks : List (Option Answer)) (last : Answer) → (b ≡ true → P a) → (b ≡ false → P (first_of checks last)) → P (first_of (when b a ∷ checks) last)
+checked P true a checks last here later = here refl
+checked P false a checks last here later = later refl
+
+chosen : (P : Answer → Type 0) (b : Bool) (x y : Answer) → (b ≡ true → P x) → (b ≡ false → P y) → P (if b then x else y)
+chosen P true x y here there = here refl
+chosen P false x y here there = there refl
+
+-- the codes of the classes 4 and 5
+abbrev pub is_error : ℕ → Bool
+is_error c = nat_le 128 c
+
+-- what holds of each refusal
+abbrev pub OfErrors : (Answer → Type 0) → Type 0
+OfErrors P = (c : ℕ) → is_error c ≡ true → P (says (only c))
+
+-- what holds of each answer to a GET of a representation
+pub record OfContents (P : Answer → Type 0) (place : Place) (r : Representation) (m : Message) : Type 0 where
+  pub valid : P (watched place m (valid place r))
+  pub held : P (held place r m)
+  pub content : P (watched place m (content place r))
+
+pub get_cases : (P : Answer → Type 0) (place : Place) (r : Representation) (m : Message) → OfErrors P → OfContents P place r m → P (get_answer place r m)
+unfolding get_answer
+get_cases P place r m errors contents =
+    let last = watched place m (content place r) in
+    let wants_late = is_async place && not (is_good_query (value_of numbers.uri_query m)) in
+    let fourth = when (is_async place) (held place r m) ∷ [] in
+    let third = refuse wants_late code.bad_request ∷ fourth in
+    let is_valid = is_among (etag_at place r) (values_of numbers.etag m) in
+    let second = when is_valid (watched place m (valid place r)) ∷ third in
+    let other_format = not (is_accepted (number_of numbers.accept m) r.format) in
+    checked P other_format (says (only code.not_acceptable)) second last (λ _. errors code.not_acceptable refl) (λ _.
+    checked P is_valid (watched place m (valid place r)) third last (λ _. contents.valid) (λ _.
+    checked P wants_late (says (only code.bad_request)) fourth last (λ _. errors code.bad_request refl) (λ _.
+    checked P (is_async place) (held place r m) [] last (λ _. contents.held) (λ _. contents.content))))
+
+-- nothing speaks against storing
+pub record CanStore (s : StoreValue) (t : Target) (m : Message) : Type 0 where
+  pub small : nat_lt s.rep_max (length m.payload) ≡ false
+  pub room : (is_none t.state && nat_le s.dynamic_max (length s.resources)) ≡ false
+  pub version_left : (s.versions == greatest_version) ≡ false
+
+pub store_cases : (P : Answer → Type 0) (s : StoreValue) (t : Target) (m : Message) → OfErrors P → P (too_large s) → (CanStore s t m → P (stored_under t.key t.state m)) → P (store_answer s t m)
+unfolding store_answer
+store_cases P s t m errors large can =
+    let last = stored_under t.key t.state m in
+    let fourth = refuse (s.versions == greatest_version) code.service_unavailable ∷ [] in
+    let is_full = is_none t.state && nat_le s.dynamic_max (length s.resources) in
+    let third = refuse is_full code.not_acceptable ∷ fourth in
+    let is_nowhere = is_none t.state && is_none t.key in
+    let second = refuse is_nowhere code.bad_request ∷ third in
+    checked P (nat_lt s.rep_max (length m.payload)) (too_large s) second last (λ _. large) (λ small.
+    checked P is_nowhere (says (only code.bad_request)) third last (λ _. errors code.bad_request refl) (λ _.
+    checked P is_full (says (only code.not_acceptable)) fourth last (λ _. errors code.not_acceptable refl) (λ room.
+    checked P (s.versions == greatest_version) (says (only code.service_unavailable)) [] last (λ _. errors code.service_unavailable refl) (λ version_left.
+    can (record { small = small; room = room; version_left = version_left })))))
+
+-- what holds of each answer of a method, where it may be used
+pub record OfMethods (P : Answer → Type 0) (s : StoreValue) (t : Target) (m : Message) : Type 0 where
+  pub read : (r : Representation) → t.state ≡ Some r → P (get_answer t.place r m)
+  pub deleted : is_dynamic t.place ≡ true → P (delete_answer t)
+  pub stored : is_dynamic t.place ≡ true → P (store_answer s t m)
+
+read_cases : (P : Answer → Type 0) (place : Place) (state : Option Representation) (m : Message) → OfErrors P → ((r : Representation) → state ≡ Some r → P (get_answer place r m)) → P (read_answer place state m)
+read_cases P place None m errors read = errors code.not_found refl
+read_cases P place (Some r) m errors read = read r refl
+
+-- where no method but GET is refused, and it is none, the place is dynamic
+not_get : (d g : Bool) → (not d && not g) ≡ false → g ≡ false → d ≡ true
+not_get true g e f = refl
+not_get false true e f = sym f
+not_get false false e f = sym e
+
+method_cases : (P : Answer → Type 0) (s : StoreValue) (t : Target) (m : Message) → OfErrors P → OfMethods P s t m → (not (is_dynamic t.place) && not (is_get m)) ≡ false → P (method_answer s t m)
+unfolding method_answer
+method_cases P s t m errors methods allowed =
+    chosen P (is_get m) _ _ (λ _. read_cases P t.place t.state m errors methods.read) (λ other.
+    let dynamic : is_dynamic t.place ≡ true = not_get _ _ allowed other in
+    chosen P (is_delete m) _ _ (λ _. methods.deleted dynamic) (λ _. methods.stored dynamic))
+
+resource_cases : (P : Answer → Type 0) (s : StoreValue) (t : Target) (m : Message) → OfErrors P → OfMethods P s t m → P (resource_answer s t m)
+unfolding resource_answer
+resource_cases P s t m errors methods =
+    let last = method_answer s t m in
+    let fails = not (preconditions_hold t.state m) in
+    let third = refuse fails code.precondition_failed ∷ [] in
+    let only_read = not (is_dynamic t.place) && not (is_get m) in
+    let second = refuse only_read code.method_not_allowed ∷ third in
+    let is_absent = is_none t.state && needs_resource s m in
+    checked P is_absent (says (only code.not_found)) second last (λ _. errors code.not_found refl) (λ _.
+    checked P only_read (says (only code.method_not_allowed)) third last (λ _. errors code.method_not_allowed refl) (λ allowed.
+    checked P fails (says (only code.precondition_failed)) [] last (λ _. errors code.precondition_failed refl) (λ _.
+    method_cases P s t m errors methods allowed)))
+
+pub answer_cases : (P : Answer → Type 0) (s : StoreValue) (t : Target) (m : Message) → OfErrors P → OfMethods P s t m → P (answer_at s t m)
+unfolding answer_at
+answer_cases P s t m errors methods =
+    let last = resource_answer s t m in
+    let third = refuse (not (is_method m)) code.method_not_allowed ∷ [] in
+    let asks_proxy = has_option numbers.proxy_uri m || has_option numbers.proxy_scheme m in
+    let second = refuse asks_proxy code.proxying_not_supported ∷ third in
+    let has_critical = is_some (first_critical m.options) in
+    checked P has_critical (says (only code.bad_option)) second last (λ _. errors code.bad_option refl) (λ _.
+    checked P asks_proxy (says (only code.proxying_not_supported)) third last (λ _. errors code.proxying_not_supported refl) (λ _.
+    checked P (not (is_method m)) (says (only code.method_not_allowed)) [] last (λ _. errors code.method_not_allowed refl) (λ _.
+    resource_cases P s t m errors methods)))
+
+-- ---- what becomes of an answer afterwards
+
+pub unheld_by_finally : (b : Bool) (hold : Option ℕ) (a : Answer) → unheld_by hold (finally b a) ≡ finally b (unheld_by hold a)
+unheld_by_finally b None a = refl
+unheld_by_finally true (Some seconds) a = refl
+unheld_by_finally false (Some seconds) a = refl
+
+hold_finally : (b : Bool) (a : Answer) → (finally b a).hold ≡ a.hold
+hold_finally true a = refl
+hold_finally false a = refl
+
+-- to be removed as an observer and to be answered at once do not meet
+pub unheld_finally : (b : Bool) (a : Answer) → unheld (finally b a) ≡ finally b (unheld a)
+unheld_finally b a = ap (λ (h : Option ℕ). unheld_by h (finally b a)) (hold_finally b a) ∙ unheld_by_finally b a.hold a
+
+-- what is held for no time is answered at once
+unheld_at : (a : Answer) → a.hold ≡ None → unheld a ≡ a
+unheld_at a none = ap (λ (h : Option ℕ). unheld_by h a) none
+
+pub unheld_says : (r : Response) → unheld (says r) ≡ says r
+unheld_says r = refl
+
+pub unheld_delete : (t : Target) → unheld (delete_answer t) ≡ delete_answer t
+unheld_delete t = refl
+
+hold_stored : (key : Option Path) (state : Option Representation) (m : Message) → (stored_under key state m).hold ≡ None
+hold_stored None state m = refl
+hold_stored (Some path) None m = refl
+hold_stored (Some path) (Some r) m = refl
+
+-- what is stored is answered at once
+pub unheld_store : (s : StoreValue) (t : Target) (m : Message) → unheld (store_answer s t m) ≡ store_answer s t m
+unheld_store s t m =
+    unheld_at (store_answer s t m) (store_cases (λ a. a.hold ≡ None) s t m (λ c e. refl) refl (λ can. hold_stored t.key t.state m))
+
+-- the change stays
+change_unheld : (hold : Option ℕ) (a : Answer) → (unheld_by hold a).change ≡ a.change
+change_unheld None a = refl
+change_unheld (Some seconds) a = refl
+
+change_finally : (b : Bool) (a : Answer) → (finally b a).change ≡ a.change
+change_finally true a = refl
+change_finally false a = refl
+
+-- ---- the change of an answer is one that the store takes
+
+place_dynamic : (place : Place) → is_dynamic place ≡ true → place ≡ Dynamic
+place_dynamic Root e = absurd cc
+place_dynamic Time e = absurd cc
+place_dynamic Async e = absurd cc
+place_dynamic Listing e = absurd cc
+place_dynamic Dynamic e = refl
+
+-- a key is the path that it is the key for
+key_is : (path q : Path) → key_for path ≡ Some q → (is_path q ≡ true) × (path ≡ q)
+unfolding key_for
+key_is path q e =
+    elim (is_path path) as (λ b. is_path path ≡ b → (if b then Some path else None) ≡ Some q → (is_path q ≡ true) × (path ≡ q)) [
+      | true ↦ λ is some. (let same : path ≡ q = cc in (sym (ap is_path same) ∙ is, same))
+      | false ↦ λ is none. absurd cc
+    ] refl e
+
+-- a version is left
+version_fits : (n : ℕ) → (n == greatest_version) ≡ false → n < 2 ^ 64 → n + 1 < 2 ^ 64
+version_fits n other small =
+    let apart : n ≡ greatest_version → ⊥ = eqb-false n greatest_version other in
+    omega arith
+
+-- what is there may be replaced, and what is not may be made while there is room
+has_room : (state : Option Representation) (most n : ℕ) → (is_none state && nat_le most n) ≡ false → (is_some state || nat_lt n most) ≡ true
+has_room None most n e = lt-ltb n most (leb-false most n e)
+has_room (Some r) most n e = refl
+
+-- at no built-in resource the state is what is stored
+pub state_dynamic : (s : StoreValue) (now : ℕ) (key : Option Path) (place : Place) → is_dynamic place ≡ true → state_at s now key place ≡ stored_at s key
+unfolding state_at
+state_dynamic s now key place dynamic = rw (place_dynamic place dynamic) refl
+
+-- what is put is small, at a path of a resource, and finds room and a version
+put_taken : (s : StoreValue) (now : ℕ) (path q : Path) (m : Message) → s.versions < 2 ^ 64 → is_dynamic (place_of path) ≡ true → CanStore s (target_of s now path) m → key_for path ≡ Some q → TakesPut s q m.payload
+put_taken s now path q m small dynamic can key =
+    let is = key_is path q key in
+    let state : state_at s now (key_for path) (place_of path) ≡ found_in s.resources q =
+    state_dynamic s now (key_for path) (place_of path) dynamic ∙ ap (stored_at s) key in
+    let room : (is_none (found_in s.resources q) && nat_le s.dynamic_max (length s.resources)) ≡ false =
+    sym (ap (λ (r : Option Representation). is_none r && nat_le s.dynamic_max (length s.resources)) state) ∙ can.room in
+    record {
+      path_ok = is.0;
+      place = sym (ap place_of is.1) ∙ place_dynamic (place_of path) dynamic;
+      small = ltb-false s.rep_max (length m.payload) can.small;
+      room = has_room (found_in s.resources q) s.dynamic_max (length s.resources) room;
+      version_left = version_fits s.versions can.version_left small;
+    }
+
+stored_taken : (s : StoreValue) (key : Option Path) (state : Option Representation) (m : Message) → ((q : Path) → key ≡ Some q → TakesPut s q m.payload) → TakesChange s (stored_under key state m).change
+stored_taken s None state m takes = tt
+stored_taken s (Some path) None m takes = takes path refl
+stored_taken s (Some path) (Some r) m takes = takes path refl
+
+-- what is deleted is there
+deletion_taken : (s : StoreValue) (key : Option Path) (state : Option Representation) → state ≡ stored_at s key → TakesChange s (deletion key state)
+deletion_taken s None state is = tt
+deletion_taken s (Some path) None is = tt
+deletion_taken s (Some path) (Some r) is = sym (ap (λ (o : Option Representation). is_some o) is)
+
+taken_at : (s : StoreValue) (now : ℕ) (path : Path) (m : Message) → s.versions < 2 ^ 64 → TakesChange s (answer_at s (target_of s now path) m).change
+taken_at s now path m small =
+    let t = target_of s now path in
+    let P : Answer → Type 0 = λ a. TakesChange s a.change in
+    answer_cases P s t m (λ c e. tt) (record {
+      read = λ r is. get_cases P t.place r m (λ c e. tt) (record { valid = tt; held = tt; content = tt });
+      deleted = λ dynamic. deletion_taken s t.key t.state (state_dynamic s now t.key t.place dynamic);
+      stored = λ dynamic. store_cases P s t m (λ c e. tt) tt (λ can. stored_taken s t.key t.state m (λ q key. put_taken s now path q m small dynamic can key));
+    })
+
+pub taken_of : (s : StoreValue) (now : ℕ) (m : Message) → s.versions < 2 ^ 64 → TakesChange s (answer_of s now m).change
+unfolding answer_of
+taken_of s now m small =
+    let a = answer_at s (target_of s now (path_of m)) m in
+    subst (TakesChange s) (sym (change_finally (removes_watch m) a)) (taken_at s now (path_of m) m small)
+
+pub taken : (s : StoreValue) (now : ℕ) (m : Message) → s.versions < 2 ^ 64 → TakesChange s (prompt_answer s now m).change
+unfolding prompt_answer
+taken s now m small =
+    let a = answer_of s now m in
+    subst (TakesChange s) (sym (change_unheld a.hold a)) (taken_of s now m small)
+
+-- ---- what says that the store changes has no payload
+
+-- no payload beside a change
+abbrev IsBare : Answer → Type 0
+IsBare a = changes a.change ≡ true → a.response.payload ≡ []
+
+stored_bare : (key : Option Path) (state : Option Representation) (m : Message) → IsBare (stored_under key state m)
+stored_bare None state m e = refl
+stored_bare (Some path) None m e = refl
+stored_bare (Some path) (Some r) m e = refl
+
+bare_at : (s : StoreValue) (t : Target) (m : Message) → IsBare (answer_at s t m)
+bare_at s t m =
+    answer_cases IsBare s t m (λ c e h. refl) (record {
+      read = λ r is. get_cases IsBare t.place r m (λ c e h. refl) (record { valid = λ h. refl; held = λ h. absurd cc; content = λ h. absurd cc });
+      deleted = λ dynamic h. refl;
+      stored = λ dynamic. store_cases IsBare s t m (λ c e h. refl) (λ h. refl) (λ can. stored_bare t.key t.state m);
+    })
+
+bare_finally : (b : Bool) (a : Answer) → IsBare a → IsBare (finally b a)
+bare_finally true a is = is
+bare_finally false a is = is
+
+bare_unheld : (hold : Option ℕ) (a : Answer) → IsBare a → IsBare (unheld_by hold a)
+bare_unheld None a is = is
+bare_unheld (Some seconds) a is = λ h. refl
+
+pub bare : (s : StoreValue) (now : ℕ) (m : Message) → changes (prompt_answer s now m).change ≡ true → (prompt_answer s now m).response.payload ≡ []
+unfolding prompt_answer answer_of
+bare s now m =
+    let a = answer_at s (target_of s now (path_of m)) m in
+    let b = finally (removes_watch m) a in
+    bare_unheld b.hold b (bare_finally (removes_watch m) a (bare_at s (target_of s now (path_of m)) m))
+
+-- ---- how long a payload is
+
+-- at most a mebibyte
+abbrev IsShort : Answer → Type 0
+IsShort a = length a.response.payload ≤ 1048576
+
+-- the listing and what is stored are short
+pub record AreShort (s : StoreValue) : Type 0 where
+  pub listing : length (listing s.resources) ≤ 1048576
+  pub stored : (path : Path) (r : Representation) → found_in s.resources path ≡ Some r → length r.bytes ≤ 1048576
+
+state_short : (s : StoreValue) (now : ℕ) (key : Option Path) (place : Place) (r : Representation) → AreShort s → now < 2 ^ 64 → state_at s now key place ≡ Some r → length r.bytes ≤ 1048576
+unfolding state_at
+state_short s now key Root r short small is = let bytes : codes "coap+tcp" ≡ r.bytes = cc in omega (arith, sym (ap length bytes))
+state_short s now key Time r short small is =
+    let bytes : decimal now ≡ r.bytes = cc in
+    omega (arith, length-decimal-le 20 now (omega arith) (omega arith) small, sym (ap length bytes))
+state_short s now key Async r short small is = let bytes : codes "done" ≡ r.bytes = cc in omega (arith, sym (ap length bytes))
+state_short s now key Listing r short small is = let bytes : listing s.resources ≡ r.bytes = cc in omega (arith, short.listing, sym (ap length bytes))
+state_short s now None Dynamic r short small is = absurd cc
+state_short s now (Some path) Dynamic r short small is = short.stored path r is
+
+stored_short : (key : Option Path) (state : Option Representation) (m : Message) → IsShort (stored_under key state m)
+stored_short None state m = omega arith
+stored_short (Some path) None m = omega arith
+stored_short (Some path) (Some r) m = omega arith
+
+short_at : (s : StoreValue) (now : ℕ) (path : Path) (m : Message) → AreShort s → now < 2 ^ 64 → IsShort (answer_at s (target_of s now path) m)
+short_at s now path m short small =
+    let t = target_of s now path in
+    let none : 0 ≤ 1048576 = omega arith in
+    answer_cases IsShort s t m (λ c e. none) (record {
+      read = λ r is. (let bytes : length r.bytes ≤ 1048576 = state_short s now t.key t.place r short small is in
+          get_cases IsShort t.place r m (λ c e. none) (record { valid = none; held = bytes; content = bytes }));
+      deleted = λ dynamic. none;
+      stored = λ dynamic. store_cases IsShort s t m (λ c e. none) none (λ can. stored_short t.key t.state m);
+    })
+
+short_finally : (b : Bool) (a : Answer) → IsShort a → IsShort (finally b a)
+short_finally true a is = is
+short_finally false a is = is
+
+short_unheld : (hold : Option ℕ) (a : Answer) → IsShort a → IsShort (unheld_by hold a)
+short_unheld None a is = is
+short_unheld (Some seconds) a is = omega arith
+
+pub short : (s : StoreValue) (now : ℕ) (m : Message) → length (listing s.resources) ≤ 1048576 → ((path : Path) (r : Representation) → found_in s.resources path ≡ Some r → length r.bytes ≤ 1048576) → now < 2 ^ 64 → length (prompt_answer s now m).response.payload ≤ 1048576
+unfolding prompt_answer answer_of
+short s now m listed each small =
+    let a = answer_at s (target_of s now (path_of m)) m in
+    let b = finally (removes_watch m) a in
+    let are : AreShort s = record { listing = listed; stored = each } in
+    short_unheld b.hold b (short_finally (removes_watch m) a (short_at s now (path_of m) m are small))

@@ -1,0 +1,25 @@
+-- The answer to GET where it is a representation.
+use Rattle.std.proofs.Common.{◌≡◌, ℕ, true, false, Option, Some, None, refl}
+use Rattle.std.specs.Borrow.{Bor}
+use Rattle.std.specs.Option.{option_map, option_copied}
+use Rattle.arrayvec.specs.declared.array_vec.ArrayVec.{ArrayVec}
+use Rattle.coap_wire.specs.Message.{Message}
+use Rattle.coap_wire.specs.OptionNumbers as numbers
+use Rattle.coap_store.specs.Store.{Representation}
+use Rattle.coap_store.specs.Requests.{number_of, values_of}
+use Rattle.coap_store.specs.State.{is_async}
+use Rattle.coap_store.specs.Answer.{get_answer, unheld, is_accepted, etag_at, is_among, watched, valid, content}
+use Rattle.coap_store.specs.declared.place.Place.{Place}
+
+pub get_valid : (place : Place) (r : Representation) (m : Message) → is_accepted (number_of numbers.accept m) r.format ≡ true → is_among (etag_at place r) (values_of numbers.etag m) ≡ true → unheld (get_answer place r m) ≡ watched place m (valid place r)
+unfolding get_answer
+get_valid place r m accepted among = rw (accepted, among) refl
+
+pub get_content : (place : Place) (r : Representation) (m : Message) → is_accepted (number_of numbers.accept m) r.format ≡ true → is_among (etag_at place r) (values_of numbers.etag m) ≡ false → is_async place ≡ false → unheld (get_answer place r m) ≡ watched place m (content place r)
+unfolding get_answer
+get_content place r m accepted among prompt = rw (accepted, among, prompt) refl
+
+-- an ETag that is lent is the one that is kept
+pub etag_lent : (etag : Option (Bor (ArrayVec ℕ 8 (Unit {0})))) → option_map (λ e. e.now.items) etag ≡ option_map (λ e. e.items) (option_copied etag)
+etag_lent None = refl
+etag_lent (Some e) = refl

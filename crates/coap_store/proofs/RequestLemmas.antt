@@ -1,0 +1,179 @@
+-- The recognised options with one number, and their values.
+use Rattle.std.proofs.Common.{◌≡◌, ℕ, ◌<◌, ◌≤◌, Bool, true, false, ◌&&◌, ◌||◌, cond, ◌==◌, List, [], ◌∷◌, length, map, filter, get_or, Option, Some, None, refl, sym, ap, subst, ◌∙◌, arith}
+use Rattle.std.specs.Prelude.{option_map, find, nat_le, is_some, IfSome}
+use Rattle.std.specs.Bool.{then_some}
+use Rattle.std.specs.List.{list_any, list_all}
+use Rattle.std.proofs.lemmas.Bool.{and_parts, and_left, and_right, leb-true, le-leb, lt-leb, eqb-true}
+use Rattle.std.proofs.lemmas.List.Folds.{list_all_at}
+use Rattle.coap_wire.specs.Message.{CoapOption, Message}
+use Rattle.coap_wire.specs.OptionNumbers as numbers
+use Rattle.coap_wire.specs.Recognition.{Placed, placed, once, kind_of, has_kind, is_recognised, known_behind, known_options}
+use Rattle.coap_wire.specs.Uint.{uint_of, uint_text}
+use Rattle.coap_wire.specs.declared.kinds.OptionKind.{OptionKind}
+use Rattle.coap_store.specs.Paths.{same_bytes}
+use Rattle.coap_store.specs.Store.{Representation}
+use Rattle.coap_store.specs.Requests.{values_of, has_option, value_of, number_of, is_given, first_or_none, match_holds, is_digit, digits_mean, is_seconds}
+
+-- ---- in a list of options
+
+abbrev pub has_number : ℕ → CoapOption → Bool
+has_number number o = o.number == number
+
+abbrev pub values_in : ℕ → List CoapOption → List (List ℕ)
+values_in number os = map (λ o. o.value) (filter (has_number number) os)
+
+-- a test that is settled
+first_at : (test : Bool) (o : CoapOption) (os : List CoapOption) (found : Option CoapOption) → option_map (λ (o : CoapOption). o.value) found ≡ first_or_none (map (λ (o : CoapOption). o.value) os)
+    → option_map (λ (o : CoapOption). o.value) (cond test (Some o) found) ≡ first_or_none (map (λ (o : CoapOption). o.value) (cond test (o ∷ os) os))
+first_at true o os found rest = refl
+first_at false o os found rest = rest
+
+given_at : (test : Bool) (o : CoapOption) (os : List CoapOption) (any : Bool) → any ≡ is_given (map (λ (o : CoapOption). o.value) os) → (test || any) ≡ is_given (map (λ (o : CoapOption). o.value) (cond test (o ∷ os) os))
+given_at true o os any rest = refl
+given_at false o os any rest = rest
+
+any_at : (passes : List ℕ → Bool) (test : Bool) (o : CoapOption) (os : List CoapOption) (any : Bool) → any ≡ list_any passes (map (λ (o : CoapOption). o.value) os)
+    → ((test && passes o.value) || any) ≡ list_any passes (map (λ (o : CoapOption). o.value) (cond test (o ∷ os) os))
+any_at passes true o os any rest = ap (λ (b : Bool). passes o.value || b) rest
+any_at passes false o os any rest = rest
+
+-- the first value is that of the first option with the number
+first_in : (number : ℕ) (os : List CoapOption) → option_map (λ (o : CoapOption). o.value) (find (has_number number) os) ≡ first_or_none (values_in number os)
+first_in number [] = refl
+first_in number (o ∷ os) = first_at (has_number number o) o (filter (has_number number) os) (find (has_number number) os) (first_in number os)
+
+given_in : (number : ℕ) (os : List CoapOption) → list_any (has_number number) os ≡ is_given (values_in number os)
+given_in number [] = refl
+given_in number (o ∷ os) = given_at (has_number number o) o (filter (has_number number) os) (list_any (has_number number) os) (given_in number os)
+
+any_in : (passes : List ℕ → Bool) (number : ℕ) (os : List CoapOption) → list_any (λ (o : CoapOption). has_number number o && passes o.value) os ≡ list_any passes (values_in number os)
+any_in passes number [] = refl
+any_in passes number (o ∷ os) =
+    any_at passes (has_number number o) o (filter (has_number number) os) (list_any (λ (o : CoapOption). has_number number o && passes o.value) os) (any_in passes number os)
+
+-- ---- in a request
+
+pub value_found : (number : ℕ) (m : Message) → option_map (λ (o : CoapOption). o.value) (find (has_number number) (known_options m.options)) ≡ value_of number m
+unfolding value_of values_of
+value_found number m = first_in number (known_options m.options)
+
+pub option_found : (number : ℕ) (m : Message) → list_any (has_number number) (known_options m.options) ≡ has_option number m
+unfolding has_option values_of
+option_found number m = given_in number (known_options m.options)
+
+pub value_passes : (passes : List ℕ → Bool) (number : ℕ) (m : Message) → list_any (λ (o : CoapOption). has_number number o && passes o.value) (known_options m.options) ≡ list_any passes (values_of number m)
+unfolding values_of
+value_passes passes number m = any_in passes number (known_options m.options)
+
+-- ---- the length of a recognised option's value
+
+recognised_fits : (before : List CoapOption) (o : CoapOption) (kind : OptionKind) → kind_of o.number ≡ Some kind → is_recognised before o ≡ true → length o.value ≤ kind.max
+unfolding is_recognised
+recognised_fits before o kind is test =
+    let known : has_kind before o (Some kind) ≡ true = ap (has_kind before o) (sym is) ∙ test in
+    leb-true (length o.value) kind.max (and_parts _ _ (and_parts _ _ known).0).1
+
+-- a front option with the number gives the first value
+front_fits : (same : Bool) (number : ℕ) (kind : OptionKind) (p : Placed) (rest : List CoapOption) (value : List ℕ) → has_number number p.option ≡ same → is_recognised p.before p.option ≡ true → kind_of number ≡ Some kind
+    → (first_or_none (map (λ (o : CoapOption). o.value) rest) ≡ Some value → length value ≤ kind.max) → first_or_none (map (λ (o : CoapOption). o.value) (cond same (p.option ∷ rest) rest)) ≡ Some value → length value ≤ kind.max
+front_fits true number kind p rest value same known is later found =
+    let of_it : kind_of p.option.number ≡ Some kind = ap kind_of (eqb-true p.option.number number same) ∙ is in
+    let its : p.option.value ≡ value = cc in
+    subst (λ (v : List ℕ). length v ≤ kind.max) its (recognised_fits p.before p.option kind of_it known)
+front_fits false number kind p rest value same known is later found = later found
+
+-- where the front option is not recognised, it is passed over
+placed_front : (known : Bool) (number : ℕ) (kind : OptionKind) (p : Placed) (ps : List Placed) (value : List ℕ) → is_recognised p.before p.option ≡ known → kind_of number ≡ Some kind
+    → (first_or_none (values_in number (map (λ (p : Placed). p.option) ps)) ≡ Some value → length value ≤ kind.max) → first_or_none (values_in number (map (λ (p : Placed). p.option) (cond known (p ∷ ps) ps))) ≡ Some value
+    → length value ≤ kind.max
+placed_front true number kind p ps value known is later found =
+    front_fits (has_number number p.option) number kind p (filter (has_number number) (map (λ (p : Placed). p.option) ps)) value refl known is later found
+placed_front false number kind p ps value known is later found = later found
+
+-- the first value with the number, of the recognised options among these
+abbrev first_placed : ℕ → List Placed → Option (List ℕ)
+first_placed number ps = first_or_none (values_in number (map (λ p. p.option) (filter (λ p. is_recognised p.before p.option) ps)))
+
+placed_fits : (number : ℕ) (kind : OptionKind) (ps : List Placed) (value : List ℕ) → kind_of number ≡ Some kind → first_placed number ps ≡ Some value → length value ≤ kind.max
+placed_fits number kind [] value is found = let bad : ◌≡◌ {A = Option (List ℕ)} None (Some value) = found in absurd cc
+placed_fits number kind (p ∷ ps) value is found =
+    placed_front (is_recognised p.before p.option) number kind p (filter (λ (p : Placed). is_recognised p.before p.option) ps) value refl is (placed_fits number kind ps value is) found
+
+-- a value of a recognised option has at most the greatest length of its kind
+pub value_fits : (number : ℕ) (kind : OptionKind) (m : Message) (value : List ℕ) → kind_of number ≡ Some kind → Some value ≡ value_of number m → length value ≤ kind.max
+unfolding value_of values_of known_behind
+value_fits number kind m value is found = placed_fits number kind (placed [] m.options) value is (sym found)
+
+-- ---- numbers
+
+pub no_number : (number : ℕ) (m : Message) → None ≡ value_of number m → None ≡ number_of number m
+unfolding number_of
+no_number number m none = ap (option_map uint_of) none
+
+pub number_found : (number : ℕ) (m : Message) (value : List ℕ) → Some value ≡ value_of number m → Some (uint_of value) ≡ number_of number m
+unfolding number_of
+number_found number m value found = ap (option_map uint_of) found
+
+-- an Observe has at most 3 bytes
+pub observe_fits : (m : Message) (value : List ℕ) → Some value ≡ value_of numbers.observe m → length value ≤ 4
+unfolding kind_of
+observe_fits m value found =
+    let short : length value ≤ 3 = value_fits numbers.observe (once 0 3) m value refl found in
+    omega arith
+
+-- ---- preconditions
+
+pub match_not_asked : (state : Option Representation) (m : Message) → false ≡ has_option numbers.if_match m → true ≡ match_holds state m
+unfolding match_holds
+match_not_asked state m absent = rw (sym absent) refl
+
+pub match_of_none : (state : Option Representation) (m : Message) → true ≡ has_option numbers.if_match m → None ≡ option_map (λ (r : Representation). r.version) state → false ≡ match_holds state m
+unfolding match_holds
+match_of_none None m asked is = rw (sym asked) refl
+match_of_none (Some r) m asked is = let bad : ◌≡◌ {A = Option ℕ} None (Some r.version) = is in absurd cc
+
+-- whether a value of If-Match holds for a version with this ETag
+abbrev pub is_match : List ℕ → List ℕ → Bool
+is_match etag value = length value == 0 || same_bytes value etag
+
+pub match_of_version : (state : Option Representation) (m : Message) (version : ℕ) (etag : List ℕ) → true ≡ has_option numbers.if_match m → Some version ≡ option_map (λ (r : Representation). r.version) state → etag ≡ uint_text version
+    → list_any (is_match etag) (values_of numbers.if_match m) ≡ match_holds state m
+unfolding match_holds
+match_of_version None m version etag asked is etag_is = let bad : ◌≡◌ {A = Option ℕ} (Some version) None = is in absurd cc
+match_of_version (Some r) m version etag asked is etag_is =
+    let same : version ≡ r.version = cc in
+    let etags : etag ≡ uint_text r.version = etag_is ∙ ap uint_text same in
+    rw (sym asked) (ap (λ (e : List ℕ). list_any (is_match e) (values_of numbers.if_match m)) etags)
+
+-- ---- seconds
+
+pub no_seconds_empty : (text : List ℕ) → length text ≡ 0 → false ≡ is_seconds text
+unfolding is_seconds
+no_seconds_empty [] e = refl
+no_seconds_empty (b ∷ bs) e = absurd (omega arith)
+
+pub no_seconds_long : (text : List ℕ) → 4 < length text → false ≡ is_seconds text
+unfolding is_seconds
+no_seconds_long text long = sym (and_left _ _ (and_left _ _ (and_right _ _ (lt-leb (length text) 4 long))))
+
+pub no_seconds_at : (text : List ℕ) (i d : ℕ) → i < length text → is_digit (get_or text i d) ≡ false → false ≡ is_seconds text
+unfolding is_seconds
+no_seconds_at text i d lt other = sym (and_left _ _ (and_right _ _ (list_all_at is_digit text i d lt other)))
+
+pub seconds_of_digits : (text : List ℕ) → 1 ≤ length text → length text ≤ 4 → list_all is_digit text ≡ true → nat_le (digits_mean text) 3600 ≡ is_seconds text
+unfolding is_seconds
+seconds_of_digits text some few digits = rw (le-leb 1 (length text) some, le-leb (length text) 4 few, digits) refl
+
+pub is_some-then_some : (test : Bool) (n : ℕ) → is_some (then_some test n) ≡ test
+is_some-then_some true n = refl
+is_some-then_some false n = refl
+
+pub if_then_some : (test : Bool) (n m : ℕ) → n ≡ m → IfSome (then_some test n) (λ k. k ≡ m)
+if_then_some true n m e = e
+if_then_some false n m e = tt
+
+-- ---- segments
+
+pub values_start : (number : ℕ) (m : Message) → values_in number (known_options m.options) ≡ values_of number m
+unfolding values_of
+values_start number m = refl

@@ -1,0 +1,10 @@
+use Rattle.std.proofs.Common.{◌≡◌, ◌≤◌, ◌+◌, drop}
+use Rattle.coap_store.specs.Paths.{written_length}
+use Rattle.coap_store.specs.PathViews.{segment_list}
+use Rattle.coap_store.proofs.path.fits.Given as goal
+
+-- the room that is left is as much less as the segments that are left
+abbrev pub invariant-loop-segment : goal.invariant-loop-segment
+invariant-loop-segment l =
+    (l.room ≤ 255)
+    × (255 + written_length (segment_list (drop l.segment-index l.segments)) ≡ l.room + written_length (segment_list l.segments))

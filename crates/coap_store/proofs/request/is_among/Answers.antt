@@ -1,0 +1,14 @@
+use Rattle.std.proofs.Common.{List, ℕ, ◌&&◌, rules, tests, ◌∙◌}
+use Rattle.std.proofs.lemmas.Iterator.Consumers.{YieldsList-from_first}
+use Rattle.std.proofs.lemmas.Iterator.Search.{any_from_yields_List}
+use Rattle.coap_wire.specs.Message.{CoapOption}
+use Rattle.coap_wire.specs.OptionNumbers as numbers
+use Rattle.coap_wire.specs.Views.{coap_option}
+use Rattle.coap_store.specs.Paths.{same_bytes}
+use Rattle.coap_store.proofs.RequestLemmas.{has_number, value_passes}
+use Rattle.coap_store.proofs.request.is_among.Goals as goal
+
+pub returns : goal.returns
+returns c =
+    any_from_yields_List (λ (o : CoapOption). has_number numbers.etag o && same_bytes o.value c.args.etag.now) _ _ _ c.any.ensures.ran (YieldsList-from_first coap_option (λ os. os) _ c.known.ensures) (λ x b q k. search (rules, tests))
+    ∙ value_passes (λ (value : List ℕ). same_bytes value c.args.etag.now) numbers.etag c.args.request.now

@@ -1,0 +1,15 @@
+use Rattle.std.proofs.Common.{◌≡◌, ◌≤◌, true, take}
+use Rattle.std.specs.List.{list_all}
+use Rattle.coap_store.specs.Requests.{is_digit, digits_mean}
+use Rattle.coap_store.proofs.request.seconds_in.Given as goal
+
+-- the bytes so far are digits of this number
+abbrev pub invariant-loop-byte : goal.invariant-loop-byte
+invariant-loop-byte l = record {
+  digits : list_all is_digit (take l.byte-index l.text) ≡ true;
+  value : l.seconds ≡ digits_mean (take l.byte-index l.text);
+  none : l.byte-index ≤ 0 → l.seconds ≤ 0;
+  one : l.byte-index ≤ 1 → l.seconds ≤ 9;
+  two : l.byte-index ≤ 2 → l.seconds ≤ 99;
+  three : l.byte-index ≤ 3 → l.seconds ≤ 999;
+}

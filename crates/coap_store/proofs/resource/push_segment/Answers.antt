@@ -1,0 +1,17 @@
+-- The slash, and then the bytes as they are escaped.
+use Rattle.std.proofs.Common.{ℕ, List, [], ◌∷◌, ◌++◌, ap, ◌∙◌, append_assoc, arith}
+use Rattle.std.specs.List.{flat_map}
+use Rattle.std.specs.String.{string_bytes}
+use Rattle.std.proofs.lemmas.Result.{IfOk-equal}
+use Rattle.coap_store.specs.Listing.{encoded_byte}
+use Rattle.coap_store.proofs.EscapeLemmas.{segment_is}
+use Rattle.coap_store.proofs.resource.push_segment.Goals as goal
+
+pub returns : goal.returns
+returns c =
+    let escaped = segment_is c.args.segment.now (λ k. omega (arith, c.type_inv.segment k)) in
+    let bytes = flat_map encoded_byte c.args.segment.now in
+    let slash = ap (λ (t : List ℕ). t ++ bytes) c.in_ok-push_str.ensures.bytes in
+    IfOk-equal c.append_to.result _ _ _ c.append_to.ensures.ok (
+    ap (λ (t : List ℕ). string_bytes c.push_str.new.self ++ t) (c.percent_encode.ensures.text ∙ escaped) ∙ slash ∙ append_assoc (string_bytes c.args.text.now) (47 ∷ []) bytes
+    )

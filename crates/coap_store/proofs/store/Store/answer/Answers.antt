@@ -1,0 +1,48 @@
+use Rattle.std.proofs.Common.{◌≡◌, ◌≤◌, true, length, [], sym, ap, ◌∙◌, subst}
+use Rattle.coap_store.specs.Answer.{Answer, prompt_answer}
+use Rattle.coap_store.specs.Changes.{TakesChange, changes}
+use Rattle.coap_store.specs.declared.plan.Watch.TheVariants.{Drop}
+use Rattle.coap_store.proofs.AnswerLaws.{taken, bare, short}
+use Rattle.coap_store.proofs.AnswerLemmas.{answer_removes, answer_leaves}
+use Rattle.coap_store.proofs.store.Store.answer.Goals as goal
+
+abbrev without_watch : Answer → Answer
+without_watch a = record a { watch = Drop }
+
+removed : (c : goal.After-with_watch) → c.with_watch.result ≡ prompt_answer c.args.self.now c.args.now c.args.request.now
+removed c =
+    c.with_watch.ensures ∙ ap without_watch c.checked-plan.ensures
+    ∙ answer_removes _ _ _ (sym c.removes_watch.ensures ∙ c.if-removes_watch.true)
+
+pub returns-then-removes_watch-clause-answer : goal.returns-then-removes_watch-clause-answer
+returns-then-removes_watch-clause-answer c = removed c
+
+pub returns-then-removes_watch-clause-taken : goal.returns-then-removes_watch-clause-taken
+returns-then-removes_watch-clause-taken c =
+    subst (λ a. TakesChange c.args.self.now a.change) (sym (removed c)) (taken _ _ _ c.bounds.ensures.versions)
+
+pub returns-then-removes_watch-clause-bare : goal.returns-then-removes_watch-clause-bare
+returns-then-removes_watch-clause-bare c =
+    subst (λ a. changes a.change ≡ true → a.response.payload ≡ []) (sym (removed c)) (bare _ _ _)
+
+pub returns-then-removes_watch-clause-short : goal.returns-then-removes_watch-clause-short
+returns-then-removes_watch-clause-short c =
+    subst (λ a. length a.response.payload ≤ 1048576) (sym (removed c)) (short _ _ _ c.bounds.ensures.listing c.bounds.ensures.stored c.ranges.now.fits)
+
+left : (c : goal.Else-removes_watch) → c.checked-plan.result ≡ prompt_answer c.args.self.now c.args.now c.args.request.now
+left c = c.checked-plan.ensures ∙ answer_leaves _ _ _ (sym c.removes_watch.ensures ∙ c.if-removes_watch.false)
+
+pub returns-else-removes_watch-clause-answer : goal.returns-else-removes_watch-clause-answer
+returns-else-removes_watch-clause-answer c = left c
+
+pub returns-else-removes_watch-clause-taken : goal.returns-else-removes_watch-clause-taken
+returns-else-removes_watch-clause-taken c =
+    subst (λ a. TakesChange c.args.self.now a.change) (sym (left c)) (taken _ _ _ c.bounds.ensures.versions)
+
+pub returns-else-removes_watch-clause-bare : goal.returns-else-removes_watch-clause-bare
+returns-else-removes_watch-clause-bare c =
+    subst (λ a. changes a.change ≡ true → a.response.payload ≡ []) (sym (left c)) (bare _ _ _)
+
+pub returns-else-removes_watch-clause-short : goal.returns-else-removes_watch-clause-short
+returns-else-removes_watch-clause-short c =
+    subst (λ a. length a.response.payload ≤ 1048576) (sym (left c)) (short _ _ _ c.bounds.ensures.listing c.bounds.ensures.stored c.ranges.now.fits)

@@ -1,0 +1,228 @@
+-- The answer to a request (RFC 7252 sections 5.8 to 5.10 and 12.1, RFC 6690 section 4, RFC 7641 section 4.1).
+use Rattle.std.specs.Prelude.{ℕ, Bool, true, false, not, ◌&&◌, ◌||◌, List, [], ◌∷◌, length, Option, Some, None, is_some, is_none, nat_le, nat_lt, ◌==◌, if◌then◌else◌}
+use Rattle.std.specs.List.{list_any}
+use Rattle.coap_wire.specs.Message.{Message}
+use Rattle.coap_wire.specs.Codes as code
+use Rattle.coap_wire.specs.OptionNumbers as numbers
+use Rattle.coap_wire.specs.Recognition.{first_critical}
+use Rattle.coap_store.specs.Paths.{Path, same_bytes}
+use Rattle.coap_store.specs.Store.{Representation, StoreValue, put_in, removed_in}
+use Rattle.coap_store.specs.State.{is_dynamic, is_time, is_async, is_observable, Target, target_of}
+use Rattle.coap_store.specs.declared.place.Place.{Place}
+use Rattle.coap_store.specs.declared.plan.Watch.{Watch}
+use Rattle.coap_store.specs.declared.plan.Watch.TheVariants as watch
+use Rattle.coap_store.specs.Requests.{values_of, value_of, has_option, path_of, number_of, is_get, is_post, is_put, is_delete, is_method, etag_of, preconditions_hold, is_good_query, seconds_of}
+
+-- ---- what an answer is
+
+-- the code, the options and the payload; the token is the request's
+pub record Response : Type 0 where
+  pub code : ℕ
+  pub etag : Option (List ℕ)
+  pub format : Option ℕ
+  pub max_age : Option ℕ
+  pub location : Path
+  pub size1 : Option ℕ
+  pub payload : List ℕ
+
+pub data Change : Type 0 where
+  Nothing : Change
+  Put : (path : Path) (format : Option ℕ) (bytes : List ℕ) → Change
+  Delete : (path : Path) → Change
+
+-- watch says what becomes of the observer with the request's token, hold for how many seconds the response is held
+pub record Answer : Type 0 where
+  pub response : Response
+  pub change : Change
+  pub watch : Watch
+  pub hold : Option ℕ
+
+-- a response with nothing but its code
+abbrev pub only : ℕ → Response
+only c = record { code = c; etag = None; format = None; max_age = None; location = []; size1 = None; payload = [] }
+
+abbrev pub says : Response → Answer
+says r = record { response = r; change = Nothing; watch = watch.Nothing; hold = None }
+
+-- ---- checks, one after the other
+
+-- where this holds, the answer is so
+abbrev pub when : Bool → Answer → Option Answer
+when true a = Some a
+when false a = None
+
+-- where this holds, the request is refused with this code
+abbrev pub refuse : Bool → ℕ → Option Answer
+refuse holds c = when holds (says (only c))
+
+-- the first check that holds gives the answer, else it is the last one
+abbrev pub first_of : List (Option Answer) → Answer → Answer
+first_of [] last = last
+first_of (Some a ∷ checks) last = a
+first_of (None ∷ checks) last = first_of checks last
+
+-- ---- GET (RFC 7252 section 5.8.1)
+
+-- Accept names another format than that of the representation, or it has none
+abbrev pub is_accepted : Option ℕ → Option ℕ → Bool
+is_accepted None format = true
+is_accepted (Some wanted) None = false
+is_accepted (Some wanted) (Some format) = format == wanted
+
+-- stored representations have an ETag
+abbrev pub etag_at : Place → Representation → Option (List ℕ)
+etag_at place r = if is_dynamic place then Some (etag_of r) else None
+
+-- one of the request's ETags is that of the representation
+abbrev pub is_among : Option (List ℕ) → List (List ℕ) → Bool
+is_among None values = false
+is_among (Some etag) values = list_any (λ value. same_bytes value etag) values
+
+-- the moment holds for a second
+abbrev pub max_age_at : Place → Option ℕ
+max_age_at place = if is_time place then Some 1 else None
+
+-- 2.03, and 2.05
+abbrev pub valid : Place → Representation → Response
+valid place r = record (only code.valid) { etag = etag_at place r }
+
+abbrev pub content : Place → Representation → Response
+content place r = record (only code.content) { etag = etag_at place r; format = r.format; max_age = max_age_at place; payload = r.bytes }
+
+-- Observe 0 asks to be entered
+abbrev pub is_number : Option ℕ → ℕ → Bool
+is_number None n = false
+is_number (Some given) n = given == n
+
+abbrev pub watch_of : Place → Message → Watch
+watch_of place m = if is_observable place && is_number (number_of numbers.observe m) 0 then watch.Add else watch.Nothing
+
+abbrev pub watched : Place → Message → Response → Answer
+watched place m r = record (says r) { watch = watch_of place m }
+
+-- the answer is held as long as the query asks
+abbrev pub held : Place → Representation → Message → Answer
+held place r m = record (says (content place r)) { hold = Some (seconds_of (value_of numbers.uri_query m)) }
+
+unfoldable pub get_answer : Place → Representation → Message → Answer
+get_answer place r m =
+    first_of (
+    refuse (not (is_accepted (number_of numbers.accept m) r.format)) code.not_acceptable
+    ∷ when (is_among (etag_at place r) (values_of numbers.etag m)) (watched place m (valid place r))
+    ∷ refuse (is_async place && not (is_good_query (value_of numbers.uri_query m))) code.bad_request
+    ∷ when (is_async place) (held place r m)
+    ∷ [])
+    (watched place m (content place r))
+
+-- ---- PUT and POST (RFC 7252 sections 5.8.2, 5.8.3)
+
+abbrev pub greatest_version : ℕ
+greatest_version = 18446744073709551615
+
+abbrev pub put_of : Path → Message → Change
+put_of path m = Put path (number_of numbers.content_format m) m.payload
+
+-- POST says where it made a resource
+abbrev pub location_at : Path → Message → Path
+location_at path m = if is_post m then path else []
+
+abbrev pub stored : Path → Option Representation → Message → Answer
+stored path (Some r) m = record (says (only code.changed)) { change = put_of path m }
+stored path None m = record (says (record (only code.created) { location = location_at path m })) { change = put_of path m }
+
+-- what is no path of a resource was refused before
+abbrev pub stored_under : Option Path → Option Representation → Message → Answer
+stored_under None state m = says (only code.bad_request)
+stored_under (Some path) state m = stored path state m
+
+abbrev pub too_large : StoreValue → Answer
+too_large s = says (record (only code.request_entity_too_large) { size1 = Some s.rep_max })
+
+unfoldable pub store_answer : StoreValue → Target → Message → Answer
+store_answer s t m =
+    first_of (
+    when (nat_lt s.rep_max (length m.payload)) (too_large s)
+    ∷ refuse (is_none t.state && is_none t.key) code.bad_request
+    ∷ refuse (is_none t.state && nat_le s.dynamic_max (length s.resources)) code.not_acceptable
+    ∷ refuse (s.versions == greatest_version) code.service_unavailable
+    ∷ [])
+    (stored_under t.key t.state m)
+
+-- ---- DELETE (RFC 7252 section 5.8.4)
+
+abbrev pub deletion : Option Path → Option Representation → Change
+deletion None state = Nothing
+deletion (Some path) None = Nothing
+deletion (Some path) (Some r) = Delete path
+
+abbrev pub delete_answer : Target → Answer
+delete_answer t = record (says (only code.deleted)) { change = deletion t.key t.state }
+
+-- ---- any request
+
+-- GET needs the resource, and PUT and POST one that is there or may be made
+abbrev pub needs_resource : StoreValue → Message → Bool
+needs_resource s m = is_get m || ((is_put m || is_post m) && s.dynamic_max == 0)
+
+-- an absent path was refused before
+abbrev pub read_answer : Place → Option Representation → Message → Answer
+read_answer place None m = says (only code.not_found)
+read_answer place (Some r) m = get_answer place r m
+
+unfoldable pub method_answer : StoreValue → Target → Message → Answer
+method_answer s t m =
+    if is_get m then read_answer t.place t.state m
+    else (if is_delete m then delete_answer t else store_answer s t m)
+
+-- the checks of the resource, and then those of the method
+unfoldable pub resource_answer : StoreValue → Target → Message → Answer
+resource_answer s t m =
+    first_of (
+    refuse (is_none t.state && needs_resource s m) code.not_found
+    ∷ refuse (not (is_dynamic t.place) && not (is_get m)) code.method_not_allowed
+    ∷ refuse (not (preconditions_hold t.state m)) code.precondition_failed
+    ∷ [])
+    (method_answer s t m)
+
+-- the checks of the request alone, and then those of the resource
+unfoldable pub answer_at : StoreValue → Target → Message → Answer
+answer_at s t m =
+    first_of (
+    refuse (is_some (first_critical m.options)) code.bad_option
+    ∷ refuse (has_option numbers.proxy_uri m || has_option numbers.proxy_scheme m) code.proxying_not_supported
+    ∷ refuse (not (is_method m)) code.method_not_allowed
+    ∷ [])
+    (resource_answer s t m)
+
+-- a GET with Observe 1 asks to be removed, and is, whatever the answer
+abbrev pub removes_watch : Message → Bool
+removes_watch m = is_get m && is_number (number_of numbers.observe m) 1
+
+abbrev pub finally : Bool → Answer → Answer
+finally true a = record a { watch = watch.Drop }
+finally false a = a
+
+-- the answer to a request at a moment
+unfoldable pub answer_of : StoreValue → ℕ → Message → Answer
+answer_of s now m = finally (removes_watch m) (answer_at s (target_of s now (path_of m)) m)
+
+-- ---- the store afterwards
+
+abbrev pub changed : StoreValue → Change → StoreValue
+changed s Nothing = s
+changed s (Put path format bytes) = put_in s path format bytes
+changed s (Delete path) = removed_in s path
+
+-- ---- where nothing can be held
+
+-- an answer that would be held is refused for now
+abbrev pub unheld_by : Option ℕ → Answer → Answer
+unheld_by None a = a
+unheld_by (Some seconds) a = record a { response = only code.service_unavailable; hold = None }
+
+abbrev pub unheld : Answer → Answer
+unheld a = unheld_by a.hold a
+
+-- the answer of a server that holds none
+unfoldable pub prompt_answer : StoreValue → ℕ → Message → Answer
+prompt_answer s now m = unheld (answer_of s now m)

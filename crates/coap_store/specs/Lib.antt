@@ -1,0 +1,15 @@
+pub mod Paths
+pub mod PathViews
+pub mod Store
+pub mod Listing
+pub mod StoreViews
+pub mod State
+pub mod Requests
+pub mod Answer
+pub mod Changes
+pub mod Messages
+pub mod PlanViews
+pub mod PlanAnswer
+pub mod Targets
+pub mod CatalogueInside
+pub mod StoreInside

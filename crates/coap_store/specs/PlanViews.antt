@@ -1,0 +1,23 @@
+-- How the code's values are seen in contracts.
+use Rattle.std.specs.Prelude.{ℕ, List, [], Option, Some, None}
+use Rattle.coap_store.specs.Paths.{Path}
+use Rattle.coap_store.specs.Answer as answer
+use Rattle.coap_store.specs.declared.plan.Bytes.{Bytes}
+use Rattle.coap_store.specs.declared.plan.Bytes.TheVariants.{Stored, Decimal}
+use Rattle.coap_store.specs.declared.plan.Change.{Change}
+use Rattle.coap_store.specs.declared.plan.Change.TheVariants as changes
+
+-- the bytes, wherever they lie
+abbrev pub bytes_in : Bytes → List ℕ
+bytes_in (Stored bytes) = bytes.now
+bytes_in (Decimal text) = text.items
+
+abbrev pub change_value : Change → answer.Change
+change_value changes.Nothing = answer.Nothing
+change_value (changes.Put path format bytes) = answer.Put path format bytes.now
+change_value (changes.Delete path) = answer.Delete path
+
+-- no path stands for the root
+abbrev pub path_or_root : Option Path → Path
+path_or_root None = []
+path_or_root (Some path) = path

@@ -1,0 +1,92 @@
+-- The state of a path at a moment: the built-in resources and the dynamic ones.
+use Rattle.std.specs.Prelude.{ℕ, Bool, true, false, List, [], ◌∷◌, Option, Some, None, codes, if◌then◌else◌}
+use Rattle.std.specs.Fmt.{decimal}
+use Rattle.coap_store.specs.Paths.{Path, same_path, is_path}
+use Rattle.coap_store.specs.Store.{Representation, StoreValue, found_in}
+use Rattle.coap_store.specs.Listing.{listing}
+use Rattle.coap_store.specs.declared.place.Place.{Place}
+use Rattle.coap_store.specs.declared.place.Place.TheVariants.{Root, Time, Async, Listing, Dynamic}
+
+abbrev pub root_path : Path
+root_path = []
+
+abbrev pub time_path : Path
+time_path = codes "time" ∷ []
+
+abbrev pub async_path : Path
+async_path = codes "async" ∷ []
+
+abbrev pub listing_path : Path
+listing_path = codes ".well-known" ∷ codes "core" ∷ []
+
+-- which resource a path names
+unfoldable pub place_of : Path → Place
+place_of path =
+    if same_path path root_path then Root
+    else (if same_path path time_path then Time
+    else (if same_path path async_path then Async
+    else (if same_path path listing_path then Listing
+    else Dynamic)))
+
+abbrev pub is_dynamic : Place → Bool
+is_dynamic Root = false
+is_dynamic Time = false
+is_dynamic Async = false
+is_dynamic Listing = false
+is_dynamic Dynamic = true
+
+abbrev pub is_time : Place → Bool
+is_time Root = false
+is_time Time = true
+is_time Async = false
+is_time Listing = false
+is_time Dynamic = false
+
+abbrev pub is_async : Place → Bool
+is_async Root = false
+is_async Time = false
+is_async Async = true
+is_async Listing = false
+is_async Dynamic = false
+
+-- a path, where it is one of a resource
+unfoldable pub key_for : Path → Option Path
+key_for path = if is_path path then Some path else None
+
+-- what is stored there
+abbrev pub stored_at : StoreValue → Option Path → Option Representation
+stored_at s None = None
+stored_at s (Some path) = found_in s.resources path
+
+-- a representation of a built-in resource: it has version 0, which is no version of a stored one
+abbrev pub built : ℕ → List ℕ → Option Representation
+built format bytes = Some (record { version = 0; format = Some format; bytes = bytes })
+
+-- a greeting, the moment in seconds, what is answered late, the listing, or what is stored
+unfoldable pub state_at : StoreValue → ℕ → Option Path → Place → Option Representation
+state_at s now key Root = built 0 (codes "coap+tcp")
+state_at s now key Time = built 0 (decimal now)
+state_at s now key Async = built 0 (codes "done")
+state_at s now key Listing = built 40 (listing s.resources)
+state_at s now key Dynamic = stored_at s key
+
+-- the state of a path at a moment; nothing where it is absent
+abbrev pub state_of : StoreValue → ℕ → Path → Option Representation
+state_of s now path = state_at s now (key_for path) (place_of path)
+
+-- what a request is about: the path, where it is one of a resource, which resource it names, and its state
+pub record Target : Type 0 where
+  pub key : Option Path
+  pub place : Place
+  pub state : Option Representation
+
+abbrev pub target_of : StoreValue → ℕ → Path → Target
+target_of s now path = record { key = key_for path; place = place_of path; state = state_of s now path }
+
+-- changes of the moment and of the dynamic resources can be observed
+abbrev pub is_observable : Place → Bool
+is_observable Root = false
+is_observable Time = true
+is_observable Async = false
+is_observable Listing = false
+is_observable Dynamic = true

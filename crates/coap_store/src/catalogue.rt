@@ -1,0 +1,158 @@
+//! The dynamic resources of a store, with the text that lists them.
+
+ghost use Rattle.std.specs.Prelude.{◌≡◌, OnOk, OnErr, true, false};
+ghost use Rattle.std.specs.Option.{is_some};
+ghost use Rattle.coap_store.specs.Store.{found_in, put_at};
+ghost use Rattle.coap_store.specs.Listing.{listing as listing_of};
+ghost use Rattle.coap_store.specs.StoreViews.{resources_in, AreListed, IsListed, representation};
+
+use crate::path::PathKey;
+use crate::resource::{BUILT_IN_TEXT, Resource, Resources, entry_text, write_listing};
+use indexmap::IndexMap;
+use std::alloc::{AllocError, Global};
+use std::marker::Model;
+
+/// The dynamic resources in order of creation, and the text of `/.well-known/core`, which is kept ready. Contracts see the
+/// list of the resources.
+#[derive(Debug, Drop)]
+pub(crate) struct Catalogue {
+    alloc: Global,
+    resources: Resources,
+    listing: Vec<u8>,
+}
+
+impl Model for Catalogue {
+    ghost use Rattle.std.specs.Prelude.{List};
+    ghost use Rattle.coap_store.specs.Store.{Resource};
+
+    ghost Value = { List Resource };
+
+    ghost use Rattle.coap_store.specs.CatalogueInside.{resources_of, IsCatalogue};
+
+    ghost view = { resources_of };
+
+    ghost invariant = { IsCatalogue };
+}
+
+impl Catalogue {
+    ghost use Rattle.std.specs.Prelude.{◌≡◌, [], IfOk, OnOk, OnErr, length, option_map};
+    ghost use Rattle.coap_store.specs.Listing.{listing as listing_of};
+    ghost use Rattle.coap_store.specs.Store.{found_in, put_at, removed_at};
+    ghost use Rattle.coap_store.specs.StoreViews.{representation};
+
+    /// No resource but those that are built in.
+    pub(crate) fn new(alloc: Global) -> Result<Catalogue, AllocError>
+        ensures { IfOk result (λ c. c ≡ []) }
+    {
+        Ok(Catalogue {
+            alloc,
+            resources: IndexMap::new(alloc),
+            listing: Vec::from_slice(alloc, BUILT_IN_TEXT)?,
+        })
+    }
+
+    /// How many there are.
+    pub(crate) fn len(&self) -> usize
+        ensures { result ≡ length self.now }
+    {
+        self.resources.len()
+    }
+
+    /// What is stored at a path.
+    pub(crate) fn get(&self, path: &PathKey) -> Option<&Resource>
+        ensures { option_map (λ r. representation r.now) result ≡ found_in self.now path.now }
+    {
+        self.resources.get(path)
+    }
+
+    /// The text of `/.well-known/core` (RFC 6690).
+    pub(crate) fn listing(&self) -> &[u8]
+        ensures { result.now ≡ listing_of self.now }
+    {
+        &self.listing
+    }
+
+    /// Stores a representation. A new resource goes last, one that is there keeps its place.
+    ///
+    /// # Errors
+    ///
+    /// `AllocError` where memory was refused. The resources are then as before.
+    pub(crate) fn put(
+        &mut self,
+        path: PathKey,
+        version: u64,
+        format: Option<u16>,
+        bytes: &[u8],
+    ) -> Result<(), AllocError>
+        ensures ok { OnOk result (self.new ≡ put_at self.old path (record { version = version; format = format; bytes = bytes.now })) }
+        ensures err { OnErr result (self.new ≡ self.old) }
+    {
+        let resource = Resource {
+            version,
+            format,
+            bytes: Vec::from_slice(self.alloc, bytes)?,
+            listed: entry_text(self.alloc, &path, format)?,
+        };
+        if self.resources.contains_key(&path) {
+            replace(&mut self.resources, &mut self.listing, path, resource)
+        } else {
+            create(&mut self.resources, &mut self.listing, path, resource)
+        }
+    }
+
+    /// Takes a resource away; the others keep their order.
+    pub(crate) fn remove(&mut self, path: &PathKey)
+        ensures { self.new ≡ removed_at self.old path.now }
+    {
+        self.resources.shift_remove(path);
+        write_listing(&mut self.listing, &self.resources);
+    }
+}
+
+/// Adds a resource that is not there, with its text.
+fn create(
+    resources: &mut Resources,
+    listing: &mut Vec<u8>,
+    path: PathKey,
+    resource: Resource,
+) -> Result<(), AllocError>
+    requires new { is_some (found_in (resources_in resources.old.entries) path) ≡ false }
+    requires listed { IsListed (path, resource) }
+    requires all_listed { AreListed resources.old.entries }
+    requires ready { listing.old.items ≡ listing_of (resources_in resources.old.entries) }
+    ensures stored { OnOk result (resources_in resources.new.entries ≡ put_at (resources_in resources.old.entries) path (representation resource)) }
+    ensures unchanged { OnErr result (resources_in resources.new.entries ≡ resources_in resources.old.entries) }
+    ensures all_listed { AreListed resources.new.entries }
+    ensures ready { listing.new.items ≡ listing_of (resources_in resources.new.entries) }
+{
+    resources.reserve(1)?;
+    listing.extend_from_slice(resource.listed.as_bytes())?;
+    let Ok(_) = resources.insert(path, resource) else {
+        unreachable!()
+    };
+    Ok(())
+}
+
+/// Replaces a resource that is there. The text is written anew, since the format may be another one.
+fn replace(
+    resources: &mut Resources,
+    listing: &mut Vec<u8>,
+    path: PathKey,
+    resource: Resource,
+) -> Result<(), AllocError>
+    requires present { is_some (found_in (resources_in resources.old.entries) path) ≡ true }
+    requires listed { IsListed (path, resource) }
+    requires all_listed { AreListed resources.old.entries }
+    requires ready { listing.old.items ≡ listing_of (resources_in resources.old.entries) }
+    ensures stored { OnOk result (resources_in resources.new.entries ≡ put_at (resources_in resources.old.entries) path (representation resource)) }
+    ensures unchanged { OnErr result (resources_in resources.new.entries ≡ resources_in resources.old.entries) }
+    ensures all_listed { AreListed resources.new.entries }
+    ensures ready { listing.new.items ≡ listing_of (resources_in resources.new.entries) }
+{
+    listing.reserve(resource.listed.len())?;
+    let Ok(_) = resources.insert(path, resource) else {
+        unreachable!()
+    };
+    write_listing(listing, resources);
+    Ok(())
+}

@@ -1,0 +1,177 @@
+//! Paths of resources.
+
+ghost use Rattle.std.specs.Prelude.{◌≡◌, ◌≤◌, true, Some, None, nat_le, if◌then◌else◌};
+ghost use Rattle.std.specs.List.{list_any};
+ghost use Rattle.coap_store.specs.Paths.{is_dots, is_one_empty, is_path, written_length};
+ghost use Rattle.coap_store.specs.PathViews.{segment_list, written};
+
+use arrayvec::ArrayVec;
+use std::marker::Model;
+
+/// The most segments of a path.
+const MAX_SEGMENTS: usize = 16;
+
+/// The most bytes of a path, where each segment takes one more than it has.
+const MAX_BYTES: usize = 255;
+
+/// Whether a segment is `.` or `..`.
+fn names_dots(segment: &[u8]) -> bool
+    ensures { result ≡ is_dots segment.now }
+{
+    segment == b".".as_slice() || segment == b"..".as_slice()
+}
+
+/// Whether one of the segments is `.` or `..`.
+fn any_dots(segments: &[&[u8]]) -> bool
+    ensures { result ≡ list_any is_dots (segment_list segments.now) }
+{
+    segments.iter().any(|segment| names_dots(segment))
+}
+
+/// Whether there is one segment and that is empty.
+fn only_empty(segments: &[&[u8]]) -> bool
+    ensures { result ≡ is_one_empty (segment_list segments.now) }
+{
+    segments.len() == 1 && segments[0].is_empty()
+}
+
+/// Whether the segments fit in the bytes of a path.
+fn fits(segments: &[&[u8]]) -> bool
+    ensures { result ≡ nat_le (written_length (segment_list segments.now)) 255 }
+{
+    let mut room = MAX_BYTES;
+    for segment in segments {
+        if segment.len() >= room {
+            return false;
+        }
+        room -= segment.len() + 1;
+    }
+    true
+}
+
+/// Whether these are the segments of a path.
+#[tactic(auto, using(crate::proofs::PathLemmas::count_segments), unfolding(crate::specs::Paths::is_path))]
+fn are_path(segments: &[&[u8]]) -> bool
+    ensures { result ≡ is_path (segment_list segments.now) }
+{
+    segments.len() <= MAX_SEGMENTS && fits(segments) && !any_dots(segments) && !only_empty(segments)
+}
+
+/// Each segment behind its length.
+fn bytes_of(segments: &[&[u8]]) -> ArrayVec<u8, MAX_BYTES>
+    requires { written_length (segment_list segments.now) ≤ 255 }
+    ensures { result.items ≡ written (segment_list segments.now) }
+{
+    let mut bytes = ArrayVec::new();
+    for segment in segments {
+        bytes.push(segment.len() as u8);
+        let Ok(()) = bytes.try_extend_from_slice(segment) else {
+            unreachable!()
+        };
+    }
+    bytes
+}
+
+/// The path of a resource: at most 16 segments, at most 255 bytes with one more for each segment, no segment `.` or `..`,
+/// and not one empty segment alone (RFC 7252 sections 5.10.1, 6.4). No segment is the root. Contracts see the list of
+/// the segments, and equality is that of these lists.
+#[derive(Debug, Drop, PartialEq, Eq, Hash)]
+pub struct PathKey {
+    /// Each segment behind its length.
+    bytes: ArrayVec<u8, MAX_BYTES>,
+}
+
+impl Model for PathKey {
+    ghost use Rattle.coap_store.specs.Paths.{Path};
+
+    ghost Value = { Path };
+
+    ghost use Rattle.coap_store.specs.PathViews.{segments_in, is_key, key_of, key_back};
+
+    ghost view = { segments_in };
+
+    ghost invariant = { is_key };
+
+    ghost inverse = { key_of };
+
+    ghost inverse_ok = { key_back };
+}
+
+impl PathKey {
+    /// The path with these segments. A slash in a segment is a byte like any other, so the one segment `a/b` and the two
+    /// segments `a` and `b` are different paths (RFC 7252 section 5.10.1). `None` where these are not the segments of a
+    /// path: more than 16, more than 255 bytes with one more for each segment, a segment `.` or `..`, or one empty
+    /// segment alone.
+    pub fn from_segments(segments: &[&[u8]]) -> Option<PathKey>
+        ensures { result ≡ (if is_path (segment_list segments.now) then Some (segment_list segments.now) else None) }
+    {
+        if !are_path(segments) {
+            return None;
+        }
+        Some(PathKey {
+            bytes: bytes_of(segments),
+        })
+    }
+
+    /// A copy, for which nothing is allocated.
+    pub fn duplicate(&self) -> PathKey
+        ensures { result ≡ self.now }
+    {
+        let Ok(bytes) = ArrayVec::try_from(self.bytes.as_slice()) else {
+            unreachable!()
+        };
+        PathKey { bytes }
+    }
+
+    /// Each segment behind a byte that has its length.
+    pub(crate) fn written(&self) -> &[u8]
+        ensures { result.now ≡ written self.now }
+    {
+        self.bytes.as_slice()
+    }
+
+    /// The segments, in order.
+    pub fn segments(&self) -> Segments<'_>
+        ensures value { result ≡ self.now }
+        ensures path { is_path self.now ≡ true }
+    {
+        Segments {
+            rest: self.bytes.as_slice(),
+        }
+    }
+}
+
+/// The segments of a path, in order. Contracts see the list of those that are left.
+#[derive(Debug, Drop)]
+pub struct Segments<'a> {
+    /// Each segment behind its length.
+    rest: &'a [u8],
+}
+
+impl<'a> Model for Segments<'a> {
+    ghost use Rattle.coap_store.specs.Paths.{Path};
+    ghost use Rattle.coap_store.specs.PathViews.{IsWritten, segments_at};
+
+    ghost Value = { Path };
+
+    ghost view = { λ s. segments_at s.rest.now };
+
+    ghost invariant = { λ s. IsWritten s.rest.now };
+}
+
+impl<'a> Iterator for Segments<'a> {
+    ghost use Rattle.std.specs.Iterator.{YieldsFirstBy, item_count};
+
+    type Item = &'a [u8];
+
+    ghost next_gives = { YieldsFirstBy (λ segment. segment.now) (λ segments. segments) };
+
+    ghost remaining = { item_count (λ segments. segments) };
+
+    fn next(&mut self) -> Option<&'a [u8]> {
+        let (length, after) = self.rest.split_first()?;
+        let (segment, rest) = after.split_at(usize::from(*length));
+        self.rest = rest;
+        Some(segment)
+    }
+}

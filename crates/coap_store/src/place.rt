@@ -1,0 +1,86 @@
+//! Which resource a path names.
+
+ghost use Rattle.std.specs.Prelude.{◌≡◌};
+ghost use Rattle.coap_store.specs.State.{place_of as place_named};
+
+use crate::path::PathKey;
+
+/// Which resource a path names: one that is built in, or one that is stored or may be.
+#[derive(Clone, Copy, Debug, PartialEq, Eq)]
+pub enum Place {
+    /// The root: a greeting.
+    Root,
+    /// The moment in seconds.
+    Time,
+    /// The one that answers late.
+    Async,
+    /// The listing of all resources (RFC 6690 section 4).
+    Listing,
+    /// Any other path.
+    Dynamic,
+}
+
+impl Place {
+    ghost use Rattle.std.specs.Prelude.{◌≡◌};
+    ghost use Rattle.coap_store.specs.State.{is_dynamic as is_dynamic_place, is_async as is_async_place, is_observable as is_observable_place};
+
+    /// Whether no resource is built in there.
+    pub(crate) fn is_dynamic(self) -> bool
+        ensures { result ≡ is_dynamic_place self }
+    {
+        match self {
+            Place::Root => false,
+            Place::Time => false,
+            Place::Async => false,
+            Place::Listing => false,
+            Place::Dynamic => true,
+        }
+    }
+
+    /// Whether it is the resource that answers late.
+    pub(crate) fn is_async(self) -> bool
+        ensures { result ≡ is_async_place self }
+    {
+        match self {
+            Place::Root => false,
+            Place::Time => false,
+            Place::Async => true,
+            Place::Listing => false,
+            Place::Dynamic => false,
+        }
+    }
+
+    /// Whether its changes can be observed (RFC 7641 section 1.2).
+    pub(crate) fn is_observable(self) -> bool
+        ensures { result ≡ is_observable_place self }
+    {
+        match self {
+            Place::Root => false,
+            Place::Time => true,
+            Place::Async => false,
+            Place::Listing => false,
+            Place::Dynamic => true,
+        }
+    }
+}
+
+/// Which resource the path names.
+#[tactic(auto, using(crate::proofs::PlaceLemmas::at_root, crate::proofs::PlaceLemmas::at_time, crate::proofs::PlaceLemmas::at_async, crate::proofs::PlaceLemmas::at_listing, crate::proofs::PlaceLemmas::elsewhere), unfolding(crate::specs::PathViews::written))]
+pub(crate) fn place_of(path: &PathKey) -> Place
+    ensures { result ≡ place_named path.now }
+{
+    let written = path.written();
+    if written.is_empty() {
+        return Place::Root;
+    }
+    if written == b"\x04time".as_slice() {
+        return Place::Time;
+    }
+    if written == b"\x05async".as_slice() {
+        return Place::Async;
+    }
+    if written == b"\x0b.well-known\x04core".as_slice() {
+        return Place::Listing;
+    }
+    Place::Dynamic
+}

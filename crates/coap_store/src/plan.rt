@@ -1,0 +1,276 @@
+//! What is answered to a request.
+
+use crate::path::PathKey;
+use crate::target::Found;
+use arrayvec::ArrayVec;
+use coap_wire::Code;
+use std::marker::Model;
+
+/// The bytes of a representation: they lie elsewhere, or are a decimal number.
+#[derive(Debug, Drop)]
+pub enum Bytes<'s> {
+    /// They lie in the store.
+    Stored(&'s [u8]),
+    /// A decimal number.
+    Decimal(ArrayVec<u8, 20>),
+}
+
+impl<'s> Bytes<'s> {
+    ghost use Rattle.std.specs.Prelude.{◌≡◌};
+    ghost use Rattle.coap_store.specs.PlanViews.{bytes_in};
+
+    /// The bytes.
+    pub(crate) fn as_slice(&self) -> &[u8]
+        ensures { result.now ≡ bytes_in self.now }
+    {
+        match self {
+            Bytes::Stored(bytes) => bytes,
+            Bytes::Decimal(text) => text.as_slice(),
+        }
+    }
+}
+
+/// What a request changes.
+#[derive(Debug, Drop)]
+pub enum Change<'r> {
+    /// Nothing.
+    Nothing,
+    /// A representation is stored at a path, in the place of the one that is there.
+    Put {
+        /// Where.
+        path: PathKey,
+        /// Its Content-Format, where it has one.
+        format: Option<u16>,
+        /// Its bytes, which lie in the request.
+        bytes: &'r [u8],
+    },
+    /// The resource at a path goes.
+    Delete(PathKey),
+}
+
+impl<'r> Change<'r> {
+    ghost use Rattle.std.specs.Prelude.{◌≡◌};
+    ghost use Rattle.coap_store.specs.PlanViews.{change_value};
+
+    /// The same change. It allocates nothing.
+    pub fn duplicate(&self) -> Change<'r>
+        ensures { change_value result ≡ change_value self.now }
+    {
+        match self {
+            Change::Nothing => Change::Nothing,
+            Change::Put {
+                path,
+                format,
+                bytes,
+            } => Change::Put {
+                path: path.duplicate(),
+                format: *format,
+                bytes,
+            },
+            Change::Delete(path) => Change::Delete(path.duplicate()),
+        }
+    }
+}
+
+/// What becomes of the observer that has the request's token (RFC 7641 section 4.1).
+#[derive(Clone, Copy, Debug, PartialEq, Eq)]
+pub enum Watch {
+    /// The request asks nothing of it.
+    Nothing,
+    /// It asks to be entered.
+    Add,
+    /// It asks to be removed.
+    Drop,
+}
+
+/// The answer to a request: the response, apart from the request's token, what the request changes, and what becomes of its
+/// observer. It borrows the bytes of the store and of the request. Contracts see an `Answer`.
+#[derive(Debug, Drop)]
+pub struct Plan<'s, 'r> {
+    code: Code,
+    etag: Option<ArrayVec<u8, 8>>,
+    format: Option<u16>,
+    max_age: Option<u32>,
+    location: Option<PathKey>,
+    size1: Option<u32>,
+    payload: Bytes<'s>,
+    change: Change<'r>,
+    watch: Watch,
+}
+
+impl<'s, 'r> Model for Plan<'s, 'r> {
+    ghost use Rattle.coap_store.specs.Answer.{Answer};
+
+    ghost Value = { Answer };
+
+    ghost use Rattle.coap_store.specs.PlanAnswer.{plan_answer};
+
+    ghost view = { plan_answer };
+}
+
+impl<'s, 'r> Plan<'s, 'r> {
+    ghost use Rattle.std.specs.Prelude.{◌≡◌, [], Some, option_map};
+    ghost use Rattle.coap_wire.specs.Codes as code;
+    ghost use Rattle.coap_store.specs.Answer.{says, only};
+    ghost use Rattle.coap_store.specs.PlanViews.{bytes_in, change_value, path_or_root};
+
+    /// A response with this code and nothing else, which changes nothing.
+    pub(crate) fn only(code: Code) -> Plan<'s, 'r>
+        ensures { result ≡ says (only code) }
+    {
+        Plan {
+            code,
+            etag: None,
+            format: None,
+            max_age: None,
+            location: None,
+            size1: None,
+            payload: Bytes::Stored(&[]),
+            change: Change::Nothing,
+            watch: Watch::Nothing,
+        }
+    }
+
+    /// 2.03 with an ETag, which changes nothing (RFC 7252 section 5.9.1.3).
+    pub(crate) fn valid(etag: Option<ArrayVec<u8, 8>>, watch: Watch) -> Plan<'s, 'r>
+        ensures { result ≡ record (says (record (only code.valid) { etag = option_map (λ e. e.items) etag })) { watch = watch } }
+    {
+        Plan {
+            etag,
+            watch,
+            ..Plan::only(Code::VALID)
+        }
+    }
+
+    /// 2.05 with a representation, which changes nothing (RFC 7252 section 5.9.1.5).
+    pub(crate) fn content(
+        etag: Option<ArrayVec<u8, 8>>,
+        found: Found<'s>,
+        max_age: Option<u32>,
+        watch: Watch,
+    ) -> Plan<'s, 'r>
+        ensures { result ≡ record (says (record (only code.content) { etag = option_map (λ e. e.items) etag; format = found.entry.format; max_age = max_age; payload = bytes_in found.entry.bytes })) { watch = watch } }
+    {
+        Plan {
+            etag,
+            format: found.format,
+            max_age,
+            payload: found.bytes,
+            watch,
+            ..Plan::only(Code::CONTENT)
+        }
+    }
+
+    /// 4.13 with Size1, the greatest representation in bytes (RFC 7252 section 5.9.2.9).
+    pub(crate) fn too_large(greatest: u32) -> Plan<'s, 'r>
+        ensures { result ≡ says (record (only code.request_entity_too_large) { size1 = Some greatest }) }
+    {
+        Plan {
+            size1: Some(greatest),
+            ..Plan::only(Code::REQUEST_ENTITY_TOO_LARGE)
+        }
+    }
+
+    /// The response to a change.
+    pub(crate) fn changing(
+        code: Code,
+        location: Option<PathKey>,
+        change: Change<'r>,
+    ) -> Plan<'s, 'r>
+        ensures { result ≡ record (says (record (only code) { location = path_or_root location })) { change = change_value change.entry } }
+    {
+        Plan {
+            location,
+            change,
+            ..Plan::only(code)
+        }
+    }
+
+    /// The same answer with another word on the observer.
+    pub(crate) fn with_watch(self, watch: Watch) -> Plan<'s, 'r>
+        ensures { result ≡ record self.entry { watch = watch } }
+    {
+        Plan { watch, ..self }
+    }
+
+    /// The response's code.
+    pub fn code(&self) -> Code
+        ensures { result ≡ self.now.response.code }
+    {
+        self.code
+    }
+
+    /// The value of its ETag, where it has one (RFC 7252 section 5.10.6).
+    pub fn etag(&self) -> Option<&[u8]>
+        ensures { option_map (λ etag. etag.now) result ≡ self.now.response.etag }
+    {
+        let etag = self.etag.as_ref()?;
+        Some(etag.as_slice())
+    }
+
+    /// Its Content-Format, where it has one (RFC 7252 section 5.10.3).
+    pub fn format(&self) -> Option<u16>
+        ensures { result ≡ self.now.response.format }
+    {
+        self.format
+    }
+
+    /// Its Max-Age in seconds, where it has one (RFC 7252 section 5.10.5).
+    pub fn max_age(&self) -> Option<u32>
+        ensures { result ≡ self.now.response.max_age }
+    {
+        self.max_age
+    }
+
+    /// The path that its Location-Path options tell, one for each segment, where it has any (RFC 7252 section 5.10.7).
+    pub fn location(&self) -> Option<&PathKey>
+        ensures { path_or_root (option_map (λ path. path.now) result) ≡ self.now.response.location }
+    {
+        self.location.as_ref()
+    }
+
+    /// Its Size1, the greatest representation in bytes, where it has one (RFC 7252 section 5.10.9).
+    pub fn size1(&self) -> Option<u32>
+        ensures { result ≡ self.now.response.size1 }
+    {
+        self.size1
+    }
+
+    /// Its payload.
+    pub fn payload(&self) -> &[u8]
+        ensures { result.now ≡ self.now.response.payload }
+    {
+        self.payload.as_slice()
+    }
+
+    /// What the request changes.
+    pub fn change(&self) -> Change<'r>
+        ensures { change_value result ≡ self.now.change }
+    {
+        self.change.duplicate()
+    }
+
+    /// What becomes of the observer that has the request's token.
+    pub fn watch(&self) -> Watch
+        ensures { result ≡ self.now.watch }
+    {
+        self.watch
+    }
+
+    /// The same answer without a payload, which borrows the request alone.
+    pub fn without_payload<'d>(self) -> Plan<'d, 'r>
+        ensures { result ≡ record self.entry { response = record self.entry.response { payload = [] } } }
+    {
+        Plan {
+            code: self.code,
+            etag: self.etag,
+            format: self.format,
+            max_age: self.max_age,
+            location: self.location,
+            size1: self.size1,
+            payload: Bytes::Stored(&[]),
+            change: self.change,
+            watch: self.watch,
+        }
+    }
+}

@@ -1,0 +1,171 @@
+//! The store of a server's resources.
+
+ghost use Rattle.std.specs.Prelude.{◌≡◌, ◌<◌, IfSome};
+
+use crate::catalogue::Catalogue;
+use crate::path::PathKey;
+use crate::plan::Change;
+use crate::resource::Resource;
+use std::alloc::{AllocError, Global};
+use std::marker::Model;
+
+/// The resources of a server: those that are built in, and at most so many dynamic ones, in order of creation, each with at
+/// most so many bytes. Contracts see a `StoreValue`.
+#[derive(Debug, Drop)]
+pub struct Store {
+    dynamic_max: usize,
+    rep_max: usize,
+    resources: Catalogue,
+    /// How many representations were stored so far.
+    versions: u64,
+}
+
+impl Model for Store {
+    ghost use Rattle.coap_store.specs.Store.{StoreValue};
+
+    ghost Value = { StoreValue };
+
+    ghost use Rattle.coap_store.specs.StoreInside.{store_value, IsStore};
+
+    ghost view = { store_value };
+
+    ghost invariant = { IsStore };
+}
+
+impl Store {
+    ghost use Rattle.std.specs.Prelude.{◌≡◌, ◌≤◌, ◌<◌, ◌^◌, true, [], Some, IfOk, IfSome, OnOk, OnErr, length, not, nat_le, ◌==◌, option_map};
+    ghost use Rattle.coap_store.specs.Answer.{changed};
+    ghost use Rattle.coap_store.specs.Store.{Representation, found_in, put_in};
+    ghost use Rattle.coap_store.specs.Paths.{Path};
+    ghost use Rattle.coap_store.specs.Listing.{listing as listing_of};
+    ghost use Rattle.coap_store.specs.StoreViews.{representation};
+    ghost use Rattle.coap_store.specs.Changes.{TakesChange, TakesPut, is_put};
+    ghost use Rattle.coap_store.specs.PlanViews.{change_value};
+
+    /// An empty store for at most `dynamic_max` resources (0 to 1,000) of at most `rep_max` bytes each (0 to 1,048,576),
+    /// whose first representation has the version `versions_from + 1`.
+    ///
+    /// # Errors
+    ///
+    /// `AllocError` where memory was refused.
+    pub fn new(
+        alloc: Global,
+        dynamic_max: usize,
+        rep_max: usize,
+        versions_from: u64,
+    ) -> Result<Store, AllocError>
+        requires few { dynamic_max ≤ 1000 }
+        requires small { rep_max ≤ 1048576 }
+        ensures { IfOk result (λ s. s ≡ record { dynamic_max = dynamic_max; rep_max = rep_max; resources = []; versions = versions_from }) }
+    {
+        Ok(Store {
+            dynamic_max,
+            rep_max,
+            resources: Catalogue::new(alloc)?,
+            versions: versions_from,
+        })
+    }
+
+    /// Makes a change that `answer` gave on this store as it is now.
+    ///
+    /// # Errors
+    ///
+    /// `AllocError` where memory was refused, for a representation that is stored alone. The store is then as before.
+    pub fn apply(&mut self, change: Change) -> Result<(), AllocError>
+        requires { TakesChange self.old (change_value change) }
+        ensures ok { OnOk result (self.new ≡ changed self.old (change_value change.entry)) }
+        ensures err { OnErr result (self.new ≡ self.old) }
+        ensures put { OnErr result (is_put (change_value change.entry) ≡ true) }
+    {
+        match change {
+            Change::Nothing => Ok(()),
+            Change::Put {
+                path,
+                format,
+                bytes,
+            } => self.store(path, format, bytes),
+            Change::Delete(path) => {
+                self.resources.remove(&path);
+                Ok(())
+            }
+        }
+    }
+
+    /// What is stored at a path.
+    pub(crate) fn find(&self, path: &PathKey) -> Option<&Resource>
+        ensures value { option_map (λ r. representation r.now) result ≡ found_in self.now.resources path.now }
+        ensures small { IfSome result (λ r. length r.now.bytes.items ≤ 1048576) }
+    {
+        self.resources.get(path)
+    }
+
+    /// The text of `/.well-known/core` (RFC 6690).
+    pub(crate) fn listing(&self) -> &[u8]
+        ensures value { result.now ≡ listing_of self.now.resources }
+        ensures short { length result.now ≤ 1048576 }
+    {
+        self.resources.listing()
+    }
+
+    /// Whether no other resource may be made.
+    pub(crate) fn is_full(&self) -> bool
+        ensures { result ≡ nat_le self.now.dynamic_max (length self.now.resources) }
+    {
+        self.dynamic_max <= self.resources.len()
+    }
+
+    /// Whether resources may be made at all.
+    pub(crate) fn takes_resources(&self) -> bool
+        ensures { result ≡ not (self.now.dynamic_max == 0) }
+    {
+        self.dynamic_max != 0
+    }
+
+    /// The most bytes of a representation.
+    pub(crate) fn rep_max(&self) -> usize
+        ensures value { result ≡ self.now.rep_max }
+        ensures small { result ≤ 1048576 }
+    {
+        self.rep_max
+    }
+
+    /// Whether another representation may be stored: one version is left at least.
+    pub(crate) fn has_version(&self) -> bool
+        ensures { result ≡ not (self.now.versions == 18446744073709551615) }
+    {
+        self.versions != u64::MAX
+    }
+
+    /// Nothing happens: what holds of every store is told. Its versions fit 64 bits, and no representation has more than
+    /// 1,048,576 bytes, the listing included.
+    pub(crate) fn bounds(&self)
+        ensures versions { self.now.versions < 2 ^ 64 }
+        ensures listing { length (listing_of self.now.resources) ≤ 1048576 }
+        ensures stored { (path : Path) (r : Representation) → found_in self.now.resources path ≡ Some r → length r.bytes ≤ 1048576 }
+    {
+        let _versions = self.versions;
+    }
+
+    /// Stores a representation.
+    fn store(&mut self, path: PathKey, format: Option<u16>, bytes: &[u8]) -> Result<(), AllocError>
+        requires { TakesPut self.old path bytes.now }
+        ensures ok { OnOk result (self.new ≡ put_in self.old path format bytes.now) }
+        ensures err { OnErr result (self.new ≡ self.old) }
+    {
+        self.resources
+            .put(path, self.versions + 1, in_range(format), bytes)?;
+        self.versions += 1;
+        Ok(())
+    }
+}
+
+/// The same format: a number of 16 bits, where it has one.
+fn in_range(format: Option<u16>) -> Option<u16>
+    ensures value { result ≡ format }
+    ensures small { IfSome result (λ number. number < 65536) }
+{
+    match format {
+        None => None,
+        Some(number) => Some(number),
+    }
+}

@@ -1,0 +1,90 @@
+//! What a request is about.
+
+ghost use Rattle.std.specs.Prelude.{◌≡◌, option_map};
+ghost use Rattle.std.specs.Fmt.{decimal};
+ghost use Rattle.coap_store.specs.Paths.{Path};
+ghost use Rattle.coap_store.specs.Requests.{path_of as path_asked};
+ghost use Rattle.coap_store.specs.State.{key_for, place_of as place_named};
+
+use crate::path::PathKey;
+use crate::place::{Place, place_of};
+use crate::plan::Bytes;
+use crate::request::segments_of;
+use arrayvec::ArrayVec;
+use coap_wire::MessageRef;
+use itoa::Buffer;
+
+/// The Content-Format text/plain (RFC 7252 section 12.3).
+pub(crate) const TEXT_PLAIN: u16 = 0;
+
+/// The Content-Format application/link-format (RFC 7252 section 12.3).
+pub(crate) const LINK_FORMAT: u16 = 40;
+
+/// The representation that a path has at a moment.
+#[derive(Debug, Drop)]
+pub(crate) struct Found<'s> {
+    /// Its version, 0 where it is built in.
+    pub version: u64,
+    /// Its Content-Format, where it has one.
+    pub format: Option<u16>,
+    /// Its bytes.
+    pub bytes: Bytes<'s>,
+}
+
+/// What a request is about.
+#[derive(Debug, Drop)]
+pub(crate) struct Target<'s> {
+    /// The path, where it is one of a resource.
+    pub key: Option<PathKey>,
+    /// Which resource the path names.
+    pub place: Place,
+    /// What is there.
+    pub state: Option<Found<'s>>,
+}
+
+impl<'s> Found<'s> {
+    ghost use Rattle.std.specs.Prelude.{◌≡◌, Some};
+    ghost use Rattle.coap_store.specs.PlanViews.{bytes_in};
+    ghost use Rattle.coap_store.specs.State.{built as built_in};
+    ghost use Rattle.coap_store.specs.Targets.{found_value};
+
+    /// The representation of a built-in resource.
+    pub(crate) fn built(format: u16, bytes: Bytes<'s>) -> Found<'s>
+        ensures { Some (found_value result) ≡ built_in format (bytes_in bytes.entry) }
+    {
+        Found {
+            version: 0,
+            format: Some(format),
+            bytes,
+        }
+    }
+}
+
+/// A number in decimal.
+pub(crate) fn decimal_text(number: u64) -> ArrayVec<u8, 20>
+    ensures { result.items ≡ decimal number }
+{
+    let mut buffer = Buffer::new();
+    let Ok(text) = ArrayVec::try_from(buffer.format(number).as_bytes()) else {
+        unreachable!()
+    };
+    text
+}
+
+/// The path that the request asks for, where it is one of a resource (RFC 7252 section 5.10.1).
+pub(crate) fn key_of(request: &MessageRef) -> Option<PathKey>
+    ensures { result ≡ key_for (path_asked request.now) }
+{
+    let segments = segments_of(request)?;
+    PathKey::from_segments(segments.as_slice())
+}
+
+/// Which resource the path names.
+pub(crate) fn place_for(key: Option<&PathKey>) -> Place
+    ensures { (path : Path) → option_map (λ k. k.now) key.entry ≡ key_for path → result ≡ place_named path }
+{
+    match key {
+        Some(path) => place_of(path),
+        None => Place::Dynamic,
+    }
+}

@@ -1,0 +1,14 @@
+use Rattle.std.proofs.Common.{◌≡◌, length}
+use Rattle.std.specs.Prelude.{unwrap_or}
+use Rattle.coap_wire.specs.Message.{AreOrdered}
+use Rattle.coap_wire.specs.Recognition.{known_behind, option_before}
+use Rattle.coap_wire.proofs.recognition.KnownIterator.next.Given as goal
+
+-- only options that are not recognised were passed over
+abbrev pub invariant-loop-option : goal.invariant-loop-option
+invariant-loop-option l =
+    AreOrdered (unwrap_or l.self-inside.before 0) l.self-inside.options
+    × (known_behind (option_before l.self-inside.before) l.self-inside.options ≡ l.fn.self)
+
+abbrev pub decreases-loop-option : goal.decreases-loop-option
+decreases-loop-option l = length l.self-inside.options

@@ -1,0 +1,13 @@
+use Rattle.std.proofs.Common.{◌≡◌}
+use Rattle.std.specs.Prelude.{unwrap_or}
+use Rattle.coap_wire.specs.Message.{AreOrdered}
+use Rattle.coap_wire.specs.Recognition.{first_critical, first_critical_behind, option_before}
+use Rattle.coap_wire.proofs.recognition.critical_of.Given as goal
+
+-- no critical option that is not recognised was passed over
+abbrev pub invariant-loop-option : goal.invariant-loop-option
+invariant-loop-option l =
+    (goal.iterator-loop-option).can_next l.option-iterator
+    × (goal.iterator-loop-option).is_finite l.option-iterator
+    × AreOrdered (unwrap_or l.before 0) l.option-iterator
+    × (first_critical_behind (option_before l.before) l.option-iterator ≡ first_critical l.fn.options)

@@ -1,0 +1,60 @@
+-- The bytes of the codes (RFC 7252 sections 5.8, 5.9, 12.1, RFC 8323 section 5).
+use Rattle.std.specs.Prelude.{ℕ, ◌+◌, ◌*◌}
+
+-- a class of 3 bits and a detail of 5 bits
+abbrev pub code_of : ℕ → ℕ → ℕ
+code_of class detail = class * 32 + detail
+
+abbrev pub get : ℕ
+get = code_of 0 1
+
+abbrev pub post : ℕ
+post = code_of 0 2
+
+abbrev pub put : ℕ
+put = code_of 0 3
+
+abbrev pub delete : ℕ
+delete = code_of 0 4
+
+abbrev pub created : ℕ
+created = code_of 2 1
+
+abbrev pub deleted : ℕ
+deleted = code_of 2 2
+
+abbrev pub valid : ℕ
+valid = code_of 2 3
+
+abbrev pub changed : ℕ
+changed = code_of 2 4
+
+abbrev pub content : ℕ
+content = code_of 2 5
+
+abbrev pub bad_request : ℕ
+bad_request = code_of 4 0
+
+abbrev pub bad_option : ℕ
+bad_option = code_of 4 2
+
+abbrev pub not_found : ℕ
+not_found = code_of 4 4
+
+abbrev pub method_not_allowed : ℕ
+method_not_allowed = code_of 4 5
+
+abbrev pub not_acceptable : ℕ
+not_acceptable = code_of 4 6
+
+abbrev pub precondition_failed : ℕ
+precondition_failed = code_of 4 12
+
+abbrev pub request_entity_too_large : ℕ
+request_entity_too_large = code_of 4 13
+
+abbrev pub service_unavailable : ℕ
+service_unavailable = code_of 5 3
+
+abbrev pub proxying_not_supported : ℕ
+proxying_not_supported = code_of 5 5

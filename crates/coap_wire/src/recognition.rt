@@ -1,0 +1,98 @@
+//! The recognised options of a message (RFC 7252 section 5.4).
+
+ghost use Rattle.std.specs.Prelude.{◌≡◌};
+ghost use Rattle.coap_wire.specs.Message.{AreOrdered};
+ghost use Rattle.coap_wire.specs.Recognition.{is_recognised, option_before, first_critical};
+ghost use Rattle.coap_wire.specs.Views.{coap_option};
+
+use crate::kinds::kind;
+use crate::options::{OptionRef, Options};
+use std::marker::Model;
+
+/// Whether an option is recognised, where the one before it in the order of numbers has the number `before`.
+#[tactic(auto, unfolding(crate::specs::Recognition::is_recognised))]
+fn recognises(before: Option<u16>, option: &OptionRef) -> bool
+    ensures { result ≡ is_recognised (option_before before) (coap_option option.now) }
+{
+    let Some(kind) = kind(option.number) else {
+        return false;
+    };
+    let length = option.value.len();
+    if length < usize::from(kind.min) || usize::from(kind.max) < length {
+        return false;
+    }
+    kind.repeatable || before != Some(option.number)
+}
+
+/// The number of the first option that is critical and not recognised.
+pub(crate) fn critical_of(options: Options) -> Option<u16>
+    requires { AreOrdered 0 options }
+    ensures { result ≡ first_critical options.entry }
+{
+    let mut before = None;
+    for option in options {
+        if option.number % 2 == 1 && !recognises(before, &option) {
+            return Some(option.number);
+        }
+        before = Some(option.number);
+    }
+    None
+}
+
+/// The recognised options of a message, in order of number. Contracts see the list of those that are left.
+#[derive(Debug, Drop)]
+pub struct Known<'a> {
+    before: Option<u16>,
+    options: Options<'a>,
+}
+
+impl<'a> Model for Known<'a> {
+    ghost use Rattle.std.specs.Prelude.{List, unwrap_or};
+    ghost use Rattle.coap_wire.specs.Message.{CoapOption, AreOrdered};
+    ghost use Rattle.coap_wire.specs.Recognition.{known_behind, option_before};
+
+    ghost Value = { List CoapOption };
+
+    ghost view = { λ k. known_behind (option_before k.before) k.options };
+
+    ghost invariant = { λ k. AreOrdered (unwrap_or k.before 0) k.options };
+}
+
+impl<'a> Known<'a> {
+    ghost use Rattle.std.specs.Prelude.{◌≡◌};
+    ghost use Rattle.coap_wire.specs.Message.{AreOrdered};
+    ghost use Rattle.coap_wire.specs.Recognition.{known_options};
+
+    /// The recognised ones of all options of a message.
+    pub(crate) fn of_options(options: Options<'a>) -> Known<'a>
+        requires { AreOrdered 0 options }
+        ensures { result ≡ known_options options.entry }
+    {
+        Known {
+            before: None,
+            options,
+        }
+    }
+}
+
+impl<'a> Iterator for Known<'a> {
+    ghost use Rattle.std.specs.Iterator.{YieldsFirstBy, item_count};
+    ghost use Rattle.coap_wire.specs.Views.{coap_option};
+
+    type Item = OptionRef<'a>;
+
+    ghost next_gives = { YieldsFirstBy coap_option (λ os. os) };
+
+    ghost remaining = { item_count (λ os. os) };
+
+    fn next(&mut self) -> Option<OptionRef<'a>> {
+        while let Some(option) = self.options.next() {
+            let is_known = recognises(self.before, &option);
+            self.before = Some(option.number);
+            if is_known {
+                return Some(option);
+            }
+        }
+        None
+    }
+}
