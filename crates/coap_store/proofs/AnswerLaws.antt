@@ -165,11 +165,11 @@ unheld_store s t m =
     unheld_at (store_answer s t m) (store_cases (λ a. a.hold ≡ None) s t m (λ c e. refl) refl (λ can. hold_stored t.key t.state m))
 
 -- the change stays
-change_unheld : (hold : Option ℕ) (a : Answer) → (unheld_by hold a).change ≡ a.change
+pub change_unheld : (hold : Option ℕ) (a : Answer) → (unheld_by hold a).change ≡ a.change
 change_unheld None a = refl
 change_unheld (Some seconds) a = refl
 
-change_finally : (b : Bool) (a : Answer) → (finally b a).change ≡ a.change
+pub change_finally : (b : Bool) (a : Answer) → (finally b a).change ≡ a.change
 change_finally true a = refl
 change_finally false a = refl
 

@@ -10,3 +10,4 @@ pub mod ListingLemmas
 mod StoreLemmas
 pub mod AnswerLaws
 mod AnswerLemmas
+pub mod ChangeLaws

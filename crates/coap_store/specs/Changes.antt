@@ -1,9 +1,10 @@
 -- Which changes a store takes.
-use Rattle.std.specs.Prelude.{◌≡◌, ℕ, ◌+◌, ◌<◌, ◌≤◌, ◌^◌, Bool, true, false, ◌||◌, List, length, is_some, nat_lt}
+use Rattle.std.specs.Prelude.{◌≡◌, ℕ, ◌+◌, ◌<◌, ◌≤◌, ◌^◌, Bool, true, false, ◌&&◌, ◌||◌, List, [], ◌∷◌, length, Option, None, is_some, nat_lt, ◌==◌}
+use Rattle.coap_wire.specs.Codes as code
 use Rattle.coap_store.specs.Paths.{Path, is_path}
-use Rattle.coap_store.specs.Store.{StoreValue, found_in}
+use Rattle.coap_store.specs.Store.{Representation, Resource, StoreValue, found_in}
 use Rattle.coap_store.specs.State.{place_of}
-use Rattle.coap_store.specs.Answer.{Change, Nothing, Put, Delete}
+use Rattle.coap_store.specs.Answer.{Response, Change, Nothing, Put, Delete}
 use Rattle.coap_store.specs.declared.place.Place.TheVariants.{Dynamic}
 
 -- a representation that is not too large, at a path where one is or may be made, while a version is left
@@ -25,6 +26,15 @@ abbrev pub changes : Change → Bool
 changes Nothing = false
 changes (Put path format bytes) = true
 changes (Delete path) = true
+
+-- 2.01 and 2.04 say that the store changes, and 2.02 where something was there
+abbrev pub says_change : Response → Option Representation → Bool
+says_change r state = r.code == code.created || r.code == code.changed || (r.code == code.deleted && is_some state)
+
+-- no path stands twice
+abbrev pub AreDistinct : List Resource → Type 0
+AreDistinct [] = Unit {0}
+AreDistinct (r ∷ rs) = (found_in rs r.path ≡ None) × AreDistinct rs
 
 -- a representation is put
 abbrev pub is_put : Change → Bool

@@ -3,6 +3,7 @@
 
 mod answer;
 mod catalogue;
+pub mod laws;
 mod path;
 mod place;
 mod plan;
