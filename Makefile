@@ -1,4 +1,5 @@
-# Proves, builds, runs and tests. Needs Rattle's toolchain (`rt`) and Python 3 alone.
+# Proves, builds, runs and tests. Needs Rattle's toolchain (`rt`) and Python 3; `make test` also installs Debian's libcoap3-bin
+# and tshark where they are missing.
 
 .PHONY: all run test try clean
 
@@ -17,6 +18,7 @@ run: bin/coap-server
 # The gate: what is built, run from outside, and then every proof, edit, test and program from nothing.
 test: bin/coap-server
 	python3 tests/program.py bin/coap-server
+	python3 tests/libcoap.py bin/coap-server
 	rt ci
 
 # UNPROVED: runs the program on the recorded stream before any proof, for work in progress.

@@ -5,7 +5,11 @@ It shares no line with the programs, so that what they write is read by somebody
 
 CODES = {
     0x00: "Empty", 0x01: "GET", 0x02: "POST", 0x03: "PUT", 0x04: "DELETE",
-    0xA0: "Internal Server Error", 0xA1: "Not Implemented",
+    0x41: "Created", 0x42: "Deleted", 0x43: "Valid", 0x44: "Changed", 0x45: "Content",
+    0x80: "Bad Request", 0x82: "Bad Option", 0x84: "Not Found", 0x85: "Method Not Allowed",
+    0x86: "Not Acceptable", 0x8C: "Precondition Failed", 0x8D: "Request Entity Too Large",
+    0xA0: "Internal Server Error", 0xA1: "Not Implemented", 0xA3: "Service Unavailable",
+    0xA5: "Proxying Not Supported",
     0xE1: "Capabilities and Settings", 0xE2: "Ping", 0xE3: "Pong", 0xE4: "Release", 0xE5: "Abort",
 }
 
@@ -15,6 +19,17 @@ SIGNAL_OPTIONS = {
     (0xE4, 2): "Alternative-Address", (0xE4, 4): "Hold-Off",
     (0xE5, 2): "Bad-CSM-Option",
 }
+
+
+# Numbers of options in requests and responses, and whether the value is a number (RFC 7252 section 5.10).
+OPTIONS = {
+    1: ("If-Match", False), 3: ("Uri-Host", False), 4: ("ETag", False), 5: ("If-None-Match", False),
+    6: ("Observe", True), 7: ("Uri-Port", True), 8: ("Location-Path", False), 11: ("Uri-Path", False),
+    12: ("Content-Format", True), 14: ("Max-Age", True), 15: ("Uri-Query", False), 17: ("Accept", True),
+    20: ("Location-Query", False), 35: ("Proxy-Uri", False), 39: ("Proxy-Scheme", False), 60: ("Size1", True),
+}
+
+TEXTS = {"Uri-Host", "Location-Path", "Uri-Path", "Uri-Query", "Location-Query", "Proxy-Uri", "Proxy-Scheme"}
 
 
 class Malformed(Exception):
@@ -80,18 +95,26 @@ def parse(frame):
     return code, token, options, rest[1:]
 
 
+def tell_option(code, number, value):
+    """What one option means in a message with this code."""
+    if code >> 5 == 7:
+        name, is_number = SIGNAL_OPTIONS.get((code, number), "option %d" % number), number == 2 and code == 0xE1
+    else:
+        name, is_number = OPTIONS.get(number, ("option %d" % number, False))
+    if is_number:
+        return "%s %d" % (name, int.from_bytes(value, "big"))
+    if name in TEXTS:
+        return "%s %r" % (name, value.decode(errors="replace"))
+    return ("%s %s" % (name, value.hex())).strip()
+
+
 def tell(frame):
     """One line of what a frame means."""
     code, token, options, payload = parse(frame)
     words = ["%d.%02d %s" % (code >> 5, code & 31, CODES.get(code, ""))]
     if token:
         words.append("token %s" % token.hex())
-    for number, value in options:
-        name = SIGNAL_OPTIONS.get((code, number), "option %d" % number)
-        if name == "Max-Message-Size":
-            words.append("%s %d" % (name, int.from_bytes(value, "big")))
-        else:
-            words.append(("%s %s" % (name, value.hex())).strip())
+    words.extend(tell_option(code, number, value) for number, value in options)
     if payload:
         words.append("payload %r" % payload)
     return ", ".join(word.strip() for word in words)

@@ -38,6 +38,9 @@ ABORTS = {
     "bad signal option": "d005e5ff626164207369676e616c206f7074696f6e",
 }
 
+# 2.05 of the root, behind its token: Content-Format 0 and the greeting
+GREETING = "c0ff636f61702b746370"
+
 STREAMS = [
     # what the peer sends, and what it gets behind the own Capabilities and Settings
     ("", ""),
@@ -45,12 +48,19 @@ STREAMS = [
     ("000000e111e20720", "11e30720"),
     ("00e1" "0000" "11e20720", "11e30720"),
     ("09", ABORTS["bad token length"]),
-    ("00e1010101", "01a101"),
+    ("00e1010101", "a14501" + GREETING),
     ("00e100", ""),
     ("70e123100000202108" "00e2", "00e3"),
     ("f0ffffffff01" "00e1" "00e2", ABORTS["message too large"]),
+    # the resources: the moment, the listing, an absent one; nothing can be stored or held
+    ("00e1" "510107b474696d65", "514507c02101ff30"),
+    ("00e1" "d1040106bb2e77656c6c2d6b6e6f776e04636f7265", "d11d4506c128ff" + b"</>;ct=0,</time>;ct=0;obs,</async>;ct=0".hex()),
+    ("00e1" "210102b161", "018402"),
+    ("00e1" "410301b161ff78", "018401"),
+    ("00e1" "210403b161", "014203"),
+    ("00e1" "610104b56173796e63", "01a304"),
     # a request between Pings
-    ("00e1" "01e201" "01e202" "0001" "01e203", "01e301" "01e302" "00a1" "01e303"),
+    ("00e1" "01e201" "01e202" "0001" "01e203", "01e301" "01e302" "a045" + GREETING + "01e303"),
     # more than one read takes
     ("00e1" + "01e205" * 3000, "01e305" * 3000),
     # stops, each with more bytes behind it
@@ -63,9 +73,9 @@ STREAMS = [
     ("00e1" "00e5" "00e2", ""),
     ("00e1" "00e2" "00e4" "00e2", "00e3"),
     # the peer takes few bytes, and less from one message on to the next
-    ("20e12103" "11e20620" "010107", "01e306" "01a107"),
+    ("20e12103" "11e20620" "010107", "01e306" "01a007"),
     ("20e12104" "10e110", "20e52101"),
-    ("20e12114" "20e12102" "0001" "010107" "0001", "00a1"),
+    ("20e12114" "20e12102" "0001" "010107" "0001", "00a0"),
 ]
 
 

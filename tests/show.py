@@ -8,14 +8,18 @@ import sys
 
 import messages
 
-# Capabilities and Settings with nothing in it, Empty, a Ping with the token 07 and Custody, a request with the token 09.
-RECORDED = bytes.fromhex("00e1" "0000" "11e20720" "010109")
+# Capabilities and Settings with nothing in it, Empty, a Ping with the token 07 and Custody, and GET of the root, of the
+# moment, of the listing and of an absent path.
+RECORDED = bytes.fromhex(
+    "00e1" "0000" "11e20720" "010109" "51010ab474696d65"
+    "d104010bbb2e77656c6c2d6b6e6f776e04636f7265" "21010cb178"
+)
 
 # Capabilities and Settings, and then the first bytes of a message of 4,295,033,106 bytes; a Ping behind them.
 HOSTILE = bytes.fromhex("00e1" "f0ffffffff01" "01e201")
 
 STREAMS = [
-    ("A peer that keeps to the rules: Capabilities and Settings, Empty, a Ping with Custody, a request.", RECORDED),
+    ("A peer that keeps to the rules: Capabilities and Settings, Empty, a Ping with Custody, requests.", RECORDED),
     ("A hostile one: a size of 4,295,033,106 bytes, and more behind it.", HOSTILE),
 ]
 
@@ -24,9 +28,9 @@ def show(title, stream):
     print(title, stream.hex())
     frames, rest = messages.split(stream)
     for frame in frames:
-        print("    %-24s %s" % (frame.hex(), messages.tell(frame)))
+        print("    %-26s %s" % (frame.hex(), messages.tell(frame)))
     if rest:
-        print("    %-24s (unfinished)" % rest.hex())
+        print("    %-26s (unfinished)" % rest.hex())
 
 
 def run(program, title, stream):

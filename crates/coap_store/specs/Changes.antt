@@ -37,7 +37,7 @@ AreDistinct [] = Unit {0}
 AreDistinct (r ∷ rs) = (found_in rs r.path ≡ None) × AreDistinct rs
 
 -- a representation is put
-abbrev pub is_put : Change → Bool
-is_put Nothing = false
-is_put (Put path format bytes) = true
-is_put (Delete path) = false
+abbrev pub IsPut : Change → Type 0
+IsPut Nothing = ⊥
+IsPut (Put path format bytes) = Unit {0}
+IsPut (Delete path) = ⊥

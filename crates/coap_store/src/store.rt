@@ -33,13 +33,13 @@ impl Model for Store {
 }
 
 impl Store {
-    ghost use Rattle.std.specs.Prelude.{◌≡◌, ◌≤◌, ◌<◌, ◌^◌, true, [], Some, IfOk, IfSome, OnOk, OnErr, length, not, nat_le, ◌==◌, option_map};
+    ghost use Rattle.std.specs.Prelude.{◌≡◌, ◌≤◌, ◌<◌, ◌^◌, [], Some, IfOk, IfSome, OnOk, OnErr, length, not, nat_le, ◌==◌, option_map};
     ghost use Rattle.coap_store.specs.Answer.{changed};
     ghost use Rattle.coap_store.specs.Store.{Representation, found_in, put_in};
     ghost use Rattle.coap_store.specs.Paths.{Path};
     ghost use Rattle.coap_store.specs.Listing.{listing as listing_of};
     ghost use Rattle.coap_store.specs.StoreViews.{representation};
-    ghost use Rattle.coap_store.specs.Changes.{TakesChange, TakesPut, is_put};
+    ghost use Rattle.coap_store.specs.Changes.{TakesChange, TakesPut, IsPut};
     ghost use Rattle.coap_store.specs.PlanViews.{change_value};
 
     /// An empty store for at most `dynamic_max` resources (0 to 1,000) of at most `rep_max` bytes each (0 to 1,048,576),
@@ -75,7 +75,7 @@ impl Store {
         requires { TakesChange self.old (change_value change) }
         ensures ok { OnOk result (self.new ≡ changed self.old (change_value change.entry)) }
         ensures err { OnErr result (self.new ≡ self.old) }
-        ensures put { OnErr result (is_put (change_value change.entry) ≡ true) }
+        ensures put { OnErr result (IsPut (change_value change.entry)) }
     {
         match change {
             Change::Nothing => Ok(()),
