@@ -6,3 +6,5 @@ pub mod FlushLemmas
 pub mod PieceLemmas
 pub mod OutcomeLemmas
 pub mod RunLemmas
+pub mod ResponseLemmas
+pub mod RequestLemmas

@@ -1,39 +1,47 @@
--- A connection as the code holds it comes as far as its history does.
+-- A connection as the code holds it comes as far as its history does, and what is stored with it.
 use Rattle.std.proofs.Common.{◌≡◌, ℕ, suc, ◌+◌, Bool, true, false, List, [], ◌∷◌, ◌++◌, length, drop, Option, Some, None, refl, sym, ap, subst, ◌∙◌, append_assoc, arith}
 use Rattle.std.proofs.lemmas.List.{append-nil, length-append, drop_all}
 use Rattle.coap_wire.specs.Message.{Message}
 use Rattle.coap_wire.specs.Stream.{StreamFault, Stream, split}
+use Rattle.coap_wire.proofs.StreamSteps.{split_more}
 use Rattle.coap_conn.specs.declared.phase.Phase.{Phase}
 use Rattle.coap_conn.specs.declared.phase.Role.TheVariants.{Server}
 use Rattle.coap_conn.specs.Limits.{LimitValues}
 use Rattle.coap_conn.specs.Verdicts.{VerdictValue}
 use Rattle.coap_conn.specs.Verdicts as verdict
 use Rattle.coap_conn.specs.Announced as announcing
-use Rattle.coap_conn.specs.Reaction.{Standing, react, not_implemented}
+use Rattle.coap_conn.specs.Reaction.{Standing, react}
 use Rattle.coap_conn.specs.History.{History, begun as begun_history, text_of, standing_now, after_message, after_reject, takes_messages}
 use Rattle.coap_conn.specs.LinkValue.{LinkValue, Shows, standing_in, link_begun, link_after_message, link_after_reject}
 use Rattle.coap_conn.proofs.LinkLemmas.{text_more, waiting_more, standing_shown, begun_shown, message_shown, reply_shown, reject_shown}
-use Rattle.coap_serve.specs.Serving.{flushed, answered, served, served_all, fault_of, stopped_by, announced, history_with, stop_of, Outcome, outcome_with, outcome}
-use Rattle.coap_serve.specs.Connection.{link_flushed, link_answered, link_served, own_announcement, begun}
-use Rattle.coap_serve.specs.Turns.{Talk, talk, talk_end, Progress, progress_from, stop_in}
-use Rattle.coap_serve.proofs.TalkLemmas.{talk_none, talk_taken, talk_stopped, end_taken, end_stopped}
+use Rattle.coap_store.specs.Messages.{response_message}
+use Rattle.coap_store.specs.Changes.{IsPut}
+use Rattle.coap_serve.specs.declared.host.Host.{Host}
+use Rattle.coap_serve.specs.Serving.{Setup, World, flushed, answer_in, answered, told, served, AsksToStore, served_all, fault_of, rejected, stopped_by, announced, stream_of, world_with, world_of, stop_of, Outcome, outcome_with, outcome}
+use Rattle.coap_serve.specs.Connection.{ConnectionValue, host_of, answer_from, link_flushed, link_answered, host_answered, link_served, host_served, own_announcement, begun, IsRefusedWith}
+use Rattle.coap_serve.specs.Turns.{Talk, talk, talk_end, Progress, progress_from, value_of, stop_in}
+use Rattle.coap_serve.specs.StdioRun.{IsLastByte}
+use Rattle.coap_serve.proofs.TalkLemmas.{talk_later, talk_none, talk_taken, talk_stopped, end_taken, end_stopped}
+use Rattle.coap_serve.proofs.ProgressLemmas.{going_by, progress_limits, progress_rest}
 
--- the link shows the history, of which nothing waits
-record Same (h : History) (l : LinkValue) : Type 0 where
-  shows : Shows l h
+-- the store and the moment of a world
+abbrev host_in : World → Host
+host_in w = record { store = w.store; now = w.now }
+
+-- the link shows the history, of which nothing waits, and the host is that of the world
+record Same (w : World) (host : Host) (l : LinkValue) : Type 0 where
+  shows : Shows l w.history
   quiet : l.waiting ≡ []
+  host_is : host ≡ host_in w
 
 -- the link of a history with these bytes waiting
 abbrev waits : History → List ℕ → LinkValue
 waits h waiting = record { role = h.role; limits = h.limits; waiting = waiting; phase = h.phase; peer_max = announcing.announced h.handled; tokens = h.tokens }
 
-flush_same : (h : History) (l : LinkValue) → Shows l h → Same (flushed h) (link_flushed l)
-flush_same h l shows = record {
-  shows = record {
-    is_history = omega arith;
-    same = ap link_flushed shows.same ∙ ap (waits h) (sym (drop_all (length (text_of h.queued)) (text_of h.queued) (omega arith)));
-  };
-  quiet = refl;
+flush_shows : (h : History) (l : LinkValue) → Shows l h → Shows (link_flushed l) (flushed h)
+flush_shows h l shows = record {
+  is_history = omega arith;
+  same = ap link_flushed shows.same ∙ ap (waits h) (sym (drop_all (length (text_of h.queued)) (text_of h.queued) (omega arith)));
 }
 
 -- a history queued more messages, and no more was written of them
@@ -42,142 +50,214 @@ record Grows (h after : History) : Type 0 where
   queued : after.queued ≡ h.queued ++ more
   written : after.written ≡ h.written
 
-grown : (h after : History) (l now : LinkValue) → Same h l → Shows now after → Grows h after → text_of after.queued ≡ text_of h.queued ++ now.waiting
-grown h after l now same shows grows =
-    let old : drop h.written (text_of h.queued) ≡ [] = sym (ap (λ (k : LinkValue). k.waiting) same.shows.same) ∙ same.quiet in
+grown : (h after : History) (l now : LinkValue) → Shows l h → l.waiting ≡ [] → Shows now after → Grows h after → text_of after.queued ≡ text_of h.queued ++ now.waiting
+grown h after l now same quiet shows grows =
+    let old : drop h.written (text_of h.queued) ≡ [] = sym (ap (λ (k : LinkValue). k.waiting) same.same) ∙ quiet in
     let left : now.waiting ≡ text_of grows.more =
     ap (λ (k : LinkValue). k.waiting) shows.same
     ∙ ap (λ (n : ℕ). drop n (text_of after.queued)) grows.written
     ∙ ap (λ (ms : List Message). drop h.written (text_of ms)) grows.queued
-    ∙ waiting_more h grows.more same.shows.is_history
+    ∙ waiting_more h grows.more same.is_history
     ∙ ap (λ (w : List ℕ). w ++ text_of grows.more) old in
     ap text_of grows.queued ∙ text_more h.queued grows.more ∙ ap (λ (w : List ℕ). text_of h.queued ++ w) (sym left)
 
 -- ---- one message
 
-answered_grows : (h : History) (m : Message) (what : VerdictValue) → Grows h (answered (after_message h m) m what)
-answered_grows h m verdict.Request = record { more = _; queued = append_assoc h.queued _ _; written = refl }
-answered_grows h m verdict.Opened = record { more = _; queued = refl; written = refl }
-answered_grows h m verdict.Done = record { more = _; queued = refl; written = refl }
-answered_grows h m (verdict.Answer token last) = record { more = _; queued = refl; written = refl }
-answered_grows h m (verdict.Pong token custody) = record { more = _; queued = refl; written = refl }
-answered_grows h m verdict.Stranger = record { more = _; queued = refl; written = refl }
-answered_grows h m (verdict.Stopped why) = record { more = _; queued = refl; written = refl }
+answered_grows : (w : World) (m : Message) (what : VerdictValue) → Grows w.history (answered (told w m) m what).history
+answered_grows w m verdict.Request = record { more = _; queued = append_assoc w.history.queued _ _; written = refl }
+answered_grows w m verdict.Opened = record { more = _; queued = refl; written = refl }
+answered_grows w m verdict.Done = record { more = _; queued = refl; written = refl }
+answered_grows w m (verdict.Answer token last) = record { more = _; queued = refl; written = refl }
+answered_grows w m (verdict.Pong token custody) = record { more = _; queued = refl; written = refl }
+answered_grows w m verdict.Stranger = record { more = _; queued = refl; written = refl }
+answered_grows w m (verdict.Stopped why) = record { more = _; queued = refl; written = refl }
 
-answered_shows : (h : History) (l : LinkValue) (m : Message) (what : VerdictValue) → Shows l h → Shows (link_answered (link_after_message l m) m what) (answered (after_message h m) m what)
-answered_shows h l m verdict.Request shows = reply_shown (link_after_message l m) _ (not_implemented m) refl (after_message h m) (message_shown l _ m refl h shows)
-answered_shows h l m verdict.Opened shows = message_shown l _ m refl h shows
-answered_shows h l m verdict.Done shows = message_shown l _ m refl h shows
-answered_shows h l m (verdict.Answer token last) shows = message_shown l _ m refl h shows
-answered_shows h l m (verdict.Pong token custody) shows = message_shown l _ m refl h shows
-answered_shows h l m verdict.Stranger shows = message_shown l _ m refl h shows
-answered_shows h l m (verdict.Stopped why) shows = message_shown l _ m refl h shows
+answered_shows : (w : World) (l : LinkValue) (m : Message) (what : VerdictValue) → Shows l w.history → Shows (link_answered (host_in w) (link_after_message l m) m what) (answered (told w m) m what).history
+answered_shows w l m verdict.Request shows = reply_shown (link_after_message l m) _ (response_message m.token (answer_in w m).response) refl (after_message w.history m) (message_shown l _ m refl w.history shows)
+answered_shows w l m verdict.Opened shows = message_shown l _ m refl w.history shows
+answered_shows w l m verdict.Done shows = message_shown l _ m refl w.history shows
+answered_shows w l m (verdict.Answer token last) shows = message_shown l _ m refl w.history shows
+answered_shows w l m (verdict.Pong token custody) shows = message_shown l _ m refl w.history shows
+answered_shows w l m verdict.Stranger shows = message_shown l _ m refl w.history shows
+answered_shows w l m (verdict.Stopped why) shows = message_shown l _ m refl w.history shows
+
+answered_host : (w : World) (m : Message) (what : VerdictValue) → host_answered (host_in w) m what ≡ host_in (answered (told w m) m what)
+answered_host w m verdict.Request = refl
+answered_host w m verdict.Opened = refl
+answered_host w m verdict.Done = refl
+answered_host w m (verdict.Answer token last) = refl
+answered_host w m (verdict.Pong token custody) = refl
+answered_host w m verdict.Stranger = refl
+answered_host w m (verdict.Stopped why) = refl
 
 one_more : (h : History) (m : Message) → length (h.handled ++ m ∷ []) ≡ length h.handled + 1
 one_more h m = omega (arith, length-append h.handled (m ∷ []))
 
-answered_count : (h : History) (m : Message) (what : VerdictValue) → length (answered (after_message h m) m what).handled ≡ length h.handled + 1
-answered_count h m verdict.Request = one_more h m
-answered_count h m verdict.Opened = one_more h m
-answered_count h m verdict.Done = one_more h m
-answered_count h m (verdict.Answer token last) = one_more h m
-answered_count h m (verdict.Pong token custody) = one_more h m
-answered_count h m verdict.Stranger = one_more h m
-answered_count h m (verdict.Stopped why) = one_more h m
+answered_count : (w : World) (m : Message) (what : VerdictValue) → length (answered (told w m) m what).history.handled ≡ length w.history.handled + 1
+answered_count w m verdict.Request = one_more w.history m
+answered_count w m verdict.Opened = one_more w.history m
+answered_count w m verdict.Done = one_more w.history m
+answered_count w m (verdict.Answer token last) = one_more w.history m
+answered_count w m (verdict.Pong token custody) = one_more w.history m
+answered_count w m verdict.Stranger = one_more w.history m
+answered_count w m (verdict.Stopped why) = one_more w.history m
 
 -- ---- several
 
--- a history came to another one, which the link shows; this text was written, and so many messages were handled
-record Goes (h after : History) (l : LinkValue) (text : List ℕ) (count : ℕ) : Type 0 where
-  same : Same after l
-  text_is : text_of after.queued ≡ text_of h.queued ++ text
-  count_is : length after.handled ≡ length h.handled + count
+-- a world came to another one, which the link and the host show; this text was written, and so many messages were handled
+record Goes (w after : World) (host : Host) (l : LinkValue) (text : List ℕ) (count : ℕ) : Type 0 where
+  same : Same after host l
+  text_is : text_of after.history.queued ≡ text_of w.history.queued ++ text
+  count_is : length after.history.handled ≡ length w.history.handled + count
 
-goes_then : (a b c : History) (l k : LinkValue) (s t : List ℕ) (m n : ℕ) → Goes a b l s m → Goes b c k t n → Goes a c k (s ++ t) (m + n)
-goes_then a b c l k s t m n p q = record {
+goes_then : (a b c : World) (x y : Host) (l k : LinkValue) (s t : List ℕ) (m n : ℕ) → Goes a b x l s m → Goes b c y k t n → Goes a c y k (s ++ t) (m + n)
+goes_then a b c x y l k s t m n p q = record {
   same = q.same;
-  text_is = q.text_is ∙ ap (λ (w : List ℕ). w ++ t) p.text_is ∙ append_assoc (text_of a.queued) s t;
+  text_is = q.text_is ∙ ap (λ (w : List ℕ). w ++ t) p.text_is ∙ append_assoc (text_of a.history.queued) s t;
   count_is = omega (arith, p.count_is, q.count_is);
 }
 
-goes_nowhere : (h : History) (l : LinkValue) → Same h l → Goes h h l [] 0
-goes_nowhere h l same = record { same = same; text_is = sym (append-nil (text_of h.queued)); count_is = omega arith }
+goes_nowhere : (w : World) (host : Host) (l : LinkValue) → Same w host l → Goes w w host l [] 0
+goes_nowhere w host l same = record { same = same; text_is = sym (append-nil (text_of w.history.queued)); count_is = omega arith }
 
-served_goes : (h : History) (l : LinkValue) (m : Message) → Same h l → Goes h (served h m) (link_flushed (link_served l m)) (link_served l m).waiting 1
-served_goes h l m same =
-    let stands : standing_in l ≡ standing_now h = standing_shown l h same.shows in
-    let what : VerdictValue = (react (standing_now h) m).verdict in
-    let shows : Shows (link_served l m) (answered (after_message h m) m what) =
-    subst (λ (s : Standing). Shows (link_answered (link_after_message l m) m (react s m).verdict) (answered (after_message h m) m what)) (sym stands) (answered_shows h l m what same.shows) in
+served_from : (w : World) (l : LinkValue) (m : Message) → Shows l w.history → l.waiting ≡ [] → Goes w (served w m) (host_served (host_in w) l m) (link_flushed (link_served (host_in w) l m)) (link_served (host_in w) l m).waiting 1
+served_from w l m shows quiet =
+    let stands : standing_in l ≡ standing_now w.history = standing_shown l w.history shows in
+    let what : VerdictValue = (react (standing_now w.history) m).verdict in
+    let after : World = answered (told w m) m what in
+    let shown : Shows (link_served (host_in w) l m) after.history =
+    subst (λ (s : Standing). Shows (link_answered (host_in w) (link_after_message l m) m (react s m).verdict) after.history) (sym stands) (answered_shows w l m what shows) in
     record {
-      same = flush_same (answered (after_message h m) m what) (link_served l m) shows;
-      text_is = grown h (answered (after_message h m) m what) l (link_served l m) same shows (answered_grows h m what);
-      count_is = answered_count h m what;
+      same = record {
+        shows = flush_shows after.history (link_served (host_in w) l m) shown;
+        quiet = refl;
+        host_is = ap (λ (s : Standing). host_answered (host_in w) m (react s m).verdict) stands ∙ answered_host w m what;
+      };
+      text_is = grown w.history after.history l (link_served (host_in w) l m) shows quiet shown (answered_grows w m what);
+      count_is = answered_count w m what;
     }
 
-phase_is : (h : History) (l : LinkValue) → Same h l → h.phase ≡ l.phase
-phase_is h l same = sym (ap (λ (k : LinkValue). k.phase) same.shows.same)
+served_goes : (w : World) (host : Host) (l : LinkValue) (m : Message) → Same w host l → Goes w (served w m) (host_served host l m) (link_flushed (link_served host l m)) (link_served host l m).waiting 1
+served_goes w host l m same =
+    subst (λ (h : Host). Goes w (served w m) (host_served h l m) (link_flushed (link_served h l m)) (link_served h l m).waiting 1) (sym same.host_is) (served_from w l m same.shows same.quiet)
 
-all_by : (h : History) (l : LinkValue) (m : Message) (ms : List Message) (takes : Bool) → takes_messages l.phase ≡ takes → Same h l
-    → (Same (served h m) (link_flushed (link_served l m)) → Goes (served h m) (served_all (served h m) ms) (talk (link_flushed (link_served l m)) ms).link (talk (link_flushed (link_served l m)) ms).text (talk (link_flushed (link_served l m)) ms).handled)
-    → Goes h (served_all h (m ∷ ms)) (talk l (m ∷ ms)).link (talk l (m ∷ ms)).text (talk l (m ∷ ms)).handled
+phase_is : (w : World) (host : Host) (l : LinkValue) → Same w host l → w.history.phase ≡ l.phase
+phase_is w host l same = sym (ap (λ (k : LinkValue). k.phase) same.shows.same)
+
+-- a talk leads from one world to another
+abbrev Leads : World → World → Talk → Type 0
+Leads w after t = Goes w after t.host t.link t.text t.handled
+
+all_by : (w : World) (host : Host) (l : LinkValue) (m : Message) (ms : List Message) (takes : Bool) → takes_messages l.phase ≡ takes → Same w host l
+    → (Same (served w m) (host_served host l m) (link_flushed (link_served host l m)) → Leads (served w m) (served_all (served w m) ms) (talk_later host l m ms))
+    → Leads w (served_all w (m ∷ ms)) (talk host l (m ∷ ms))
 unfolding served_all
-all_by h l m ms true e same later =
-    let first = served_goes h l m same in
+all_by w host l m ms true e same later =
+    let first = served_goes w host l m same in
     let rest = later first.same in
-    let u : Talk = talk (link_flushed (link_served l m)) ms in
-    let both = goes_then h (served h m) (served_all (served h m) ms) _ u.link (link_served l m).waiting u.text 1 u.handled first rest in
-    let counted : Goes h (served_all (served h m) ms) u.link ((link_served l m).waiting ++ u.text) (suc u.handled) = subst (λ (n : ℕ). Goes h (served_all (served h m) ms) u.link ((link_served l m).waiting ++ u.text) n) (omega arith) both in
-    rw (talk_taken l m ms e, ap takes_messages (phase_is h l same) ∙ e) counted
-all_by h l m ms false e same later = rw (talk_stopped l (m ∷ ms) e, ap takes_messages (phase_is h l same) ∙ e) (goes_nowhere h l same)
+    let u : Talk = talk_later host l m ms in
+    let both = goes_then w (served w m) (served_all (served w m) ms) _ u.host _ u.link (link_served host l m).waiting u.text 1 u.handled first rest in
+    let counted : Goes w (served_all (served w m) ms) u.host u.link ((link_served host l m).waiting ++ u.text) (suc u.handled) = subst (λ (n : ℕ). Goes w (served_all (served w m) ms) u.host u.link ((link_served host l m).waiting ++ u.text) n) (omega arith) both in
+    rw (talk_taken host l m ms e, ap takes_messages (phase_is w host l same) ∙ e) counted
+all_by w host l m ms false e same later = rw (talk_stopped host l (m ∷ ms) e, ap takes_messages (phase_is w host l same) ∙ e) (goes_nowhere w host l same)
 
-all_go : (h : History) (l : LinkValue) (ms : List Message) → Same h l → Goes h (served_all h ms) (talk l ms).link (talk l ms).text (talk l ms).handled
+all_go : (w : World) (host : Host) (l : LinkValue) (ms : List Message) → Same w host l → Leads w (served_all w ms) (talk host l ms)
 unfolding served_all
-all_go h l [] same = rw (talk_none l) (goes_nowhere h l same)
-all_go h l (m ∷ ms) same = all_by h l m ms (takes_messages l.phase) refl same (all_go (served h m) (link_flushed (link_served l m)) ms)
+all_go w host l [] same = rw (talk_none host l) (goes_nowhere w host l same)
+all_go w host l (m ∷ ms) same = all_by w host l m ms (takes_messages l.phase) refl same (all_go (served w m) (host_served host l m) (link_flushed (link_served host l m)) ms)
 
 -- ---- the fault behind them
 
-rejected_goes : (h : History) (l : LinkValue) (fault : StreamFault) → Same h l → Goes h (flushed (after_reject h (fault_of fault))) (link_flushed (link_after_reject l (fault_of fault))) (link_after_reject l (fault_of fault)).waiting 0
-rejected_goes h l fault same =
-    let shows = reject_shown l (link_after_reject l (fault_of fault)) (fault_of fault) refl h same.shows in
+rejected_goes : (w : World) (host : Host) (l : LinkValue) (fault : StreamFault) → Same w host l → Goes w (rejected w fault) host (link_flushed (link_after_reject l (fault_of fault))) (link_after_reject l (fault_of fault)).waiting 0
+rejected_goes w host l fault same =
+    let after : History = after_reject w.history (fault_of fault) in
+    let shown = reject_shown l (link_after_reject l (fault_of fault)) (fault_of fault) refl w.history same.shows in
     record {
-      same = flush_same (after_reject h (fault_of fault)) (link_after_reject l (fault_of fault)) shows;
-      text_is = grown h (after_reject h (fault_of fault)) l (link_after_reject l (fault_of fault)) same shows (record { more = _; queued = refl; written = refl });
+      same = record { shows = flush_shows after (link_after_reject l (fault_of fault)) shown; quiet = refl; host_is = same.host_is };
+      text_is = grown w.history after l (link_after_reject l (fault_of fault)) same.shows same.quiet shown (record { more = _; queued = refl; written = refl });
       count_is = omega arith;
     }
 
-stopped_by_goes : (a h : History) (t : Talk) (fault : StreamFault) (takes : Bool) → takes_messages t.link.phase ≡ takes → Goes a h t.link t.text t.handled
-    → Goes a (stopped_by h (Some fault)) (talk_end t (Some fault)).link (talk_end t (Some fault)).text (talk_end t (Some fault)).handled
-stopped_by_goes a h t fault true e goes =
+stopped_by_goes : (a w : World) (t : Talk) (fault : StreamFault) (takes : Bool) → takes_messages t.link.phase ≡ takes → Leads a w t → Leads a (stopped_by w (Some fault)) (talk_end t (Some fault))
+stopped_by_goes a w t fault true e goes =
     let l : LinkValue = link_after_reject t.link (fault_of fault) in
-    let both = goes_then a h (flushed (after_reject h (fault_of fault))) t.link (link_flushed l) t.text l.waiting t.handled 0 goes (rejected_goes h t.link fault goes.same) in
-    let counted : Goes a (flushed (after_reject h (fault_of fault))) (link_flushed l) (t.text ++ l.waiting) t.handled = subst (λ (n : ℕ). Goes a (flushed (after_reject h (fault_of fault))) (link_flushed l) (t.text ++ l.waiting) n) (omega arith) both in
-    rw (end_taken t fault e, ap takes_messages (phase_is h t.link goes.same) ∙ e) counted
-stopped_by_goes a h t fault false e goes = rw (end_stopped t (Some fault) e, ap takes_messages (phase_is h t.link goes.same) ∙ e) goes
+    let both = goes_then a w (rejected w fault) t.host t.host t.link (link_flushed l) t.text l.waiting t.handled 0 goes (rejected_goes w t.host t.link fault goes.same) in
+    let counted : Goes a (rejected w fault) t.host (link_flushed l) (t.text ++ l.waiting) t.handled = subst (λ (n : ℕ). Goes a (rejected w fault) t.host (link_flushed l) (t.text ++ l.waiting) n) (omega arith) both in
+    rw (end_taken t fault e, ap takes_messages (phase_is w t.host t.link goes.same) ∙ e) counted
+stopped_by_goes a w t fault false e goes = rw (end_stopped t (Some fault) e, ap takes_messages (phase_is w t.host t.link goes.same) ∙ e) goes
 
-end_goes : (a h : History) (t : Talk) (fault : Option StreamFault) → Goes a h t.link t.text t.handled → Goes a (stopped_by h fault) (talk_end t fault).link (talk_end t fault).text (talk_end t fault).handled
-end_goes a h t None goes = goes
-end_goes a h t (Some fault) goes = stopped_by_goes a h t fault (takes_messages t.link.phase) refl goes
+end_goes : (a w : World) (t : Talk) (fault : Option StreamFault) → Leads a w t → Leads a (stopped_by w fault) (talk_end t fault)
+end_goes a w t None goes = goes
+end_goes a w t (Some fault) goes = stopped_by_goes a w t fault (takes_messages t.link.phase) refl goes
 
 -- ---- a whole stream
 
-begun_same : (limits : LimitValues) → Same (announced limits) (begun limits).link
-begun_same limits = flush_same (begun_history Server limits 0) (link_begun Server limits 0) (begun_shown Server limits 0 _ refl)
+begun_same : (setup : Setup) → Same (announced setup) (host_of setup) (begun setup.limits).link
+begun_same setup = record {
+  shows = flush_shows (begun_history Server setup.limits 0) (link_begun Server setup.limits 0) (begun_shown Server setup.limits 0 _ refl);
+  quiet = refl;
+  host_is = refl;
+}
+
+-- what the messages and the fault of a stream do
+abbrev all_said : Setup → Stream → Talk
+all_said setup s = talk_end (talk (host_of setup) (begun setup.limits).link s.messages) s.fault
+
+leads : (setup : Setup) (s : Stream) → Leads (announced setup) (world_with setup s) (all_said setup s)
+leads setup s =
+    end_goes (announced setup) (served_all (announced setup) s.messages) (talk (host_of setup) (begun setup.limits).link s.messages) s.fault
+    (all_go (announced setup) (host_of setup) (begun setup.limits).link s.messages (begun_same setup))
 
 -- what comes of bytes, by how far the connection comes
 abbrev pub outcome_in : LimitValues → Progress → Outcome
 outcome_in limits p = record { output = own_announcement limits ++ p.text; messages = p.handled; rest = p.rest; stop = stop_in p }
 
-outcome_of : (limits : LimitValues) (s : Stream) (h : History) (t : Talk) → Goes (announced limits) h t.link t.text t.handled → outcome_with h s.rest ≡ outcome_in limits (record { link = t.link; text = t.text; handled = 0 + t.handled; rest = s.rest })
-outcome_of limits s h t goes =
-    ap (λ (o : List ℕ). record { output = o; messages = length h.handled; rest = s.rest; stop = stop_of h.phase }) goes.text_is
-    ∙ ap (λ (n : ℕ). record { output = own_announcement limits ++ t.text; messages = n; rest = s.rest; stop = stop_of h.phase }) (omega (arith, goes.count_is))
-    ∙ ap (λ (p : Phase). record { output = own_announcement limits ++ t.text; messages = 0 + t.handled; rest = s.rest; stop = stop_of p }) (phase_is h t.link goes.same)
+outcome_of : (setup : Setup) (rest : List ℕ) (w : World) (t : Talk) → Leads (announced setup) w t → outcome_with w.history rest ≡ outcome_in setup.limits (record { link = t.link; host = t.host; text = t.text; handled = 0 + t.handled; rest = rest })
+outcome_of setup rest w t goes =
+    ap (λ (o : List ℕ). record { output = o; messages = length w.history.handled; rest = rest; stop = stop_of w.history.phase }) goes.text_is
+    ∙ ap (λ (n : ℕ). record { output = own_announcement setup.limits ++ t.text; messages = n; rest = rest; stop = stop_of w.history.phase }) (omega (arith, goes.count_is))
+    ∙ ap (λ (p : Phase). record { output = own_announcement setup.limits ++ t.text; messages = 0 + t.handled; rest = rest; stop = stop_of p }) (phase_is w t.host t.link goes.same)
 
-pub outcome_is : (limits : LimitValues) (bytes : List ℕ) → outcome limits bytes ≡ outcome_in limits (progress_from (begun limits) bytes)
-unfolding outcome progress_from
-outcome_is limits bytes =
-    let s : Stream = split limits.max_message bytes in
-    let t : Talk = talk (begun limits).link s.messages in
-    outcome_of limits s (history_with limits s) (talk_end t s.fault) (end_goes (announced limits) (served_all (announced limits) s.messages) t s.fault (all_go (announced limits) (begun limits).link s.messages (begun_same limits)))
+-- how far a new connection comes
+abbrev pub came : Setup → List ℕ → Progress
+came setup bytes = progress_from (host_of setup) (begun setup.limits) bytes
+
+pub outcome_is : (setup : Setup) (bytes : List ℕ) → outcome setup bytes ≡ outcome_in setup.limits (came setup bytes)
+unfolding outcome world_of progress_from
+outcome_is setup bytes =
+    let s : Stream = stream_of setup bytes in
+    outcome_of setup s.rest (world_with setup s) (all_said setup s) (leads setup s)
+
+-- ---- a request for which memory was refused
+
+same_world : (setup : Setup) (bytes : List ℕ) → Same (world_of setup bytes) (came setup bytes).host (came setup bytes).link
+unfolding world_of progress_from
+same_world setup bytes = (leads setup (stream_of setup bytes)).same
+
+-- one message more, where the last byte of one is read
+one_more_read : (setup : Setup) (bytes : List ℕ) (last : ℕ) (m : Message) → stop_in (came setup bytes) ≡ None
+    → split (came setup bytes).link.limits.max_message ((came setup bytes).rest ++ last ∷ []) ≡ record { messages = m ∷ []; rest = []; fault = None }
+    → stream_of setup (bytes ++ last ∷ []) ≡ record { messages = (stream_of setup bytes).messages ++ m ∷ []; rest = []; fault = None }
+one_more_read setup bytes last m going whole =
+    let M : ℕ = setup.limits.max_message in
+    let s : Stream = stream_of setup bytes in
+    let read : split M (s.rest ++ last ∷ []) ≡ record { messages = m ∷ []; rest = []; fault = None } =
+    ap (λ (r : List ℕ). split M (r ++ last ∷ [])) (sym (progress_rest (host_of setup) (begun setup.limits) bytes))
+    ∙ ap (λ (l : LimitValues). split l.max_message ((came setup bytes).rest ++ last ∷ [])) (sym (progress_limits (host_of setup) (begun setup.limits) bytes going))
+    ∙ whole in
+    split_more M bytes (last ∷ []) (going_by (host_of setup) (begun setup.limits) bytes going)
+    ∙ ap (λ (u : Stream). record { messages = s.messages ++ u.messages; rest = u.rest; fault = u.fault }) read
+
+asks : (w : World) (host : Host) (l : LinkValue) (m : Message) → Same w host l → (react (standing_in l) m).verdict ≡ verdict.Request → IsPut (answer_from host m).change → AsksToStore w m
+asks w host l m same request put = record {
+  request = ap (λ (s : Standing). (react s m).verdict) (sym (standing_shown l w.history same.shows)) ∙ request;
+  put = subst (λ (h : Host). IsPut (answer_from h m).change) same.host_is put;
+}
+
+pub is_last_byte : (setup : Setup) (bytes : List ℕ) (last : ℕ) → stop_in (came setup bytes) ≡ None → IsRefusedWith (came setup bytes).host (value_of (came setup bytes)) last → IsLastByte setup bytes last
+is_last_byte setup bytes last going refused = record {
+  no_stop = ap (λ (o : Outcome). o.stop) (outcome_is setup bytes) ∙ going;
+  message = refused.message;
+  one_more = one_more_read setup bytes last refused.message going refused.whole;
+  asks = asks (world_of setup bytes) (came setup bytes).host (came setup bytes).link refused.message (same_world setup bytes) refused.refused.request refused.refused.put;
+}

@@ -1,14 +1,14 @@
 -- What one take does to a connection.
-use Rattle.std.proofs.Common.{◌≡◌, ℕ, ◌+◌, ◌-◌, ◌<◌, ◌≤◌, false, List, [], ◌++◌, length, take, drop, Option, Some, None, Result, Ok, Err, refl, sym, ap, subst, ◌∙◌, arith, inl, inr}
+use Rattle.std.proofs.Common.{◌≡◌, ℕ, ◌+◌, ◌-◌, ◌<◌, ◌≤◌, false, List, [], ◌∷◌, ◌++◌, length, take, drop, Option, Some, None, Result, Ok, Err, refl, sym, ap, subst, ◌∙◌, append_assoc, arith, inl, inr}
 use Rattle.std.proofs.lemmas.Bool.{cases_lt}
-use Rattle.std.proofs.lemmas.List.{append-nil, length-append, take-append-drop, take-append-le, take_at, drop_at, drop_all}
-use Rattle.std.proofs.Math.Seq.{drop-append-add}
+use Rattle.std.proofs.lemmas.List.{append-nil, append_cancel_right, length-append, length-take-le, take-append-drop, take-append-le, take_at, drop_at, drop_all}
+use Rattle.std.proofs.Math.Seq.{drop-append-add, take-length}
 use Rattle.coap_wire.specs.Message.{Message}
 use Rattle.coap_wire.specs.Reading.{message_of}
-use Rattle.coap_wire.specs.Stream.{StreamFault, TokenLength, TooLarge, Format, Stream, Beginning, Unfinished, Whole, Faulty, beginning, split, fault_bytes}
+use Rattle.coap_wire.specs.Stream.{StreamFault, TokenLength, TooLarge, Format, Stream, Beginning, Unfinished, Whole, Faulty, beginning, with_message, split, fault_bytes}
 use Rattle.coap_wire.specs.declared.fault.FormatFault.{FormatFault}
-use Rattle.coap_wire.proofs.StreamSteps.{unfinished_empty, whole_parts, whole_itself, whole_more, format_not_begun, split_faulty, split_message, split_bad}
-use Rattle.coap_frame.specs.Framing.{FramerValue, Framing, framing_at, framing}
+use Rattle.coap_wire.proofs.StreamSteps.{unfinished_empty, whole_parts, whole_itself, whole_more, faulty_more, format_not_begun, split_unfinished, split_faulty, split_message, split_bad}
+use Rattle.coap_frame.specs.Framing.{FramerValue, Finding, Nothing, AFrame, AFault, Framing, framing_at, framing}
 use Rattle.coap_conn.specs.declared.reason.Reason.{Reason}
 use Rattle.coap_conn.specs.declared.phase.Reject.{Reject}
 use Rattle.coap_conn.specs.declared.phase.Reject.TheVariants as reject
@@ -16,9 +16,10 @@ use Rattle.coap_conn.specs.Limits.{LimitValues, AreInRange}
 use Rattle.coap_conn.specs.History.{takes_messages}
 use Rattle.coap_conn.specs.LinkValue.{LinkValue, IsLive, link_after_reject}
 use Rattle.coap_serve.specs.Serving.{fault_of, stop_of}
-use Rattle.coap_serve.specs.Connection.{ConnectionValue, IsKept, greatest, connected, framer_in, link_flushed, link_served, Step, step_read, step_found, step}
-use Rattle.coap_serve.specs.Turns.{Talk, talk, talk_end, Progress, progress_behind, progress_with, progress_from, stop_in}
-use Rattle.coap_serve.proofs.TalkLemmas.{takes_where_live, takes_none, none_where_live, served_limits, talk_none, talk_taken, talk_stopped, first_end, end_taken, end_stopped}
+use Rattle.coap_serve.specs.Connection.{ConnectionValue, IsKept, greatest, connected, framer_in, link_flushed, link_served, host_served, MayBeRefused, Step, step_read, step_found, step, RefusesFirst}
+use Rattle.coap_serve.specs.declared.host.Host.{Host}
+use Rattle.coap_serve.specs.Turns.{Talk, silence, talk, talk_end, Progress, progress_behind, progress_with, progress_from, stop_in}
+use Rattle.coap_serve.proofs.TalkLemmas.{takes_where_live, takes_none, none_where_live, served_limits, talk_later, talk_none, talk_taken, talk_stopped, first_end, end_taken, end_stopped}
 use Rattle.coap_serve.proofs.ProgressLemmas.{after_text, no_message, idle}
 
 -- ---- what a connection keeps
@@ -82,32 +83,32 @@ ends_in M kept piece frame rest u e =
 abbrev pub value_flushed : ConnectionValue → ConnectionValue
 value_flushed v = record v { link = link_flushed v.link }
 
+-- how far a connection has come that stands so, once what waits was written
+abbrev pub comes_to : Host → ConnectionValue → Progress
+comes_to host v = record { link = link_flushed v.link; host = host; text = v.link.waiting; handled = v.handled; rest = v.frame }
+
 -- a progress that comes no further than this connection
 pub record StopsAt (p : Progress) (after : ConnectionValue) : Type 0 where
   pub text : p.text ≡ after.link.waiting
   pub stop : stop_in p ≡ stop_of after.link.phase
   pub handled_is : p.handled ≡ after.handled
 
--- a connection goes on from where a take leaves it once what waits was written, or stops there
-pub record Steps (v : ConnectionValue) (piece : List ℕ) (s : Step) : Type 0 where
+-- a connection comes to where a take leaves it, with the bytes that were taken, or stops there
+pub record Steps (host : Host) (v : ConnectionValue) (piece : List ℕ) (s : Step) : Type 0 where
   pub kept : IsKept s.after
   pub few : s.after.handled ≤ v.handled + 1
   pub some : stop_of s.after.link.phase ≡ None → 0 < length piece → 0 < s.count
-  pub text : (more : List ℕ) × ((progress_from v piece).text ≡ s.after.link.waiting ++ more)
-  pub goes_on : stop_of s.after.link.phase ≡ None → progress_from v piece ≡ after_text s.after.link.waiting (progress_from (value_flushed s.after) (drop s.count piece))
-  pub stops : (why : Reason) → stop_of s.after.link.phase ≡ Some why → StopsAt (progress_from v piece) s.after
-
--- where nothing waits, writing changes nothing
-quiet_stays : (v : ConnectionValue) → v.link.waiting ≡ [] → v ≡ value_flushed v
-quiet_stays v quiet = ap (λ (w : List ℕ). record v { link = record v.link { waiting = w } }) quiet
+  pub text : (more : List ℕ) × ((progress_from host v piece).text ≡ s.after.link.waiting ++ more)
+  pub came : stop_of s.after.link.phase ≡ None → progress_from host v (take s.count piece) ≡ comes_to s.host s.after
+  pub stops : (why : Reason) → stop_of s.after.link.phase ≡ Some why → StopsAt (progress_from host v piece) s.after
 
 -- where no message is taken, no byte changes anything
-stopped_progress : (v : ConnectionValue) (bytes : List ℕ) → takes_messages v.link.phase ≡ false → StopsAt (progress_from v bytes) (record v { link = link_flushed v.link })
+stopped_progress : (host : Host) (v : ConnectionValue) (bytes : List ℕ) → takes_messages v.link.phase ≡ false → StopsAt (progress_from host v bytes) (record v { link = link_flushed v.link })
 unfolding progress_from
-stopped_progress v bytes e =
+stopped_progress host v bytes e =
     let s : Stream = split (greatest v) (v.frame ++ bytes) in
-    let nothing : Talk = record { link = v.link; text = []; handled = 0 } in
-    let none : talk_end (talk v.link s.messages) s.fault ≡ nothing = ap (λ (t : Talk). talk_end t s.fault) (talk_stopped v.link s.messages e) ∙ end_stopped nothing s.fault e in
+    let nothing : Talk = silence host v.link in
+    let none : talk_end (talk host v.link s.messages) s.fault ≡ nothing = ap (λ (t : Talk). talk_end t s.fault) (talk_stopped host v.link s.messages e) ∙ end_stopped nothing s.fault e in
     record {
       text = ap (λ (t : Talk). t.text) none;
       stop = ap (λ (t : Talk). stop_of t.link.phase) none;
@@ -116,27 +117,27 @@ stopped_progress v bytes e =
 
 -- ---- a fault
 
-module _ (v : ConnectionValue) (piece rest : List ℕ) (fault : StreamFault) (r : Reject) (live : IsLive v.link.phase) (is : fault_of fault ≡ r) (read : split (greatest v) (v.frame ++ piece) ≡ record { messages = []; rest = rest; fault = Some fault }) where
+module _ (host : Host) (v : ConnectionValue) (piece rest : List ℕ) (fault : StreamFault) (r : Reject) (live : IsLive v.link.phase) (is : fault_of fault ≡ r) (read : split (greatest v) (v.frame ++ piece) ≡ record { messages = []; rest = rest; fault = Some fault }) where
   abbrev rejected : LinkValue
   rejected = link_after_reject v.link r
 
-  rejected_progress : progress_from v piece ≡ record { link = link_flushed rejected; text = rejected.waiting; handled = v.handled; rest = rest }
+  rejected_progress : progress_from host v piece ≡ record { link = link_flushed rejected; host = host; text = rejected.waiting; handled = v.handled; rest = rest }
   unfolding progress_from
   rejected_progress =
-      let nothing : Talk = record { link = v.link; text = []; handled = 0 } in
-      ap (progress_with v) read
-      ∙ ap (λ (t : Talk). progress_behind v rest (talk_end t (Some fault))) (talk_none v.link)
+      let nothing : Talk = silence host v.link in
+      ap (progress_with host v) read
+      ∙ ap (λ (t : Talk). progress_behind v rest (talk_end t (Some fault))) (talk_none host v.link)
       ∙ ap (progress_behind v rest) (end_taken nothing fault (takes_where_live v.link.phase live))
-      ∙ ap (λ (k : Reject). record { link = link_flushed (link_after_reject v.link k); text = (link_after_reject v.link k).waiting; handled = v.handled + 0; rest = rest }) is
-      ∙ ap (λ (n : ℕ). record { link = link_flushed rejected; text = rejected.waiting; handled = n; rest = rest }) (omega arith)
+      ∙ ap (λ (k : Reject). record { link = link_flushed (link_after_reject v.link k); host = host; text = (link_after_reject v.link k).waiting; handled = v.handled + 0; rest = rest }) is
+      ∙ ap (λ (n : ℕ). record { link = link_flushed rejected; host = host; text = rejected.waiting; handled = n; rest = rest }) (omega arith)
 
-  rejected_steps : (count : ℕ) (frame : List ℕ) → IsKept (record { frame = frame; link = rejected; handled = v.handled }) → Steps v piece (record { count = count; after = record { frame = frame; link = rejected; handled = v.handled } })
+  rejected_steps : (count : ℕ) (frame : List ℕ) → IsKept (record { frame = frame; link = rejected; handled = v.handled }) → Steps host v piece (record { count = count; after = record { frame = frame; link = rejected; handled = v.handled }; host = host })
   rejected_steps count frame kept = record {
     kept = kept;
     few = omega arith;
     some = λ going filled. absurd cc;
     text = ([], ap (λ (p : Progress). p.text) rejected_progress ∙ sym (append-nil rejected.waiting));
-    goes_on = λ going. absurd cc;
+    came = λ going. absurd cc;
     stops = λ why stop_is. record {
       text = ap (λ (p : Progress). p.text) rejected_progress;
       stop = ap stop_in rejected_progress;
@@ -146,7 +147,7 @@ module _ (v : ConnectionValue) (piece rest : List ℕ) (fault : StreamFault) (r 
 
 -- ---- a whole frame
 
-module _ (v : ConnectionValue) (piece frame rest : List ℕ) (kept : IsKept v) (live : IsLive v.link.phase) (begun : beginning (greatest v) (v.frame ++ piece) ≡ Whole frame rest) where
+module _ (host : Host) (v : ConnectionValue) (piece frame rest : List ℕ) (kept : IsKept v) (live : IsLive v.link.phase) (begun : beginning (greatest v) (v.frame ++ piece) ≡ Whole frame rest) where
   abbrev whole : Framing
   whole = framing_at (framer_in v) piece (Whole frame rest)
 
@@ -155,79 +156,183 @@ module _ (v : ConnectionValue) (piece frame rest : List ℕ) (kept : IsKept v) (
 
   -- the connection after a message
   abbrev handled_to : Message → ConnectionValue
-  handled_to m = record { frame = []; link = link_served v.link m; handled = v.handled + 1 }
+  handled_to m = record { frame = []; link = link_served host v.link m; handled = v.handled + 1 }
 
-  message_goes : (m : Message) → message_of frame ≡ Ok m → progress_from v piece ≡ after_text (link_served v.link m).waiting (progress_from (value_flushed (handled_to m)) (drop whole.taken piece))
+  message_goes : (m : Message) → message_of frame ≡ Ok m → progress_from host v piece ≡ after_text (link_served host v.link m).waiting (progress_from (host_served host v.link m) (value_flushed (handled_to m)) (drop whole.taken piece))
   unfolding progress_from
   message_goes m read =
       let u : Stream = split (greatest v) rest in
-      let l : LinkValue = link_served v.link m in
-      let t : Talk = talk (link_flushed l) u.messages in
+      let l : LinkValue = link_served host v.link m in
+      let now : Host = host_served host v.link m in
+      let t : Talk = talk now (link_flushed l) u.messages in
       let w : ConnectionValue = value_flushed (handled_to m) in
-      let same : greatest w ≡ greatest v = ap (λ (k : LimitValues). k.max_message) (served_limits v.link m) in
-      ap (progress_with v) (split_message (greatest v) (v.frame ++ piece) frame rest m begun read)
-      ∙ ap (λ (k : Talk). progress_behind v u.rest (talk_end k u.fault)) (talk_taken v.link m u.messages (takes_where_live v.link.phase live))
+      let same : greatest w ≡ greatest v = ap (λ (k : LimitValues). k.max_message) (served_limits host v.link m) in
+      ap (progress_with host v) (split_message (greatest v) (v.frame ++ piece) frame rest m begun read)
+      ∙ ap (λ (k : Talk). progress_behind v u.rest (talk_end k u.fault)) (talk_taken host v.link m u.messages (takes_where_live v.link.phase live))
       ∙ ap (progress_behind v u.rest) (first_end l t u.fault)
-      ∙ ap (λ (n : ℕ). record { link = (talk_end t u.fault).link; text = l.waiting ++ (talk_end t u.fault).text; handled = n; rest = u.rest }) (omega arith)
-      ∙ ap (λ (M : ℕ). after_text l.waiting (progress_with w (split M rest))) (sym same)
-      ∙ ap (λ (r : List ℕ). after_text l.waiting (progress_with w (split (greatest w) r))) (sym ends.left)
+      ∙ ap (λ (n : ℕ). record { link = (talk_end t u.fault).link; host = (talk_end t u.fault).host; text = l.waiting ++ (talk_end t u.fault).text; handled = n; rest = u.rest }) (omega arith)
+      ∙ ap (λ (M : ℕ). after_text l.waiting (progress_with now w (split M rest))) (sym same)
+      ∙ ap (λ (r : List ℕ). after_text l.waiting (progress_with now w (split (greatest w) r))) (sym ends.left)
 
-  message_stops : (m : Message) (why : Reason) → message_of frame ≡ Ok m → stop_of (link_served v.link m).phase ≡ Some why → StopsAt (progress_from v piece) (handled_to m)
+  message_stops : (m : Message) (why : Reason) → message_of frame ≡ Ok m → stop_of (link_served host v.link m).phase ≡ Some why → StopsAt (progress_from host v piece) (handled_to m)
   message_stops m why read stop_is =
-      let at = stopped_progress (value_flushed (handled_to m)) (drop whole.taken piece) (takes_none (link_served v.link m).phase why stop_is) in
+      let at = stopped_progress (host_served host v.link m) (value_flushed (handled_to m)) (drop whole.taken piece) (takes_none (link_served host v.link m).phase why stop_is) in
       let goes = message_goes m read in
       record {
-        text = ap (λ (p : Progress). p.text) goes ∙ ap (λ (t : List ℕ). (link_served v.link m).waiting ++ t) at.text ∙ append-nil (link_served v.link m).waiting;
+        text = ap (λ (p : Progress). p.text) goes ∙ ap (λ (t : List ℕ). (link_served host v.link m).waiting ++ t) at.text ∙ append-nil (link_served host v.link m).waiting;
         stop = ap stop_in goes ∙ at.stop;
         handled_is = ap (λ (p : Progress). p.handled) goes ∙ at.handled_is;
       }
 
-  frame_steps : (read : Result Message FormatFault) → message_of frame ≡ read → Steps v piece (step_read v whole read)
-  frame_steps (Ok m) e = record {
-    kept = record { unfinished = unfinished_empty (link_served v.link m).limits.max_message; ranges = subst AreInRange (sym (served_limits v.link m)) kept.ranges };
-    few = omega arith;
-    some = λ going filled. ends.some;
-    text = ((progress_from (value_flushed (handled_to m)) (drop whole.taken piece)).text, ap (λ (p : Progress). p.text) (message_goes m e));
-    goes_on = λ going. message_goes m e;
-    stops = λ why is. message_stops m why e is;
-  }
-  frame_steps (Err f) e =
-      rejected_steps v piece frame Format reject.Format live refl (split_bad (greatest v) (v.frame ++ piece) frame rest f begun e) whole.taken [] (record { unfinished = unfinished_empty (greatest v); ranges = kept.ranges })
+-- the piece up to the end of its frame
+frame_came : (host : Host) (v : ConnectionValue) (piece frame rest : List ℕ) (m : Message) → IsKept v → IsLive v.link.phase → beginning (greatest v) (v.frame ++ piece) ≡ Whole frame rest → message_of frame ≡ Ok m
+    → progress_from host v (take (length piece - length rest) piece) ≡ comes_to (host_served host v.link m) (record { frame = []; link = link_served host v.link m; handled = v.handled + 1 })
+frame_came host v piece frame rest m kept live begun read =
+    let front : List ℕ = take (length piece - length rest) piece in
+    let l : LinkValue = link_served host v.link m in
+    let w : ConnectionValue = record { frame = []; link = link_flushed l; handled = v.handled + 1 } in
+    let still : IsKept w = record { unfinished = unfinished_empty l.limits.max_message; ranges = subst AreInRange (sym (served_limits host v.link m)) kept.ranges } in
+    let behind : (v.frame ++ front) ++ rest ≡ frame ++ rest = append_assoc v.frame front rest
+    ∙ ap (λ (r : List ℕ). v.frame ++ (front ++ r)) (sym (ends_in (greatest v) v.frame piece frame rest kept.unfinished begun).left)
+    ∙ ap (λ (p : List ℕ). v.frame ++ p) (take-append-drop (length piece - length rest) piece)
+    ∙ (whole_parts (greatest v) (v.frame ++ piece) frame rest begun).bytes in
+    let alone : beginning (greatest v) (v.frame ++ front) ≡ Whole frame [] = ap (beginning (greatest v)) (append_cancel_right (v.frame ++ front) frame rest behind) ∙ whole_itself (greatest v) (v.frame ++ piece) frame rest begun in
+    message_goes host v front frame [] kept live alone m read
+    ∙ ap (λ (r : List ℕ). after_text l.waiting (progress_from (host_served host v.link m) w r)) (drop_all (length front - 0) front (omega arith))
+    ∙ ap (after_text l.waiting) (idle (host_served host v.link m) w still)
+    ∙ ap (λ (t : List ℕ). record (comes_to (host_served host v.link m) (record { frame = []; link = l; handled = v.handled + 1 })) { text = t }) (append-nil l.waiting)
+
+frame_steps : (host : Host) (v : ConnectionValue) (piece frame rest : List ℕ) (kept : IsKept v) (live : IsLive v.link.phase) (begun : beginning (greatest v) (v.frame ++ piece) ≡ Whole frame rest) (read : Result Message FormatFault) → message_of frame ≡ read
+    → Steps host v piece (step_read host v (framing_at (framer_in v) piece (Whole frame rest)) read)
+frame_steps host v piece frame rest kept live begun (Ok m) e =
+    let l : LinkValue = link_served host v.link m in
+    let w : ConnectionValue = record { frame = []; link = link_flushed l; handled = v.handled + 1 } in
+    record {
+      kept = record { unfinished = unfinished_empty l.limits.max_message; ranges = subst AreInRange (sym (served_limits host v.link m)) kept.ranges };
+      few = omega arith;
+      some = λ going filled. (ends_in (greatest v) v.frame piece frame rest kept.unfinished begun).some;
+      text = ((progress_from (host_served host v.link m) w (drop (length piece - length rest) piece)).text, ap (λ (p : Progress). p.text) (message_goes host v piece frame rest kept live begun m e));
+      came = λ going. frame_came host v piece frame rest m kept live begun e;
+      stops = λ why is. message_stops host v piece frame rest kept live begun m why e is;
+    }
+frame_steps host v piece frame rest kept live begun (Err f) e =
+    rejected_steps host v piece frame Format reject.Format live refl (split_bad (greatest v) (v.frame ++ piece) frame rest f begun e) _ [] (record { unfinished = unfinished_empty (greatest v); ranges = kept.ranges })
 
 -- ---- any piece
 
-fault_steps : (v : ConnectionValue) (piece : List ℕ) (fault : StreamFault) → IsKept v → IsLive v.link.phase → beginning (greatest v) (v.frame ++ piece) ≡ Faulty fault
-    → Steps v piece (step_found v (framing_at (framer_in v) piece (Faulty fault)) (framing_at (framer_in v) piece (Faulty fault)).finding)
-fault_steps v piece TokenLength kept live e =
-    rejected_steps v piece (fault_bytes TokenLength (v.frame ++ piece)) TokenLength reject.TokenLength live refl (split_faulty (greatest v) (v.frame ++ piece) TokenLength e) _ [] (record { unfinished = unfinished_empty (greatest v); ranges = kept.ranges })
-fault_steps v piece TooLarge kept live e =
-    rejected_steps v piece (fault_bytes TooLarge (v.frame ++ piece)) TooLarge reject.TooLarge live refl (split_faulty (greatest v) (v.frame ++ piece) TooLarge e) _ [] (record { unfinished = unfinished_empty (greatest v); ranges = kept.ranges })
-fault_steps v piece Format kept live e = absurd (format_not_begun (greatest v) (v.frame ++ piece) e)
+fault_steps : (host : Host) (v : ConnectionValue) (piece : List ℕ) (fault : StreamFault) → IsKept v → IsLive v.link.phase → beginning (greatest v) (v.frame ++ piece) ≡ Faulty fault
+    → Steps host v piece (step_found host v (framing_at (framer_in v) piece (Faulty fault)) (framing_at (framer_in v) piece (Faulty fault)).finding)
+fault_steps host v piece TokenLength kept live e =
+    rejected_steps host v piece (fault_bytes TokenLength (v.frame ++ piece)) TokenLength reject.TokenLength live refl (split_faulty (greatest v) (v.frame ++ piece) TokenLength e) _ [] (record { unfinished = unfinished_empty (greatest v); ranges = kept.ranges })
+fault_steps host v piece TooLarge kept live e =
+    rejected_steps host v piece (fault_bytes TooLarge (v.frame ++ piece)) TooLarge reject.TooLarge live refl (split_faulty (greatest v) (v.frame ++ piece) TooLarge e) _ [] (record { unfinished = unfinished_empty (greatest v); ranges = kept.ranges })
+fault_steps host v piece Format kept live e = absurd (format_not_begun (greatest v) (v.frame ++ piece) e)
 
-steps_at : (v : ConnectionValue) (piece : List ℕ) (b : Beginning) → IsKept v → v.link.waiting ≡ [] → IsLive v.link.phase → beginning (greatest v) (v.frame ++ piece) ≡ b
-    → Steps v piece (step_found v (framing_at (framer_in v) piece b) (framing_at (framer_in v) piece b).finding)
-steps_at v piece Unfinished kept quiet live e =
+steps_at : (host : Host) (v : ConnectionValue) (piece : List ℕ) (b : Beginning) → IsKept v → v.link.waiting ≡ [] → IsLive v.link.phase → beginning (greatest v) (v.frame ++ piece) ≡ b
+    → Steps host v piece (step_found host v (framing_at (framer_in v) piece b) (framing_at (framer_in v) piece b).finding)
+steps_at host v piece Unfinished kept quiet live e =
     let after : ConnectionValue = record v { frame = v.frame ++ piece } in
-    let now : IsKept after = record { unfinished = e; ranges = kept.ranges } in
-    let none : drop (length piece) piece ≡ [] = drop_all (length piece) piece (omega arith) in
-    let here = no_message v piece e in
-    let left : Progress = progress_from (value_flushed after) (drop (length piece) piece) in
+    let here = no_message host v piece e in
     record {
-      kept = now;
+      kept = record { unfinished = e; ranges = kept.ranges };
       few = omega arith;
       some = λ going filled. filled;
       text = ([], ap (λ (p : Progress). p.text) here ∙ sym (ap (λ (t : List ℕ). t ++ []) quiet));
-      goes_on = λ going.
-          here
-          ∙ sym (idle after now)
-          ∙ ap (λ (w : ConnectionValue). progress_from w []) (quiet_stays after quiet)
-          ∙ ap (progress_from (value_flushed after)) (sym none)
-          ∙ ap (λ (t : List ℕ). after_text t left) (sym quiet);
+      came = λ going. ap (progress_from host v) (take-length piece) ∙ here ∙ ap (λ (t : List ℕ). record { link = record v.link { waiting = t }; host = host; text = []; handled = v.handled; rest = v.frame ++ piece }) quiet
+      ∙ ap (λ (t : List ℕ). record (comes_to host after) { text = t }) (sym quiet);
       stops = λ why is. let bad : ◌≡◌ {A = Option Reason} None (Some why) = sym (none_where_live v.link.phase live) ∙ is in absurd cc;
     }
-steps_at v piece (Faulty fault) kept quiet live e = fault_steps v piece fault kept live e
-steps_at v piece (Whole frame rest) kept quiet live e = frame_steps v piece frame rest kept live e (message_of frame) refl
+steps_at host v piece (Faulty fault) kept quiet live e = fault_steps host v piece fault kept live e
+steps_at host v piece (Whole frame rest) kept quiet live e = frame_steps host v piece frame rest kept live e (message_of frame) refl
 
-pub steps : (v : ConnectionValue) (piece : List ℕ) → IsKept v → v.link.waiting ≡ [] → IsLive v.link.phase → Steps v piece (step v piece)
+pub steps : (host : Host) (v : ConnectionValue) (piece : List ℕ) → IsKept v → v.link.waiting ≡ [] → IsLive v.link.phase → Steps host v piece (step host v piece)
 unfolding step framing
-steps v piece kept quiet live = steps_at v piece (beginning (greatest v) (v.frame ++ piece)) kept quiet live refl
+steps host v piece kept quiet live = steps_at host v piece (beginning (greatest v) (v.frame ++ piece)) kept quiet live refl
+
+-- ---- a message for which memory was refused
+
+-- some bytes are all but the last, and the last
+last_of : (bytes : List ℕ) → 0 < length bytes → (front : List ℕ) × (last : ℕ) × (bytes ≡ front ++ last ∷ [])
+last_of [] some = absurd (omega arith)
+last_of (b ∷ []) some = ([], b, refl)
+last_of (b ∷ c ∷ bytes) some =
+    let rest = last_of (c ∷ bytes) (omega arith) in
+    (b ∷ rest.0, rest.1, ap (λ (s : List ℕ). b ∷ s) rest.2)
+
+-- a whole frame without its last byte is unfinished
+unfinished_before : (M : ℕ) (front : List ℕ) (last : ℕ) (rest : List ℕ) (b : Beginning) → beginning M front ≡ b → beginning M ((front ++ last ∷ []) ++ rest) ≡ Whole (front ++ last ∷ []) rest → b ≡ Unfinished
+unfinished_before M front last rest Unfinished e whole = refl
+unfinished_before M front last rest (Whole frame behind) e whole =
+    let again : beginning M ((front ++ last ∷ []) ++ rest) ≡ Whole frame (behind ++ (last ∷ rest)) = ap (beginning M) (append_assoc front (last ∷ []) rest) ∙ whole_more M front (last ∷ rest) frame behind e in
+    let same : ◌≡◌ {A = Beginning} (Whole (front ++ last ∷ []) rest) (Whole frame (behind ++ (last ∷ rest))) = sym whole ∙ again in
+    let rests : rest ≡ behind ++ (last ∷ rest) = cc in
+    absurd (omega (arith, ap (λ (s : List ℕ). length s) rests, length-append behind (last ∷ rest)))
+unfinished_before M front last rest (Faulty fault) e whole =
+    let again : beginning M ((front ++ last ∷ []) ++ rest) ≡ Faulty fault = ap (beginning M) (append_assoc front (last ∷ []) rest) ∙ faulty_more M front (last ∷ rest) fault e in
+    let same : ◌≡◌ {A = Beginning} (Whole (front ++ last ∷ []) rest) (Faulty fault) = sym whole ∙ again in
+    absurd cc
+
+-- where a frame ends in its piece: its last byte, and what stands before and behind it
+record CutAtLast (kept piece frame rest : List ℕ) : Type 0 where
+  front : List ℕ
+  last : ℕ
+  all : piece ≡ front ++ last ∷ rest
+  frame_is : frame ≡ (kept ++ front) ++ last ∷ []
+
+cut_at_last : (M : ℕ) (kept piece frame rest : List ℕ) → beginning M kept ≡ Unfinished → beginning M (kept ++ piece) ≡ Whole frame rest → CutAtLast kept piece frame rest
+cut_at_last M kept piece frame rest u e =
+    let ends = ends_in M kept piece frame rest u e in
+    let n : ℕ = length piece - length rest in
+    let filled : 0 < length (take n piece) = omega (arith, ends.some, length-take-le n piece (omega arith)) in
+    let cut = last_of (take n piece) filled in
+    let parts : piece ≡ (cut.0 ++ cut.1 ∷ []) ++ rest = sym (take-append-drop n piece) ∙ ap (λ (s : List ℕ). s ++ drop n piece) cut.2 ∙ ap (λ (s : List ℕ). (cut.0 ++ cut.1 ∷ []) ++ s) ends.left in
+    let whole : frame ++ rest ≡ (kept ++ (cut.0 ++ cut.1 ∷ [])) ++ rest = sym (whole_parts M (kept ++ piece) frame rest e).bytes ∙ ap (λ (s : List ℕ). kept ++ s) parts ∙ sym (append_assoc kept (cut.0 ++ cut.1 ∷ []) rest) in
+    record {
+      front = cut.0;
+      last = cut.1;
+      all = parts ∙ append_assoc cut.0 (cut.1 ∷ []) rest;
+      frame_is = append_cancel_right frame (kept ++ (cut.0 ++ cut.1 ∷ [])) rest whole ∙ sym (append_assoc kept cut.0 (cut.1 ∷ []));
+    }
+
+-- a frame alone spells its message and nothing else
+alone : (M : ℕ) (s frame rest : List ℕ) (m : Message) → beginning M s ≡ Whole frame rest → message_of frame ≡ Ok m → split M frame ≡ record { messages = m ∷ []; rest = []; fault = None }
+alone M s frame rest m e read =
+    split_message M frame frame [] m (whole_itself M s frame rest e) read
+    ∙ ap (λ (u : Stream). with_message m u) (split_unfinished M [] (unfinished_empty M))
+
+refuses : (host : Host) (v : ConnectionValue) (piece frame rest : List ℕ) (m : Message) → beginning (greatest v) v.frame ≡ Unfinished → beginning (greatest v) (v.frame ++ piece) ≡ Whole frame rest → message_of frame ≡ Ok m → MayBeRefused host v.link m → RefusesFirst host v piece
+refuses host v piece frame rest m kept begun read refused =
+    let cut = cut_at_last (greatest v) v.frame piece frame rest kept begun in
+    let whole : List ℕ = (v.frame ++ cut.front) ++ cut.last ∷ [] in
+    let there : beginning (greatest v) (whole ++ rest) ≡ Whole whole rest =
+    ap (λ (f : List ℕ). beginning (greatest v) (f ++ rest)) (sym cut.frame_is)
+    ∙ ap (beginning (greatest v)) (sym (whole_parts (greatest v) (v.frame ++ piece) frame rest begun).bytes)
+    ∙ begun
+    ∙ ap (λ (f : List ℕ). Whole f rest) cut.frame_is in
+    record {
+      front = cut.front;
+      last = cut.last;
+      behind = rest;
+      all = cut.all;
+      unfinished = unfinished_before (greatest v) (v.frame ++ cut.front) cut.last rest _ refl there;
+      refused = record {
+        message = m;
+        whole = ap (split (greatest v)) (sym cut.frame_is) ∙ alone (greatest v) (v.frame ++ piece) frame rest m begun read;
+        refused = refused;
+      };
+    }
+
+-- where a frame was found
+refuses_at : (host : Host) (v : ConnectionValue) (f : FramerValue) (piece frame : List ℕ) (m : Message) (b : Beginning) → beginning (greatest v) v.frame ≡ Unfinished → beginning (greatest v) (v.frame ++ piece) ≡ b → (framing_at f piece b).finding ≡ AFrame frame
+    → message_of frame ≡ Ok m → MayBeRefused host v.link m → RefusesFirst host v piece
+refuses_at host v f piece frame m Unfinished kept e found read refused = absurd cc
+refuses_at host v f piece frame m (Faulty fault) kept e found read refused = absurd cc
+refuses_at host v f piece frame m (Whole whole rest) kept e found read refused =
+    let same : whole ≡ frame = cc in
+    refuses host v piece whole rest m kept e (ap message_of same ∙ read) refused
+
+pub refuses_found : (host : Host) (f : FramerValue) (link : LinkValue) (handled : ℕ) (piece frame : List ℕ) (m : Message) → IsKept (connected f link handled) → f.max ≡ link.limits.max_message → (framing f piece).finding ≡ AFrame frame
+    → message_of frame ≡ Ok m → MayBeRefused host link m → RefusesFirst host (connected f link handled) piece
+unfolding framing
+refuses_found host f link handled piece frame m kept same found read refused =
+    refuses_at host (connected f link handled) f piece frame m (beginning f.max (f.kept ++ piece)) kept.unfinished (ap (λ (M : ℕ). beginning M (f.kept ++ piece)) (sym same)) found read refused

@@ -7,12 +7,12 @@ use Rattle.coap_conn.specs.declared.phase.Phase.TheVariants.{Waiting, Open, Rele
 use Rattle.coap_conn.specs.declared.reason.Reason.{Reason}
 use Rattle.coap_conn.specs.Verdicts.{VerdictValue}
 use Rattle.coap_conn.specs.Verdicts as verdict
-use Rattle.coap_conn.specs.Reaction.{react}
 use Rattle.coap_conn.specs.History.{takes_messages}
-use Rattle.coap_conn.specs.LinkValue.{LinkValue, standing_in, link_after_message, link_after_reject, IsLive}
+use Rattle.coap_conn.specs.LinkValue.{LinkValue, link_after_message, link_after_reject, IsLive}
 use Rattle.coap_serve.specs.Serving.{fault_of, stop_of}
-use Rattle.coap_serve.specs.Connection.{link_flushed, link_answered, link_served}
-use Rattle.coap_serve.specs.Turns.{Talk, talk_first, talk, talk_last, talk_end}
+use Rattle.coap_serve.specs.declared.host.Host.{Host}
+use Rattle.coap_serve.specs.Connection.{link_flushed, link_answered, link_served, host_served, verdict_on}
+use Rattle.coap_serve.specs.Turns.{Talk, silence, talk_first, talk, talk_last, talk_end}
 
 -- ---- phases
 
@@ -48,79 +48,87 @@ stop_where_none (Stopped why) e none = cc
 
 -- ---- limits stay
 
-answered_limits : (l : LinkValue) (m : Message) (what : VerdictValue) → (link_answered l m what).limits ≡ l.limits
-answered_limits l m verdict.Request = refl
-answered_limits l m verdict.Opened = refl
-answered_limits l m verdict.Done = refl
-answered_limits l m (verdict.Answer token last) = refl
-answered_limits l m (verdict.Pong token custody) = refl
-answered_limits l m verdict.Stranger = refl
-answered_limits l m (verdict.Stopped why) = refl
+answered_limits : (host : Host) (l : LinkValue) (m : Message) (what : VerdictValue) → (link_answered host l m what).limits ≡ l.limits
+answered_limits host l m verdict.Request = refl
+answered_limits host l m verdict.Opened = refl
+answered_limits host l m verdict.Done = refl
+answered_limits host l m (verdict.Answer token last) = refl
+answered_limits host l m (verdict.Pong token custody) = refl
+answered_limits host l m verdict.Stranger = refl
+answered_limits host l m (verdict.Stopped why) = refl
 
-pub served_limits : (l : LinkValue) (m : Message) → (link_served l m).limits ≡ l.limits
-served_limits l m = answered_limits (link_after_message l m) m (react (standing_in l) m).verdict
+pub served_limits : (host : Host) (l : LinkValue) (m : Message) → (link_served host l m).limits ≡ l.limits
+served_limits host l m = answered_limits host (link_after_message l m) m (verdict_on l m)
 
 -- ---- talks one after the other
 
+-- what is said after a message
+abbrev pub talk_later : Host → LinkValue → Message → List Message → Talk
+talk_later host l m ms = talk (host_served host l m) (link_flushed (link_served host l m)) ms
+
+-- what is said where a talk left off
+abbrev pub talk_on : Talk → List Message → Talk
+talk_on t ms = talk t.host t.link ms
+
 -- where no message is taken, nothing is said
-pub talk_stopped : (l : LinkValue) (ms : List Message) → takes_messages l.phase ≡ false → talk l ms ≡ record { link = l; text = []; handled = 0 }
+pub talk_stopped : (host : Host) (l : LinkValue) (ms : List Message) → takes_messages l.phase ≡ false → talk host l ms ≡ silence host l
 unfolding talk
-talk_stopped l [] e = refl
-talk_stopped l (m ∷ ms) e = rw e refl
+talk_stopped host l [] e = refl
+talk_stopped host l (m ∷ ms) e = rw e refl
 
-pub talk_taken : (l : LinkValue) (m : Message) (ms : List Message) → takes_messages l.phase ≡ true → talk l (m ∷ ms) ≡ talk_first (link_served l m) (talk (link_flushed (link_served l m)) ms)
+pub talk_taken : (host : Host) (l : LinkValue) (m : Message) (ms : List Message) → takes_messages l.phase ≡ true → talk host l (m ∷ ms) ≡ talk_first (link_served host l m) (talk_later host l m ms)
 unfolding talk
-talk_taken l m ms e = rw e refl
+talk_taken host l m ms e = rw e refl
 
-pub talk_none : (l : LinkValue) → talk l [] ≡ record { link = l; text = []; handled = 0 }
+pub talk_none : (host : Host) (l : LinkValue) → talk host l [] ≡ silence host l
 unfolding talk
-talk_none l = refl
+talk_none host l = refl
 
 -- a talk, and a second one where the first left off
 abbrev pub then_talk : Talk → Talk → Talk
-then_talk t u = record { link = u.link; text = t.text ++ u.text; handled = t.handled + u.handled }
+then_talk t u = record u { text = t.text ++ u.text; handled = t.handled + u.handled }
 
 first-then : (l : LinkValue) (t u : Talk) → talk_first l (then_talk t u) ≡ then_talk (talk_first l t) u
 first-then l t u =
-    ap (λ (s : List ℕ). record { link = u.link; text = s; handled = suc (t.handled + u.handled) }) (sym (append_assoc l.waiting t.text u.text))
-    ∙ ap (λ (n : ℕ). record { link = u.link; text = (l.waiting ++ t.text) ++ u.text; handled = n }) (omega arith)
+    ap (λ (s : List ℕ). record u { text = s; handled = suc (t.handled + u.handled) }) (sym (append_assoc l.waiting t.text u.text))
+    ∙ ap (λ (n : ℕ). record u { text = (l.waiting ++ t.text) ++ u.text; handled = n }) (omega arith)
 
-nothing-then : (u : Talk) → u ≡ then_talk (record { link = u.link; text = []; handled = 0 }) u
-nothing-then u = ap (λ (n : ℕ). record { link = u.link; text = u.text; handled = n }) (omega arith)
+nothing-then : (host : Host) (l : LinkValue) (u : Talk) → u ≡ then_talk (silence host l) u
+nothing-then host l u = ap (λ (n : ℕ). record u { handled = n }) (omega arith)
 
-append_by : (l : LinkValue) (m : Message) (ms ns : List Message) (takes : Bool) → takes_messages l.phase ≡ takes
-    → talk (link_flushed (link_served l m)) (ms ++ ns) ≡ then_talk (talk (link_flushed (link_served l m)) ms) (talk (talk (link_flushed (link_served l m)) ms).link ns)
-    → talk l (m ∷ (ms ++ ns)) ≡ then_talk (talk l (m ∷ ms)) (talk (talk l (m ∷ ms)).link ns)
-append_by l m ms ns true e later =
-    talk_taken l m (ms ++ ns) e
-    ∙ ap (talk_first (link_served l m)) later
-    ∙ first-then (link_served l m) (talk (link_flushed (link_served l m)) ms) (talk (talk (link_flushed (link_served l m)) ms).link ns)
-    ∙ ap (λ (t : Talk). then_talk t (talk t.link ns)) (sym (talk_taken l m ms e))
-append_by l m ms ns false e later =
-    talk_stopped l (m ∷ (ms ++ ns)) e
-    ∙ sym (talk_stopped l ns e)
-    ∙ nothing-then (talk l ns)
-    ∙ ap (λ (t : Talk). then_talk t (talk t.link ns)) (sym (talk_stopped l (m ∷ ms) e))
+append_by : (host : Host) (l : LinkValue) (m : Message) (ms ns : List Message) (takes : Bool) → takes_messages l.phase ≡ takes
+    → talk_later host l m (ms ++ ns) ≡ then_talk (talk_later host l m ms) (talk_on (talk_later host l m ms) ns)
+    → talk host l (m ∷ (ms ++ ns)) ≡ then_talk (talk host l (m ∷ ms)) (talk_on (talk host l (m ∷ ms)) ns)
+append_by host l m ms ns true e later =
+    talk_taken host l m (ms ++ ns) e
+    ∙ ap (talk_first (link_served host l m)) later
+    ∙ first-then (link_served host l m) (talk_later host l m ms) (talk_on (talk_later host l m ms) ns)
+    ∙ ap (λ (t : Talk). then_talk t (talk_on t ns)) (sym (talk_taken host l m ms e))
+append_by host l m ms ns false e later =
+    talk_stopped host l (m ∷ (ms ++ ns)) e
+    ∙ sym (talk_stopped host l ns e)
+    ∙ nothing-then host l (talk host l ns)
+    ∙ ap (λ (t : Talk). then_talk t (talk_on t ns)) (sym (talk_stopped host l (m ∷ ms) e))
 
-pub talk-append : (l : LinkValue) (ms ns : List Message) → talk l (ms ++ ns) ≡ then_talk (talk l ms) (talk (talk l ms).link ns)
-talk-append l [] ns =
-    nothing-then (talk l ns)
-    ∙ ap (λ (t : Talk). then_talk t (talk t.link ns)) (sym (talk_none l))
-talk-append l (m ∷ ms) ns = append_by l m ms ns (takes_messages l.phase) refl (talk-append (link_flushed (link_served l m)) ms ns)
+pub talk-append : (host : Host) (l : LinkValue) (ms ns : List Message) → talk host l (ms ++ ns) ≡ then_talk (talk host l ms) (talk_on (talk host l ms) ns)
+talk-append host l [] ns =
+    nothing-then host l (talk host l ns)
+    ∙ ap (λ (t : Talk). then_talk t (talk_on t ns)) (sym (talk_none host l))
+talk-append host l (m ∷ ms) ns = append_by host l m ms ns (takes_messages l.phase) refl (talk-append (host_served host l m) (link_flushed (link_served host l m)) ms ns)
 
-limits_by : (l : LinkValue) (m : Message) (ms : List Message) (takes : Bool) → takes_messages l.phase ≡ takes → (talk (link_flushed (link_served l m)) ms).link.limits ≡ l.limits → (talk l (m ∷ ms)).link.limits ≡ l.limits
-limits_by l m ms true e later = ap (λ (t : Talk). t.link.limits) (talk_taken l m ms e) ∙ later
-limits_by l m ms false e later = ap (λ (t : Talk). t.link.limits) (talk_stopped l (m ∷ ms) e)
+limits_by : (host : Host) (l : LinkValue) (m : Message) (ms : List Message) (takes : Bool) → takes_messages l.phase ≡ takes → (talk_later host l m ms).link.limits ≡ l.limits → (talk host l (m ∷ ms)).link.limits ≡ l.limits
+limits_by host l m ms true e later = ap (λ (t : Talk). t.link.limits) (talk_taken host l m ms e) ∙ later
+limits_by host l m ms false e later = ap (λ (t : Talk). t.link.limits) (talk_stopped host l (m ∷ ms) e)
 
-pub talk_limits : (l : LinkValue) (ms : List Message) → (talk l ms).link.limits ≡ l.limits
-talk_limits l [] = ap (λ (t : Talk). t.link.limits) (talk_none l)
-talk_limits l (m ∷ ms) = limits_by l m ms (takes_messages l.phase) refl (talk_limits (link_flushed (link_served l m)) ms ∙ served_limits l m)
+pub talk_limits : (host : Host) (l : LinkValue) (ms : List Message) → (talk host l ms).link.limits ≡ l.limits
+talk_limits host l [] = ap (λ (t : Talk). t.link.limits) (talk_none host l)
+talk_limits host l (m ∷ ms) = limits_by host l m ms (takes_messages l.phase) refl (talk_limits (host_served host l m) (link_flushed (link_served host l m)) ms ∙ served_limits host l m)
 
 -- ---- the fault behind a talk
 
 then_end_by : (t u : Talk) (fault : StreamFault) (takes : Bool) → cond takes (talk_last (then_talk t u) (link_after_reject u.link (fault_of fault))) (then_talk t u) ≡ then_talk t (cond takes (talk_last u (link_after_reject u.link (fault_of fault))) u)
 then_end_by t u fault true =
-    ap (λ (s : List ℕ). record { link = link_flushed (link_after_reject u.link (fault_of fault)); text = s; handled = t.handled + u.handled }) (append_assoc t.text u.text (link_after_reject u.link (fault_of fault)).waiting)
+    ap (λ (s : List ℕ). record u { link = link_flushed (link_after_reject u.link (fault_of fault)); text = s; handled = t.handled + u.handled }) (append_assoc t.text u.text (link_after_reject u.link (fault_of fault)).waiting)
 then_end_by t u fault false = refl
 
 pub then_end : (t u : Talk) (fault : Option StreamFault) → talk_end (then_talk t u) fault ≡ then_talk t (talk_end u fault)
@@ -129,7 +137,7 @@ then_end t u (Some fault) = then_end_by t u fault (takes_messages u.link.phase)
 
 first_end_by : (l : LinkValue) (u : Talk) (fault : StreamFault) (takes : Bool) → cond takes (talk_last (talk_first l u) (link_after_reject u.link (fault_of fault))) (talk_first l u) ≡ talk_first l (cond takes (talk_last u (link_after_reject u.link (fault_of fault))) u)
 first_end_by l u fault true =
-    ap (λ (s : List ℕ). record { link = link_flushed (link_after_reject u.link (fault_of fault)); text = s; handled = suc u.handled }) (append_assoc l.waiting u.text (link_after_reject u.link (fault_of fault)).waiting)
+    ap (λ (s : List ℕ). record u { link = link_flushed (link_after_reject u.link (fault_of fault)); text = s; handled = suc u.handled }) (append_assoc l.waiting u.text (link_after_reject u.link (fault_of fault)).waiting)
 first_end_by l u fault false = refl
 
 pub first_end : (l : LinkValue) (u : Talk) (fault : Option StreamFault) → talk_end (talk_first l u) fault ≡ talk_first l (talk_end u fault)
@@ -155,13 +163,13 @@ no_fault t (Some fault) e = absurd (no_fault_by t fault (takes_messages t.link.p
 
 -- ---- nothing waits after a talk
 
-quiet_by : (l : LinkValue) (m : Message) (ms : List Message) (takes : Bool) → takes_messages l.phase ≡ takes → l.waiting ≡ [] → (talk (link_flushed (link_served l m)) ms).link.waiting ≡ [] → (talk l (m ∷ ms)).link.waiting ≡ []
-quiet_by l m ms true e quiet later = ap (λ (t : Talk). t.link.waiting) (talk_taken l m ms e) ∙ later
-quiet_by l m ms false e quiet later = ap (λ (t : Talk). t.link.waiting) (talk_stopped l (m ∷ ms) e) ∙ quiet
+quiet_by : (host : Host) (l : LinkValue) (m : Message) (ms : List Message) (takes : Bool) → takes_messages l.phase ≡ takes → l.waiting ≡ [] → (talk_later host l m ms).link.waiting ≡ [] → (talk host l (m ∷ ms)).link.waiting ≡ []
+quiet_by host l m ms true e quiet later = ap (λ (t : Talk). t.link.waiting) (talk_taken host l m ms e) ∙ later
+quiet_by host l m ms false e quiet later = ap (λ (t : Talk). t.link.waiting) (talk_stopped host l (m ∷ ms) e) ∙ quiet
 
-talk_quiet : (l : LinkValue) (ms : List Message) → l.waiting ≡ [] → (talk l ms).link.waiting ≡ []
-talk_quiet l [] quiet = ap (λ (t : Talk). t.link.waiting) (talk_none l) ∙ quiet
-talk_quiet l (m ∷ ms) quiet = quiet_by l m ms (takes_messages l.phase) refl quiet (talk_quiet (link_flushed (link_served l m)) ms refl)
+talk_quiet : (host : Host) (l : LinkValue) (ms : List Message) → l.waiting ≡ [] → (talk host l ms).link.waiting ≡ []
+talk_quiet host l [] quiet = ap (λ (t : Talk). t.link.waiting) (talk_none host l) ∙ quiet
+talk_quiet host l (m ∷ ms) quiet = quiet_by host l m ms (takes_messages l.phase) refl quiet (talk_quiet (host_served host l m) (link_flushed (link_served host l m)) ms refl)
 
 end_quiet_by : (t : Talk) (fault : StreamFault) (takes : Bool) → takes_messages t.link.phase ≡ takes → t.link.waiting ≡ [] → (talk_end t (Some fault)).link.waiting ≡ []
 end_quiet_by t fault true e quiet = ap (λ (u : Talk). u.link.waiting) (end_taken t fault e)
@@ -171,5 +179,5 @@ end_quiet : (t : Talk) (fault : Option StreamFault) → t.link.waiting ≡ [] �
 end_quiet t None quiet = quiet
 end_quiet t (Some fault) quiet = end_quiet_by t fault (takes_messages t.link.phase) refl quiet
 
-pub all_quiet : (l : LinkValue) (ms : List Message) (fault : Option StreamFault) → l.waiting ≡ [] → (talk_end (talk l ms) fault).link.waiting ≡ []
-all_quiet l ms fault quiet = end_quiet (talk l ms) fault (talk_quiet l ms quiet)
+pub all_quiet : (host : Host) (l : LinkValue) (ms : List Message) (fault : Option StreamFault) → l.waiting ≡ [] → (talk_end (talk host l ms) fault).link.waiting ≡ []
+all_quiet host l ms fault quiet = end_quiet (talk host l ms) fault (talk_quiet host l ms quiet)

@@ -1,8 +1,8 @@
--- A connection as the code holds it, and what a piece of the input does to it.
-use Rattle.std.specs.Prelude.{◌≡◌, ℕ, ◌+◌, List, [], Result, Ok, Err}
+-- A connection as the code holds it, and what a piece of the input does to it and to what is stored.
+use Rattle.std.specs.Prelude.{◌≡◌, ℕ, ◌+◌, List, [], ◌∷◌, ◌++◌, None, Result, Ok, Err}
 use Rattle.coap_wire.specs.Message.{Message}
 use Rattle.coap_wire.specs.Reading.{message_of}
-use Rattle.coap_wire.specs.Stream.{Unfinished, beginning}
+use Rattle.coap_wire.specs.Stream.{Unfinished, beginning, split}
 use Rattle.coap_wire.specs.declared.fault.FormatFault.{FormatFault}
 use Rattle.coap_frame.specs.Framing.{FramerValue, Finding, Nothing, AFrame, AFault, Framing, framing}
 use Rattle.coap_frame.specs.declared.framer.FrameFault.{FrameFault}
@@ -13,8 +13,13 @@ use Rattle.coap_conn.specs.declared.phase.Reject.TheVariants as reject
 use Rattle.coap_conn.specs.Limits.{LimitValues, AreInRange}
 use Rattle.coap_conn.specs.Verdicts.{VerdictValue}
 use Rattle.coap_conn.specs.Verdicts as verdict
-use Rattle.coap_conn.specs.Reaction.{react, not_implemented}
+use Rattle.coap_conn.specs.Reaction.{react}
 use Rattle.coap_conn.specs.LinkValue.{LinkValue, link_begun, link_after_message, link_after_reply, link_after_reject, standing_in}
+use Rattle.coap_store.specs.Answer.{Answer, prompt_answer, changed}
+use Rattle.coap_store.specs.Messages.{response_message}
+use Rattle.coap_store.specs.Changes.{IsPut}
+use Rattle.coap_serve.specs.declared.host.Host.{Host}
+use Rattle.coap_serve.specs.Serving.{Setup}
 
 -- the bytes of the unfinished frame, the link, and how many messages were handled
 pub record ConnectionValue : Type 0 where
@@ -59,38 +64,88 @@ abbrev pub fault_in : FrameFault → Reject
 fault_in faults.TokenLength = reject.TokenLength
 fault_in faults.TooLarge = reject.TooLarge
 
--- a request is answered by 5.01
-abbrev pub link_answered : LinkValue → Message → VerdictValue → LinkValue
-link_answered l m verdict.Request = link_after_reply l (not_implemented m)
-link_answered l m verdict.Opened = l
-link_answered l m verdict.Done = l
-link_answered l m (verdict.Answer token last) = l
-link_answered l m (verdict.Pong token custody) = l
-link_answered l m verdict.Stranger = l
-link_answered l m (verdict.Stopped why) = l
+-- ---- one message
+
+-- the store and the moment at the beginning
+abbrev pub host_of : Setup → Host
+host_of setup = record { store = setup.store; now = setup.now }
+
+-- what a request is answered
+abbrev pub answer_from : Host → Message → Answer
+answer_from host m = prompt_answer host.store host.now m
+
+-- a request is answered with its token
+abbrev pub link_answered : Host → LinkValue → Message → VerdictValue → LinkValue
+link_answered host l m verdict.Request = link_after_reply l (response_message m.token (answer_from host m).response)
+link_answered host l m verdict.Opened = l
+link_answered host l m verdict.Done = l
+link_answered host l m (verdict.Answer token last) = l
+link_answered host l m (verdict.Pong token custody) = l
+link_answered host l m verdict.Stranger = l
+link_answered host l m (verdict.Stopped why) = l
+
+-- and changes the store
+abbrev pub host_answered : Host → Message → VerdictValue → Host
+host_answered host m verdict.Request = record host { store = changed host.store (answer_from host m).change }
+host_answered host m verdict.Opened = host
+host_answered host m verdict.Done = host
+host_answered host m (verdict.Answer token last) = host
+host_answered host m (verdict.Pong token custody) = host
+host_answered host m verdict.Stranger = host
+host_answered host m (verdict.Stopped why) = host
+
+abbrev pub verdict_on : LinkValue → Message → VerdictValue
+verdict_on l m = (react (standing_in l) m).verdict
 
 -- the link after a message, before what waits is written
-abbrev pub link_served : LinkValue → Message → LinkValue
-link_served l m = link_answered (link_after_message l m) m (react (standing_in l) m).verdict
+abbrev pub link_served : Host → LinkValue → Message → LinkValue
+link_served host l m = link_answered host (link_after_message l m) m (verdict_on l m)
 
--- what the front of a piece did: how many bytes were taken, and the connection after them
+-- what is stored after a message
+abbrev pub host_served : Host → LinkValue → Message → Host
+host_served host l m = host_answered host m (verdict_on l m)
+
+-- a message is a request that stores a representation: memory may be refused for it
+pub record MayBeRefused (host : Host) (l : LinkValue) (m : Message) : Type 0 where
+  pub request : verdict_on l m ≡ verdict.Request
+  pub put : IsPut (answer_from host m).change
+
+-- ---- the front of a piece
+
+-- what the front of a piece did: how many bytes were taken, and the connection and what is stored after them
 pub record Step : Type 0 where
   pub count : ℕ
   pub after : ConnectionValue
+  pub host : Host
 
-abbrev pub step_by : ConnectionValue → Framing → LinkValue → ℕ → Step
-step_by v f link handled = record { count = f.taken; after = connected f.after link handled }
+abbrev pub step_by : Framing → Host → LinkValue → ℕ → Step
+step_by f host link handled = record { count = f.taken; after = connected f.after link handled; host = host }
 
-abbrev pub step_read : ConnectionValue → Framing → Result Message FormatFault → Step
-step_read v f (Ok m) = step_by v f (link_served v.link m) (v.handled + 1)
-step_read v f (Err e) = step_by v f (link_after_reject v.link reject.Format) v.handled
+abbrev pub step_read : Host → ConnectionValue → Framing → Result Message FormatFault → Step
+step_read host v f (Ok m) = step_by f (host_served host v.link m) (link_served host v.link m) (v.handled + 1)
+step_read host v f (Err e) = step_by f host (link_after_reject v.link reject.Format) v.handled
 
 -- what comes of what was found
-abbrev pub step_found : ConnectionValue → Framing → Finding → Step
-step_found v f Nothing = step_by v f v.link v.handled
-step_found v f (AFault fault) = step_by v f (link_after_reject v.link (fault_in fault)) v.handled
-step_found v f (AFrame frame) = step_read v f (message_of frame)
+abbrev pub step_found : Host → ConnectionValue → Framing → Finding → Step
+step_found host v f Nothing = step_by f host v.link v.handled
+step_found host v f (AFault fault) = step_by f host (link_after_reject v.link (fault_in fault)) v.handled
+step_found host v f (AFrame frame) = step_read host v f (message_of frame)
 
 -- what the first frame or fault of a piece does, behind the bytes that are kept, or all of the piece
-unfoldable pub step : ConnectionValue → List ℕ → Step
-step v piece = step_found v (framing (framer_in v) piece) (framing (framer_in v) piece).finding
+unfoldable pub step : Host → ConnectionValue → List ℕ → Step
+step host v piece = step_found host v (framing (framer_in v) piece) (framing (framer_in v) piece).finding
+
+-- with one byte more a message is whole for which memory may be refused
+pub record IsRefusedWith (host : Host) (v : ConnectionValue) (last : ℕ) : Type 0 where
+  pub message : Message
+  pub whole : split (greatest v) (v.frame ++ last ∷ []) ≡ record { messages = message ∷ []; rest = []; fault = None }
+  pub refused : MayBeRefused host v.link message
+
+-- memory was refused for the first message of a piece, all of which was taken but its last byte and what is behind
+pub record RefusesFirst (host : Host) (v : ConnectionValue) (piece : List ℕ) : Type 0 where
+  pub front : List ℕ
+  pub last : ℕ
+  pub behind : List ℕ
+  pub all : piece ≡ front ++ last ∷ behind
+  pub unfinished : beginning (greatest v) (v.frame ++ front) ≡ Unfinished
+  pub refused : IsRefusedWith host (record v { frame = v.frame ++ front }) last

@@ -1,5 +1,5 @@
 -- What a server does with the messages of a whole stream (RFC 8323 sections 3.3, 3.4 and 5).
-use Rattle.std.specs.Prelude.{ℕ, List, [], ◌∷◌, length, Option, Some, None, if◌then◌else◌}
+use Rattle.std.specs.Prelude.{◌≡◌, ℕ, List, [], ◌∷◌, length, Option, Some, None, if◌then◌else◌}
 use Rattle.coap_wire.specs.Message.{Message}
 use Rattle.coap_wire.specs.Stream.{StreamFault, TokenLength, TooLarge, Format, Stream, split}
 use Rattle.coap_conn.specs.declared.phase.Phase.{Phase}
@@ -12,52 +12,110 @@ use Rattle.coap_conn.specs.declared.reason.Reason.TheVariants.{Ended, Cut}
 use Rattle.coap_conn.specs.Limits.{LimitValues}
 use Rattle.coap_conn.specs.Verdicts.{VerdictValue}
 use Rattle.coap_conn.specs.Verdicts as verdict
-use Rattle.coap_conn.specs.Reaction.{react, not_implemented}
+use Rattle.coap_conn.specs.Reaction.{react}
 use Rattle.coap_conn.specs.History.{History, begun, text_of, standing_now, after_message, after_reply, after_reject, takes_messages}
+use Rattle.coap_store.specs.Store.{StoreValue}
+use Rattle.coap_store.specs.Answer.{Answer, prompt_answer, changed}
+use Rattle.coap_store.specs.Messages.{response_message}
+use Rattle.coap_store.specs.Changes.{IsPut}
+use Rattle.coap_serve.specs.Configs.{ConfigValues}
+
+-- ---- where a server begins, and how it stands
+
+-- what a server begins from: the limits of a connection, the store, and the moment in seconds
+pub record Setup : Type 0 where
+  pub limits : LimitValues
+  pub store : StoreValue
+  pub now : ℕ
+
+-- what a configuration says: at first nothing is stored
+abbrev pub setup_of : ConfigValues → Setup
+setup_of c = record {
+    limits = c.limits;
+    store = record { dynamic_max = c.dynamic_max; rep_max = c.rep_max; resources = []; versions = c.starts.versions };
+    now = c.starts.moment }
+
+-- what happened on the connection, what is stored, and the moment
+pub record World : Type 0 where
+  pub history : History
+  pub store : StoreValue
+  pub now : ℕ
+
+-- ---- one message
 
 -- all that waits was written
 abbrev pub flushed : History → History
 flushed h = record h { written = length (text_of h.queued) }
 
--- A request is answered: by 5.01, until there are resources.
-abbrev pub answered : History → Message → VerdictValue → History
-answered h m verdict.Request = after_reply h (not_implemented m)
-answered h m verdict.Opened = h
-answered h m verdict.Done = h
-answered h m (verdict.Answer token last) = h
-answered h m (verdict.Pong token custody) = h
-answered h m verdict.Stranger = h
-answered h m (verdict.Stopped why) = h
+abbrev pub world_flushed : World → World
+world_flushed w = record w { history = flushed w.history }
+
+-- what a request is answered
+abbrev pub answer_in : World → Message → Answer
+answer_in w m = prompt_answer w.store w.now m
+
+-- a request is answered with its token, and changes the store
+abbrev pub world_answering : World → Message → Answer → World
+world_answering w m a = record w { history = after_reply w.history (response_message m.token a.response); store = changed w.store a.change }
+
+abbrev pub answered : World → Message → VerdictValue → World
+answered w m verdict.Request = world_answering w m (answer_in w m)
+answered w m verdict.Opened = w
+answered w m verdict.Done = w
+answered w m (verdict.Answer token last) = w
+answered w m (verdict.Pong token custody) = w
+answered w m verdict.Stranger = w
+answered w m (verdict.Stopped why) = w
+
+-- a message was handled, before what comes of it
+abbrev pub told : World → Message → World
+told w m = record w { history = after_message w.history m }
 
 -- a message was handled, and what came of it was written
-abbrev pub served : History → Message → History
-served h m = flushed (answered (after_message h m) m (react (standing_now h) m).verdict)
+abbrev pub served : World → Message → World
+served w m = world_flushed (answered (told w m) m (react (standing_now w.history) m).verdict)
+
+-- a message is a request that stores a representation
+pub record AsksToStore (w : World) (m : Message) : Type 0 where
+  pub request : (react (standing_now w.history) m).verdict ≡ verdict.Request
+  pub put : IsPut (answer_in w m).change
+
+-- ---- the messages of a stream
 
 -- messages one after the other, up to the one after which none is taken
-unfoldable pub served_all : History → List Message → History
-served_all h [] = h
-served_all h (m ∷ ms) = if takes_messages h.phase then served_all (served h m) ms else h
+unfoldable pub served_all : World → List Message → World
+served_all w [] = w
+served_all w (m ∷ ms) = if takes_messages w.history.phase then served_all (served w m) ms else w
 
 abbrev pub fault_of : StreamFault → Reject
 fault_of TokenLength = reject.TokenLength
 fault_of TooLarge = reject.TooLarge
 fault_of Format = reject.Format
 
+abbrev pub rejected : World → StreamFault → World
+rejected w fault = world_flushed (record w { history = after_reject w.history (fault_of fault) })
+
 -- the fault behind all messages stops the connection, where it still takes any
-abbrev pub stopped_by : History → Option StreamFault → History
-stopped_by h None = h
-stopped_by h (Some fault) = if takes_messages h.phase then flushed (after_reject h (fault_of fault)) else h
+abbrev pub stopped_by : World → Option StreamFault → World
+stopped_by w None = w
+stopped_by w (Some fault) = if takes_messages w.history.phase then rejected w fault else w
 
 -- a new connection that has announced itself
-abbrev pub announced : LimitValues → History
-announced limits = flushed (begun Server limits 0)
+abbrev pub announced : Setup → World
+announced setup = record { history = flushed (begun Server setup.limits 0); store = setup.store; now = setup.now }
 
-abbrev pub history_with : LimitValues → Stream → History
-history_with limits stream = stopped_by (served_all (announced limits) stream.messages) stream.fault
+-- what bytes spell
+abbrev pub stream_of : Setup → List ℕ → Stream
+stream_of setup bytes = split setup.limits.max_message bytes
 
--- what happened on a connection with these limits, after these bytes
-abbrev pub history_of : LimitValues → List ℕ → History
-history_of limits bytes = history_with limits (split limits.max_message bytes)
+abbrev pub world_with : Setup → Stream → World
+world_with setup stream = stopped_by (served_all (announced setup) stream.messages) stream.fault
+
+-- how a server stands after these bytes
+unfoldable pub world_of : Setup → List ℕ → World
+world_of setup bytes = world_with setup (stream_of setup bytes)
+
+-- ---- what comes of it
 
 -- why no message is taken any more
 abbrev pub stop_of : Phase → Option Reason
@@ -77,12 +135,12 @@ pub record Outcome : Type 0 where
 abbrev pub outcome_with : History → List ℕ → Outcome
 outcome_with h rest = record { output = text_of h.queued; messages = length h.handled; rest = rest; stop = stop_of h.phase }
 
-unfoldable pub outcome : LimitValues → List ℕ → Outcome
-outcome limits bytes = outcome_with (history_of limits bytes) (split limits.max_message bytes).rest
+unfoldable pub outcome : Setup → List ℕ → Outcome
+outcome setup bytes = outcome_with (world_of setup bytes).history (stream_of setup bytes).rest
 
 -- all that is written for these bytes: the own Capabilities and Settings, and what each message and the fault queue
-abbrev pub stdio_output : LimitValues → List ℕ → List ℕ
-stdio_output limits bytes = (outcome limits bytes).output
+abbrev pub stdio_output : Setup → List ℕ → List ℕ
+stdio_output setup bytes = (outcome setup bytes).output
 
 -- why the end of input ends a connection: nothing is left, or it was cut within a frame
 abbrev pub end_reason : List ℕ → Reason

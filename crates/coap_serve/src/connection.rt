@@ -1,14 +1,14 @@
 //! A connection that takes one piece of its input after another.
 
-ghost use Rattle.std.specs.Prelude.{◌≡◌, []};
-ghost use Rattle.coap_conn.specs.LinkValue.{IsReady, IsLive};
-ghost use Rattle.coap_serve.specs.Connection.{fault_in, link_served};
+ghost use Rattle.std.specs.Prelude.{◌≡◌};
+ghost use Rattle.coap_serve.specs.Connection.{fault_in};
 
 use crate::device::Outlet;
+use crate::host::Host;
 use crate::output::{WriteFailed, flush};
-use coap_conn::{Limits, Link, Phase, Reason, Reject, Role, Verdict};
+use coap_conn::{Limits, Link, Phase, Reason, Reject, Role};
 use coap_frame::{Found, FrameFault, Framer};
-use coap_wire::{Builder, Code, MessageRef, parse};
+use coap_wire::parse;
 use std::alloc::{AllocError, Global};
 use std::marker::Model;
 
@@ -36,7 +36,7 @@ impl Connection {
     ghost use Rattle.std.specs.Prelude.{◌≡◌, ◌+◌, ◌≤◌, ◌<◌, ◌^◌, false, [], IfOk, OnOk, OnErr, is_err, length};
     ghost use Rattle.coap_conn.specs.LinkValue.{IsLive};
     ghost use Rattle.coap_serve.specs.Device.{AddsBytes, WritesPart};
-    ghost use Rattle.coap_serve.specs.Connection.{opened, step, link_flushed, IsKept};
+    ghost use Rattle.coap_serve.specs.Connection.{opened, step, link_flushed, IsKept, RefusesFirst};
     ghost use Rattle.coap_serve.specs.Serving.{end_reason as reason_at_end, stop_of};
 
     /// A new connection with these limits, whose own Capabilities and Settings wait. It reserves its room here.
@@ -51,16 +51,23 @@ impl Connection {
         })
     }
 
-    /// Takes bytes of a piece up to the end of its first message, to the byte that stops the connection, or all of them.
-    /// Nothing may wait, and the connection must take messages.
+    /// Takes bytes of a piece up to the end of its first message, to the byte that stops the connection, or all of them, and
+    /// answers how many. Nothing may wait, and the connection must take messages.
+    ///
+    /// # Errors
+    ///
+    /// Where memory is refused for a representation that the message stores. Nothing of it was handled then.
     #[tactic(auto, unfolding(crate::specs::Connection::step, coap_frame::specs::Framing::framing))]
-    pub(crate) fn take(&mut self, piece: &[u8]) -> usize
+    pub(crate) fn take(&mut self, host: &mut Host, piece: &[u8]) -> Result<usize, AllocError>
         requires quiet { self.old.link.waiting ≡ [] }
         requires live { IsLive self.old.link.phase }
         requires fits { self.old.handled + 1 < 2 ^ 64 }
-        ensures within { result ≤ length piece.now }
-        ensures count { result ≡ (step self.old piece.now).count }
-        ensures after { self.new ≡ (step self.old piece.now).after }
+        ensures within { IfOk result (λ count. count ≤ length piece.now) }
+        ensures count { IfOk result (λ count. count ≡ (step host.old self.old piece.now).count) }
+        ensures after { OnOk result (self.new ≡ (step host.old self.old piece.now).after) }
+        ensures host { OnOk result (host.new ≡ (step host.old self.old piece.now).host) }
+        ensures refused { OnErr result (RefusesFirst host.old self.old piece.now) }
+        ensures unchanged { OnErr result (host.new ≡ host.old) }
     {
         let framed = self.framer.next(piece);
         let count = framed.taken;
@@ -70,12 +77,12 @@ impl Connection {
             Found::Frame(frame) => match parse(frame) {
                 Err(_) => self.link.reject(Reject::Format),
                 Ok(message) => {
-                    handle(&mut self.link, &message);
+                    host.serve(&mut self.link, &message)?;
                     self.handled += 1;
                 }
             },
         }
-        count
+        Ok(count)
     }
 
     /// Writes until nothing waits.
@@ -127,17 +134,5 @@ fn fault_for(fault: FrameFault) -> Reject
     match fault {
         FrameFault::TokenLength => Reject::TokenLength,
         FrameFault::TooLarge => Reject::TooLarge,
-    }
-}
-
-/// Handles a message, and answers a request: by 5.01, until there are resources.
-fn handle(link: &mut Link, message: &MessageRef)
-    requires quiet { link.old.waiting ≡ [] }
-    requires ready { IsReady link.old }
-    requires live { IsLive link.old.phase }
-    ensures { link.new ≡ link_served link.old message.now }
-{
-    if let Verdict::Request = link.on(message) {
-        link.reply(&Builder::new(Code::NOT_IMPLEMENTED, message.token()));
     }
 }

@@ -4,7 +4,9 @@
 mod config;
 mod connection;
 mod device;
+mod host;
 mod output;
+mod response;
 mod serve;
 #[cfg(test)]
 mod tests;

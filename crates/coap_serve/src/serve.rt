@@ -1,18 +1,18 @@
 //! Serves one connection over one input and one output.
 
-ghost use Rattle.std.specs.Prelude.{◌≡◌, ◌+◌, ◌≤◌, ◌<◌, ◌^◌, ℕ, false, List, [], ◌++◌, Err, length, is_err, OnOk};
+ghost use Rattle.std.specs.Prelude.{◌≡◌, ◌+◌, ◌≤◌, ◌<◌, ◌^◌, ℕ, false, List, [], ◌++◌, length, OnOk};
 ghost use Rattle.coap_conn.specs.LinkValue.{IsLive};
-ghost use Rattle.coap_serve.specs.declared.serve.IoFault.TheVariants.{Read, Write};
 ghost use Rattle.coap_serve.specs.Device.{HasGiven, AddsBytes};
 ghost use Rattle.coap_serve.specs.Connection.{IsKept, begun, own_announcement};
-ghost use Rattle.coap_serve.specs.Turns.{progress_from, IsServed, IsTurn};
+ghost use Rattle.coap_serve.specs.Serving.{setup_of};
+ghost use Rattle.coap_serve.specs.Turns.{setup_with, IsServed, IsTurn};
 ghost use Rattle.coap_serve.specs.StdioRun.{IsStdioRun};
 ghost use Rattle.coap_serve.specs.Faults.{is_read_fault, is_write_fault};
 
 use crate::config::Config;
 use crate::connection::Connection;
 use crate::device::{Outlet, Source};
-use crate::output::WriteFailed;
+use crate::host::Host;
 use coap_conn::Reason;
 use std::alloc::Global;
 use thiserror::Error;
@@ -67,8 +67,9 @@ enum Turn {
 ///
 /// # Errors
 ///
-/// `Memory` where the room of the greatest message or of the output queue was refused: then nothing was read or written.
-/// `Write` where a write failed, with a part of the output written. `Read` where a read failed, and `Turns` where one more
+/// `Memory` where the room of the greatest message, of the output queue or of the store was refused: then nothing was read or
+/// written. `Memory` too where the room of a representation that a request stores was refused: then all that is defined for
+/// the bytes before the last one of that request was written, and nothing of the request was handled. `Write` where a write failed, with a part of the output written. `Read` where a read failed, and `Turns` where one more
 /// turn would be needed: then all that is defined for the bytes so far was written.
 pub fn serve_one<R: Source, W: Outlet>(
     alloc: Global,
@@ -83,7 +84,7 @@ pub fn serve_one<R: Source, W: Outlet>(
     ensures run { (pieces : List (List ℕ)) × (output : List ℕ)
         × HasGiven (R.told reader.old) (R.told reader.new) pieces
         × AddsBytes (W.written writer.old) (W.written writer.new) output
-        × IsStdioRun config.now.limits config.now.turns pieces output result }
+        × IsStdioRun (setup_of config.now) config.now.turns pieces output result }
     // A device fault comes exactly where that device failed.
     ensures read { R.is_failed reader.new ≡ is_read_fault result }
     ensures write { W.is_failed writer.new ≡ is_write_fault result }
@@ -91,10 +92,13 @@ pub fn serve_one<R: Source, W: Outlet>(
     let Ok(mut connection) = Connection::open(alloc, config.limits()) else {
         return Err(IoFault::Memory);
     };
+    let Ok(mut host) = Host::open(alloc, config) else {
+        return Err(IoFault::Memory);
+    };
     let Ok(()) = connection.flush(writer) else {
         return Err(IoFault::Write);
     };
-    run(reader, writer, &mut connection, config.turns())
+    run(reader, writer, &mut connection, &mut host, config.turns())
 }
 
 /// Turns until the run ends, at most so many.
@@ -102,6 +106,7 @@ fn run<R: Source, W: Outlet>(
     reader: &mut R,
     writer: &mut W,
     connection: &mut Connection,
+    host: &mut Host,
     turns: u64,
 ) -> Result<Report, IoFault>
     requires reader_works { R.is_failed reader.old ≡ false }
@@ -112,14 +117,14 @@ fn run<R: Source, W: Outlet>(
     ensures run { (pieces : List (List ℕ)) × (output : List ℕ)
         × HasGiven (R.told reader.old) (R.told reader.new) pieces
         × AddsBytes (W.written writer.old) (W.written writer.new) output
-        × IsStdioRun connection.old.link.limits turns pieces (own_announcement connection.old.link.limits ++ output) result }
+        × IsStdioRun (setup_with connection.old.link.limits host.old) turns pieces (own_announcement connection.old.link.limits ++ output) result }
     ensures read { R.is_failed reader.new ≡ is_read_fault result }
     ensures write { W.is_failed writer.new ≡ is_write_fault result }
 {
     let mut buffer = [0; PIECE];
     let mut read = 0;
     for _ in 0..turns {
-        match take_turn(reader, writer, connection, &mut buffer)? {
+        match take_turn(reader, writer, connection, host, &mut buffer)? {
             Turn::More(count) => read += count as u64,
             Turn::Ended => {
                 return Ok(Report {
@@ -145,6 +150,7 @@ fn take_turn<R: Source, W: Outlet>(
     reader: &mut R,
     writer: &mut W,
     connection: &mut Connection,
+    host: &mut Host,
     buffer: &mut [u8],
 ) -> Result<Turn, IoFault>
     requires reader_works { R.is_failed reader.old ≡ false }
@@ -154,7 +160,7 @@ fn take_turn<R: Source, W: Outlet>(
     requires live { IsLive connection.old.link.phase }
     requires fits { connection.old.handled + 4096 < 2 ^ 64 }
     requires room { length buffer.old ≡ 4096 }
-    ensures turn { IsTurn connection.old connection.new
+    ensures turn { IsTurn host.old connection.old host.new connection.new
         (HasGiven (R.told reader.old) (R.told reader.new))
         (AddsBytes (W.written writer.old) (W.written writer.new)) result }
     ensures read { R.is_failed reader.new ≡ is_read_fault result }
@@ -166,34 +172,43 @@ fn take_turn<R: Source, W: Outlet>(
     if count == 0 {
         return Ok(Turn::Ended);
     }
-    match serve_piece(writer, connection, &buffer[..count]) {
+    match serve_piece(writer, connection, host, &buffer[..count]) {
         Ok(None) => Ok(Turn::More(count)),
         Ok(Some(reason)) => Ok(Turn::Stopped(count, reason)),
-        Err(WriteFailed) => Err(IoFault::Write),
+        Err(fault) => Err(fault),
     }
 }
 
 /// Handles the messages of a piece, and writes what each queues before the next one is looked at. Where the connection takes
 /// no message any more, the bytes behind that are not looked at, and the reason is answered.
+///
+/// # Errors
+///
+/// `Write` where a write failed, and `Memory` where memory was refused for a representation that a message stores.
 fn serve_piece<W: Outlet>(
     writer: &mut W,
     connection: &mut Connection,
+    host: &mut Host,
     piece: &[u8],
-) -> Result<Option<Reason>, WriteFailed>
+) -> Result<Option<Reason>, IoFault>
     requires works { W.is_failed writer.old ≡ false }
     requires kept { IsKept connection.old }
     requires quiet { connection.old.link.waiting ≡ [] }
     requires live { IsLive connection.old.link.phase }
     requires fits { connection.old.handled + length piece.now < 2 ^ 64 }
-    ensures served { IsServed connection.new (progress_from connection.old piece.now)
+    ensures served { IsServed host.old connection.old piece.now host.new connection.new
         (AddsBytes (W.written writer.old) (W.written writer.new)) result }
     ensures handled { OnOk result (connection.new.handled ≤ connection.old.handled + length piece.now) }
-    ensures failure { W.is_failed writer.new ≡ is_err result }
+    ensures failure { W.is_failed writer.new ≡ is_write_fault result }
 {
     let mut rest = piece;
     while !rest.is_empty() {
-        let count = connection.take(rest);
-        connection.flush(writer)?;
+        let Ok(count) = connection.take(host, rest) else {
+            return Err(IoFault::Memory);
+        };
+        let Ok(()) = connection.flush(writer) else {
+            return Err(IoFault::Write);
+        };
         if let Some(reason) = connection.stop() {
             return Ok(Some(reason));
         }

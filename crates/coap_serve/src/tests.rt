@@ -17,6 +17,8 @@ use std::io::{Read, Write};
 use std::process::Abort;
 use std::test::Fail;
 
+mod resources;
+
 /// What a server writes first whose greatest message is 65,536 bytes.
 const OWN_CSM: &[u8] = b"\x40\xe1\x23\x01\x00\x00";
 

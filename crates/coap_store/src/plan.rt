@@ -109,7 +109,7 @@ impl<'s, 'r> Model for Plan<'s, 'r> {
 }
 
 impl<'s, 'r> Plan<'s, 'r> {
-    ghost use Rattle.std.specs.Prelude.{◌≡◌, [], Some, option_map};
+    ghost use Rattle.std.specs.Prelude.{◌≡◌, ◌≤◌, [], Some, IfSome, length, option_map};
     ghost use Rattle.coap_wire.specs.Codes as code;
     ghost use Rattle.coap_store.specs.Answer.{says, only};
     ghost use Rattle.coap_store.specs.PlanViews.{bytes_in, change_value, path_or_root};
@@ -200,9 +200,10 @@ impl<'s, 'r> Plan<'s, 'r> {
         self.code
     }
 
-    /// The value of its ETag, where it has one (RFC 7252 section 5.10.6).
+    /// The value of its ETag, where it has one: at most 8 bytes (RFC 7252 section 5.10.6).
     pub fn etag(&self) -> Option<&[u8]>
-        ensures { option_map (λ etag. etag.now) result ≡ self.now.response.etag }
+        ensures value { option_map (λ etag. etag.now) result ≡ self.now.response.etag }
+        ensures short { IfSome result (λ etag. length etag.now ≤ 8) }
     {
         let etag = self.etag.as_ref()?;
         Some(etag.as_slice())

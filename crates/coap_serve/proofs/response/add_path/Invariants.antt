@@ -1,0 +1,17 @@
+use Rattle.std.proofs.Common.{◌≡◌, ◌≤◌, ◌+◌, ◌++◌, length}
+use Rattle.coap_wire.specs.Message.{last_number}
+use Rattle.coap_wire.specs.OptionNumbers as numbers
+use Rattle.coap_store.specs.Paths.{written_length}
+use Rattle.coap_store.specs.Messages.{each_at}
+use Rattle.coap_serve.proofs.response.add_path.Given as goal
+
+-- the segments that are left are added behind those that were, and there is room for them
+abbrev pub invariant-loop-segment : goal.invariant-loop-segment
+invariant-loop-segment l = record {
+  goes : (goal.iterator-loop-segment).can_next l.segment-iterator;
+  ends : (goal.iterator-loop-segment).is_finite l.segment-iterator;
+  added : record l.response { options = l.response.options ++ each_at numbers.location_path l.segment-iterator } ≡ record l.fn.response { options = l.fn.response.options ++ each_at numbers.location_path l.path };
+  order : last_number 0 l.response.options ≤ 8;
+  few : length l.response.options + length l.segment-iterator ≤ 17;
+  short : written_length l.segment-iterator ≤ 255;
+}
