@@ -289,42 +289,54 @@ const PINGS: [Row; 12] = [
     ),
 ];
 
-/// Requests: each is answered by 5.01 with its token.
-const REQUESTS: [Row; 7] = [
-    (b"\x00\xe1\x01\x01\x01", b"\x01\xa1\x01", 5, 2, Ended),
+/// What a GET of the root is answered without a token: its greeting, as text.
+const GREETING: &[u8] = b"\xa0\x45\xc0\xffcoap+tcp";
+
+/// Requests: each is answered with its token.
+const REQUESTS: [Row; 8] = [
+    (b"\x00\xe1\x00\x01", GREETING, 4, 2, Ended),
+    (
+        b"\x00\xe1\x01\x01\x01",
+        b"\xa1\x45\x01\xc0\xffcoap+tcp",
+        5,
+        2,
+        Ended,
+    ),
     (
         b"\x00\xe1\x00\xe2\x00\x01\x00\xe2",
-        b"\x00\xe3\x00\xa1\x00\xe3",
+        b"\x00\xe3\xa0\x45\xc0\xffcoap+tcp\x00\xe3",
         8,
         4,
         Ended,
     ),
-    (b"\x00\xe1\x10\x01\x10", b"\x00\xa1", 5, 2, Ended),
+    // With If-Match, which asks that the root exists.
+    (b"\x00\xe1\x10\x01\x10", GREETING, 5, 2, Ended),
+    // Another method, or one that the root does not have.
     (
         b"\x00\xe1\x08\x05\x01\x02\x03\x04\x05\x06\x07\x08",
-        b"\x08\xa1\x01\x02\x03\x04\x05\x06\x07\x08",
+        b"\x08\x85\x01\x02\x03\x04\x05\x06\x07\x08",
         12,
         2,
         Ended,
     ),
     (
         b"\x00\xe1\x00\x02\x00\x1f",
-        b"\x00\xa1\x00\xa1",
+        b"\x00\x85\x00\x85",
         6,
         3,
         Ended,
     ),
-    // Up to a Release or a fault.
+    // Up to a Release or a fault. No resource may be made.
     (
         b"\x00\xe1\x01\x01\x01\x01\xe2\x02\x42\x02\x03\x04\xb1\x61\xff\x7a\x10\xe2\x20\x01\x04\x05\x00\xe4\x00\xe2\x0f",
-        b"\x01\xa1\x01\x01\xe3\x02\x02\xa1\x03\x04\x10\xe3\x20\x01\xa1\x05",
+        b"\xa1\x45\x01\xc0\xffcoap+tcp\x01\xe3\x02\x02\x84\x03\x04\x10\xe3\x20\x01\x85\x05",
         24,
         7,
         PeerRelease,
     ),
     (
         b"\x00\xe1\x01\x01\x01\x0f\x01\x01\x02",
-        b"\x01\xa1\x01\xd0\x04\xe5\xffbad token length",
+        b"\xa1\x45\x01\xc0\xffcoap+tcp\xd0\x04\xe5\xffbad token length",
         6,
         2,
         TokenLength,
@@ -458,10 +470,10 @@ const SETTINGS: [Row; 15] = [
 ];
 
 /// What is sent fits the size that the peer announced.
-const SIZES: [Row; 22] = [
+const SIZES: [Row; 24] = [
     (b"\x20\xe1\x21\x0a", b"", 4, 1, Ended),
     (b"\x20\xe1\x21\x0b\x00\xe2", b"\x00\xe3", 6, 2, Ended),
-    // A response, bare as it is, or a stop.
+    // A response, bare with 5.00, or a stop.
     (b"\x20\xe1\x21\x02\x01\x01\x01", b"", 7, 2, PeerTooSmall),
     (
         b"\x20\xe1\x21\x02\x01\x01\x01\x00\xe2",
@@ -470,14 +482,16 @@ const SIZES: [Row; 22] = [
         2,
         PeerTooSmall,
     ),
-    (b"\x20\xe1\x21\x02\x00\x01", b"\x00\xa1", 6, 2, Ended),
+    (b"\x20\xe1\x21\x02\x00\x01", b"\x00\xa0", 6, 2, Ended),
     (
         b"\x20\xe1\x21\x03\x01\x01\x01",
-        b"\x01\xa1\x01",
+        b"\x01\xa0\x01",
         7,
         2,
         Ended,
     ),
+    (b"\x20\xe1\x21\x0b\x00\x01", b"\x00\xa0", 6, 2, Ended),
+    (b"\x20\xe1\x21\x0c\x00\x01", GREETING, 6, 2, Ended),
     (b"\x20\xe1\x21\x03\x02\x01\x01\x02", b"", 8, 2, PeerTooSmall),
     // A Pong, without its options, or a stop.
     (
@@ -534,7 +548,7 @@ const ANNOUNCED: [Row; 9] = [
     (b"\x40\xe1\x21\x0a\x01\x0b", b"", 6, 1, Ended),
     (
         b"\x40\xe1\x21\x03\x01\x02\x01\x01\x01",
-        b"\x01\xa1\x01",
+        b"\x01\xa0\x01",
         9,
         2,
         Ended,
@@ -548,7 +562,7 @@ const ANNOUNCED: [Row; 9] = [
     ),
     (
         b"\x20\xe1\x21\x02\x20\xe1\x21\x03\x01\x01\x01",
-        b"\x01\xa1\x01",
+        b"\x01\xa0\x01",
         11,
         3,
         Ended,
@@ -850,13 +864,14 @@ fn reads_pieces_of_4096_bytes(rt: HostRuntime) -> Result<(), Fail> {
     let mut output = OWN_CSM.to_vec(rt.alloc())?;
     for n in 0u32..2_000 {
         let token = (n % 251) as u8;
-        let (code, answer) = if n % 2 == 0 {
-            (0xe2, 0xe3)
+        if n % 2 == 0 {
+            input.extend_from_slice(&[0x01, 0xe2, token])?;
+            output.extend_from_slice(&[0x01, 0xe3, token])?;
         } else {
-            (0x01, 0xa1)
-        };
-        input.extend_from_slice(&[0x01, code, token])?;
-        output.extend_from_slice(&[0x01, answer, token])?;
+            input.extend_from_slice(&[0x01, 0x01, token])?;
+            output.extend_from_slice(&[0xa1, 0x45, token])?;
+            output.extend_from_slice(b"\xc0\xffcoap+tcp")?;
+        }
     }
     let ended = Report {
         read: 6_002,
@@ -1042,8 +1057,8 @@ fn tells_std_faults(rt: HostRuntime) {
     }
 }
 
-/// `rt try --test --fail-alloc 1` refuses the first allocation of this test, that of the framer in `serve_one`, and
-/// `--fail-alloc 2` the second and last one, that of the output queue.
+/// `rt try --test --fail-alloc 1` refuses the first allocation of this test, that of the framer in `serve_one`,
+/// `--fail-alloc 2` the second one, that of the output queue, and `--fail-alloc 3` the third and last one, that of the store.
 #[test]
 fn leaves_devices_without_memory(rt: HostRuntime) {
     let mut reader = Counted {

@@ -145,7 +145,7 @@ const TALKS: [Talk; 10] = [
             b"Q\x01\x07\xb4time",
             b"\xd1\x04\x01\x06\xbb.well-known\x04core",
             b"a\x01\x05\xb5async",
-            b"\xb1\x01\x01\xb5asyncC3601",
+            b"\xb1\x01\x01\xb5asyncD3601",
         ],
         &[
             b"QE\x07\xc0!\x01\xff0",
