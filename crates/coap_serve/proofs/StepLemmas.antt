@@ -239,7 +239,7 @@ steps_at host v piece Unfinished kept quiet live e =
       some = λ going filled. filled;
       text = ([], ap (λ (p : Progress). p.text) here ∙ sym (ap (λ (t : List ℕ). t ++ []) quiet));
       came = λ going. ap (progress_from host v) (take-length piece) ∙ here ∙ ap (λ (t : List ℕ). record { link = record v.link { waiting = t }; host = host; text = []; handled = v.handled; rest = v.frame ++ piece }) quiet
-      ∙ ap (λ (t : List ℕ). record (comes_to host after) { text = t }) (sym quiet);
+          ∙ ap (λ (t : List ℕ). record (comes_to host after) { text = t }) (sym quiet);
       stops = λ why is. let bad : ◌≡◌ {A = Option Reason} None (Some why) = sym (none_where_live v.link.phase live) ∙ is in absurd cc;
     }
 steps_at host v piece (Faulty fault) kept quiet live e = fault_steps host v piece fault kept live e

@@ -31,9 +31,10 @@ pub record Setup : Type 0 where
 -- what a configuration says: at first nothing is stored
 abbrev pub setup_of : ConfigValues → Setup
 setup_of c = record {
-    limits = c.limits;
-    store = record { dynamic_max = c.dynamic_max; rep_max = c.rep_max; resources = []; versions = c.starts.versions };
-    now = c.starts.moment }
+  limits = c.limits;
+  store = record { dynamic_max = c.dynamic_max; rep_max = c.rep_max; resources = []; versions = c.starts.versions };
+  now = c.starts.moment;
+}
 
 -- what happened on the connection, what is stored, and the moment
 pub record World : Type 0 where

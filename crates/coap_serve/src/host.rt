@@ -57,11 +57,7 @@ impl Host {
     /// # Errors
     ///
     /// Where memory is refused for a representation that a request stores. The link and the store are then as before.
-    pub(crate) fn serve(
-        &mut self,
-        link: &mut Link,
-        message: &MessageRef,
-    ) -> Result<(), AllocError>
+    pub(crate) fn serve(&mut self, link: &mut Link, message: &MessageRef) -> Result<(), AllocError>
         requires quiet { link.old.waiting ≡ [] }
         requires ready { IsReady link.old }
         requires live { IsLive link.old.phase }
@@ -82,11 +78,7 @@ impl Host {
     /// # Errors
     ///
     /// Where memory is refused for the representation that it stores. The link and the store are then as before.
-    fn answer(
-        &mut self,
-        link: &mut Link,
-        request: &MessageRef,
-    ) -> Result<(), AllocError>
+    fn answer(&mut self, link: &mut Link, request: &MessageRef) -> Result<(), AllocError>
         requires ready { IsReady link.old }
         requires answering { IsAnswering link.old.phase }
         ensures link { OnOk result (link.new ≡ link_after_reply link.old (response_message request.now.token (answer_from self.old request.now).response)) }

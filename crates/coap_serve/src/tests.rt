@@ -1,6 +1,7 @@
 //! What no clause says: worked connections, devices that fail, the faults' numbers and texts.
 
 ghost use Rattle.std.specs.Prelude.{◌≡◌, ◌≤◌, ◌+◌, ◌<◌, ◌^◌, false, [], Some, None, length, map, vec_items};
+ghost use Rattle.coap_serve.specs.Serving.{setup_of};
 ghost use Rattle.coap_serve.specs.StdioRun.{IsStdioRun};
 
 use crate::Reason::{
@@ -190,7 +191,7 @@ fn serve_told(
     requires nothing_given { source.old.given.items ≡ [] }
     requires nothing_written { outlet.old.bytes.items ≡ [] }
     requires id_left { config.now.starts.ids + 1 < 2 ^ 64 }
-    ensures { IsStdioRun config.now.limits config.now.turns (map vec_items source.new.given.items) outlet.new.bytes.items result }
+    ensures { IsStdioRun (setup_of config.now) config.now.turns (map vec_items source.new.given.items) outlet.new.bytes.items result }
 {
     serve_one(alloc, source, outlet, config)
 }

@@ -11,6 +11,8 @@ mod request;
 mod resource;
 mod store;
 mod target;
+#[cfg(test)]
+mod tests;
 
 pub use path::{PathKey, Segments};
 pub use place::Place;

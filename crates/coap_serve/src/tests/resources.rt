@@ -1,5 +1,7 @@
 //! Requests and their answers over one connection.
 
+ghost use Rattle.std.specs.Prelude.{◌≡◌};
+
 use super::{Ledger, OWN_CSM, Script, serve_told};
 use crate::Reason::Ended;
 use crate::{Config, IoFault, Limits, ReadSource, Report, Starts, WriteOutlet, serve_one};
@@ -27,15 +29,7 @@ type Talk = (usize, &'static [&'static [u8]], &'static [&'static [u8]]);
 
 const TALKS: [Talk; 10] = [
     // A GET of the root.
-    (
-        0,
-        &[
-            b"\x01\x01\x01",
-        ],
-        &[
-            b"\xa1E\x01\xc0\xffcoap+tcp",
-        ],
-    ),
+    (0, &[b"\x01\x01\x01"], &[b"\xa1E\x01\xc0\xffcoap+tcp"]),
     // PUT of two resources where one may be, DELETE of the first twice, PUT of the second, the listing.
     (
         1,
@@ -85,59 +79,25 @@ const TALKS: [Talk; 10] = [
     // DELETE of an absent path, with an empty If-Match and without.
     (
         1,
-        &[
-            b"1\x04\x0b\x10\xa1a",
-            b"!\x04\x0c\xb1a",
-        ],
-        &[
-            b"\x01\x8c\x0b",
-            b"\x01B\x0c",
-        ],
+        &[b"1\x04\x0b\x10\xa1a", b"!\x04\x0c\xb1a"],
+        &[b"\x01\x8c\x0b", b"\x01B\x0c"],
     ),
     // PUT, and PUT if another version is there.
     (
         1,
-        &[
-            b"A\x03\x01\xb1a\xffx",
-            b"a\x03\x0a\x11\x02\xa1a\xffz",
-        ],
-        &[
-            b"\x01A\x01",
-            b"\x01\x8c\x0a",
-        ],
+        &[b"A\x03\x01\xb1a\xffx", b"a\x03\x0a\x11\x02\xa1a\xffz"],
+        &[b"\x01A\x01", b"\x01\x8c\x0a"],
     ),
     // PUT of the moment.
-    (
-        1,
-        &[
-            b"Q\x03\x0c\xb4time",
-        ],
-        &[
-            b"\x01\x85\x0c",
-        ],
-    ),
+    (1, &[b"Q\x03\x0c\xb4time"], &[b"\x01\x85\x0c"]),
     // One segment with a slash, and two segments.
     (
         1,
-        &[
-            b"a\x03\x01\xb3a/b\xffx",
-            b"A\x01\x02\xb1a\x01b",
-        ],
-        &[
-            b"\x01A\x01",
-            b"\x01\x84\x02",
-        ],
+        &[b"a\x03\x01\xb3a/b\xffx", b"A\x01\x02\xb1a\x01b"],
+        &[b"\x01A\x01", b"\x01\x84\x02"],
     ),
     // PUT where no resource may be.
-    (
-        0,
-        &[
-            b"A\x03\x01\xb1a\xffx",
-        ],
-        &[
-            b"\x01\x84\x01",
-        ],
-    ),
+    (0, &[b"A\x03\x01\xb1a\xffx"], &[b"\x01\x84\x01"]),
     // The moment, the listing, what answers late: nothing is held.
     (
         0,
@@ -157,14 +117,8 @@ const TALKS: [Talk; 10] = [
     // POST of a new resource says where; a GET with Observe is answered without.
     (
         1,
-        &[
-            b"A\x02\x08\xb1b\xffz",
-            b"1\x01\x09`Qb",
-        ],
-        &[
-            b"!A\x08\x81b",
-            b"AE\x09A\x01\xffz",
-        ],
+        &[b"A\x02\x08\xb1b\xffz", b"1\x01\x09`Qb"],
+        &[b"!A\x08\x81b", b"AE\x09A\x01\xffz"],
     ),
 ];
 
@@ -206,7 +160,11 @@ fn answers_from_the_store(rt: HostRuntime) -> Result<(), Fail> {
                 reason: Ended,
             };
             assert_eq!(rt; result, Ok(report), "at {requests:?}");
-            assert_eq!(rt; outlet.bytes.as_slice(), output.as_slice(), "at {requests:?}");
+            assert_eq!(rt;
+                outlet.bytes.as_slice(),
+                output.as_slice(),
+                "at {requests:?}"
+            );
         }
     }
     Ok(())
@@ -221,15 +179,15 @@ struct Fixed {
 
 impl Write for Fixed {
     fn write(&mut self, buf: &[u8]) -> io::Result<usize> {
-        let mut count: usize = 0;
-        for byte in buf {
-            if let Some(place) = self.bytes.get_mut(self.length) {
-                *place = *byte;
-                self.length = self.length.saturating_add(1);
-                count = count.saturating_add(1);
-            }
-        }
-        Ok(count)
+        let Some(byte) = buf.first() else {
+            return Ok(0);
+        };
+        let Some(place) = self.bytes.get_mut(self.length) else {
+            return Ok(0);
+        };
+        *place = *byte;
+        self.length = self.length.saturating_add(1);
+        Ok(buf.len().min(1))
     }
 
     fn flush(&mut self) -> io::Result<()> {
