@@ -18,7 +18,7 @@ use Rattle.coap_store.specs.Messages.{response_message}
 use Rattle.coap_store.specs.Changes.{IsPut}
 use Rattle.coap_serve.specs.declared.host.Host.{Host}
 use Rattle.coap_serve.specs.Serving.{Setup, World, flushed, answer_in, answered, told, served, AsksToStore, served_all, fault_of, rejected, stopped_by, announced, stream_of, world_with, world_of, stop_of, Outcome, outcome_with, outcome}
-use Rattle.coap_serve.specs.Connection.{ConnectionValue, host_of, answer_from, link_flushed, link_answered, host_answered, link_served, host_served, own_announcement, begun, IsRefusedWith}
+use Rattle.coap_serve.specs.Connection.{host_of, answer_from, link_flushed, link_answered, host_answered, link_served, host_served, own_announcement, begun, IsRefusedWith}
 use Rattle.coap_serve.specs.Turns.{Talk, talk, talk_end, Progress, progress_from, value_of, stop_in}
 use Rattle.coap_serve.specs.StdioRun.{IsLastByte}
 use Rattle.coap_serve.proofs.TalkLemmas.{talk_later, talk_none, talk_taken, talk_stopped, end_taken, end_stopped}

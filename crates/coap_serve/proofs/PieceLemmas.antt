@@ -9,7 +9,7 @@ use Rattle.coap_serve.specs.declared.host.Host.{Host}
 use Rattle.coap_serve.specs.declared.serve.IoFault.TheVariants.{Write, Memory}
 use Rattle.coap_serve.specs.Serving.{stop_of}
 use Rattle.coap_serve.specs.Connection.{ConnectionValue, IsKept, Step, step, RefusesFirst, IsRefusedWith}
-use Rattle.coap_serve.specs.Turns.{Progress, progress_from, value_of, stop_in, RefusesIn, WritesPartOf, IsServed}
+use Rattle.coap_serve.specs.Turns.{Progress, progress_from, value_of, stop_in, IsServed}
 use Rattle.coap_serve.proofs.DeviceLemmas.{bytes_none, bytes_then}
 use Rattle.coap_serve.proofs.TalkLemmas.{live_where_none, none_where_live}
 use Rattle.coap_serve.proofs.ProgressLemmas.{after_text, progress_more, idle, no_message}

@@ -1,12 +1,12 @@
 -- The options of a response, one after the other.
-use Rattle.std.proofs.Common.{◌≡◌, ℕ, ◌+◌, ◌≤◌, true, List, [], ◌∷◌, ◌++◌, length, Option, refl, sym, ap, ◌∙◌, append_assoc, arith}
+use Rattle.std.proofs.Common.{◌≡◌, ℕ, ◌≤◌, true, List, [], ◌∷◌, ◌++◌, length, sym, ap, ◌∙◌, append_assoc, arith}
 use Rattle.coap_wire.specs.Message.{CoapOption, Message, last_number}
 use Rattle.coap_wire.specs.Views.{with_option}
 use Rattle.coap_wire.specs.OptionNumbers as numbers
 use Rattle.coap_wire.proofs.OptionLists.{last_number-push}
 use Rattle.coap_store.specs.Paths.{Path, is_path, written_length}
 use Rattle.coap_store.specs.Answer.{Response}
-use Rattle.coap_store.specs.Messages.{option_at, number_at, each_at, response_options, response_message}
+use Rattle.coap_store.specs.Messages.{option_at, number_at, each_at, response_message}
 use Rattle.coap_store.proofs.PathLemmas.{few_segments, path_fits}
 
 -- the option added last has its number

@@ -14,7 +14,7 @@ use Rattle.coap_serve.specs.declared.serve.Turn.TheVariants.{More, Ended, Stoppe
 use Rattle.coap_serve.specs.declared.host.Host.{Host}
 use Rattle.coap_serve.specs.Serving.{Setup, stop_of, Outcome, outcome, stdio_output, end_reason}
 use Rattle.coap_serve.specs.StdioRun.{AreNotEmpty, GoesOn, EndsRun, IsStdioRun}
-use Rattle.coap_serve.specs.Connection.{ConnectionValue, IsKept, host_of, opened, own_announcement, begun, IsRefusedWith}
+use Rattle.coap_serve.specs.Connection.{ConnectionValue, IsKept, host_of, link_flushed, opened, own_announcement, begun, IsRefusedWith}
 use Rattle.coap_serve.specs.Turns.{Progress, progress_from, value_of, stop_in, RefusesIn, WritesPartOf, IsServed, setup_with, HasRead, IsTurn}
 use Rattle.coap_serve.proofs.DeviceLemmas.{bytes_none, bytes_then, given_none, given_then}
 use Rattle.coap_serve.proofs.ProgressLemmas.{after_text, progress_more, progress_quiet, value_kept, begun_idle}
@@ -313,6 +313,10 @@ not_announced setup limit v a x z new w =
       w.4,
       (omega arith, inl refl, record { missing = w.1; some = w.2; written = sym parts ∙ sym (append-nil (own_announcement setup.limits)) ∙ none }),
     )
+
+-- writing what waits leaves the limits
+pub announced_limits : (setup : Setup) (v w : ConnectionValue) → v ≡ opened setup.limits → w ≡ record v { link = link_flushed v.link } → w.link.limits ≡ setup.limits
+announced_limits setup v w new is = ap (λ (k : ConnectionValue). k.link.limits) is ∙ ap (λ (k : ConnectionValue). k.link.limits) new
 
 -- after what waits on a new connection was written
 pub announced : (setup : Setup) (limit turns : ℕ) (host : Host) (v w : ConnectionValue) (a c : Told) (x y z : Option (List ℕ)) (result : Result Report IoFault) → v ≡ opened setup.limits → host ≡ host_of setup → w.link.limits ≡ setup.limits → turns ≡ limit

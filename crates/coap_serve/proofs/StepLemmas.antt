@@ -8,7 +8,7 @@ use Rattle.coap_wire.specs.Reading.{message_of}
 use Rattle.coap_wire.specs.Stream.{StreamFault, TokenLength, TooLarge, Format, Stream, Beginning, Unfinished, Whole, Faulty, beginning, with_message, split, fault_bytes}
 use Rattle.coap_wire.specs.declared.fault.FormatFault.{FormatFault}
 use Rattle.coap_wire.proofs.StreamSteps.{unfinished_empty, whole_parts, whole_itself, whole_more, faulty_more, format_not_begun, split_unfinished, split_faulty, split_message, split_bad}
-use Rattle.coap_frame.specs.Framing.{FramerValue, Finding, Nothing, AFrame, AFault, Framing, framing_at, framing}
+use Rattle.coap_frame.specs.Framing.{FramerValue, AFrame, Framing, framing_at, framing}
 use Rattle.coap_conn.specs.declared.reason.Reason.{Reason}
 use Rattle.coap_conn.specs.declared.phase.Reject.{Reject}
 use Rattle.coap_conn.specs.declared.phase.Reject.TheVariants as reject
@@ -19,7 +19,7 @@ use Rattle.coap_serve.specs.Serving.{fault_of, stop_of}
 use Rattle.coap_serve.specs.Connection.{ConnectionValue, IsKept, greatest, connected, framer_in, link_flushed, link_served, host_served, MayBeRefused, Step, step_read, step_found, step, RefusesFirst}
 use Rattle.coap_serve.specs.declared.host.Host.{Host}
 use Rattle.coap_serve.specs.Turns.{Talk, silence, talk, talk_end, Progress, progress_behind, progress_with, progress_from, stop_in}
-use Rattle.coap_serve.proofs.TalkLemmas.{takes_where_live, takes_none, none_where_live, served_limits, talk_later, talk_none, talk_taken, talk_stopped, first_end, end_taken, end_stopped}
+use Rattle.coap_serve.proofs.TalkLemmas.{takes_where_live, takes_none, none_where_live, served_limits, talk_none, talk_taken, talk_stopped, first_end, end_taken, end_stopped}
 use Rattle.coap_serve.proofs.ProgressLemmas.{after_text, no_message, idle}
 
 -- ---- what a connection keeps
@@ -279,20 +279,25 @@ record CutAtLast (kept piece frame rest : List ℕ) : Type 0 where
   all : piece ≡ front ++ last ∷ rest
   frame_is : frame ≡ (kept ++ front) ++ last ∷ []
 
+cut_by : (kept piece frame rest front : List ℕ) (n last : ℕ) → kept ++ piece ≡ frame ++ rest → drop n piece ≡ rest → take n piece ≡ front ++ last ∷ [] → CutAtLast kept piece frame rest
+cut_by kept piece frame rest front n last bytes left taken =
+    let own : List ℕ = front ++ last ∷ [] in
+    let parts : piece ≡ own ++ rest = sym (take-append-drop n piece) ∙ ap (λ (s : List ℕ). s ++ drop n piece) taken ∙ ap (λ (s : List ℕ). own ++ s) left in
+    let whole : frame ++ rest ≡ (kept ++ own) ++ rest = sym bytes ∙ ap (λ (s : List ℕ). kept ++ s) parts ∙ sym (append_assoc kept own rest) in
+    record {
+      front = front;
+      last = last;
+      all = parts ∙ append_assoc front (last ∷ []) rest;
+      frame_is = append_cancel_right frame (kept ++ own) rest whole ∙ sym (append_assoc kept front (last ∷ []));
+    }
+
 cut_at_last : (M : ℕ) (kept piece frame rest : List ℕ) → beginning M kept ≡ Unfinished → beginning M (kept ++ piece) ≡ Whole frame rest → CutAtLast kept piece frame rest
 cut_at_last M kept piece frame rest u e =
     let ends = ends_in M kept piece frame rest u e in
     let n : ℕ = length piece - length rest in
     let filled : 0 < length (take n piece) = omega (arith, ends.some, length-take-le n piece (omega arith)) in
     let cut = last_of (take n piece) filled in
-    let parts : piece ≡ (cut.0 ++ cut.1 ∷ []) ++ rest = sym (take-append-drop n piece) ∙ ap (λ (s : List ℕ). s ++ drop n piece) cut.2 ∙ ap (λ (s : List ℕ). (cut.0 ++ cut.1 ∷ []) ++ s) ends.left in
-    let whole : frame ++ rest ≡ (kept ++ (cut.0 ++ cut.1 ∷ [])) ++ rest = sym (whole_parts M (kept ++ piece) frame rest e).bytes ∙ ap (λ (s : List ℕ). kept ++ s) parts ∙ sym (append_assoc kept (cut.0 ++ cut.1 ∷ []) rest) in
-    record {
-      front = cut.0;
-      last = cut.1;
-      all = parts ∙ append_assoc cut.0 (cut.1 ∷ []) rest;
-      frame_is = append_cancel_right frame (kept ++ (cut.0 ++ cut.1 ∷ [])) rest whole ∙ sym (append_assoc kept cut.0 (cut.1 ∷ []));
-    }
+    cut_by kept piece frame rest cut.0 n cut.1 (whole_parts M (kept ++ piece) frame rest e).bytes ends.left cut.2
 
 -- a frame alone spells its message and nothing else
 alone : (M : ℕ) (s frame rest : List ℕ) (m : Message) → beginning M s ≡ Whole frame rest → message_of frame ≡ Ok m → split M frame ≡ record { messages = m ∷ []; rest = []; fault = None }

@@ -84,7 +84,7 @@ link_answered host l m (verdict.Pong token custody) = l
 link_answered host l m verdict.Stranger = l
 link_answered host l m (verdict.Stopped why) = l
 
--- and changes the store
+-- and the store changes as the answer says
 abbrev pub host_answered : Host → Message → VerdictValue → Host
 host_answered host m verdict.Request = record host { store = changed host.store (answer_from host m).change }
 host_answered host m verdict.Opened = host

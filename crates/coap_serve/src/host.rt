@@ -1,10 +1,5 @@
 //! What requests are answered from.
 
-ghost use Rattle.std.specs.Prelude.{◌≡◌, ◌≤◌, IfOk, OnOk, OnErr};
-ghost use Rattle.coap_conn.specs.LinkValue.{IsReady, IsLive};
-ghost use Rattle.coap_serve.specs.Serving.{setup_of};
-ghost use Rattle.coap_serve.specs.Connection.{host_of, link_served, host_served, MayBeRefused};
-
 use crate::config::Config;
 use crate::response::respond;
 use coap_conn::{Link, Verdict};
@@ -12,7 +7,7 @@ use coap_store::{Change, Store};
 use coap_wire::MessageRef;
 use std::alloc::{AllocError, Global};
 
-/// The resources of a server, and the moment.
+/// What a server answers requests from: its resources, and the moment.
 #[derive(Debug, Drop)]
 pub(crate) struct Host {
     /// The resources.
@@ -23,7 +18,6 @@ pub(crate) struct Host {
 
 impl Host {
     ghost use Rattle.std.specs.Prelude.{◌≡◌, [], IfOk, OnOk, OnErr};
-    ghost use Rattle.coap_wire.specs.Message.{Message};
     ghost use Rattle.coap_conn.specs.LinkValue.{IsReady, IsLive, IsAnswering, link_after_reply};
     ghost use Rattle.coap_store.specs.Answer.{changed};
     ghost use Rattle.coap_store.specs.Changes.{IsPut};

@@ -1,6 +1,6 @@
 //! Sends the answers to requests.
 
-ghost use Rattle.std.specs.Prelude.{◌≡◌, ◌≤◌, ◌<◌, ◌+◌, ◌∷◌, ◌++◌, [], ℕ, length, option_map, option_copied, IfSome};
+ghost use Rattle.std.specs.Prelude.{◌≡◌, ◌≤◌, ◌<◌, ◌+◌, ◌++◌, [], ℕ, length, option_map, IfSome};
 ghost use Rattle.coap_wire.specs.Message.{last_number};
 ghost use Rattle.coap_wire.specs.Views.{with_option};
 ghost use Rattle.coap_wire.specs.OptionNumbers as numbers;

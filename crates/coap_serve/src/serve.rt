@@ -60,7 +60,8 @@ enum Turn {
 }
 
 /// Serves one connection: writes the own Capabilities and Settings, then reads pieces of at most 4,096 bytes and writes
-/// the answer to each message before it looks at the next one (RFC 8323 sections 3.3, 5.3, 5.4).
+/// the answer to each message before it looks at the next one (RFC 8323 sections 3.3, 5.3, 5.4). Requests are answered from
+/// a store in which nothing is stored at first, at the moment at which the configuration starts (RFC 7252 section 5.8).
 ///
 /// It ends at the end of input or with the first message or fault that stops the connection. Every read is a turn, the
 /// one that finds the end too.

@@ -1,7 +1,7 @@
 use Rattle.std.proofs.Common.{ap, ◌∙◌}
-use Rattle.coap_serve.specs.Serving.{setup_of}
-use Rattle.coap_serve.specs.Connection.{ConnectionValue, opened}
-use Rattle.coap_serve.proofs.RunLemmas.{not_begun, not_announced, announced}
+use Rattle.coap_serve.specs.Serving.{Setup, setup_of}
+use Rattle.coap_serve.specs.Connection.{opened}
+use Rattle.coap_serve.proofs.RunLemmas.{not_begun, not_announced, announced_limits, announced}
 use Rattle.coap_serve.proofs.serve.serve_one.Goals as goal
 
 pub returns-in_default-clause-run : goal.returns-in_default-clause-run
@@ -16,6 +16,7 @@ returns-in_default-flush-clause-run g c =
 
 pub returns-clause-run : goal.returns-clause-run
 returns-clause-run g c =
+    let setup : Setup = setup_of c.args.config.now in
     let new = c.in-Ok.ensures.opened ∙ ap opened c.limits.ensures in
-    let limits = ap (λ (v : ConnectionValue). v.link.limits) c.in-Ok-flush.ensures.after ∙ ap (λ (v : ConnectionValue). v.link.limits) new in
-    announced (setup_of c.args.config.now) c.args.config.now.turns c.turns.result c.in-Ok-open.host c.in-Ok.connection c.flush.new.self _ _ _ _ _ c.run.result new c.in-Ok-open.ensures limits c.turns.ensures.value c.in-Ok-flush.ensures.ok c.run.ensures.run
+    let limits = announced_limits setup c.in-Ok.connection c.flush.new.self new c.in-Ok-flush.ensures.after in
+    announced setup c.args.config.now.turns c.turns.result c.in-Ok-open.host c.in-Ok.connection c.flush.new.self _ _ _ _ _ c.run.result new c.in-Ok-open.ensures limits c.turns.ensures.value c.in-Ok-flush.ensures.ok c.run.ensures.run
