@@ -1040,8 +1040,7 @@ fn keeps_all_without_memory(rt: HostRuntime) -> Result<(), Fail> {
         Ok(store) => store,
         Err(AllocError) => Store::new(rt.alloc(), 7, 6, 0)?,
     };
-    let mut count = 0;
-    for step in &STEPS {
+    for (count, step) in STEPS.iter().enumerate() {
         let before = STEPS.get(..count).unwrap_or_default();
         is_after(&rt, &store, before)?;
         answers(&rt, &store, 0, step.0)?;
@@ -1050,7 +1049,6 @@ fn keeps_all_without_memory(rt: HostRuntime) -> Result<(), Fail> {
             answers(&rt, &store, 0, step.0)?;
             makes(&rt, &mut store, step.0.0)?;
         }
-        count += 1;
     }
     is_after(&rt, &store, &STEPS)?;
     for messages in &LAST {
