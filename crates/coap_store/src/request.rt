@@ -98,9 +98,6 @@ const MAX_DIGITS: usize = 4;
 /// The most seconds for which an answer is held.
 const MAX_SECONDS: u16 = 3600;
 
-/// For how many seconds an answer is held where the request does not say.
-const DEFAULT_SECONDS: u16 = 5;
-
 /// The number of seconds that a text of 1 to 4 decimal digits means, `None` above 3,600 and for another text.
 fn seconds_in(text: &[u8]) -> Option<u16>
     ensures good { is_some result ≡ spec.is_seconds text.now }
@@ -133,18 +130,6 @@ pub(crate) fn has_good_query(request: &MessageRef) -> bool
     match value_of(request, URI_QUERY) {
         Some(text) => is_seconds(text),
         None => true,
-    }
-}
-
-/// For how many seconds the answer is held: as many as the first Uri-Query says, 5 where there is none. `None` where the
-/// query is no number of seconds.
-pub(crate) fn seconds_of(request: &MessageRef) -> Option<u16>
-    ensures good { is_some result ≡ spec.is_good_query (spec.value_of numbers.uri_query request.now) }
-    ensures value { IfSome result (λ seconds. seconds ≡ spec.seconds_of (spec.value_of numbers.uri_query request.now)) }
-{
-    match value_of(request, URI_QUERY) {
-        Some(text) => seconds_in(text),
-        None => Some(DEFAULT_SECONDS),
     }
 }
 
