@@ -8,7 +8,6 @@ bytes on both ways and keeps them.
 import concurrent.futures
 import contextlib
 import os
-import shutil
 import socket
 import struct
 import subprocess
@@ -17,6 +16,7 @@ import tempfile
 import threading
 
 import messages
+from packages import install
 from program import CSM, Checks
 
 PACKAGES = {"coap-client-notls": "libcoap3-bin", "tshark": "tshark"}
@@ -52,29 +52,6 @@ CSM_REMARK = "Invalid Option Number 2"
 SERVER_PORT = 5683
 FIRST_CLIENT_PORT = 40000
 FIELDS = ["tcp.srcport", "tcp.dstport", "tcp.payload", "coap.length", "coap.code", "_ws.expert.message", "_ws.malformed"]
-
-
-def apt(words):
-    quiet = dict(os.environ, DEBIAN_FRONTEND="noninteractive")
-    command = ["apt-get", "--yes", "-o", "DPkg::Lock::Timeout=60"] + words
-    return subprocess.run(command, env=quiet, stdin=subprocess.DEVNULL, stdout=subprocess.PIPE,
-                          stderr=subprocess.STDOUT, timeout=300)
-
-
-def install():
-    """Installs what is missing, and tells whether all is there now."""
-    missing = [package for program, package in PACKAGES.items() if not shutil.which(program)]
-    if not missing:
-        return True
-    words = ["install", "--no-install-recommends"] + missing
-    done = apt(words)
-    if done.returncode:
-        # the lists of packages may be missing or old
-        apt(["update"])
-        done = apt(words)
-    if done.returncode:
-        sys.stdout.write(done.stdout.decode(errors="replace"))
-    return all(shutil.which(program) for program in PACKAGES)
 
 
 def pump(source, sink, from_server, pieces):
@@ -241,7 +218,7 @@ def check(program):
 
 def main(words):
     try:
-        if not install():
+        if not install(PACKAGES):
             print("FAILED libcoap: the packages %s cannot be installed" % ", ".join(PACKAGES.values()))
             return 1
         return check(os.path.abspath(words[0]))

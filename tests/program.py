@@ -63,6 +63,9 @@ STREAMS = [
     ("00e1" "01e201" "01e202" "0001" "01e203", "01e301" "01e302" "a045" + GREETING + "01e303"),
     # more than one read takes
     ("00e1" + "01e205" * 3000, "01e305" * 3000),
+    # the greatest message, nearly all of it options of no length, and one that is a byte longer
+    ("00e1" "e0feef01" + "00" * 65532 + "01e203", "a045" + GREETING + "01e303"),
+    ("00e1" "e0fef001", ABORTS["message too large"]),
     # stops, each with more bytes behind it
     ("01010100e1", ABORTS["CSM expected"]),
     ("00e1" "1001ff" "00e2", ABORTS["bad message"]),

@@ -1,12 +1,17 @@
 """Shows the main job: recorded streams through `coap-server --stdio`, with what each message means.
 
-With `--recorded` it writes the first stream and nothing else.
+    tests/show.py bin/coap-server
+    tests/show.py --try                 the first stream alone, by `rt try`, which runs the program before any proof
 """
 
+import os
 import subprocess
 import sys
+import tempfile
 
 import messages
+
+CRATE = os.path.join(os.path.dirname(os.path.dirname(os.path.abspath(__file__))), "crates", "coap_server")
 
 # Capabilities and Settings with nothing in it, Empty, a Ping with the token 07 and Custody, and GET of the root, of the
 # moment, of the listing and of an absent path.
@@ -33,9 +38,12 @@ def show(title, stream):
         print("    %-26s (unfinished)" % rest.hex())
 
 
-def run(program, title, stream):
-    print(title)
-    done = subprocess.run([program, "--stdio"], input=stream, capture_output=True, timeout=60)
+def run(command, title, stream, folder=None):
+    print(title, flush=True)
+    with tempfile.TemporaryFile() as source:
+        source.write(stream)
+        source.seek(0)
+        done = subprocess.run(command, stdin=source, capture_output=True, cwd=folder)
     show("input: ", stream)
     show("output:", done.stdout)
     sys.stdout.flush()
@@ -45,14 +53,14 @@ def run(program, title, stream):
 
 
 def main(words):
-    if words == ["--recorded"]:
-        sys.stdout.buffer.write(RECORDED)
-        return 0
+    if words == ["--try"]:
+        print("Running the program UNPROVED, by `rt try`: some 20 seconds.")
+        return run(["rt", "try", "--", "--stdio"], *STREAMS[0], folder=CRATE)
     statuses = []
     for number, (title, stream) in enumerate(STREAMS):
         if number:
             print()
-        statuses.append(run(words[0], title, stream))
+        statuses.append(run([words[0], "--stdio"], title, stream))
     return max(statuses)
 
 

@@ -10,8 +10,6 @@ mod messages;
 mod phase;
 mod queue;
 mod reason;
-#[cfg(test)]
-mod tests;
 
 pub use limits::{LimitFault, Limits};
 pub use link::Link;

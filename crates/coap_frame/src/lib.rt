@@ -4,7 +4,5 @@
 mod filling;
 mod framer;
 pub mod laws;
-#[cfg(test)]
-mod tests;
 
 pub use framer::{Found, FrameFault, Framed, Framer};

@@ -8,8 +8,6 @@ mod host;
 mod output;
 mod response;
 mod serve;
-#[cfg(test)]
-mod tests;
 
 pub use coap_conn::{LimitFault, Limits, Reason};
 pub use config::{Config, ConfigFault, Starts};

@@ -11,8 +11,6 @@ mod request;
 mod resource;
 mod store;
 mod target;
-#[cfg(test)]
-mod tests;
 
 pub use path::{PathKey, Segments};
 pub use place::Place;

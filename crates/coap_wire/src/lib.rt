@@ -16,8 +16,6 @@ mod reading;
 mod recognition;
 mod sink;
 mod size;
-#[cfg(test)]
-mod tests;
 mod token;
 mod uint;
 mod writing;
