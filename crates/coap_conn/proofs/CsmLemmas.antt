@@ -1,12 +1,13 @@
 -- What Capabilities and Settings announce.
-use Rattle.std.proofs.Common.{◌≡◌, ℕ, ◌<◌, ◌≤◌, Bool, true, false, ◌||◌, ◌&&◌, cond, List, [], ◌∷◌, length, Option, Some, None, refl, sym, ap, subst, ◌∙◌, inl, inr}
-use Rattle.std.specs.Prelude.{nat_lt, option_map, is_none, find}
+use Rattle.std.proofs.Common.{◌≡◌, ℕ, ◌<◌, ◌≤◌, Bool, true, false, ◌||◌, ◌&&◌, cond, List, [], ◌∷◌, length, Option, Some, None, refl, sym, ap, ◌∙◌, inl, inr}
+use Rattle.std.specs.Prelude.{option_map, is_none, find}
 use Rattle.std.proofs.lemmas.Bool.{cases_lt, lt-ltb, le-ltb}
 use Rattle.coap_wire.specs.Message.{CoapOption, Message}
+use Rattle.coap_wire.specs.Recognition.{is_critical}
 use Rattle.coap_wire.specs.Uint.{uint_of}
-use Rattle.coap_conn.specs.Announced.{is_odd, is_size, is_bad, is_long, first_size, bad_csm_option}
+use Rattle.coap_conn.specs.Announced.{is_size, is_bad, is_long, first_size}
 
-bad_step : (x o : CoapOption) (r s : Option CoapOption) (odd size : Bool) → cond size (Some x) r ≡ Some o → cond (odd || (size && true)) (Some x) s ≡ None → (r ≡ Some o → s ≡ None → ⊥) → ⊥
+bad_step : (x o : CoapOption) (r s : Option CoapOption) (critical size : Bool) → cond size (Some x) r ≡ Some o → cond (critical || (size && true)) (Some x) s ≡ None → (r ≡ Some o → s ≡ None → ⊥) → ⊥
 bad_step x o r s true size e f go = let bad : ◌≡◌ {A = Option CoapOption} (Some x) None = f in cc
 bad_step x o r s false true e f go = let bad : ◌≡◌ {A = Option CoapOption} (Some x) None = f in cc
 bad_step x o r s false false e f go = go e f
@@ -14,7 +15,7 @@ bad_step x o r s false false e f go = go e f
 -- where the first Max-Message-Size is too long, there is an option that may not be there
 bad_when_long : (os : List CoapOption) (o : CoapOption) → find is_size os ≡ Some o → find (is_bad true) os ≡ None → ⊥
 bad_when_long [] o e f = let bad : ◌≡◌ {A = Option CoapOption} None (Some o) = e in cc
-bad_when_long (x ∷ xs) o e f = bad_step x o (find is_size xs) (find (is_bad true) xs) (is_odd x) (is_size x) e f (bad_when_long xs o)
+bad_when_long (x ∷ xs) o e f = bad_step x o (find is_size xs) (find (is_bad true) xs) (is_critical x) (is_size x) e f (bad_when_long xs o)
 
 no_number : (r : Option CoapOption) → option_map (λ (o : CoapOption). o.number) r ≡ None → r ≡ None
 no_number None e = refl
@@ -38,9 +39,3 @@ announced_is m o bytes first within above none =
           absurd (bad_when_long m.options o first bad))
       | inr short ↦ within short ∙ ap (option_map (λ (p : CoapOption). uint_of p.value)) (sym first)
     ]
-
--- the option that may not be there, by whether the first Max-Message-Size is a number
-pub bad_is : (m : Message) (o : CoapOption) (bytes : Option ℕ) → first_size m ≡ Some o → (length o.value ≤ 4 → bytes ≡ Some (uint_of o.value)) → (4 < length o.value → bytes ≡ None)
-    → bad_csm_option m ≡ option_map (λ (p : CoapOption). p.number) (find (is_bad (is_none bytes)) m.options)
-bad_is m o bytes first within above =
-    ap (λ (long : Bool). option_map (λ (p : CoapOption). p.number) (find (is_bad long) m.options)) (ap is_long first ∙ sym (long_is_no_number o bytes within above))

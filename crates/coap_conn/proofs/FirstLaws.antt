@@ -1,18 +1,25 @@
 -- What comes first on both sides of a connection.
-use Rattle.std.proofs.Common.{◌≡◌, ℕ, Bool, true, false, ◌&&◌, ◌==◌, List, [], ◌∷◌, ◌++◌, Option, Some, None, refl, sym, ap, ◌∙◌}
+use Rattle.std.proofs.Common.{◌≡◌, ℕ, Bool, true, false, cond, ◌==◌, List, ◌∷◌, ◌++◌, Option, Some, None, refl, sym, ap, ◌∙◌}
 use Rattle.std.proofs.lemmas.Bool.{cond_both, eqb-true}
 use Rattle.coap_wire.specs.Message.{Message}
 use Rattle.coap_conn.specs.declared.phase.Phase.{Phase}
 use Rattle.coap_conn.specs.declared.phase.Phase.TheVariants as phase
 use Rattle.coap_conn.specs.Announced.{bad_csm_option}
 use Rattle.coap_conn.specs.Verdicts as verdict
-use Rattle.coap_conn.specs.Reaction.{Standing, Reaction, react, csm_reaction, is_reserved, is_waiting}
+use Rattle.coap_conn.specs.MoreCodes as code
+use Rattle.coap_conn.specs.Phases.{stop_of, is_waiting}
+use Rattle.coap_conn.specs.Reaction.{Standing, Reaction, live_reaction, react, csm_reaction, is_reserved}
 use Rattle.coap_conn.specs.History.{History, AnnouncedFirst, own_csm}
-use Rattle.coap_conn.proofs.RequestLemmas.{react_asks}
+use Rattle.coap_conn.proofs.RequestLemmas.{react_live, react_asks}
 
 -- whatever is queued later stands behind
 pub first_stays : (h : History) (more : List Message) → AnnouncedFirst h → (others : List Message) × (h.queued ++ more ≡ own_csm h.limits.max_message ∷ others)
 first_stays h more first = (first.0 ++ more, ap (λ (q : List Message). q ++ more) first.1)
+
+-- and where nothing is queued
+pub guarded_first : (does : Bool) (h after : History) → AnnouncedFirst after → AnnouncedFirst h → AnnouncedFirst (cond does after h)
+guarded_first true h after then first = then
+guarded_first false h after then first = first
 
 -- ---- while the connection waits
 
@@ -24,20 +31,23 @@ no_request_waiting s m waits asked =
 
 -- what opens a waiting connection
 abbrev OpensBy : Message → Reaction → Type 0
-OpensBy m r = r.effect.phase ≡ phase.Open → (m.code ≡ 0xe1) × (bad_csm_option m ≡ None)
+OpensBy m r = r.effect.phase ≡ phase.Open → (m.code ≡ code.csm) × (bad_csm_option m ≡ None)
 
-csm_opens : (s : Standing) (m : Message) (bad : Option ℕ) → m.code ≡ 0xe1 → bad_csm_option m ≡ bad → OpensBy m (csm_reaction s bad)
+csm_opens : (s : Standing) (m : Message) (bad : Option ℕ) → m.code ≡ code.csm → bad_csm_option m ≡ bad → OpensBy m (csm_reaction s bad)
 csm_opens s m None code none is = (code, none)
 csm_opens s m (Some number) code none is = absurd cc
 
 not_open : (s : Standing) → s.phase ≡ phase.Waiting → s.phase ≡ phase.Open → ⊥
 not_open s waits opens = let no : ◌≡◌ {A = Phase} phase.Waiting phase.Open = sym waits ∙ opens in cc
 
-pub opened_by_csm : (s : Standing) (m : Message) → s.phase ≡ phase.Waiting → (react s m).effect.phase ≡ phase.Open → (m.code ≡ 0xe1) × (bad_csm_option m ≡ None)
-unfolding react
-opened_by_csm s m waits =
+live_opens : (s : Standing) (m : Message) → s.phase ≡ phase.Waiting → OpensBy m (live_reaction s m)
+unfolding live_reaction
+live_opens s m waits =
     cond_both (is_reserved m.code) _ _ (OpensBy m) (λ e is. absurd cc)
-    (λ e. cond_both (m.code == 0x00) _ _ (OpensBy m) (λ e is. absurd (not_open s waits is))
-    (λ e. cond_both (m.code == 0xe5) _ _ (OpensBy m) (λ e is. absurd cc)
-    (λ e. cond_both (m.code == 0xe1) _ _ (OpensBy m) (λ e. csm_opens s m (bad_csm_option m) (eqb-true m.code 0xe1 e) refl)
+    (λ e. cond_both (m.code == code.empty) _ _ (OpensBy m) (λ e is. absurd (not_open s waits is))
+    (λ e. cond_both (m.code == code.abort) _ _ (OpensBy m) (λ e is. absurd cc)
+    (λ e. cond_both (m.code == code.csm) _ _ (OpensBy m) (λ e. csm_opens s m (bad_csm_option m) (eqb-true m.code code.csm e) refl)
     (λ e. cond_both (is_waiting s.phase) _ _ (OpensBy m) (λ e is. absurd cc) (λ f. absurd (let no : ◌≡◌ {A = Bool} false true = sym f ∙ ap is_waiting waits in cc))))))
+
+pub opened_by_csm : (s : Standing) (m : Message) → s.phase ≡ phase.Waiting → (react s m).effect.phase ≡ phase.Open → (m.code ≡ code.csm) × (bad_csm_option m ≡ None)
+opened_by_csm s m waits opens = live_opens s m waits (ap (λ (r : Reaction). r.effect.phase) (sym (react_live s m (ap stop_of waits))) ∙ opens)

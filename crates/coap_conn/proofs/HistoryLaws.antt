@@ -1,5 +1,5 @@
 -- What was announced last counts, and whatever is queued fits.
-use Rattle.std.proofs.Common.{◌≡◌, ℕ, ◌≤◌, Bool, true, false, not, ◌&&◌, ◌||◌, ◌==◌, List, [], ◌∷◌, ◌++◌, length, min, Option, Some, None, refl, sym, ap, ◌∙◌, arith}
+use Rattle.std.proofs.Common.{◌≡◌, ℕ, ◌≤◌, ◌&&◌, ◌==◌, List, [], ◌∷◌, ◌++◌, length, min, Option, Some, None, refl, ap, ◌∙◌, arith}
 use Rattle.std.specs.Prelude.{nat_le}
 use Rattle.std.specs.List.{AllByRecursion, filter_map}
 use Rattle.std.proofs.lemmas.Bool.{cond_both, leb-true}
@@ -12,12 +12,14 @@ use Rattle.coap_conn.specs.declared.phase.Role.{Role}
 use Rattle.coap_conn.specs.declared.phase.Role.TheVariants.{Server, Client}
 use Rattle.coap_conn.specs.declared.phase.Reply.{Reply}
 use Rattle.coap_conn.specs.declared.phase.Reply.TheVariants.{Whole, Bare, Stopped}
+use Rattle.coap_conn.specs.MoreCodes as code
+use Rattle.coap_conn.specs.Phases.{stop_of, is_waiting}
 use Rattle.coap_conn.specs.Reasons.{abort_of}
-use Rattle.coap_conn.specs.Announced.{announcement, announced, last_or, has_odd_option, bad_csm_option}
+use Rattle.coap_conn.specs.Announced.{announcement, announced, last_or, has_critical_option, bad_csm_option}
 use Rattle.coap_conn.specs.Fit.{AllFit, fit, fitted, abort_fitted, without_payload, without_options, bare_response}
 use Rattle.coap_conn.specs.Limits.{LimitValues, AreInRange}
-use Rattle.coap_conn.specs.Reaction.{Standing, Reaction, react, open_reaction, csm_reaction, request_reaction, send, send_as, stop, stops, becomes, is_reserved, is_signal, is_request, is_waiting, minds_odd_options, pong_of, not_implemented}
-use Rattle.coap_conn.specs.History.{History, begun, limit_now, standing_now, release, own_csm}
+use Rattle.coap_conn.specs.Reaction.{Standing, Reaction, react, reaction_unless, live_reaction, open_reaction, csm_reaction, request_reaction, send, send_as, abort, is_reserved, is_signal, is_method, minds_critical_options, pong_of, not_implemented}
+use Rattle.coap_conn.specs.History.{History, new_history, limit_now, standing_now, release}
 use Rattle.coap_conn.proofs.LinkLemmas.{announced_none}
 use Rattle.coap_conn.proofs.SmallLemmas.{csm_small, release_small}
 
@@ -56,8 +58,8 @@ abort_fit : (limit : ℕ) (abort : Option Message) → AllFit limit (abort_fitte
 abort_fit limit None = tt
 abort_fit limit (Some m) = fitted_fit limit m (without_payload m)
 
-stop_fit : (s : Standing) (why : Reason) → AllFit s.limit (stop s why).queued
-stop_fit s why = abort_fit s.limit (abort_of why)
+aborted_fit : (s : Standing) (why : Reason) → AllFit s.limit (abort s why).queued
+aborted_fit s why = abort_fit s.limit (abort_of why)
 
 sent_as : (s : Standing) (m less : Message) (r : Reply) → AllFit s.limit (fitted m less r) → AllFit s.limit (send_as s m less r).queued
 sent_as s m less Whole each = each
@@ -72,7 +74,7 @@ Fits s r = AllFit s.limit r.effect.queued
 
 csm_fit : (s : Standing) (bad : Option ℕ) → Fits s (csm_reaction s bad)
 csm_fit s None = tt
-csm_fit s (Some number) = stop_fit s (reason.BadCsm number)
+csm_fit s (Some number) = aborted_fit s (reason.BadCsm number)
 
 request_fit : (s : Standing) (m : Message) (role : Role) → Fits s (request_reaction s m role)
 request_fit s m Server = tt
@@ -80,24 +82,32 @@ request_fit s m Client = send_fit s (not_implemented m) (bare_response (not_impl
 
 open_fit : (s : Standing) (m : Message) → Fits s (open_reaction s m)
 open_fit s m =
-    cond_both (minds_odd_options m.code && has_odd_option m) _ _ (Fits s) (λ e. stop_fit s reason.BadSignalOption)
-    (λ e. cond_both (m.code == 0xe2) _ _ (Fits s) (λ e. send_fit s (pong_of m) (without_options (pong_of m)))
-    (λ e. cond_both (m.code == 0xe4) _ _ (Fits s) (λ e. tt)
-    (λ e. cond_both (m.code == 0xe3) _ _ (Fits s) (λ e. tt)
+    cond_both (minds_critical_options m.code && has_critical_option m) _ _ (Fits s) (λ e. aborted_fit s reason.BadSignalOption)
+    (λ e. cond_both (m.code == code.ping) _ _ (Fits s) (λ e. send_fit s (pong_of m) (without_options (pong_of m)))
+    (λ e. cond_both (m.code == code.release) _ _ (Fits s) (λ e. tt)
+    (λ e. cond_both (m.code == code.pong) _ _ (Fits s) (λ e. tt)
     (λ e. cond_both (is_signal m.code) _ _ (Fits s) (λ e. tt)
-    (λ e. cond_both (is_request m.code) _ _ (Fits s) (λ e. request_fit s m s.role) (λ e. tt))))))
+    (λ e. cond_both (is_method m.code) _ _ (Fits s) (λ e. request_fit s m s.role) (λ e. tt))))))
+
+live_fit : (s : Standing) (m : Message) → Fits s (live_reaction s m)
+unfolding live_reaction
+live_fit s m =
+    cond_both (is_reserved m.code) _ _ (Fits s) (λ e. aborted_fit s reason.ReservedCode)
+    (λ e. cond_both (m.code == code.empty) _ _ (Fits s) (λ e. tt)
+    (λ e. cond_both (m.code == code.abort) _ _ (Fits s) (λ e. aborted_fit s reason.PeerAbort)
+    (λ e. cond_both (m.code == code.csm) _ _ (Fits s) (λ e. csm_fit s (bad_csm_option m))
+    (λ e. cond_both (is_waiting s.phase) _ _ (Fits s) (λ e. aborted_fit s reason.CsmExpected) (λ e. open_fit s m)))))
+
+unless_fit : (s : Standing) (m : Message) (over : Option Reason) → Fits s (reaction_unless s m over)
+unless_fit s m None = live_fit s m
+unless_fit s m (Some why) = tt
 
 react_fit : (s : Standing) (m : Message) → Fits s (react s m)
 unfolding react
-react_fit s m =
-    cond_both (is_reserved m.code) _ _ (Fits s) (λ e. stop_fit s reason.ReservedCode)
-    (λ e. cond_both (m.code == 0x00) _ _ (Fits s) (λ e. tt)
-    (λ e. cond_both (m.code == 0xe5) _ _ (Fits s) (λ e. stop_fit s reason.PeerAbort)
-    (λ e. cond_both (m.code == 0xe1) _ _ (Fits s) (λ e. csm_fit s (bad_csm_option m))
-    (λ e. cond_both (is_waiting s.phase) _ _ (Fits s) (λ e. stop_fit s reason.CsmExpected) (λ e. open_fit s m)))))
+react_fit s m = unless_fit s m (stop_of s.phase)
 
-pub begun_fits : (role : Role) (limits : LimitValues) (tokens : ℕ) → AreInRange limits → AllFit (limit_now (begun role limits tokens)) (begun role limits tokens).queued
-begun_fits role limits tokens ranges =
+pub new_fits : (role : Role) (limits : LimitValues) (tokens : ℕ) → AreInRange limits → AllFit (limit_now (new_history role limits tokens)) (new_history role limits tokens).queued
+new_fits role limits tokens ranges =
     let low = ranges.sent_low in
     (omega (arith, low, csm_small limits.max_message, ap (λ (n : ℕ). min limits.max_sent n) announced_none), tt)
 
@@ -107,8 +117,8 @@ reaction_fits h m = react_fit (standing_now h) m
 pub sent_fits : (h : History) (m less : Message) → AllFit (limit_now h) (send (standing_now h) m less).queued
 sent_fits h m less = send_fit (standing_now h) m less
 
-pub stopped_fits : (h : History) (why : Reason) → AllFit (limit_now h) (stop (standing_now h) why).queued
-stopped_fits h why = stop_fit (standing_now h) why
+pub stopped_fits : (h : History) (why : Reason) → AllFit (limit_now h) (abort (standing_now h) why).queued
+stopped_fits h why = aborted_fit (standing_now h) why
 
 pub released_fits : (h : History) → 2 ≤ limit_now h → AllFit (limit_now h) (release ∷ [])
 released_fits h enough = (omega (arith, enough, release_small), tt)

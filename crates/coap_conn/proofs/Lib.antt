@@ -4,3 +4,4 @@ pub mod CsmLemmas
 pub mod HistoryLaws
 pub mod RequestLemmas
 pub mod FirstLaws
+pub mod StopLaws

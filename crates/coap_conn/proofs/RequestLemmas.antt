@@ -1,6 +1,6 @@
--- A request changes nothing: it can be answered at once.
-use Rattle.std.proofs.Common.{◌≡◌, ℕ, ◌-◌, ◌≤◌, Bool, true, false, ◌&&◌, ◌==◌, List, [], ◌++◌, length, Option, Some, None, refl, sym, ap, subst, ◌∙◌, arith}
-use Rattle.std.specs.Prelude.{if◌then◌else◌}
+-- A request changes nothing, and can be answered at once.
+use Rattle.std.proofs.Common.{◌≡◌, ℕ, Bool, true, false, ◌&&◌, ◌==◌, cond, List, [], ◌++◌, Option, Some, None, refl, ap, ◌∙◌}
+use Rattle.std.specs.Prelude.{if◌then◌else◌, unwrap_or, is_none}
 use Rattle.std.proofs.lemmas.Bool.{cond_both}
 use Rattle.std.proofs.lemmas.List.{append-nil}
 use Rattle.coap_wire.specs.Message.{Message}
@@ -11,72 +11,99 @@ use Rattle.coap_conn.specs.declared.phase.Role.{Role}
 use Rattle.coap_conn.specs.declared.phase.Role.TheVariants.{Server, Client}
 use Rattle.coap_conn.specs.declared.phase.Reply.{Reply}
 use Rattle.coap_conn.specs.declared.phase.Reply.TheVariants.{Whole, Bare, Stopped}
-use Rattle.coap_conn.specs.Announced.{has_odd_option, bad_csm_option}
+use Rattle.coap_conn.specs.MoreCodes as code
+use Rattle.coap_conn.specs.Phases.{stop_of, takes_messages, IsLive, IsAnswering, is_waiting}
+use Rattle.coap_conn.specs.Announced.{has_critical_option, bad_csm_option, csm_size, announcement}
 use Rattle.coap_conn.specs.Fit.{fit, bare_response, without_options}
-use Rattle.coap_conn.specs.Verdicts.{VerdictValue}
 use Rattle.coap_conn.specs.Verdicts as verdict
-use Rattle.coap_conn.specs.Reaction.{Standing, Effect, Reaction, react, open_reaction, csm_reaction, request_reaction, sends, told_of, becomes, is_reserved, is_signal, is_request, is_waiting, minds_odd_options, pong_of, not_implemented}
-use Rattle.coap_conn.specs.Limits.{LimitValues}
-use Rattle.coap_conn.specs.History.{text_of}
-use Rattle.coap_conn.specs.LinkValue.{LinkValue, IsReady, IsLive, IsAnswering, free_in, standing_in, link_after_message}
+use Rattle.coap_conn.specs.Reaction.{Standing, Effect, Reaction, react, reaction_unless, live_reaction, open_reaction, csm_reaction, request_reaction, told_of, becomes, is_reserved, is_signal, is_method, minds_critical_options, pong_of, not_implemented}
+use Rattle.coap_conn.specs.History.{bytes_of}
+use Rattle.coap_conn.specs.LinkValue.{LinkValue, standing_in, link_with, link_after_message, link_handled}
 
--- where it is a request, nothing is queued, and the connection is open as before
-pub record IsQuiet (s : Standing) (e : Effect) : Type 0 where
+-- ---- what messages do where they are taken
+
+pub react_live : (s : Standing) (m : Message) → stop_of s.phase ≡ None → react s m ≡ live_reaction s m
+unfolding react
+react_live s m live = ap (reaction_unless s m) live
+
+pub handled_is : (v : LinkValue) (m : Message) → IsLive v.phase → link_after_message v m ≡ link_handled v m
+unfolding react
+handled_is v m live =
+    ap (λ (over : Option Reason). cond (is_none over) (record (link_with v (reaction_unless (standing_in v) m over).effect) { peer_max = unwrap_or (announcement m) v.peer_max }) v) live
+
+-- ---- requests
+
+-- where it is a request, nothing is queued, the connection is open as before, and nothing is announced
+pub record IsQuiet (s : Standing) (m : Message) (e : Effect) : Type 0 where
   pub nothing : e.queued ≡ []
   pub same : e.phase ≡ s.phase
   pub not_waiting : is_waiting s.phase ≡ false
+  pub announces : announcement m ≡ None
 
-abbrev Asks : Standing → Reaction → Type 0
-Asks s r = r.verdict ≡ verdict.Request → IsQuiet s r.effect
+-- what a reaction is that says so
+abbrev Asks : Standing → Message → Reaction → Type 0
+Asks s m r = r.verdict ≡ verdict.Request → IsQuiet s m r.effect
 
 told_no_request : (r : Reply) → told_of r ≡ verdict.Request → ⊥
 told_no_request Whole e = cc
 told_no_request Bare e = cc
 told_no_request Stopped e = cc
 
-opened_no_request : (waiting : Bool) (s : Standing) → Asks s (becomes phase.Open (if waiting then verdict.Opened else verdict.Done))
-opened_no_request true s e = absurd cc
-opened_no_request false s e = absurd cc
+opened_no_request : (waiting : Bool) (s : Standing) → (becomes s phase.Open (if waiting then verdict.Opened else verdict.Done)).verdict ≡ verdict.Request → ⊥
+opened_no_request true s e = cc
+opened_no_request false s e = cc
 
-csm_asks : (s : Standing) (bad : Option ℕ) → Asks s (csm_reaction s bad)
-csm_asks s None e = opened_no_request (is_waiting s.phase) s e
-csm_asks s (Some number) e = absurd cc
+csm_no_request : (s : Standing) (bad : Option ℕ) → (csm_reaction s bad).verdict ≡ verdict.Request → ⊥
+csm_no_request s None e = opened_no_request (is_waiting s.phase) s e
+csm_no_request s (Some number) e = cc
 
-request_asks : (s : Standing) (m : Message) (role : Role) → is_waiting s.phase ≡ false → Asks s (request_reaction s m role)
-request_asks s m Server now e = record { nothing = refl; same = refl; not_waiting = now }
-request_asks s m Client now e = absurd (told_no_request (fit s.limit (not_implemented m) (bare_response (not_implemented m))) e)
+request_asks : (s : Standing) (m : Message) (role : Role) → is_waiting s.phase ≡ false → (m.code == code.csm) ≡ false → Asks s m (request_reaction s m role)
+request_asks s m Server now other e = record { nothing = refl; same = refl; not_waiting = now; announces = ap (λ (b : Bool). if b then csm_size m else None) other }
+request_asks s m Client now other e = absurd (told_no_request (fit s.limit (not_implemented m) (bare_response (not_implemented m))) e)
 
-open_asks : (s : Standing) (m : Message) → is_waiting s.phase ≡ false → Asks s (open_reaction s m)
-open_asks s m now =
-    cond_both (minds_odd_options m.code && has_odd_option m) _ _ (Asks s) (λ e is. absurd cc)
-    (λ e. cond_both (m.code == 0xe2) _ _ (Asks s) (λ e is. absurd (told_no_request (fit s.limit (pong_of m) (without_options (pong_of m))) is))
-    (λ e. cond_both (m.code == 0xe4) _ _ (Asks s) (λ e is. absurd cc)
-    (λ e. cond_both (m.code == 0xe3) _ _ (Asks s) (λ e is. absurd cc)
-    (λ e. cond_both (is_signal m.code) _ _ (Asks s) (λ e is. absurd cc)
-    (λ e. cond_both (is_request m.code) _ _ (Asks s) (λ e. request_asks s m s.role now) (λ e is. absurd cc))))))
+open_asks : (s : Standing) (m : Message) → is_waiting s.phase ≡ false → (m.code == code.csm) ≡ false → Asks s m (open_reaction s m)
+open_asks s m now other =
+    cond_both (minds_critical_options m.code && has_critical_option m) _ _ (Asks s m) (λ e is. absurd cc)
+    (λ e. cond_both (m.code == code.ping) _ _ (Asks s m) (λ e is. absurd (told_no_request (fit s.limit (pong_of m) (without_options (pong_of m))) is))
+    (λ e. cond_both (m.code == code.release) _ _ (Asks s m) (λ e is. absurd cc)
+    (λ e. cond_both (m.code == code.pong) _ _ (Asks s m) (λ e is. absurd cc)
+    (λ e. cond_both (is_signal m.code) _ _ (Asks s m) (λ e is. absurd cc)
+    (λ e. cond_both (is_method m.code) _ _ (Asks s m) (λ e. request_asks s m s.role now other) (λ e is. absurd cc))))))
 
-pub react_asks : (s : Standing) (m : Message) → Asks s (react s m)
+live_asks : (s : Standing) (m : Message) → Asks s m (live_reaction s m)
+unfolding live_reaction
+live_asks s m =
+    cond_both (is_reserved m.code) _ _ (Asks s m) (λ e is. absurd cc)
+    (λ e. cond_both (m.code == code.empty) _ _ (Asks s m) (λ e is. absurd cc)
+    (λ e. cond_both (m.code == code.abort) _ _ (Asks s m) (λ e is. absurd cc)
+    (λ e. cond_both (m.code == code.csm) _ _ (Asks s m) (λ e is. absurd (csm_no_request s (bad_csm_option m) is))
+    (λ other. cond_both (is_waiting s.phase) _ _ (Asks s m) (λ e is. absurd cc) (λ now. open_asks s m now other)))))
+
+unless_asks : (s : Standing) (m : Message) (over : Option Reason) → Asks s m (reaction_unless s m over)
+unless_asks s m None = live_asks s m
+unless_asks s m (Some why) = λ is. absurd cc
+
+pub react_asks : (s : Standing) (m : Message) → Asks s m (react s m)
 unfolding react
-react_asks s m =
-    cond_both (is_reserved m.code) _ _ (Asks s) (λ e is. absurd cc)
-    (λ e. cond_both (m.code == 0x00) _ _ (Asks s) (λ e is. absurd cc)
-    (λ e. cond_both (m.code == 0xe5) _ _ (Asks s) (λ e is. absurd cc)
-    (λ e. cond_both (m.code == 0xe1) _ _ (Asks s) (λ e. csm_asks s (bad_csm_option m))
-    (λ e. cond_both (is_waiting s.phase) _ _ (Asks s) (λ e is. absurd cc) (λ e. open_asks s m e)))))
+react_asks s m = unless_asks s m (stop_of s.phase)
+
+stays_by : (v : LinkValue) (m : Message) (e : Effect) (takes : Bool) → IsQuiet (standing_in v) m e → cond takes (record (link_with v e) { peer_max = unwrap_or (announcement m) v.peer_max }) v ≡ v
+stays_by v m e true quiet =
+    ap (λ (w : List ℕ). record v { waiting = w; phase = e.phase; peer_max = unwrap_or (announcement m) v.peer_max }) (ap (λ (ms : List Message). v.waiting ++ bytes_of ms) quiet.nothing ∙ append-nil v.waiting)
+    ∙ ap (λ (p : Phase). record v { phase = p; peer_max = unwrap_or (announcement m) v.peer_max }) quiet.same
+    ∙ ap (λ (n : Option ℕ). record v { peer_max = unwrap_or n v.peer_max }) quiet.announces
+stays_by v m e false quiet = refl
+
+-- a request leaves the link as it is
+pub request_stays : (v : LinkValue) (m : Message) → (react (standing_in v) m).verdict ≡ verdict.Request → link_after_message v m ≡ v
+request_stays v m asked = stays_by v m (react (standing_in v) m).effect (takes_messages v.phase) (react_asks (standing_in v) m asked)
 
 answering_at : (p : Phase) → IsLive p → is_waiting p ≡ false → IsAnswering p
 answering_at phase.Waiting live e = absurd cc
-answering_at phase.Open live e = tt
-answering_at (phase.Releasing why) live e = tt
-answering_at (phase.Stopped why) live e = absurd live
+answering_at phase.Open live e = refl
+answering_at (phase.Releasing why) live e = absurd cc
+answering_at (phase.Stopped why) live e = absurd cc
 
--- a request leaves room for the greatest message sent, on a connection that may answer
-pub request_answerable : (v new : LinkValue) (m : Message) (what : VerdictValue) → IsReady v → IsLive v.phase → new ≡ link_after_message v m → what ≡ (react (standing_in v) m).verdict → what ≡ verdict.Request → IsReady new × IsAnswering new.phase
-request_answerable v new m what ready live is what_is asked =
-    let quiet = react_asks (standing_in v) m (sym what_is ∙ asked) in
-    let waits : new.waiting ≡ v.waiting = ap (λ (l : LinkValue). l.waiting) is ∙ ap (λ (ms : List Message). v.waiting ++ text_of ms) quiet.nothing ∙ append-nil v.waiting in
-    let stands : new.phase ≡ v.phase = ap (λ (l : LinkValue). l.phase) is ∙ quiet.same in
-    let limits : new.limits ≡ v.limits = ap (λ (l : LinkValue). l.limits) is in (
-      omega (arith, ready, ap (λ (w : List ℕ). length w) waits, ap (λ (l : LimitValues). l.queue) limits, ap (λ (l : LimitValues). l.max_sent) limits),
-      subst IsAnswering (sym stands) (answering_at v.phase live quiet.not_waiting),
-    )
+-- which may then answer it
+pub request_answering : (v : LinkValue) (m : Message) → IsLive v.phase → (react (standing_in v) m).verdict ≡ verdict.Request → IsAnswering v.phase
+request_answering v m live asked = answering_at v.phase live (react_asks (standing_in v) m asked).not_waiting

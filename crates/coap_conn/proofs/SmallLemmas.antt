@@ -7,6 +7,8 @@ use Rattle.coap_wire.specs.Message.{CoapOption, Message}
 use Rattle.coap_wire.specs.Forms.{length_form, option_form}
 use Rattle.coap_wire.specs.Spelling.{spelling, option_spelling, body_spelling, head_spelling}
 use Rattle.coap_wire.specs.Uint.{uint_text, without_leading_zeros}
+use Rattle.coap_conn.specs.MoreCodes as code
+use Rattle.coap_conn.specs.SignalOptions as option
 use Rattle.coap_conn.specs.History.{own_csm, release}
 
 abbrev IsShort : ℕ → ℕ × List ℕ → Type 0
@@ -39,14 +41,14 @@ few_zeros (suc b ∷ s) = omega arith
 
 pub csm_small : (M : ℕ) → length (spelling (own_csm M)) ≤ 24
 unfolding uint_text
-csm_small M = omega (arith, one_option 225 [] (record { number = 2; value = uint_text M }), few_zeros (to_be_bytes w64 M))
+csm_small M = omega (arith, one_option code.csm [] (record { number = option.max_message_size; value = uint_text M }), few_zeros (to_be_bytes w64 M))
 
 pub release_small : length (spelling release) ≡ 2
 unfolding spelling
 release_small = refl
 
-pub csm_text_small : (M : ℕ) → length (spelling (own_csm M) ++ []) ≤ 24
-csm_text_small M = omega (arith, csm_small M, ap (λ (t : List ℕ). length t) (append-nil (spelling (own_csm M))))
+pub csm_bytes_small : (M : ℕ) → length (spelling (own_csm M) ++ []) ≤ 24
+csm_bytes_small M = omega (arith, csm_small M, ap (λ (t : List ℕ). length t) (append-nil (spelling (own_csm M))))
 
-pub release_text_small : length (spelling release ++ []) ≡ 2
-release_text_small = ap (λ (t : List ℕ). length t) (append-nil (spelling release)) ∙ release_small
+pub release_bytes_small : length (spelling release ++ []) ≡ 2
+release_bytes_small = ap (λ (t : List ℕ). length t) (append-nil (spelling release)) ∙ release_small

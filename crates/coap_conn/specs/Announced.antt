@@ -1,19 +1,19 @@
 -- The greatest message that the peer takes, as it announced it (RFC 8323 section 5.3).
-use Rattle.std.specs.Prelude.{ℕ, ◌%◌, Bool, false, ◌&&◌, ◌||◌, List, [], ◌∷◌, length, Option, Some, None, option_map, nat_lt, ◌==◌, if◌then◌else◌, find, min}
+use Rattle.std.specs.Prelude.{ℕ, Bool, false, ◌&&◌, ◌||◌, List, [], ◌∷◌, length, Option, Some, None, option_map, nat_lt, ◌==◌, if◌then◌else◌, find, min}
 use Rattle.std.specs.List.{list_any, filter_map}
 use Rattle.coap_wire.specs.Message.{CoapOption, Message}
+use Rattle.coap_wire.specs.Recognition.{is_critical}
 use Rattle.coap_wire.specs.Uint.{uint_of}
+use Rattle.coap_conn.specs.MoreCodes as code
+use Rattle.coap_conn.specs.SignalOptions as option
 
--- in a Signalling Message an option is critical where its number is odd (RFC 8323 section 5.2)
-abbrev pub is_odd : CoapOption → Bool
-is_odd o = o.number % 2 == 1
+-- as in any message, an option of a Signalling Message is critical where its number is odd (RFC 8323 section 5.2)
+abbrev pub has_critical_option : Message → Bool
+has_critical_option m = list_any is_critical m.options
 
-abbrev pub has_odd_option : Message → Bool
-has_odd_option m = list_any is_odd m.options
-
--- Max-Message-Size, option 2 of Capabilities and Settings (RFC 8323 section 5.3.1)
+-- Max-Message-Size (RFC 8323 section 5.3.1)
 abbrev pub is_size : CoapOption → Bool
-is_size o = o.number == 2
+is_size o = o.number == option.max_message_size
 
 -- the first Max-Message-Size, if there is one
 abbrev pub first_size : Message → Option CoapOption
@@ -27,7 +27,7 @@ is_long (Some o) = nat_lt 4 (length o.value)
 -- an option that Capabilities and Settings may not have: a critical one, or the first Max-Message-Size where that one is
 -- longer than 4 bytes
 abbrev pub is_bad : Bool → CoapOption → Bool
-is_bad long o = is_odd o || (is_size o && long)
+is_bad long o = is_critical o || (is_size o && long)
 
 -- the number of the first option that may not be there
 abbrev pub bad_csm_option : Message → Option ℕ
@@ -43,15 +43,19 @@ csm_size m = size_unless (bad_csm_option m) m
 
 -- what a message announces: Capabilities and Settings alone announce something
 abbrev pub announcement : Message → Option ℕ
-announcement m = if m.code == 0xe1 then csm_size m else None
+announcement m = if m.code == code.csm then csm_size m else None
 
 abbrev pub last_or : ℕ → List ℕ → ℕ
 last_or n [] = n
 last_or n (x ∷ xs) = last_or x xs
 
--- what messages announced: the last announcement, 1,152 where there is none
+-- the greatest message of a peer that has announced none (RFC 8323 section 5.3.1)
+abbrev pub base_size : ℕ
+base_size = 1152
+
+-- what messages announced: the last announcement, and the base size where there is none
 unfoldable pub announced : List Message → ℕ
-announced ms = last_or 1152 (filter_map announcement ms)
+announced ms = last_or base_size (filter_map announcement ms)
 
 -- the greatest message that may be sent: within what the peer takes and the own greatest one
 abbrev pub size_limit : ℕ → ℕ → ℕ

@@ -3,6 +3,8 @@ use Rattle.std.specs.Prelude.{ℕ, ◌≤◌, Bool, ◌||◌, List, [], ◌∷�
 use Rattle.std.specs.List.{AllByRecursion}
 use Rattle.coap_wire.specs.Message.{Message}
 use Rattle.coap_wire.specs.Spelling.{spelling}
+use Rattle.coap_wire.specs.Codes.{created, deleted, changed}
+use Rattle.coap_conn.specs.MoreCodes.{internal_server_error}
 use Rattle.coap_conn.specs.declared.phase.Reply.{Reply}
 use Rattle.coap_conn.specs.declared.phase.Reply.TheVariants.{Whole, Bare, Stopped}
 
@@ -21,7 +23,7 @@ fitted m less Stopped = []
 
 -- 2.01, 2.02 and 2.04 stay without the rest; any other response is 5.00
 abbrev pub bare_code : ℕ → ℕ
-bare_code code = if code == 0x41 || code == 0x42 || code == 0x44 then code else 0xa0
+bare_code code = if code == created || code == deleted || code == changed then code else internal_server_error
 
 -- in place of a response: a code and the token
 abbrev pub bare_response : Message → Message

@@ -1,6 +1,10 @@
 pub mod Limits
 pub mod LimitViews
+pub mod MoreCodes
+pub mod SignalOptions
+pub mod Phases
 pub mod Reasons
+pub mod Rejects
 pub mod Announced
 pub mod Fit
 pub mod Verdicts

@@ -1,16 +1,18 @@
 -- A link as the code holds it, what its calls do to it, and which link shows a history.
-use Rattle.std.specs.Prelude.{◌≡◌, ℕ, ◌-◌, ◌<◌, ◌≤◌, ◌^◌, Bool, true, false, ◌&&◌, List, [], ◌∷◌, ◌++◌, length, drop, unwrap_or, nat_le, ◌==◌}
+use Rattle.std.specs.Prelude.{◌≡◌, ℕ, ◌-◌, ◌<◌, ◌≤◌, ◌^◌, Bool, ◌&&◌, List, [], ◌∷◌, ◌++◌, length, drop, unwrap_or, ◌==◌, if◌then◌else◌}
 use Rattle.coap_wire.specs.Message.{Message}
 use Rattle.coap_conn.specs.declared.phase.Phase.{Phase}
-use Rattle.coap_conn.specs.declared.phase.Phase.TheVariants.{Waiting, Open, Releasing, Stopped}
+use Rattle.coap_conn.specs.declared.phase.Phase.TheVariants.{Waiting}
 use Rattle.coap_conn.specs.declared.phase.Role.{Role}
 use Rattle.coap_conn.specs.declared.reason.Reason.TheVariants.{ReleasedHere}
 use Rattle.coap_conn.specs.declared.phase.Reject.{Reject}
+use Rattle.coap_conn.specs.Phases.{takes_messages, is_over, answers, is_open}
+use Rattle.coap_conn.specs.Rejects.{reject_reason}
 use Rattle.coap_conn.specs.Limits.{LimitValues}
-use Rattle.coap_conn.specs.Announced.{bad_csm_option, csm_size, announcement, announced, size_limit}
+use Rattle.coap_conn.specs.Announced.{base_size, bad_csm_option, csm_size, announcement, announced, size_limit}
 use Rattle.coap_conn.specs.Fit.{bare_response}
-use Rattle.coap_conn.specs.Reaction.{Standing, Effect, stop, send, csm_reaction, react}
-use Rattle.coap_conn.specs.History.{History, IsHistory, text_of, own_csm, end_phase, reject_reason, release}
+use Rattle.coap_conn.specs.Reaction.{Standing, Effect, stop, abort, send, csm_reaction, live_reaction, react}
+use Rattle.coap_conn.specs.History.{History, IsHistory, bytes_of, own_csm, end_reason, release}
 
 -- waiting are the bytes to be written, peer_max the greatest message that the peer takes
 pub record LinkValue : Type 0 where
@@ -24,7 +26,7 @@ pub record LinkValue : Type 0 where
 -- the link that a history leaves: what was queued without what was written, and the last size announced
 abbrev pub link_of : History → LinkValue
 link_of h =
-    record { role = h.role; limits = h.limits; waiting = drop h.written (text_of h.queued); phase = h.phase; peer_max = announced h.handled; tokens = h.tokens }
+    record { role = h.role; limits = h.limits; waiting = drop h.written (bytes_of h.queued); phase = h.phase; peer_max = announced h.handled; tokens = h.tokens }
 
 -- the link shows the history
 pub record Shows (v : LinkValue) (h : History) : Type 0 where
@@ -47,27 +49,7 @@ free_in v = v.limits.queue - length v.waiting
 abbrev pub IsReady : LinkValue → Type 0
 IsReady v = v.limits.max_sent ≤ free_in v
 
--- it takes messages
-abbrev pub IsLive : Phase → Type 0
-IsLive Waiting = Unit {0}
-IsLive Open = Unit {0}
-IsLive (Releasing why) = ⊥
-IsLive (Stopped why) = ⊥
-
--- it answers requests
-abbrev pub IsAnswering : Phase → Type 0
-IsAnswering Waiting = ⊥
-IsAnswering Open = Unit {0}
-IsAnswering (Releasing why) = Unit {0}
-IsAnswering (Stopped why) = ⊥
-
 -- nothing more is to be written: no message is taken any more, nothing is pending, and no byte waits
-abbrev pub is_over : Phase → Bool
-is_over Waiting = false
-is_over Open = false
-is_over (Releasing why) = true
-is_over (Stopped why) = true
-
 abbrev pub is_finished : LinkValue → Bool
 is_finished v = is_over v.phase && length v.waiting == 0
 
@@ -80,36 +62,46 @@ standing_in v = record { role = v.role; phase = v.phase; limit = limit_in v }
 -- ---- what its calls do
 
 -- a new link: the own Capabilities and Settings wait
-abbrev pub link_begun : Role → LimitValues → ℕ → LinkValue
-link_begun role limits tokens =
-    record { role = role; limits = limits; waiting = text_of (own_csm limits.max_message ∷ []); phase = Waiting; peer_max = 1152; tokens = tokens }
+abbrev pub new_link : Role → LimitValues → ℕ → LinkValue
+new_link role limits tokens =
+    record { role = role; limits = limits; waiting = bytes_of (own_csm limits.max_message ∷ []); phase = Waiting; peer_max = base_size; tokens = tokens }
 
 abbrev pub link_with : LinkValue → Effect → LinkValue
-link_with v e = record v { waiting = v.waiting ++ text_of e.queued; phase = e.phase }
+link_with v e = record v { waiting = v.waiting ++ bytes_of e.queued; phase = e.phase }
+
+-- each call where it does something, as the history of the connection goes on
 
 abbrev pub link_after_message : LinkValue → Message → LinkValue
 link_after_message v m =
-    record (link_with v (react (standing_in v) m).effect) { peer_max = unwrap_or (announcement m) v.peer_max }
-
--- the link after Capabilities and Settings
-abbrev pub link_after_csm : LinkValue → Message → LinkValue
-link_after_csm v m =
-    record (link_with v (csm_reaction (standing_in v) (bad_csm_option m)).effect) { peer_max = unwrap_or (csm_size m) v.peer_max }
+    if takes_messages v.phase
+    then record (link_with v (react (standing_in v) m).effect) { peer_max = unwrap_or (announcement m) v.peer_max }
+    else v
 
 abbrev pub link_after_send : LinkValue → Message → Message → LinkValue
-link_after_send v m less = link_with v (send (standing_in v) m less)
+link_after_send v m less = if answers v.phase then link_with v (send (standing_in v) m less) else v
 
 abbrev pub link_after_reply : LinkValue → Message → LinkValue
 link_after_reply v m = link_after_send v m (bare_response m)
 
 abbrev pub link_after_reject : LinkValue → Reject → LinkValue
-link_after_reject v fault = link_with v (stop (standing_in v) (reject_reason fault))
+link_after_reject v fault = if takes_messages v.phase then link_with v (abort (standing_in v) (reject_reason fault)) else v
 
 abbrev pub link_after_end : LinkValue → Bool → LinkValue
-link_after_end v cut = record v { phase = end_phase v.phase cut }
+link_after_end v cut = if takes_messages v.phase then link_with v (stop (standing_in v) (end_reason cut) []) else v
 
 abbrev pub link_after_release : LinkValue → LinkValue
-link_after_release v = link_with v (record { queued = release ∷ []; phase = Stopped ReleasedHere })
+link_after_release v = if is_open v.phase then link_with v (stop (standing_in v) ReleasedHere (release ∷ [])) else v
 
 abbrev pub link_after_written : LinkValue → ℕ → LinkValue
 link_after_written v n = record v { waiting = drop n v.waiting }
+
+-- ---- a message that is taken
+
+abbrev pub link_handled : LinkValue → Message → LinkValue
+link_handled v m =
+    record (link_with v (live_reaction (standing_in v) m).effect) { peer_max = unwrap_or (announcement m) v.peer_max }
+
+-- the same of Capabilities and Settings
+abbrev pub link_after_csm : LinkValue → Message → LinkValue
+link_after_csm v m =
+    record (link_with v (csm_reaction (standing_in v) (bad_csm_option m)).effect) { peer_max = unwrap_or (csm_size m) v.peer_max }

@@ -1,7 +1,10 @@
 -- What a message does on a connection (RFC 8323 sections 3.3, 3.4 and 5, RFC 7252 section 12.1).
-use Rattle.std.specs.Prelude.{ℕ, ◌/◌, Bool, true, false, not, ◌&&◌, ◌||◌, List, [], ◌∷◌, length, Option, Some, None, ◌==◌, if◌then◌else◌}
+use Rattle.std.specs.Prelude.{ℕ, ◌/◌, Bool, true, false, ◌&&◌, ◌||◌, List, [], ◌∷◌, length, Option, Some, None, ◌==◌, if◌then◌else◌}
 use Rattle.std.specs.List.{list_any}
 use Rattle.coap_wire.specs.Message.{CoapOption, Message}
+use Rattle.coap_conn.specs.MoreCodes as code
+use Rattle.coap_conn.specs.SignalOptions as option
+use Rattle.coap_conn.specs.Phases.{stop_of, is_waiting}
 use Rattle.coap_conn.specs.declared.reason.Reason.{Reason}
 use Rattle.coap_conn.specs.declared.reason.Reason.TheVariants.{ReservedCode, CsmExpected, BadCsm, BadSignalOption, PeerAbort, PeerRelease, PeerTooSmall}
 use Rattle.coap_conn.specs.declared.phase.Phase.{Phase}
@@ -11,18 +14,18 @@ use Rattle.coap_conn.specs.declared.phase.Role.TheVariants.{Server, Client}
 use Rattle.coap_conn.specs.declared.phase.Reply.{Reply}
 use Rattle.coap_conn.specs.declared.phase.Reply.TheVariants as reply
 use Rattle.coap_conn.specs.Reasons.{abort_of}
-use Rattle.coap_conn.specs.Announced.{has_odd_option, bad_csm_option}
-use Rattle.coap_conn.specs.Fit.{fit, fitted, bare_response, without_options, abort_fitted}
+use Rattle.coap_conn.specs.Announced.{has_critical_option, bad_csm_option}
+use Rattle.coap_conn.specs.Fit.{fit, bare_response, without_options, abort_fitted}
 use Rattle.coap_conn.specs.Verdicts.{VerdictValue}
 use Rattle.coap_conn.specs.Verdicts as verdict
 
--- what a reaction depends on: which end this is, how the connection stands, and the greatest message that may be sent
+-- what a connection stands on: which end this is, how it stands, and the greatest message that may be sent
 pub record Standing : Type 0 where
   pub role : Role
   pub phase : Phase
   pub limit : ℕ
 
--- what is queued, and how the connection stands afterwards
+-- what is queued, and what the connection stands on afterwards
 pub record Effect : Type 0 where
   pub queued : List Message
   pub phase : Phase
@@ -31,29 +34,44 @@ pub record Reaction : Type 0 where
   pub effect : Effect
   pub verdict : VerdictValue
 
--- ---- parts of reactions
+-- ---- effects
 
--- nothing is queued, and the connection stands so
-abbrev pub becomes : Phase → VerdictValue → Reaction
-becomes now what = record { effect = record { queued = []; phase = now }; verdict = what }
+-- nothing changes
+abbrev pub stay : Standing → Effect
+stay s = record { queued = []; phase = s.phase }
 
--- a stop: the Abort for its reason, as it fits
-abbrev pub stop : Standing → Reason → Effect
-stop s why = record { queued = abort_fitted s.limit (abort_of why); phase = phase.Stopped why }
+-- The one way to stop: these messages are the last that are queued. Whatever else a connection comes to stand on is given up
+-- here.
+abbrev pub stop : Standing → Reason → List Message → Effect
+stop s why farewell = record (stay s) { queued = farewell; phase = phase.Stopped why }
 
-abbrev pub stops : Standing → Reason → Reaction
-stops s why = record { effect = stop s why; verdict = verdict.Stopped why }
+-- a stop with the Abort for its reason, where there is one, as it fits
+abbrev pub abort : Standing → Reason → Effect
+abort s why = stop s why (abort_fitted s.limit (abort_of why))
 
 -- a message of the own that was made to fit, or that stops the connection
 abbrev pub send_as : Standing → Message → Message → Reply → Effect
-send_as s m less reply.Whole = record { queued = m ∷ []; phase = s.phase }
-send_as s m less reply.Bare = record { queued = less ∷ []; phase = s.phase }
-send_as s m less reply.Stopped = stop s PeerTooSmall
+send_as s m less reply.Whole = record (stay s) { queued = m ∷ [] }
+send_as s m less reply.Bare = record (stay s) { queued = less ∷ [] }
+send_as s m less reply.Stopped = stop s PeerTooSmall []
 
 abbrev pub send : Standing → Message → Message → Effect
 send s m less = send_as s m less (fit s.limit m less)
 
--- what the caller is told of it
+-- ---- parts of reactions
+
+-- nothing changes, and the caller is told this
+abbrev pub tells : Standing → VerdictValue → Reaction
+tells s what = record { effect = stay s; verdict = what }
+
+-- nothing is queued, and the connection stands so
+abbrev pub becomes : Standing → Phase → VerdictValue → Reaction
+becomes s now what = record { effect = record (stay s) { phase = now }; verdict = what }
+
+abbrev pub aborts : Standing → Reason → Reaction
+aborts s why = record { effect = abort s why; verdict = verdict.Stopped why }
+
+-- what the caller is told of what was sent
 abbrev pub told_of : Reply → VerdictValue
 told_of reply.Whole = verdict.Done
 told_of reply.Bare = verdict.Done
@@ -66,72 +84,75 @@ sends s m less = record { effect = send s m less; verdict = told_of (fit s.limit
 
 -- class 1 or 6
 abbrev pub is_reserved : ℕ → Bool
-is_reserved code = code / 32 == 1 || code / 32 == 6
+is_reserved byte = byte / 32 == 1 || byte / 32 == 6
 
 -- class 7
 abbrev pub is_signal : ℕ → Bool
-is_signal code = code / 32 == 7
+is_signal byte = byte / 32 == 7
 
--- class 0, but for Empty, which comes before
-abbrev pub is_request : ℕ → Bool
-is_request code = code / 32 == 0
+-- class 0, but for Empty, which comes before: the methods of requests
+abbrev pub is_method : ℕ → Bool
+is_method byte = byte / 32 == 0
 
 -- Ping, Pong and Release
-abbrev pub minds_odd_options : ℕ → Bool
-minds_odd_options code = code == 0xe2 || code == 0xe3 || code == 0xe4
-
-abbrev pub is_waiting : Phase → Bool
-is_waiting phase.Waiting = true
-is_waiting phase.Open = false
-is_waiting (phase.Releasing why) = false
-is_waiting (phase.Stopped why) = false
+abbrev pub minds_critical_options : ℕ → Bool
+minds_critical_options byte = byte == code.ping || byte == code.pong || byte == code.release
 
 -- ---- the messages
 
 -- Capabilities and Settings: the first option that may not be there stops the connection, else it is open
 abbrev pub csm_reaction : Standing → Option ℕ → Reaction
-csm_reaction s (Some number) = stops s (BadCsm number)
-csm_reaction s None = becomes phase.Open (if is_waiting s.phase then verdict.Opened else verdict.Done)
+csm_reaction s (Some number) = aborts s (BadCsm number)
+csm_reaction s None = becomes s phase.Open (if is_waiting s.phase then verdict.Opened else verdict.Done)
 
--- a Ping asks for Custody where an empty option 2 is there
+-- a Ping asks for Custody where an empty one is there
 abbrev pub asks_custody : Message → Bool
-asks_custody m = list_any (λ o. o.number == 2 && length o.value == 0) m.options
+asks_custody m = list_any (λ o. o.number == option.custody && length o.value == 0) m.options
 
 abbrev pub custody_options : Bool → List CoapOption
-custody_options true = record { number = 2; value = [] } ∷ []
+custody_options true = record { number = option.custody; value = [] } ∷ []
 custody_options false = []
 
 -- the Pong: the Ping's token, and Custody where it was asked, since nothing is pending
 abbrev pub pong_of : Message → Message
-pong_of m = record { code = 0xe3; token = m.token; options = custody_options (asks_custody m); payload = [] }
+pong_of m = record { code = code.pong; token = m.token; options = custody_options (asks_custody m); payload = [] }
 
 -- 5.01, Not Implemented
 abbrev pub not_implemented : Message → Message
-not_implemented m = record { code = 0xa1; token = m.token; options = []; payload = [] }
+not_implemented m = record { code = code.not_implemented; token = m.token; options = []; payload = [] }
 
 -- a request is answered by the caller at the server, and is not implemented at the client
 abbrev pub request_reaction : Standing → Message → Role → Reaction
-request_reaction s m Server = becomes s.phase verdict.Request
+request_reaction s m Server = tells s verdict.Request
 request_reaction s m Client = sends s (not_implemented m) (bare_response (not_implemented m))
 
 -- a message that is neither Empty nor reserved nor Abort nor Capabilities and Settings, while the connection is open: the
 -- first of these that holds
 abbrev pub open_reaction : Standing → Message → Reaction
 open_reaction s m =
-    if minds_odd_options m.code && has_odd_option m then stops s BadSignalOption
-    else (if m.code == 0xe2 then sends s (pong_of m) (without_options (pong_of m))
-    else (if m.code == 0xe4 then becomes (phase.Releasing PeerRelease) (verdict.Stopped PeerRelease)
-    else (if m.code == 0xe3 then becomes s.phase verdict.Stranger
-    else (if is_signal m.code then becomes s.phase verdict.Done
-    else (if is_request m.code then request_reaction s m s.role
-    else becomes s.phase verdict.Stranger)))))
+    if minds_critical_options m.code && has_critical_option m then aborts s BadSignalOption
+    else (if m.code == code.ping then sends s (pong_of m) (without_options (pong_of m))
+    else (if m.code == code.release then becomes s (phase.Releasing PeerRelease) (verdict.Stopped PeerRelease)
+    else (if m.code == code.pong then tells s verdict.Stranger
+    else (if is_signal m.code then tells s verdict.Done
+    else (if is_method m.code then request_reaction s m s.role
+    else tells s verdict.Stranger)))))
 
--- What a message does while the connection waits or is open: the first of these that holds.
-unfoldable pub react : Standing → Message → Reaction
-react s m =
-    if is_reserved m.code then stops s ReservedCode
-    else (if m.code == 0x00 then becomes s.phase verdict.Done
-    else (if m.code == 0xe5 then stops s PeerAbort
-    else (if m.code == 0xe1 then csm_reaction s (bad_csm_option m)
-    else (if is_waiting s.phase then stops s CsmExpected
+-- What a message does while the connection waits or is open: the first of these that holds. No Abort answers an Abort.
+unfoldable pub live_reaction : Standing → Message → Reaction
+live_reaction s m =
+    if is_reserved m.code then aborts s ReservedCode
+    else (if m.code == code.empty then tells s verdict.Done
+    else (if m.code == code.abort then aborts s PeerAbort
+    else (if m.code == code.csm then csm_reaction s (bad_csm_option m)
+    else (if is_waiting s.phase then aborts s CsmExpected
     else open_reaction s m))))
+
+-- a message changes nothing where none is taken any more
+abbrev pub reaction_unless : Standing → Message → Option Reason → Reaction
+reaction_unless s m None = live_reaction s m
+reaction_unless s m (Some why) = tells s (verdict.Stopped why)
+
+-- What a message does.
+unfoldable pub react : Standing → Message → Reaction
+react s m = reaction_unless s m (stop_of s.phase)

@@ -2,6 +2,8 @@
 use Rattle.std.specs.Prelude.{ℕ, List, [], ◌∷◌, Option, Some, None, codes, option_map, unwrap_or}
 use Rattle.coap_wire.specs.Message.{CoapOption, Message}
 use Rattle.coap_wire.specs.Uint.{uint_text}
+use Rattle.coap_conn.specs.MoreCodes as code
+use Rattle.coap_conn.specs.SignalOptions as option
 use Rattle.coap_conn.specs.declared.reason.Reason.{Reason}
 use Rattle.coap_conn.specs.declared.reason.Reason.TheVariants.{Format, TooLarge, TokenLength, ReservedCode, CsmExpected, BadCsm, BadSignalOption, PeerAbort, PeerRelease, PeerTooSmall, Ended, Cut, ReleasedHere}
 
@@ -52,17 +54,17 @@ number_told Ended = None
 number_told Cut = None
 number_told ReleasedHere = None
 
--- Bad-CSM-Option, option 2 of Abort, with this value where there is a number (RFC 8323 section 5.6)
+-- Bad-CSM-Option with this value, where there is a number (RFC 8323 section 5.6)
 abbrev pub told_options : Option ℕ → List ℕ → List CoapOption
-told_options None text = []
-told_options (Some number) text = record { number = 2; value = text } ∷ []
+told_options None value = []
+told_options (Some number) value = record { number = option.bad_csm_option; value = value } ∷ []
 
 abbrev pub abort_options : Option ℕ → List CoapOption
 abort_options number = told_options number (uint_text (unwrap_or number 0))
 
 -- an Abort with these options and this text
 abbrev pub abort_with : List CoapOption → List ℕ → Message
-abort_with options text = record { code = 0xe5; token = []; options = options; payload = text }
+abort_with options text = record { code = code.abort; token = []; options = options; payload = text }
 
 -- the Abort for a reason, where one is sent
 abbrev pub abort_of : Reason → Option Message

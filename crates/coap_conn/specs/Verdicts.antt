@@ -1,5 +1,5 @@
 -- What a message was, apart from where its token lies.
-use Rattle.std.specs.Prelude.{ℕ, Bool, List}
+use Rattle.std.specs.Prelude.{ℕ, Bool, true, false, List}
 use Rattle.coap_conn.specs.declared.reason.Reason.{Reason}
 
 pub data VerdictValue : Type 0 where
@@ -10,3 +10,13 @@ pub data VerdictValue : Type 0 where
   Pong : (token : List ℕ) (custody : Bool) → VerdictValue
   Stranger : VerdictValue
   Stopped : Reason → VerdictValue
+
+-- it is a request, which the caller answers
+abbrev pub is_request : VerdictValue → Bool
+is_request Opened = false
+is_request Done = false
+is_request Request = true
+is_request (Answer token last) = false
+is_request (Pong token custody) = false
+is_request Stranger = false
+is_request (Stopped why) = false

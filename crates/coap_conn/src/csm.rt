@@ -3,7 +3,7 @@
 ghost use Rattle.std.specs.Prelude.{◌≡◌, Some, None, option_map, find, IfOk, IfErr, OnOk};
 ghost use Rattle.coap_wire.specs.Uint.{uint_of};
 ghost use Rattle.coap_wire.specs.Views.{coap_option};
-ghost use Rattle.coap_conn.specs.Announced.{is_bad, first_size as first_size_in, has_odd_option as odd_option_in, bad_csm_option as bad_option_in};
+ghost use Rattle.coap_conn.specs.Announced.{is_bad, first_size as first_size_in, has_critical_option as critical_option_in, bad_csm_option as bad_option_in};
 ghost use Rattle.coap_conn.specs.Reaction.{asks_custody as custody_asked};
 
 use coap_wire::{MessageRef, OptionRef, uint_value};
@@ -14,9 +14,9 @@ pub(crate) const MAX_MESSAGE_SIZE: u16 = 2;
 /// Custody, an option of Ping and Pong (RFC 8323 section 5.4.1).
 pub(crate) const CUSTODY: u16 = 2;
 
-/// Whether an option is critical: those with odd numbers are (RFC 8323 section 5.2).
-pub(crate) fn has_odd_option(message: &MessageRef) -> bool
-    ensures { result ≡ odd_option_in message.now }
+/// Whether it has a critical option: those with odd numbers are (RFC 8323 section 5.2).
+pub(crate) fn has_critical_option(message: &MessageRef) -> bool
+    ensures { result ≡ critical_option_in message.now }
 {
     message.options().any(|option| option.number % 2 == 1)
 }

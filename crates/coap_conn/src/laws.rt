@@ -6,10 +6,13 @@ ghost use Rattle.coap_wire.specs.Message.{Message};
 ghost use Rattle.coap_conn.specs.Announced.{bad_csm_option, announcement, announced};
 ghost use Rattle.coap_conn.specs.Fit.{AllFit};
 ghost use Rattle.coap_conn.specs.Limits.{LimitValues, AreInRange};
-ghost use Rattle.coap_conn.specs.History.{History, AnnouncedFirst, begun, limit_now, standing_now, release, after_message, after_send, after_reject, after_end, after_release, after_written};
-ghost use Rattle.coap_conn.specs.Reaction.{Standing, react, send, stop};
+ghost use Rattle.coap_conn.specs.History.{History, AnnouncedFirst, new_history, limit_now, standing_now, release, after_message, after_send, after_reject, after_end, after_release, after_written};
+ghost use Rattle.coap_conn.specs.Phases.{stop_of};
+ghost use Rattle.coap_conn.specs.Reaction.{Standing, react, send, abort};
+ghost use Rattle.coap_conn.specs.MoreCodes as code;
 ghost use Rattle.coap_conn.specs.Verdicts.{Request};
-ghost use Rattle.coap_conn.specs.declared.phase.Phase.TheVariants.{Waiting, Open};
+ghost use Rattle.coap_conn.specs.Verdicts as verdict;
+ghost use Rattle.coap_conn.specs.declared.phase.Phase.TheVariants.{Waiting, Open, Stopped};
 ghost use Rattle.coap_conn.specs.declared.phase.Reject.{Reject};
 ghost use Rattle.coap_conn.specs.declared.phase.Role.{Role};
 ghost use Rattle.coap_conn.specs.declared.reason.Reason.{Reason};
@@ -23,16 +26,16 @@ pub fn last_announcement_counts()
 
 /// Whatever is queued is at most as great as the peer takes at that moment, and as the own greatest message.
 pub fn what_is_queued_fits()
-    ensures begun { (role : Role) (limits : LimitValues) (tokens : ℕ) → AreInRange limits → AllFit (limit_now (begun role limits tokens)) (begun role limits tokens).queued }
+    ensures new { (role : Role) (limits : LimitValues) (tokens : ℕ) → AreInRange limits → AllFit (limit_now (new_history role limits tokens)) (new_history role limits tokens).queued }
     ensures message { (h : History) (m : Message) → AllFit (limit_now h) (react (standing_now h) m).effect.queued }
     ensures sent { (h : History) (m less : Message) → AllFit (limit_now h) (send (standing_now h) m less).queued }
-    ensures stopped { (h : History) (why : Reason) → AllFit (limit_now h) (stop (standing_now h) why).queued }
+    ensures stopped { (h : History) (why : Reason) → AllFit (limit_now h) (abort (standing_now h) why).queued }
     ensures released { (h : History) → 2 ≤ limit_now h → AllFit (limit_now h) (release ∷ []) }
 {}
 
 /// The own Capabilities and Settings are the first message queued, and stay so (RFC 8323 section 5.3).
 pub fn own_announcement_comes_first()
-    ensures begun { (role : Role) (limits : LimitValues) (tokens : ℕ) → AnnouncedFirst (begun role limits tokens) }
+    ensures new { (role : Role) (limits : LimitValues) (tokens : ℕ) → AnnouncedFirst (new_history role limits tokens) }
     ensures message { (h : History) (m : Message) → AnnouncedFirst h → AnnouncedFirst (after_message h m) }
     ensures sent { (h : History) (m less : Message) → AnnouncedFirst h → AnnouncedFirst (after_send h m less) }
     ensures rejected { (h : History) (fault : Reject) → AnnouncedFirst h → AnnouncedFirst (after_reject h fault) }
@@ -45,6 +48,17 @@ pub fn own_announcement_comes_first()
 /// section 3.3).
 pub fn peer_announces_before_requests()
     ensures request { (s : Standing) (m : Message) → s.phase ≡ Waiting → (react s m).verdict ≡ Request → ⊥ }
-    ensures opens_by_code { (s : Standing) (m : Message) → s.phase ≡ Waiting → (react s m).effect.phase ≡ Open → m.code ≡ 0xe1 }
+    ensures opens_by_code { (s : Standing) (m : Message) → s.phase ≡ Waiting → (react s m).effect.phase ≡ Open → m.code ≡ code.csm }
     ensures opens_whole { (s : Standing) (m : Message) → s.phase ≡ Waiting → (react s m).effect.phase ≡ Open → bad_csm_option m ≡ None }
+{}
+
+/// Nothing follows a stop: where no message is taken any more, a message, a fault, the end of input and the own Release
+/// change nothing, and on a connection that stopped nothing is sent either.
+pub fn nothing_follows_a_stop()
+    ensures message { (h : History) (m : Message) (why : Reason) → stop_of h.phase ≡ Some why → after_message h m ≡ h }
+    ensures told { (s : Standing) (m : Message) (why : Reason) → stop_of s.phase ≡ Some why → (react s m).verdict ≡ verdict.Stopped why }
+    ensures rejected { (h : History) (fault : Reject) (why : Reason) → stop_of h.phase ≡ Some why → after_reject h fault ≡ h }
+    ensures ended { (h : History) (cut : Bool) (why : Reason) → stop_of h.phase ≡ Some why → after_end h cut ≡ h }
+    ensures released { (h : History) (why : Reason) → stop_of h.phase ≡ Some why → after_release h ≡ h }
+    ensures sent { (h : History) (m less : Message) (why : Reason) → h.phase ≡ Stopped why → after_send h m less ≡ h }
 {}

@@ -1,11 +1,11 @@
 //! One side of a connection.
 
 ghost use Rattle.std.specs.Prelude.{◌≡◌};
-ghost use Rattle.coap_conn.specs.Reaction.{is_waiting as waits, is_reserved as reserved, minds_odd_options as minds_odd};
-ghost use Rattle.coap_conn.specs.LinkValue.{is_over as over};
-ghost use Rattle.coap_conn.specs.History.{reject_reason};
+ghost use Rattle.coap_conn.specs.Phases.{is_waiting as waits};
+ghost use Rattle.coap_conn.specs.Reaction.{is_reserved as reserved, minds_critical_options as minds_critical};
+ghost use Rattle.coap_conn.specs.Rejects.{reject_reason};
 
-use crate::csm::{announced_size, has_odd_option};
+use crate::csm::{announced_size, has_critical_option};
 use crate::limits::Limits;
 use crate::messages::{
     abort_text, abort_with, announce, bad_csm_number, bare_of, pong_to, queue_release,
@@ -48,18 +48,19 @@ impl Model for Link {
 }
 
 impl Link {
-    ghost use Rattle.std.specs.Prelude.{◌≡◌, ◌≤◌, ◌++◌, ◌↔◌, ⊤, length, if◌then◌else◌, IsTrue, IfOk, OnOk, OnErr};
+    ghost use Rattle.std.specs.Prelude.{◌≡◌, ◌≤◌, ◌++◌, ◌↔◌, ⊤, [], length, if◌then◌else◌, IsTrue, IfOk, OnOk, OnErr};
     ghost use Rattle.std.specs.Borrow.{sem, follows_so};
     ghost use mathlib.Core.Option.{none};
     ghost use Rattle.coap_wire.specs.Spelling.{spelling};
     ghost use Rattle.coap_wire.specs.Refusal.{RefusedBy};
     ghost use Rattle.coap_conn.specs.Announced.{bad_csm_option};
     ghost use Rattle.coap_conn.specs.Fit.{fit, fitted, bare_response};
-    ghost use Rattle.coap_conn.specs.Reaction.{react, stop, told_of, csm_reaction, open_reaction, request_reaction};
+    ghost use Rattle.coap_conn.specs.Phases.{IsLive, IsAnswering};
+    ghost use Rattle.coap_conn.specs.Reaction.{react, stop, abort, send, told_of, csm_reaction, live_reaction, open_reaction, request_reaction};
     ghost use Rattle.coap_conn.specs.Verdicts as verdict;
     ghost use Rattle.coap_conn.specs.declared.phase.Phase.TheVariants as phase;
-    ghost use Rattle.coap_conn.specs.History.{History, text_of, begun, after_message, after_reject, after_end, after_reply, after_release, after_written};
-    ghost use Rattle.coap_conn.specs.LinkValue.{Shows, IsLink, IsReady, IsLive, IsAnswering, free_in, limit_in, standing_in, is_finished, link_begun, link_with, link_after_message, link_after_csm, link_after_send, link_after_reply, link_after_reject, link_after_end, link_after_release, link_after_written};
+    ghost use Rattle.coap_conn.specs.History.{History, bytes_of, new_history, after_message, after_reject, after_end, after_reply, after_release, after_written};
+    ghost use Rattle.coap_conn.specs.LinkValue.{Shows, IsLink, IsReady, free_in, limit_in, standing_in, is_finished, new_link, link_with, link_handled, link_after_message, link_after_csm, link_after_reply, link_after_reject, link_after_end, link_after_release, link_after_written};
     ghost use Rattle.coap_conn.specs.LinkViews.{verdict_value};
     ghost use Rattle.coap_conn.specs.Release.{release_refusal};
     ghost use Rattle.coap_conn.specs.contracts.link.Link.{the_row};
@@ -76,8 +77,8 @@ impl Link {
         limits: Limits,
         tokens_from: u64,
     ) -> Result<Link, AllocError>
-        ensures begun { IfOk result (λ l. l ≡ link_begun role limits tokens_from) }
-        ensures shows { IfOk result (λ l. Shows l (begun role limits tokens_from)) }
+        ensures new { IfOk result (λ l. l ≡ new_link role limits tokens_from) }
+        ensures shows { IfOk result (λ l. Shows l (new_history role limits tokens_from)) }
     {
         let mut queue = OutQueue::new(alloc, limits.queue())?;
         announce(&mut queue, limits.max_message());
@@ -163,7 +164,7 @@ impl Link {
     pub fn finished(&self) -> bool
         ensures { result ≡ is_finished self.now }
     {
-        is_over(self.phase) && self.queue.waiting() == 0
+        self.phase.stop().is_some() && self.queue.waiting() == 0
     }
 
     /// Handles a message (RFC 8323 sections 3.3, 3.4 and 5). There must be room for the greatest message sent, and the
@@ -175,7 +176,8 @@ impl Link {
         ensures verdict { verdict_value result ≡ (react (standing_in self.old) message.now).verdict }
         ensures after { self.new ≡ link_after_message self.old message.now }
         ensures shows { (h : History) → Shows self.old h → Shows self.new (after_message h message.now) }
-        // A request can be answered at once.
+        // A request changes nothing, and can be answered at once.
+        ensures unchanged { verdict_value result ≡ verdict.Request → self.new ≡ self.old }
         ensures asked { verdict_value result ≡ verdict.Request → IsReady self.new × IsAnswering self.new.phase }
     {
         self.handle(message)
@@ -188,8 +190,7 @@ impl Link {
         ensures after { self.new ≡ link_after_reject self.old fault }
         ensures shows { (h : History) → Shows self.old h → Shows self.new (after_reject h fault) }
     {
-        let reason = reason_of(fault);
-        self.stop(reason);
+        self.abort(reason_of(fault));
     }
 
     /// Stops as the input ends, within a frame where it was cut. Nothing changes where no message is taken any more.
@@ -197,10 +198,8 @@ impl Link {
         ensures after { self.new ≡ link_after_end self.old cut }
         ensures shows { (h : History) → Shows self.old h → Shows self.new (after_end h cut) }
     {
-        let reason = if cut { Reason::Cut } else { Reason::Ended };
-        match self.phase {
-            Phase::Waiting | Phase::Open => self.phase = Phase::Stopped(reason),
-            Phase::Releasing(_) | Phase::Stopped(_) => {}
+        if self.phase.stop().is_none() {
+            self.stop(if cut { Reason::Cut } else { Reason::Ended });
         }
     }
 
@@ -240,7 +239,7 @@ impl Link {
             return Err(SendFault::PeerTooSmall);
         }
         queue_release(&mut self.queue);
-        self.phase = Phase::Stopped(Reason::ReleasedHere);
+        self.stop(Reason::ReleasedHere);
         Ok(())
     }
 
@@ -251,28 +250,28 @@ impl Link {
         self.limits.max_sent().min(self.peer_max as usize)
     }
 
-    /// Handles a message.
-    #[tactic(auto, unfolding(crate::specs::Reaction::react))]
+    /// Handles a message that is taken.
+    #[tactic(auto, unfolding(crate::specs::Reaction::live_reaction))]
     fn handle(&mut self, message: &MessageRef) -> Verdict
         requires { IsReady self.old }
-        ensures verdict { verdict_value result ≡ (react (standing_in self.old) message.now).verdict }
-        ensures after { self.new ≡ link_after_message self.old message.now }
+        ensures verdict { verdict_value result ≡ (live_reaction (standing_in self.old) message.now).verdict }
+        ensures after { self.new ≡ link_handled self.old message.now }
     {
         let code = message.code();
         if code == Code::CSM {
             return self.on_csm(message);
         }
         if is_reserved(code) {
-            return self.stop(Reason::ReservedCode);
+            return self.abort(Reason::ReservedCode);
         }
         if code == Code::EMPTY {
             return Verdict::Done;
         }
         if code == Code::ABORT {
-            return self.stop(Reason::PeerAbort);
+            return self.abort(Reason::PeerAbort);
         }
         if is_waiting(self.phase) {
-            return self.stop(Reason::CsmExpected);
+            return self.abort(Reason::CsmExpected);
         }
         self.on_open(message)
     }
@@ -281,7 +280,7 @@ impl Link {
     fn queue_fitted(&mut self, whole: &Builder, less: &Builder) -> Reply
         requires { IsReady self.old }
         ensures reply { result ≡ fit (limit_in self.old) whole.now less.now }
-        ensures after { self.new ≡ record self.old { waiting = self.old.waiting ++ text_of (fitted whole.now less.now result) } }
+        ensures after { self.new ≡ record self.old { waiting = self.old.waiting ++ bytes_of (fitted whole.now less.now result) } }
     {
         let limit = self.limit() as u64;
         if whole.size() <= limit {
@@ -299,22 +298,33 @@ impl Link {
     fn send(&mut self, whole: &Builder, less: &Builder) -> Reply
         requires { IsReady self.old }
         ensures reply { result ≡ fit (limit_in self.old) whole.now less.now }
-        ensures after { self.new ≡ link_after_send self.old whole.now less.now }
+        ensures after { self.new ≡ link_with self.old (send (standing_in self.old) whole.now less.now) }
     {
         let reply = self.queue_fitted(whole, less);
         match reply {
             Reply::Whole => {}
             Reply::Bare => {}
-            Reply::Stopped => self.phase = Phase::Stopped(Reason::PeerTooSmall),
+            Reply::Stopped => {
+                self.stop(Reason::PeerTooSmall);
+            }
         }
         reply
     }
 
-    /// Stops with the Abort for the reason, where there is one, as it fits the peer.
+    /// The one way to stop, behind what was queued for it. Whatever else a link comes to hold is given up here.
     fn stop(&mut self, reason: Reason) -> Verdict
+        ensures verdict { verdict_value result ≡ verdict.Stopped reason }
+        ensures after { self.new ≡ link_with self.old (stop (standing_in self.old) reason []) }
+    {
+        self.phase = Phase::Stopped(reason);
+        Verdict::Stopped(reason)
+    }
+
+    /// Stops with the Abort for the reason, where there is one, as it fits the peer.
+    fn abort(&mut self, reason: Reason) -> Verdict
         requires { IsReady self.old }
         ensures verdict { verdict_value result ≡ verdict.Stopped reason }
-        ensures after { self.new ≡ link_with self.old (stop (standing_in self.old) reason) }
+        ensures after { self.new ≡ link_with self.old (abort (standing_in self.old) reason) }
     {
         if let Some(text) = abort_text(reason) {
             let number = bad_csm_number(reason);
@@ -323,8 +333,7 @@ impl Link {
             let less = abort_with(number, &bytes, &[]);
             self.queue_fitted(&whole, &less);
         }
-        self.phase = Phase::Stopped(reason);
-        Verdict::Stopped(reason)
+        self.stop(reason)
     }
 
     /// Handles Capabilities and Settings (RFC 8323 section 5.3).
@@ -334,7 +343,7 @@ impl Link {
         ensures after { self.new ≡ link_after_csm self.old message.now }
     {
         match announced_size(message) {
-            Err(number) => self.stop(Reason::BadCsm(number)),
+            Err(number) => self.abort(Reason::BadCsm(number)),
             Ok(size) => {
                 if let Some(bytes) = size {
                     self.peer_max = bytes;
@@ -365,8 +374,8 @@ impl Link {
         ensures after { self.new ≡ link_with self.old (open_reaction (standing_in self.old) message.now).effect }
     {
         let code = message.code();
-        if minds_odd_options(code) && has_odd_option(message) {
-            return self.stop(Reason::BadSignalOption);
+        if minds_critical_options(code) && has_critical_option(message) {
+            return self.abort(Reason::BadSignalOption);
         }
         if code == Code::PING {
             let pong = pong_to(message);
@@ -406,7 +415,7 @@ impl Link {
     fn answer(&mut self, whole: &Builder, less: &Builder) -> Verdict
         requires { IsReady self.old }
         ensures verdict { verdict_value result ≡ told_of (fit (limit_in self.old) whole.now less.now) }
-        ensures after { self.new ≡ link_after_send self.old whole.now less.now }
+        ensures after { self.new ≡ link_with self.old (send (standing_in self.old) whole.now less.now) }
     {
         match self.send(whole, less) {
             Reply::Whole => Verdict::Done,
@@ -424,8 +433,8 @@ fn is_reserved(code: Code) -> bool
 }
 
 /// Whether a message with this code must have no critical option: Ping, Pong and Release.
-fn minds_odd_options(code: Code) -> bool
-    ensures { result ≡ minds_odd code }
+fn minds_critical_options(code: Code) -> bool
+    ensures { result ≡ minds_critical code }
 {
     code == Code::PING || code == Code::PONG || code == Code::RELEASE
 }
@@ -437,16 +446,6 @@ fn is_waiting(phase: Phase) -> bool
     match phase {
         Phase::Waiting => true,
         Phase::Open | Phase::Releasing(_) | Phase::Stopped(_) => false,
-    }
-}
-
-/// Whether nothing is queued any more.
-fn is_over(phase: Phase) -> bool
-    ensures { result ≡ over phase }
-{
-    match phase {
-        Phase::Waiting | Phase::Open => false,
-        Phase::Releasing(_) | Phase::Stopped(_) => true,
     }
 }
 

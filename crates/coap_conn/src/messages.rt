@@ -4,7 +4,7 @@ ghost use Rattle.std.specs.Prelude.{◌≡◌, ◌≤◌, ◌∷◌, ◌++◌, [
 ghost use Rattle.coap_conn.specs.Reasons.{abort_text as text_for, abort_with as abort_message, number_told, told_options};
 ghost use Rattle.coap_conn.specs.Reaction.{pong_of};
 ghost use Rattle.coap_conn.specs.Fit.{bare_response};
-ghost use Rattle.coap_conn.specs.History.{text_of, own_csm, release};
+ghost use Rattle.coap_conn.specs.History.{bytes_of, own_csm, release};
 ghost use Rattle.coap_conn.specs.QueueValue.{free_of};
 
 use crate::csm::{CUSTODY, MAX_MESSAGE_SIZE, asks_custody};
@@ -18,8 +18,8 @@ const BAD_CSM_OPTION: u16 = 2;
 /// Queues the own Capabilities and Settings: Max-Message-Size, and nothing else (RFC 8323 section 5.3).
 pub(crate) fn announce(queue: &mut OutQueue, max_message: usize)
     requires { 24 ≤ free_of queue.old }
-    ensures csm { queue.new ≡ record queue.old { waiting = queue.old.waiting ++ text_of (own_csm max_message ∷ []) } }
-    ensures small { length (text_of (own_csm max_message ∷ [])) ≤ 24 }
+    ensures csm { queue.new ≡ record queue.old { waiting = queue.old.waiting ++ bytes_of (own_csm max_message ∷ []) } }
+    ensures small { length (bytes_of (own_csm max_message ∷ [])) ≤ 24 }
 {
     let size = uint_bytes(max_message as u64);
     let mut csm = Builder::new(Code::CSM, &Token::new());
@@ -32,8 +32,8 @@ pub(crate) fn announce(queue: &mut OutQueue, max_message: usize)
 /// Queues Release.
 pub(crate) fn queue_release(queue: &mut OutQueue)
     requires { 2 ≤ free_of queue.old }
-    ensures queued { queue.new ≡ record queue.old { waiting = queue.old.waiting ++ text_of (release ∷ []) } }
-    ensures small { length (text_of (release ∷ [])) ≡ 2 }
+    ensures queued { queue.new ≡ record queue.old { waiting = queue.old.waiting ++ bytes_of (release ∷ []) } }
+    ensures small { length (bytes_of (release ∷ [])) ≡ 2 }
 {
     queue.put(&Builder::new(Code::RELEASE, &Token::new()));
 }

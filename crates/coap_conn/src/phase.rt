@@ -1,5 +1,8 @@
 //! How a connection stands, and what its calls answer.
 
+ghost use Rattle.std.specs.Prelude.{◌≡◌};
+ghost use Rattle.coap_conn.specs.Phases.{stop_of};
+
 use crate::reason::Reason;
 use coap_wire::Token;
 use thiserror::Error;
@@ -25,6 +28,20 @@ pub enum Phase {
     Releasing(Reason),
     /// Nothing more is taken or queued. What waits is still written.
     Stopped(Reason),
+}
+
+impl Phase {
+    /// Why no message is taken any more, where none is.
+    pub fn stop(self) -> Option<Reason>
+        ensures { result ≡ stop_of self }
+    {
+        match self {
+            Phase::Waiting => None,
+            Phase::Open => None,
+            Phase::Releasing(reason) => Some(reason),
+            Phase::Stopped(reason) => Some(reason),
+        }
+    }
 }
 
 /// What a message was.

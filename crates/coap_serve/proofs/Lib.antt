@@ -7,4 +7,3 @@ pub mod PieceLemmas
 pub mod OutcomeLemmas
 pub mod RunLemmas
 pub mod ResponseLemmas
-pub mod RequestLemmas

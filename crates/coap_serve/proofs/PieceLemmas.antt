@@ -3,15 +3,13 @@ use Rattle.std.proofs.Common.{◌≡◌, ◌≢◌, ℕ, ◌+◌, ◌-◌, ◌<�
 use Rattle.std.proofs.lemmas.Bool.{ne_eqb}
 use Rattle.std.proofs.lemmas.List.{append-nil, length-drop, take-append-drop, take_rest}
 use Rattle.coap_conn.specs.declared.reason.Reason.{Reason}
-use Rattle.coap_conn.specs.LinkValue.{IsLive}
+use Rattle.coap_conn.specs.Phases.{stop_of, IsLive}
 use Rattle.coap_serve.specs.Device.{AddsBytes, WritesPart}
 use Rattle.coap_serve.specs.declared.host.Host.{Host}
 use Rattle.coap_serve.specs.declared.serve.IoFault.TheVariants.{Write, Memory}
-use Rattle.coap_serve.specs.Serving.{stop_of}
 use Rattle.coap_serve.specs.Connection.{ConnectionValue, IsKept, Step, step, RefusesFirst, IsRefusedWith}
 use Rattle.coap_serve.specs.Turns.{Progress, progress_from, value_of, stop_in, IsServed}
 use Rattle.coap_serve.proofs.DeviceLemmas.{bytes_none, bytes_then}
-use Rattle.coap_serve.proofs.TalkLemmas.{live_where_none, none_where_live}
 use Rattle.coap_serve.proofs.ProgressLemmas.{after_text, progress_more, idle, no_message}
 use Rattle.coap_serve.proofs.StepLemmas.{value_flushed, Steps, steps}
 
@@ -36,7 +34,7 @@ begins host v piece x kept quiet live =
 goes_on : (host : Host) (v : ConnectionValue) (piece : List ℕ) (x : Option (List ℕ)) (now : Host) (w : ConnectionValue) (rest : List ℕ) (y : Option (List ℕ)) (so_far : Serves host v piece x now w rest y) (more : List ℕ)
     → progress_from host v (so_far.taken ++ more) ≡ after_text so_far.text (progress_from now w more)
 goes_on host v piece x now w rest y so_far more =
-    progress_more host v so_far.taken more (ap stop_in so_far.came ∙ none_where_live w.link.phase so_far.live)
+    progress_more host v so_far.taken more (ap stop_in so_far.came ∙ so_far.live)
     ∙ ap (λ (p : Progress). after_text p.text (progress_from p.host (value_of p) more)) so_far.came
 
 -- whether bytes are left
@@ -60,7 +58,7 @@ served host v piece x now w rest y so_far none =
     let all : progress_from host v piece ≡ record { link = w.link; host = now; text = so_far.text; handled = w.handled; rest = w.frame } =
     ap (progress_from host v) (so_far.all ∙ ap (λ (r : List ℕ). so_far.taken ++ r) none ∙ append-nil so_far.taken) ∙ so_far.came in (
       subst (AddsBytes x y) (sym (ap (λ (p : Progress). p.text) all)) so_far.written,
-      ap stop_in all ∙ none_where_live w.link.phase so_far.live,
+      ap stop_in all ∙ so_far.live,
       ap value_of (sym all),
       ap (λ (p : Progress). p.host) (sym all),
     )
@@ -90,7 +88,7 @@ module _ (host : Host) (v : ConnectionValue) (piece : List ℕ) (x : Option (Lis
         last = refuses.last;
         behind = refuses.behind;
         all = so_far.all ∙ ap (λ (r : List ℕ). so_far.taken ++ r) refuses.all ∙ sym (append_assoc so_far.taken refuses.front (refuses.last ∷ refuses.behind));
-        going = ap stop_in here ∙ none_where_live w.link.phase so_far.live;
+        going = ap stop_in here ∙ so_far.live;
         refused = subst (λ (p : Progress). IsRefusedWith p.host (value_of p) refuses.last) (sym here) refuses.refused;
         written = subst (λ (p : Progress). AddsBytes x y p.text) (sym here) so_far.written;
       }
@@ -118,7 +116,7 @@ module _ (host : Host) (v : ConnectionValue) (piece : List ℕ) (x : Option (Lis
       subst (λ (h : Host). Serves host v piece x h new (take (length rest - s.count) left) z) (sym next_is) (subst (λ (u : ConnectionValue). Serves host v piece x s.host u (take (length rest - s.count) left) z) (sym new_is) (subst (λ (r : List ℕ). Serves host v piece x s.host (value_flushed s.after) r z) (sym (take_rest rest s.count)) (record {
         kept = kept;
         quiet = refl;
-        live = live_where_none s.after.link.phase going;
+        live = going;
         few = omega (arith, taken_is.few, some, within, so_far.few, length-drop s.count rest);
         text = so_far.text ++ more;
         written = bytes_then x y z so_far.text more so_far.written wrote;

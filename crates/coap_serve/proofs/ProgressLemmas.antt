@@ -100,10 +100,6 @@ value_kept host v xs kept going =
     let none = going_by host v xs going in
     subst (λ (p : Progress). IsKept (value_of p)) (sym (going_is host v xs none)) (kept_by host v xs kept none)
 
--- a new connection keeps no byte
-pub begun_kept : (limits : LimitValues) → AreInRange limits → IsKept (begun limits)
-begun_kept limits ranges = record { unfinished = unfinished_empty limits.max_message; ranges = ranges }
-
 -- nothing waits afterwards
 pub progress_quiet : (host : Host) (v : ConnectionValue) (bytes : List ℕ) → v.link.waiting ≡ [] → (progress_from host v bytes).link.waiting ≡ []
 unfolding progress_from

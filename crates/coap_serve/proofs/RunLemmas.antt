@@ -5,20 +5,20 @@ use Rattle.std.proofs.lemmas.List.{append-nil, length-append}
 use Rattle.coap_serve.specs.Device.{Told, HasGiven, AddsBytes, WritesPart}
 use Rattle.coap_conn.specs.declared.reason.Reason.{Reason}
 use Rattle.coap_conn.specs.Limits.{LimitValues}
-use Rattle.coap_conn.specs.LinkValue.{IsLive}
+use Rattle.coap_conn.specs.Phases.{stop_of, IsLive}
+use Rattle.coap_conn.specs.History.{end_reason}
 use Rattle.coap_serve.specs.declared.serve.Report.{Report}
 use Rattle.coap_serve.specs.declared.serve.IoFault.{IoFault}
 use Rattle.coap_serve.specs.declared.serve.IoFault.TheVariants.{Read, Write, Memory, Turns}
 use Rattle.coap_serve.specs.declared.serve.Turn.{Turn}
 use Rattle.coap_serve.specs.declared.serve.Turn.TheVariants.{More, Ended, Stopped}
 use Rattle.coap_serve.specs.declared.host.Host.{Host}
-use Rattle.coap_serve.specs.Serving.{Setup, stop_of, Outcome, outcome, stdio_output, end_reason}
+use Rattle.coap_serve.specs.Serving.{Setup, Outcome, outcome, stdio_output, is_cut}
 use Rattle.coap_serve.specs.StdioRun.{AreNotEmpty, GoesOn, EndsRun, IsStdioRun}
 use Rattle.coap_serve.specs.Connection.{ConnectionValue, IsKept, host_of, link_flushed, opened, own_announcement, begun, IsRefusedWith}
 use Rattle.coap_serve.specs.Turns.{Progress, progress_from, value_of, stop_in, RefusesIn, WritesPartOf, IsServed, setup_with, HasRead, IsTurn}
 use Rattle.coap_serve.proofs.DeviceLemmas.{bytes_none, bytes_then, given_none, given_then}
 use Rattle.coap_serve.proofs.ProgressLemmas.{after_text, progress_more, progress_quiet, value_kept, begun_idle}
-use Rattle.coap_serve.proofs.TalkLemmas.{live_where_none}
 use Rattle.coap_serve.proofs.OutcomeLemmas.{came, outcome_is, is_last_byte}
 
 -- ---- pieces
@@ -109,7 +109,7 @@ module _ (setup : Setup) (turns read : ℕ) (host now : Host) (v after : Connect
   quiet = ap (λ (w : ConnectionValue). w.link.waiting) so_far.shows ∙ progress_quiet (host_of setup) (begun setup.limits) bytes refl
 
   pub live : IsLive v.link.phase
-  live = live_where_none v.link.phase (ap (λ (w : ConnectionValue). stop_of w.link.phase) so_far.shows ∙ so_far.going)
+  live = ap (λ (w : ConnectionValue). stop_of w.link.phase) so_far.shows ∙ so_far.going
 
   -- how far the connection comes with more bytes
   came_further : (more : List ℕ) → came setup (bytes ++ more) ≡ after_text (came setup bytes).text (progress_from host v more)
@@ -150,12 +150,11 @@ module _ (setup : Setup) (turns read : ℕ) (host now : Host) (v after : Connect
 
   -- ---- the run ends in this turn
 
-  pub ended : (limit : ℕ) (report : Report) → turns < limit → HasGiven b c ([] ∷ []) → AddsBytes y z [] → after ≡ v → report.read ≡ read → report.messages ≡ after.handled
-      → report.reason ≡ end_reason after.frame → Ran setup limit a c x z (Ok report)
-  ended limit report lt gave wrote same read_is messages_is reason_is =
-      let shows : after ≡ value_of (came setup bytes) = same ∙ so_far.shows in
+  pub ended : (limit : ℕ) (report : Report) → turns < limit → HasGiven b c ([] ∷ []) → AddsBytes y z [] → report.read ≡ read → report.messages ≡ v.handled
+      → report.reason ≡ end_reason (is_cut v.frame) → Ran setup limit a c x z (Ok report)
+  ended limit report lt gave wrote read_is messages_is reason_is =
       let no_stop : (outcome setup (concat (longer []))).stop ≡ None = ap (λ (s : List ℕ). (outcome setup s).stop) same_bytes ∙ stop_is setup bytes ∙ so_far.going in
-      let rest_is : (outcome setup (concat (longer []))).rest ≡ after.frame = ap (λ (s : List ℕ). (outcome setup s).rest) same_bytes ∙ ap (λ (o : Outcome). o.rest) (outcome_is setup bytes) ∙ sym (ap (λ (w : ConnectionValue). w.frame) shows) in (
+      let rest_is : (outcome setup (concat (longer []))).rest ≡ v.frame = ap (λ (s : List ℕ). (outcome setup s).rest) same_bytes ∙ ap (λ (o : Outcome). o.rest) (outcome_is setup bytes) ∙ sym (ap (λ (w : ConnectionValue). w.frame) so_far.shows) in (
         longer [],
         so_far.output ++ [],
         given_then a b c so_far.pieces ([] ∷ []) so_far.told gave,
@@ -168,9 +167,9 @@ module _ (setup : Setup) (turns read : ℕ) (host now : Host) (v after : Connect
           goes_on = goes_on;
           ended =
               subst (λ (stop : Option Reason). EndsRun (outcome setup (concat (longer []))).rest [] report.reason stop) (sym no_stop)
-              (refl, reason_is ∙ ap end_reason (sym rest_is));
+              (refl, reason_is ∙ ap (λ (r : List ℕ). end_reason (is_cut r)) (sym rest_is));
           read = read_is ∙ so_far.read_is ∙ ap length (sym same_bytes);
-          messages = messages_is ∙ ap (λ (w : ConnectionValue). w.handled) shows ∙ messages_are setup bytes ∙ ap (λ (s : List ℕ). (outcome setup s).messages) (sym same_bytes);
+          messages = messages_is ∙ ap (λ (w : ConnectionValue). w.handled) so_far.shows ∙ messages_are setup bytes ∙ ap (λ (s : List ℕ). (outcome setup s).messages) (sym same_bytes);
           written = ap (λ (o : List ℕ). own_announcement setup.limits ++ o) (append-nil so_far.output) ∙ so_far_text ∙ ap (stdio_output setup) (sym same_bytes);
         },
       )
@@ -265,12 +264,13 @@ faulted setup turns read limit host now v after a b c x y z Memory so_far lt t =
 faulted setup turns read limit host now v after a b c x y z Turns so_far lt t = absurd t
 
 -- a turn that found the end
-pub ended_turn : (setup : Setup) (turns read limit : ℕ) (host now : Host) (v after : ConnectionValue) (a b c : Told) (x y z : Option (List ℕ)) (t : Turn) (report : Report) → RunsOn setup turns read host v a b x y → turns < limit
-    → IsTurn host v now after (HasGiven b c) (AddsBytes y z) (Ok t) → t ≡ Ended → report.read ≡ read → report.messages ≡ after.handled → report.reason ≡ end_reason after.frame → Ran setup limit a c x z (Ok report)
-ended_turn setup turns read limit host now v after a b c x y z Ended report so_far lt t is read_is messages_are reason_is =
-    ended setup turns read host now v after a b c x y z so_far limit report lt t.0 t.1 t.2 read_is messages_are reason_is
-ended_turn setup turns read limit host now v after a b c x y z (More count) report so_far lt t is read_is messages_are reason_is = absurd cc
-ended_turn setup turns read limit host now v after a b c x y z (Stopped count why) report so_far lt t is read_is messages_are reason_is = absurd cc
+pub ended_turn : (setup : Setup) (turns read limit : ℕ) (host now : Host) (v after : ConnectionValue) (a b c : Told) (x y z : Option (List ℕ)) (t : Turn) (why : Reason) (report : Report) → RunsOn setup turns read host v a b x y → turns < limit
+    → IsTurn host v now after (HasGiven b c) (AddsBytes y z) (Ok t) → t ≡ Ended why → report.read ≡ read → report.messages ≡ after.handled → report.reason ≡ why → Ran setup limit a c x z (Ok report)
+ended_turn setup turns read limit host now v after a b c x y z (Ended reason) why report so_far lt t is read_is messages_are reason_is =
+    let same : reason ≡ why = cc in
+    ended setup turns read host now v after a b c x y z so_far limit report lt t.0 t.1 read_is (messages_are ∙ ap (λ (w : ConnectionValue). w.handled) t.2) (reason_is ∙ sym same ∙ t.4)
+ended_turn setup turns read limit host now v after a b c x y z (More count) why report so_far lt t is read_is messages_are reason_is = absurd cc
+ended_turn setup turns read limit host now v after a b c x y z (Stopped count because) why report so_far lt t is read_is messages_are reason_is = absurd cc
 
 -- a turn whose piece stops the connection
 pub stopped_turn : (setup : Setup) (turns read limit : ℕ) (host now : Host) (v after : ConnectionValue) (a b c : Told) (x y z : Option (List ℕ)) (t : Turn) (count : ℕ) (why : Reason) (report : Report) → RunsOn setup turns read host v a b x y
@@ -280,7 +280,7 @@ stopped_turn setup turns read limit host now v after a b c x y z (Stopped n reas
     let as_many : n ≡ count = cc in
     stopped setup turns read host now v after a b c x y z so_far limit report t.0 n reason lt t.1 t.2 t.3 (read_is ∙ ap (λ (k : ℕ). read + k) (sym as_many)) messages_are (reason_is ∙ sym same)
 stopped_turn setup turns read limit host now v after a b c x y z (More n) count why report so_far lt t is read_is messages_are reason_is = absurd cc
-stopped_turn setup turns read limit host now v after a b c x y z Ended count why report so_far lt t is read_is messages_are reason_is = absurd cc
+stopped_turn setup turns read limit host now v after a b c x y z (Ended reason) count why report so_far lt t is read_is messages_are reason_is = absurd cc
 
 -- a run goes on after a turn in which a few bytes were read, and as few messages handled
 pub record GoesFurther (setup : Setup) (turns read count : ℕ) (v : ConnectionValue) (now : Host) (after : ConnectionValue) (a c : Told) (x z : Option (List ℕ)) : Type 0 where
@@ -298,7 +298,7 @@ next_turn setup turns read host now v after a b c x y z (More n) count so_far t 
       few = omega (arith, as_many, t.2, t.1.few);
       few_handled = omega (arith, t.3, t.1.few);
     }
-next_turn setup turns read host now v after a b c x y z Ended count so_far t is = absurd cc
+next_turn setup turns read host now v after a b c x y z (Ended reason) count so_far t is = absurd cc
 next_turn setup turns read host now v after a b c x y z (Stopped n why) count so_far t is = absurd cc
 
 -- what waits on a new connection was not written whole

@@ -13,13 +13,13 @@ use Rattle.coap_conn.specs.declared.reason.Reason.{Reason}
 use Rattle.coap_conn.specs.declared.phase.Reject.{Reject}
 use Rattle.coap_conn.specs.declared.phase.Reject.TheVariants as reject
 use Rattle.coap_conn.specs.Limits.{LimitValues, AreInRange}
-use Rattle.coap_conn.specs.History.{takes_messages}
-use Rattle.coap_conn.specs.LinkValue.{LinkValue, IsLive, link_after_reject}
-use Rattle.coap_serve.specs.Serving.{fault_of, stop_of}
+use Rattle.coap_conn.specs.Phases.{stop_of, takes_messages, IsLive}
+use Rattle.coap_conn.specs.Rejects.{reject_of, reject_reason}
+use Rattle.coap_conn.specs.LinkValue.{LinkValue, link_after_reject}
 use Rattle.coap_serve.specs.Connection.{ConnectionValue, IsKept, greatest, connected, framer_in, link_flushed, link_served, host_served, MayBeRefused, Step, step_read, step_found, step, RefusesFirst}
 use Rattle.coap_serve.specs.declared.host.Host.{Host}
 use Rattle.coap_serve.specs.Turns.{Talk, silence, talk, talk_end, Progress, progress_behind, progress_with, progress_from, stop_in}
-use Rattle.coap_serve.proofs.TalkLemmas.{takes_where_live, takes_none, none_where_live, served_limits, talk_none, talk_taken, talk_stopped, first_end, end_taken, end_stopped}
+use Rattle.coap_serve.proofs.TalkLemmas.{takes_where_live, takes_none, reject_stops, reject_limits, served_limits, talk_none, talk_taken, talk_stopped, first_end, end_taken, end_stopped}
 use Rattle.coap_serve.proofs.ProgressLemmas.{after_text, no_message, idle}
 
 -- ---- what a connection keeps
@@ -117,7 +117,11 @@ stopped_progress host v bytes e =
 
 -- ---- a fault
 
-module _ (host : Host) (v : ConnectionValue) (piece rest : List ℕ) (fault : StreamFault) (r : Reject) (live : IsLive v.link.phase) (is : fault_of fault ≡ r) (read : split (greatest v) (v.frame ++ piece) ≡ record { messages = []; rest = rest; fault = Some fault }) where
+-- a connection that a fault stopped keeps no byte
+rejected_kept : (v : ConnectionValue) (r : Reject) → IsKept v → IsKept (record { frame = []; link = link_after_reject v.link r; handled = v.handled })
+rejected_kept v r kept = record { unfinished = unfinished_empty (link_after_reject v.link r).limits.max_message; ranges = subst AreInRange (sym (reject_limits v.link r)) kept.ranges }
+
+module _ (host : Host) (v : ConnectionValue) (piece rest : List ℕ) (fault : StreamFault) (r : Reject) (live : IsLive v.link.phase) (is : reject_of fault ≡ r) (read : split (greatest v) (v.frame ++ piece) ≡ record { messages = []; rest = rest; fault = Some fault }) where
   abbrev rejected : LinkValue
   rejected = link_after_reject v.link r
 
@@ -131,13 +135,16 @@ module _ (host : Host) (v : ConnectionValue) (piece rest : List ℕ) (fault : St
       ∙ ap (λ (k : Reject). record { link = link_flushed (link_after_reject v.link k); host = host; text = (link_after_reject v.link k).waiting; handled = v.handled + 0; rest = rest }) is
       ∙ ap (λ (n : ℕ). record { link = link_flushed rejected; host = host; text = rejected.waiting; handled = n; rest = rest }) (omega arith)
 
+  goes : stop_of rejected.phase ≡ None → ⊥
+  goes going = let bad : ◌≡◌ {A = Option Reason} (Some (reject_reason r)) None = sym (reject_stops v.link r (takes_where_live v.link.phase live)) ∙ going in cc
+
   rejected_steps : (count : ℕ) (frame : List ℕ) → IsKept (record { frame = frame; link = rejected; handled = v.handled }) → Steps host v piece (record { count = count; after = record { frame = frame; link = rejected; handled = v.handled }; host = host })
   rejected_steps count frame kept = record {
     kept = kept;
     few = omega arith;
-    some = λ going filled. absurd cc;
+    some = λ going filled. absurd (goes going);
     text = ([], ap (λ (p : Progress). p.text) rejected_progress ∙ sym (append-nil rejected.waiting));
-    came = λ going. absurd cc;
+    came = λ going. absurd (goes going);
     stops = λ why stop_is. record {
       text = ap (λ (p : Progress). p.text) rejected_progress;
       stop = ap stop_in rejected_progress;
@@ -216,16 +223,16 @@ frame_steps host v piece frame rest kept live begun (Ok m) e =
       stops = λ why is. message_stops host v piece frame rest kept live begun m why e is;
     }
 frame_steps host v piece frame rest kept live begun (Err f) e =
-    rejected_steps host v piece frame Format reject.Format live refl (split_bad (greatest v) (v.frame ++ piece) frame rest f begun e) _ [] (record { unfinished = unfinished_empty (greatest v); ranges = kept.ranges })
+    rejected_steps host v piece frame Format reject.Format live refl (split_bad (greatest v) (v.frame ++ piece) frame rest f begun e) _ [] (rejected_kept v reject.Format kept)
 
 -- ---- any piece
 
 fault_steps : (host : Host) (v : ConnectionValue) (piece : List ℕ) (fault : StreamFault) → IsKept v → IsLive v.link.phase → beginning (greatest v) (v.frame ++ piece) ≡ Faulty fault
     → Steps host v piece (step_found host v (framing_at (framer_in v) piece (Faulty fault)) (framing_at (framer_in v) piece (Faulty fault)).finding)
 fault_steps host v piece TokenLength kept live e =
-    rejected_steps host v piece (fault_bytes TokenLength (v.frame ++ piece)) TokenLength reject.TokenLength live refl (split_faulty (greatest v) (v.frame ++ piece) TokenLength e) _ [] (record { unfinished = unfinished_empty (greatest v); ranges = kept.ranges })
+    rejected_steps host v piece (fault_bytes TokenLength (v.frame ++ piece)) TokenLength reject.TokenLength live refl (split_faulty (greatest v) (v.frame ++ piece) TokenLength e) _ [] (rejected_kept v reject.TokenLength kept)
 fault_steps host v piece TooLarge kept live e =
-    rejected_steps host v piece (fault_bytes TooLarge (v.frame ++ piece)) TooLarge reject.TooLarge live refl (split_faulty (greatest v) (v.frame ++ piece) TooLarge e) _ [] (record { unfinished = unfinished_empty (greatest v); ranges = kept.ranges })
+    rejected_steps host v piece (fault_bytes TooLarge (v.frame ++ piece)) TooLarge reject.TooLarge live refl (split_faulty (greatest v) (v.frame ++ piece) TooLarge e) _ [] (rejected_kept v reject.TooLarge kept)
 fault_steps host v piece Format kept live e = absurd (format_not_begun (greatest v) (v.frame ++ piece) e)
 
 steps_at : (host : Host) (v : ConnectionValue) (piece : List ℕ) (b : Beginning) → IsKept v → v.link.waiting ≡ [] → IsLive v.link.phase → beginning (greatest v) (v.frame ++ piece) ≡ b
@@ -240,7 +247,7 @@ steps_at host v piece Unfinished kept quiet live e =
       text = ([], ap (λ (p : Progress). p.text) here ∙ sym (ap (λ (t : List ℕ). t ++ []) quiet));
       came = λ going. ap (progress_from host v) (take-length piece) ∙ here ∙ ap (λ (t : List ℕ). record { link = record v.link { waiting = t }; host = host; text = []; handled = v.handled; rest = v.frame ++ piece }) quiet
           ∙ ap (λ (t : List ℕ). record (comes_to host after) { text = t }) (sym quiet);
-      stops = λ why is. let bad : ◌≡◌ {A = Option Reason} None (Some why) = sym (none_where_live v.link.phase live) ∙ is in absurd cc;
+      stops = λ why is. let bad : ◌≡◌ {A = Option Reason} None (Some why) = sym live ∙ is in absurd cc;
     }
 steps_at host v piece (Faulty fault) kept quiet live e = fault_steps host v piece fault kept live e
 steps_at host v piece (Whole frame rest) kept quiet live e = frame_steps host v piece frame rest kept live e (message_of frame) refl

@@ -1,64 +1,56 @@
 -- What messages do one after the other.
 use Rattle.std.proofs.Common.{◌≡◌, ℕ, suc, ◌+◌, Bool, true, false, cond, List, [], ◌∷◌, ◌++◌, Option, Some, None, refl, sym, ap, ◌∙◌, append_assoc, arith}
+use Rattle.std.specs.Prelude.{is_none}
 use Rattle.coap_wire.specs.Message.{Message}
 use Rattle.coap_wire.specs.Stream.{StreamFault}
 use Rattle.coap_conn.specs.declared.phase.Phase.{Phase}
-use Rattle.coap_conn.specs.declared.phase.Phase.TheVariants.{Waiting, Open, Releasing, Stopped}
+use Rattle.coap_conn.specs.declared.phase.Reject.{Reject}
 use Rattle.coap_conn.specs.declared.reason.Reason.{Reason}
-use Rattle.coap_conn.specs.Verdicts.{VerdictValue}
-use Rattle.coap_conn.specs.Verdicts as verdict
-use Rattle.coap_conn.specs.History.{takes_messages}
-use Rattle.coap_conn.specs.LinkValue.{LinkValue, link_after_message, link_after_reject, IsLive}
-use Rattle.coap_serve.specs.Serving.{fault_of, stop_of}
+use Rattle.coap_conn.specs.Phases.{stop_of, takes_messages, IsLive, answers}
+use Rattle.coap_conn.specs.Verdicts.{VerdictValue, is_request}
+use Rattle.coap_conn.specs.Reaction.{abort}
+use Rattle.coap_conn.specs.Rejects.{reject_of, reject_reason}
+use Rattle.coap_conn.specs.LinkValue.{LinkValue, standing_in, link_with, link_after_message, link_after_reply, link_after_reject}
+use Rattle.coap_store.specs.Messages.{response_message}
 use Rattle.coap_serve.specs.declared.host.Host.{Host}
-use Rattle.coap_serve.specs.Connection.{link_flushed, link_answered, link_served, host_served, verdict_on}
+use Rattle.coap_serve.specs.Connection.{answer_from, link_flushed, link_answered, link_served, host_served, verdict_on}
 use Rattle.coap_serve.specs.Turns.{Talk, silence, talk_first, talk, talk_last, talk_end}
 
 -- ---- phases
 
 pub takes_where_live : (p : Phase) → IsLive p → takes_messages p ≡ true
-takes_where_live Waiting live = refl
-takes_where_live Open live = refl
-takes_where_live (Releasing why) live = absurd live
-takes_where_live (Stopped why) live = absurd live
-
-pub live_where_none : (p : Phase) → stop_of p ≡ None → IsLive p
-live_where_none Waiting e = tt
-live_where_none Open e = tt
-live_where_none (Releasing why) e = absurd cc
-live_where_none (Stopped why) e = absurd cc
-
-pub none_where_live : (p : Phase) → IsLive p → stop_of p ≡ None
-none_where_live Waiting live = refl
-none_where_live Open live = refl
-none_where_live (Releasing why) live = absurd live
-none_where_live (Stopped why) live = absurd live
+takes_where_live p live = ap (λ (o : Option Reason). is_none o) live
 
 pub takes_none : (p : Phase) (why : Reason) → stop_of p ≡ Some why → takes_messages p ≡ false
-takes_none Waiting why e = absurd cc
-takes_none Open why e = absurd cc
-takes_none (Releasing because) why e = refl
-takes_none (Stopped because) why e = refl
+takes_none p why over = ap (λ (o : Option Reason). is_none o) over
 
 stop_where_none : (p : Phase) → takes_messages p ≡ false → stop_of p ≡ None → ⊥
-stop_where_none Waiting e none = cc
-stop_where_none Open e none = cc
-stop_where_none (Releasing why) e none = cc
-stop_where_none (Stopped why) e none = cc
+stop_where_none p e none = let bad : ◌≡◌ {A = Bool} false true = sym e ∙ ap (λ (o : Option Reason). is_none o) none in cc
+
+-- a fault stops a connection that takes messages
+pub reject_stops : (l : LinkValue) (fault : Reject) → takes_messages l.phase ≡ true → stop_of (link_after_reject l fault).phase ≡ Some (reject_reason fault)
+reject_stops l fault e = ap (λ (b : Bool). stop_of (cond b (link_with l (abort (standing_in l) (reject_reason fault))) l).phase) e
 
 -- ---- limits stay
 
+limits_stay : (does : Bool) (l now : LinkValue) → now.limits ≡ l.limits → (cond does now l).limits ≡ l.limits
+limits_stay true l now same = same
+limits_stay false l now same = refl
+
+pub reject_limits : (l : LinkValue) (fault : Reject) → (link_after_reject l fault).limits ≡ l.limits
+reject_limits l fault = limits_stay (takes_messages l.phase) l _ refl
+
+pub message_limits : (l : LinkValue) (m : Message) → (link_after_message l m).limits ≡ l.limits
+message_limits l m = limits_stay (takes_messages l.phase) l _ refl
+
+pub reply_limits : (l : LinkValue) (m : Message) → (link_after_reply l m).limits ≡ l.limits
+reply_limits l m = limits_stay (answers l.phase) l _ refl
+
 answered_limits : (host : Host) (l : LinkValue) (m : Message) (what : VerdictValue) → (link_answered host l m what).limits ≡ l.limits
-answered_limits host l m verdict.Request = refl
-answered_limits host l m verdict.Opened = refl
-answered_limits host l m verdict.Done = refl
-answered_limits host l m (verdict.Answer token last) = refl
-answered_limits host l m (verdict.Pong token custody) = refl
-answered_limits host l m verdict.Stranger = refl
-answered_limits host l m (verdict.Stopped why) = refl
+answered_limits host l m what = limits_stay (is_request what) l _ (reply_limits l (response_message m.token (answer_from host m).response))
 
 pub served_limits : (host : Host) (l : LinkValue) (m : Message) → (link_served host l m).limits ≡ l.limits
-served_limits host l m = answered_limits host (link_after_message l m) m (verdict_on l m)
+served_limits host l m = answered_limits host (link_after_message l m) m (verdict_on l m) ∙ message_limits l m
 
 -- ---- talks one after the other
 
@@ -126,18 +118,18 @@ talk_limits host l (m ∷ ms) = limits_by host l m ms (takes_messages l.phase) r
 
 -- ---- the fault behind a talk
 
-then_end_by : (t u : Talk) (fault : StreamFault) (takes : Bool) → cond takes (talk_last (then_talk t u) (link_after_reject u.link (fault_of fault))) (then_talk t u) ≡ then_talk t (cond takes (talk_last u (link_after_reject u.link (fault_of fault))) u)
+then_end_by : (t u : Talk) (fault : StreamFault) (takes : Bool) → cond takes (talk_last (then_talk t u) (link_after_reject u.link (reject_of fault))) (then_talk t u) ≡ then_talk t (cond takes (talk_last u (link_after_reject u.link (reject_of fault))) u)
 then_end_by t u fault true =
-    ap (λ (s : List ℕ). record u { link = link_flushed (link_after_reject u.link (fault_of fault)); text = s; handled = t.handled + u.handled }) (append_assoc t.text u.text (link_after_reject u.link (fault_of fault)).waiting)
+    ap (λ (s : List ℕ). record u { link = link_flushed (link_after_reject u.link (reject_of fault)); text = s; handled = t.handled + u.handled }) (append_assoc t.text u.text (link_after_reject u.link (reject_of fault)).waiting)
 then_end_by t u fault false = refl
 
 pub then_end : (t u : Talk) (fault : Option StreamFault) → talk_end (then_talk t u) fault ≡ then_talk t (talk_end u fault)
 then_end t u None = refl
 then_end t u (Some fault) = then_end_by t u fault (takes_messages u.link.phase)
 
-first_end_by : (l : LinkValue) (u : Talk) (fault : StreamFault) (takes : Bool) → cond takes (talk_last (talk_first l u) (link_after_reject u.link (fault_of fault))) (talk_first l u) ≡ talk_first l (cond takes (talk_last u (link_after_reject u.link (fault_of fault))) u)
+first_end_by : (l : LinkValue) (u : Talk) (fault : StreamFault) (takes : Bool) → cond takes (talk_last (talk_first l u) (link_after_reject u.link (reject_of fault))) (talk_first l u) ≡ talk_first l (cond takes (talk_last u (link_after_reject u.link (reject_of fault))) u)
 first_end_by l u fault true =
-    ap (λ (s : List ℕ). record u { link = link_flushed (link_after_reject u.link (fault_of fault)); text = s; handled = suc u.handled }) (append_assoc l.waiting u.text (link_after_reject u.link (fault_of fault)).waiting)
+    ap (λ (s : List ℕ). record u { link = link_flushed (link_after_reject u.link (reject_of fault)); text = s; handled = suc u.handled }) (append_assoc l.waiting u.text (link_after_reject u.link (reject_of fault)).waiting)
 first_end_by l u fault false = refl
 
 pub first_end : (l : LinkValue) (u : Talk) (fault : Option StreamFault) → talk_end (talk_first l u) fault ≡ talk_first l (talk_end u fault)
@@ -149,11 +141,13 @@ pub end_stopped : (t : Talk) (fault : Option StreamFault) → takes_messages t.l
 end_stopped t None e = refl
 end_stopped t (Some fault) e = rw e refl
 
-pub end_taken : (t : Talk) (fault : StreamFault) → takes_messages t.link.phase ≡ true → talk_end t (Some fault) ≡ talk_last t (link_after_reject t.link (fault_of fault))
+pub end_taken : (t : Talk) (fault : StreamFault) → takes_messages t.link.phase ≡ true → talk_end t (Some fault) ≡ talk_last t (link_after_reject t.link (reject_of fault))
 end_taken t fault e = rw e refl
 
 no_fault_by : (t : Talk) (fault : StreamFault) (takes : Bool) → takes_messages t.link.phase ≡ takes → stop_of (talk_end t (Some fault)).link.phase ≡ None → ⊥
-no_fault_by t fault true e none = let bad = ap (λ (u : Talk). stop_of u.link.phase) (sym (end_taken t fault e)) ∙ none in absurd cc
+no_fault_by t fault true e none =
+    let bad : ◌≡◌ {A = Option Reason} (Some (reject_reason (reject_of fault))) None = sym (reject_stops t.link (reject_of fault) e) ∙ ap (λ (u : Talk). stop_of u.link.phase) (sym (end_taken t fault e)) ∙ none in
+    cc
 no_fault_by t fault false e none = stop_where_none t.link.phase e (ap (λ (u : Talk). stop_of u.link.phase) (sym (end_stopped t (Some fault) e)) ∙ none)
 
 -- where it still takes messages, there was no fault

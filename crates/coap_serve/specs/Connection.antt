@@ -1,25 +1,25 @@
 -- A connection as the code holds it, and what a piece of the input does to it and to what is stored.
-use Rattle.std.specs.Prelude.{◌≡◌, ℕ, ◌+◌, List, [], ◌∷◌, ◌++◌, None, Result, Ok, Err}
+use Rattle.std.specs.Prelude.{◌≡◌, ℕ, ◌+◌, List, [], ◌∷◌, ◌++◌, None, Result, Ok, Err, if◌then◌else◌}
 use Rattle.coap_wire.specs.Message.{Message}
 use Rattle.coap_wire.specs.Reading.{message_of}
-use Rattle.coap_wire.specs.Stream.{Unfinished, beginning, split}
+use Rattle.coap_wire.specs.Stream.{StreamFault, TokenLength, TooLarge, Unfinished, beginning, split}
 use Rattle.coap_wire.specs.declared.fault.FormatFault.{FormatFault}
 use Rattle.coap_frame.specs.Framing.{FramerValue, Finding, Nothing, AFrame, AFault, Framing, framing}
 use Rattle.coap_frame.specs.declared.framer.FrameFault.{FrameFault}
 use Rattle.coap_frame.specs.declared.framer.FrameFault.TheVariants as faults
 use Rattle.coap_conn.specs.declared.phase.Role.TheVariants.{Server}
-use Rattle.coap_conn.specs.declared.phase.Reject.{Reject}
 use Rattle.coap_conn.specs.declared.phase.Reject.TheVariants as reject
 use Rattle.coap_conn.specs.Limits.{LimitValues, AreInRange}
-use Rattle.coap_conn.specs.Verdicts.{VerdictValue}
+use Rattle.coap_conn.specs.Rejects.{reject_of}
+use Rattle.coap_conn.specs.Verdicts.{VerdictValue, is_request}
 use Rattle.coap_conn.specs.Verdicts as verdict
 use Rattle.coap_conn.specs.Reaction.{react}
-use Rattle.coap_conn.specs.LinkValue.{LinkValue, link_begun, link_after_message, link_after_reply, link_after_reject, standing_in}
+use Rattle.coap_conn.specs.LinkValue.{LinkValue, new_link, link_after_message, link_after_reply, link_after_reject, link_after_end, standing_in}
 use Rattle.coap_store.specs.Answer.{Answer, prompt_answer, changed}
 use Rattle.coap_store.specs.Messages.{response_message}
 use Rattle.coap_store.specs.Changes.{IsPut}
 use Rattle.coap_serve.specs.declared.host.Host.{Host}
-use Rattle.coap_serve.specs.Serving.{Setup}
+use Rattle.coap_serve.specs.Serving.{Setup, is_cut}
 
 -- the bytes of the unfinished frame, the link, and how many messages were handled
 pub record ConnectionValue : Type 0 where
@@ -42,7 +42,7 @@ link_flushed l = record l { waiting = [] }
 
 -- a new connection, whose own Capabilities and Settings wait
 abbrev pub opened : LimitValues → ConnectionValue
-opened limits = record { frame = []; link = link_begun Server limits 0; handled = 0 }
+opened limits = record { frame = []; link = new_link Server limits 0; handled = 0 }
 
 -- the bytes of the own Capabilities and Settings
 abbrev pub own_announcement : LimitValues → List ℕ
@@ -60,9 +60,14 @@ connected f link handled = record { frame = f.kept; link = link; handled = handl
 abbrev pub framer_in : ConnectionValue → FramerValue
 framer_in v = record { max = greatest v; kept = v.frame; spent = [] }
 
-abbrev pub fault_in : FrameFault → Reject
-fault_in faults.TokenLength = reject.TokenLength
-fault_in faults.TooLarge = reject.TooLarge
+-- a connection whose input ended
+abbrev pub input_ended : ConnectionValue → ConnectionValue
+input_ended v = record v { link = link_after_end v.link (is_cut v.frame) }
+
+-- the fault of a stream that a framer found
+abbrev pub stream_fault : FrameFault → StreamFault
+stream_fault faults.TokenLength = TokenLength
+stream_fault faults.TooLarge = TooLarge
 
 -- ---- one message
 
@@ -76,23 +81,12 @@ answer_from host m = prompt_answer host.store host.now m
 
 -- a request is answered with its token
 abbrev pub link_answered : Host → LinkValue → Message → VerdictValue → LinkValue
-link_answered host l m verdict.Request = link_after_reply l (response_message m.token (answer_from host m).response)
-link_answered host l m verdict.Opened = l
-link_answered host l m verdict.Done = l
-link_answered host l m (verdict.Answer token last) = l
-link_answered host l m (verdict.Pong token custody) = l
-link_answered host l m verdict.Stranger = l
-link_answered host l m (verdict.Stopped why) = l
+link_answered host l m what =
+    if is_request what then link_after_reply l (response_message m.token (answer_from host m).response) else l
 
 -- and the store changes as the answer says
 abbrev pub host_answered : Host → Message → VerdictValue → Host
-host_answered host m verdict.Request = record host { store = changed host.store (answer_from host m).change }
-host_answered host m verdict.Opened = host
-host_answered host m verdict.Done = host
-host_answered host m (verdict.Answer token last) = host
-host_answered host m (verdict.Pong token custody) = host
-host_answered host m verdict.Stranger = host
-host_answered host m (verdict.Stopped why) = host
+host_answered host m what = if is_request what then record host { store = changed host.store (answer_from host m).change } else host
 
 abbrev pub verdict_on : LinkValue → Message → VerdictValue
 verdict_on l m = (react (standing_in l) m).verdict
@@ -128,7 +122,7 @@ step_read host v f (Err e) = step_by f host (link_after_reject v.link reject.For
 -- what comes of what was found
 abbrev pub step_found : Host → ConnectionValue → Framing → Finding → Step
 step_found host v f Nothing = step_by f host v.link v.handled
-step_found host v f (AFault fault) = step_by f host (link_after_reject v.link (fault_in fault)) v.handled
+step_found host v f (AFault fault) = step_by f host (link_after_reject v.link (reject_of (stream_fault fault))) v.handled
 step_found host v f (AFrame frame) = step_read host v f (message_of frame)
 
 -- what the first frame or fault of a piece does, behind the bytes that are kept, or all of the piece

@@ -1,19 +1,16 @@
 -- What a server does with the messages of a whole stream (RFC 8323 sections 3.3, 3.4 and 5).
-use Rattle.std.specs.Prelude.{◌≡◌, ℕ, List, [], ◌∷◌, length, Option, Some, None, if◌then◌else◌}
+use Rattle.std.specs.Prelude.{◌≡◌, ℕ, Bool, nat_lt, List, [], ◌∷◌, length, Option, Some, None, if◌then◌else◌}
 use Rattle.coap_wire.specs.Message.{Message}
-use Rattle.coap_wire.specs.Stream.{StreamFault, TokenLength, TooLarge, Format, Stream, split}
-use Rattle.coap_conn.specs.declared.phase.Phase.{Phase}
-use Rattle.coap_conn.specs.declared.phase.Phase.TheVariants.{Waiting, Open, Releasing, Stopped}
+use Rattle.coap_wire.specs.Stream.{StreamFault, Stream, split}
 use Rattle.coap_conn.specs.declared.phase.Role.TheVariants.{Server}
-use Rattle.coap_conn.specs.declared.phase.Reject.{Reject}
-use Rattle.coap_conn.specs.declared.phase.Reject.TheVariants as reject
 use Rattle.coap_conn.specs.declared.reason.Reason.{Reason}
-use Rattle.coap_conn.specs.declared.reason.Reason.TheVariants.{Ended, Cut}
 use Rattle.coap_conn.specs.Limits.{LimitValues}
-use Rattle.coap_conn.specs.Verdicts.{VerdictValue}
+use Rattle.coap_conn.specs.Rejects.{reject_of}
+use Rattle.coap_conn.specs.Phases.{stop_of, takes_messages}
+use Rattle.coap_conn.specs.Verdicts.{VerdictValue, is_request}
 use Rattle.coap_conn.specs.Verdicts as verdict
 use Rattle.coap_conn.specs.Reaction.{react}
-use Rattle.coap_conn.specs.History.{History, begun, text_of, standing_now, after_message, after_reply, after_reject, takes_messages}
+use Rattle.coap_conn.specs.History.{History, new_history, bytes_of, standing_now, after_message, after_reply, after_reject}
 use Rattle.coap_store.specs.Store.{StoreValue}
 use Rattle.coap_store.specs.Answer.{Answer, prompt_answer, changed}
 use Rattle.coap_store.specs.Messages.{response_message}
@@ -46,7 +43,7 @@ pub record World : Type 0 where
 
 -- all that waits was written
 abbrev pub flushed : History → History
-flushed h = record h { written = length (text_of h.queued) }
+flushed h = record h { written = length (bytes_of h.queued) }
 
 abbrev pub world_flushed : World → World
 world_flushed w = record w { history = flushed w.history }
@@ -60,13 +57,7 @@ abbrev pub world_answering : World → Message → Answer → World
 world_answering w m a = record w { history = after_reply w.history (response_message m.token a.response); store = changed w.store a.change }
 
 abbrev pub answered : World → Message → VerdictValue → World
-answered w m verdict.Request = world_answering w m (answer_in w m)
-answered w m verdict.Opened = w
-answered w m verdict.Done = w
-answered w m (verdict.Answer token last) = w
-answered w m (verdict.Pong token custody) = w
-answered w m verdict.Stranger = w
-answered w m (verdict.Stopped why) = w
+answered w m what = if is_request what then world_answering w m (answer_in w m) else w
 
 -- a message was handled, before what comes of it
 abbrev pub told : World → Message → World
@@ -88,13 +79,8 @@ unfoldable pub served_all : World → List Message → World
 served_all w [] = w
 served_all w (m ∷ ms) = if takes_messages w.history.phase then served_all (served w m) ms else w
 
-abbrev pub fault_of : StreamFault → Reject
-fault_of TokenLength = reject.TokenLength
-fault_of TooLarge = reject.TooLarge
-fault_of Format = reject.Format
-
 abbrev pub rejected : World → StreamFault → World
-rejected w fault = world_flushed (record w { history = after_reject w.history (fault_of fault) })
+rejected w fault = world_flushed (record w { history = after_reject w.history (reject_of fault) })
 
 -- the fault behind all messages stops the connection, where it still takes any
 abbrev pub stopped_by : World → Option StreamFault → World
@@ -103,7 +89,7 @@ stopped_by w (Some fault) = if takes_messages w.history.phase then rejected w fa
 
 -- a new connection that has announced itself
 abbrev pub announced : Setup → World
-announced setup = record { history = flushed (begun Server setup.limits 0); store = setup.store; now = setup.now }
+announced setup = record { history = flushed (new_history Server setup.limits 0); store = setup.store; now = setup.now }
 
 -- what bytes spell
 abbrev pub stream_of : Setup → List ℕ → Stream
@@ -118,13 +104,6 @@ world_of setup bytes = world_with setup (stream_of setup bytes)
 
 -- ---- what comes of it
 
--- why no message is taken any more
-abbrev pub stop_of : Phase → Option Reason
-stop_of Waiting = None
-stop_of Open = None
-stop_of (Releasing why) = Some why
-stop_of (Stopped why) = Some why
-
 -- What comes of bytes: all that is written, how many messages were handled, what is left of a frame, and why no message is
 -- taken any more.
 pub record Outcome : Type 0 where
@@ -134,7 +113,7 @@ pub record Outcome : Type 0 where
   pub stop : Option Reason
 
 abbrev pub outcome_with : History → List ℕ → Outcome
-outcome_with h rest = record { output = text_of h.queued; messages = length h.handled; rest = rest; stop = stop_of h.phase }
+outcome_with h rest = record { output = bytes_of h.queued; messages = length h.handled; rest = rest; stop = stop_of h.phase }
 
 unfoldable pub outcome : Setup → List ℕ → Outcome
 outcome setup bytes = outcome_with (world_of setup bytes).history (stream_of setup bytes).rest
@@ -143,7 +122,6 @@ outcome setup bytes = outcome_with (world_of setup bytes).history (stream_of set
 abbrev pub stdio_output : Setup → List ℕ → List ℕ
 stdio_output setup bytes = (outcome setup bytes).output
 
--- why the end of input ends a connection: nothing is left, or it was cut within a frame
-abbrev pub end_reason : List ℕ → Reason
-end_reason [] = Ended
-end_reason (b ∷ bs) = Cut
+-- bytes are left of a frame: the end of input cuts it
+abbrev pub is_cut : List ℕ → Bool
+is_cut rest = nat_lt 0 (length rest)

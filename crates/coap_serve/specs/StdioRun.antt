@@ -3,10 +3,11 @@ use Rattle.std.specs.Prelude.{◌≡◌, ◌≢◌, ℕ, ◌<◌, ◌≤◌, Lis
 use Rattle.std.specs.List.{concat}
 use Rattle.coap_conn.specs.declared.reason.Reason.{Reason}
 use Rattle.coap_wire.specs.Message.{Message}
+use Rattle.coap_conn.specs.History.{end_reason}
 use Rattle.coap_serve.specs.declared.serve.Report.{Report}
 use Rattle.coap_serve.specs.declared.serve.IoFault.{IoFault}
 use Rattle.coap_serve.specs.declared.serve.IoFault.TheVariants.{Read, Write, Memory, Turns}
-use Rattle.coap_serve.specs.Serving.{Setup, AsksToStore, stream_of, world_of, outcome, stdio_output, end_reason}
+use Rattle.coap_serve.specs.Serving.{Setup, AsksToStore, stream_of, world_of, outcome, stdio_output, is_cut}
 
 -- no read found the end
 abbrev pub AreNotEmpty : List (List ℕ) → Type 0
@@ -20,7 +21,7 @@ pub record GoesOn (setup : Setup) (pieces : List (List ℕ)) : Type 0 where
 
 -- why the last read ended the run, with this rest and this stop: it found the end, or its bytes stop the connection
 abbrev pub EndsRun : List ℕ → List ℕ → Reason → Option Reason → Type 0
-EndsRun rest last reason None = (last ≡ []) × (reason ≡ end_reason rest)
+EndsRun rest last reason None = (last ≡ []) × (reason ≡ end_reason (is_cut rest))
 EndsRun rest last reason (Some stop) = reason ≡ stop
 
 -- A run that ended of itself: only the last read ended it, and all that is defined was written.

@@ -4,15 +4,17 @@ use Rattle.coap_wire.specs.Message.{Message}
 use Rattle.coap_wire.specs.Stream.{StreamFault, Stream, split}
 use Rattle.coap_conn.specs.declared.reason.Reason.{Reason}
 use Rattle.coap_conn.specs.Limits.{LimitValues}
-use Rattle.coap_conn.specs.History.{takes_messages}
+use Rattle.coap_conn.specs.Rejects.{reject_of}
+use Rattle.coap_conn.specs.Phases.{stop_of, takes_messages}
+use Rattle.coap_conn.specs.History.{end_reason}
 use Rattle.coap_conn.specs.LinkValue.{LinkValue, link_after_reject}
 use Rattle.coap_serve.specs.declared.host.Host.{Host}
 use Rattle.coap_serve.specs.declared.serve.Turn.{Turn}
 use Rattle.coap_serve.specs.declared.serve.Turn.TheVariants.{More, Ended, Stopped}
 use Rattle.coap_serve.specs.declared.serve.IoFault.{IoFault}
 use Rattle.coap_serve.specs.declared.serve.IoFault.TheVariants.{Read, Write, Memory, Turns}
-use Rattle.coap_serve.specs.Serving.{Setup, fault_of, stop_of}
-use Rattle.coap_serve.specs.Connection.{ConnectionValue, greatest, link_flushed, link_served, host_served, IsRefusedWith}
+use Rattle.coap_serve.specs.Serving.{Setup, is_cut}
+use Rattle.coap_serve.specs.Connection.{ConnectionValue, greatest, link_flushed, input_ended, link_served, host_served, IsRefusedWith}
 
 -- ---- the whole piece
 
@@ -46,7 +48,7 @@ talk_last t l = record t { link = link_flushed l; text = t.text ++ l.waiting }
 -- the fault behind all messages stops the connection, where it still takes any
 abbrev pub talk_end : Talk → Option StreamFault → Talk
 talk_end t None = t
-talk_end t (Some fault) = if takes_messages t.link.phase then talk_last t (link_after_reject t.link (fault_of fault)) else t
+talk_end t (Some fault) = if takes_messages t.link.phase then talk_last t (link_after_reject t.link (reject_of fault)) else t
 
 -- how far a connection came: its link, what is stored, what was written, how many messages were handled in all, and what is
 -- left
@@ -120,7 +122,7 @@ pub record HasRead (gave : List (List ℕ) → Type 0) (piece : List ℕ) : Type
 
 -- What a turn did, where gave says which pieces were read in it and wrote which bytes were written.
 abbrev pub IsTurn : Host → ConnectionValue → Host → ConnectionValue → (List (List ℕ) → Type 0) → (List ℕ → Type 0) → Result Turn IoFault → Type 0
-IsTurn host v now after gave wrote (Ok Ended) = gave ([] ∷ []) × wrote [] × (after ≡ v) × (now ≡ host)
+IsTurn host v now after gave wrote (Ok (Ended why)) = gave ([] ∷ []) × wrote [] × (after ≡ input_ended v) × (now ≡ host) × (why ≡ end_reason (is_cut v.frame))
 IsTurn host v now after gave wrote (Ok (More count)) =
     (piece : List ℕ) × HasRead gave piece × (count ≡ length piece) × (after.handled ≤ v.handled + length piece) × IsServed host v piece now after wrote (Ok None)
 IsTurn host v now after gave wrote (Ok (Stopped count why)) =

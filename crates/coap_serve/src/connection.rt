@@ -1,12 +1,13 @@
 //! A connection that takes one piece of its input after another.
 
 ghost use Rattle.std.specs.Prelude.{◌≡◌};
-ghost use Rattle.coap_serve.specs.Connection.{fault_in};
+ghost use Rattle.coap_conn.specs.Rejects.{reject_of};
+ghost use Rattle.coap_serve.specs.Connection.{stream_fault};
 
 use crate::device::Outlet;
 use crate::host::Host;
 use crate::output::{WriteFailed, flush};
-use coap_conn::{Limits, Link, Phase, Reason, Reject, Role};
+use coap_conn::{Limits, Link, Reason, Reject, Role, Verdict};
 use coap_frame::{Found, FrameFault, Framer};
 use coap_wire::parse;
 use std::alloc::{AllocError, Global};
@@ -34,10 +35,11 @@ impl Model for Connection {
 
 impl Connection {
     ghost use Rattle.std.specs.Prelude.{◌≡◌, ◌+◌, ◌≤◌, ◌<◌, ◌^◌, false, [], IfOk, OnOk, OnErr, is_err, length};
-    ghost use Rattle.coap_conn.specs.LinkValue.{IsLive};
+    ghost use Rattle.coap_conn.specs.Phases.{stop_of, IsLive};
+    ghost use Rattle.coap_conn.specs.History.{end_reason};
     ghost use Rattle.coap_serve.specs.Device.{AddsBytes, WritesPart};
-    ghost use Rattle.coap_serve.specs.Connection.{opened, step, link_flushed, IsKept, RefusesFirst};
-    ghost use Rattle.coap_serve.specs.Serving.{end_reason as reason_at_end, stop_of};
+    ghost use Rattle.coap_serve.specs.Connection.{opened, step, link_flushed, input_ended, IsKept, RefusesFirst};
+    ghost use Rattle.coap_serve.specs.Serving.{is_cut};
 
     /// A new connection with these limits, whose own Capabilities and Settings wait. It reserves its room here.
     pub(crate) fn open(alloc: Global, limits: Limits) -> Result<Connection, AllocError>
@@ -77,7 +79,9 @@ impl Connection {
             Found::Frame(frame) => match parse(frame) {
                 Err(_) => self.link.reject(Reject::Format),
                 Ok(message) => {
-                    host.serve(&mut self.link, &message)?;
+                    if let Verdict::Request = self.link.on(&message) {
+                        host.answer(&mut self.link, &message)?;
+                    }
                     self.handled += 1;
                 }
             },
@@ -100,12 +104,7 @@ impl Connection {
     pub(crate) fn stop(&self) -> Option<Reason>
         ensures { result ≡ stop_of self.now.link.phase }
     {
-        match self.link.phase() {
-            Phase::Waiting => None,
-            Phase::Open => None,
-            Phase::Releasing(reason) => Some(reason),
-            Phase::Stopped(reason) => Some(reason),
-        }
+        self.link.phase().stop()
     }
 
     /// How many messages were handled.
@@ -115,21 +114,23 @@ impl Connection {
         self.handled
     }
 
-    /// Why the end of input ends it.
-    pub(crate) fn end_reason(&self) -> Reason
-        ensures { result ≡ reason_at_end self.now.frame }
+    /// Ends it as its input has ended, and answers why: cut where bytes of a frame are left. It must take messages.
+    pub(crate) fn end(&mut self) -> Reason
+        requires { IsLive self.old.link.phase }
+        ensures reason { result ≡ end_reason (is_cut self.old.frame) }
+        ensures after { self.new ≡ input_ended self.old }
     {
-        if self.framer.kept() == 0 {
-            Reason::Ended
-        } else {
-            Reason::Cut
-        }
+        self.link.end(self.framer.kept() > 0);
+        let Some(reason) = self.link.phase().stop() else {
+            unreachable!()
+        };
+        reason
     }
 }
 
 /// What is wrong with bytes that have this fault.
 fn fault_for(fault: FrameFault) -> Reject
-    ensures { result ≡ fault_in fault }
+    ensures { result ≡ reject_of (stream_fault fault) }
 {
     match fault {
         FrameFault::TokenLength => Reject::TokenLength,

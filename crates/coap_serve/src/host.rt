@@ -2,7 +2,7 @@
 
 use crate::config::Config;
 use crate::response::respond;
-use coap_conn::{Link, Verdict};
+use coap_conn::Link;
 use coap_store::{Change, Store};
 use coap_wire::MessageRef;
 use std::alloc::{AllocError, Global};
@@ -17,13 +17,14 @@ pub(crate) struct Host {
 }
 
 impl Host {
-    ghost use Rattle.std.specs.Prelude.{◌≡◌, [], IfOk, OnOk, OnErr};
-    ghost use Rattle.coap_conn.specs.LinkValue.{IsReady, IsLive, IsAnswering, link_after_reply};
+    ghost use Rattle.std.specs.Prelude.{◌≡◌, IfOk, OnOk, OnErr};
+    ghost use Rattle.coap_conn.specs.Phases.{IsAnswering};
+    ghost use Rattle.coap_conn.specs.LinkValue.{IsReady, link_after_reply};
     ghost use Rattle.coap_store.specs.Answer.{changed};
     ghost use Rattle.coap_store.specs.Changes.{IsPut};
     ghost use Rattle.coap_store.specs.Messages.{response_message};
     ghost use Rattle.coap_serve.specs.Serving.{setup_of};
-    ghost use Rattle.coap_serve.specs.Connection.{answer_from, host_of, link_served, host_served, MayBeRefused};
+    ghost use Rattle.coap_serve.specs.Connection.{answer_from, host_of};
 
     /// The host of a new server: nothing is stored, and its counts begin where the configuration says.
     ///
@@ -46,33 +47,12 @@ impl Host {
         })
     }
 
-    /// Handles a message, and answers a request. What a request changes is changed before it is answered.
-    ///
-    /// # Errors
-    ///
-    /// Where memory is refused for a representation that a request stores. The link and the store are then as before.
-    pub(crate) fn serve(&mut self, link: &mut Link, message: &MessageRef) -> Result<(), AllocError>
-        requires quiet { link.old.waiting ≡ [] }
-        requires ready { IsReady link.old }
-        requires live { IsLive link.old.phase }
-        ensures link { OnOk result (link.new ≡ link_served self.old link.old message.now) }
-        ensures host { OnOk result (self.new ≡ host_served self.old link.old message.now) }
-        ensures refused { OnErr result (MayBeRefused self.old link.old message.now) }
-        ensures unchanged { OnErr result (self.new ≡ self.old) }
-        ensures silent { OnErr result (link.new ≡ link.old) }
-    {
-        if let Verdict::Request = link.on(message) {
-            return self.answer(link, message);
-        }
-        Ok(())
-    }
-
-    /// Answers a request.
+    /// Answers a request. What it changes is changed before it is answered.
     ///
     /// # Errors
     ///
     /// Where memory is refused for the representation that it stores. The link and the store are then as before.
-    fn answer(&mut self, link: &mut Link, request: &MessageRef) -> Result<(), AllocError>
+    pub(crate) fn answer(&mut self, link: &mut Link, request: &MessageRef) -> Result<(), AllocError>
         requires ready { IsReady link.old }
         requires answering { IsAnswering link.old.phase }
         ensures link { OnOk result (link.new ≡ link_after_reply link.old (response_message request.now.token (answer_from self.old request.now).response)) }

@@ -4,7 +4,8 @@ ghost use Rattle.std.specs.Prelude.{◌≡◌, ◌≤◌, ◌<◌, ◌+◌, ◌+
 ghost use Rattle.coap_wire.specs.Message.{last_number};
 ghost use Rattle.coap_wire.specs.Views.{with_option};
 ghost use Rattle.coap_wire.specs.OptionNumbers as numbers;
-ghost use Rattle.coap_conn.specs.LinkValue.{IsReady, IsAnswering, link_after_reply};
+ghost use Rattle.coap_conn.specs.Phases.{IsAnswering};
+ghost use Rattle.coap_conn.specs.LinkValue.{IsReady, link_after_reply};
 ghost use Rattle.coap_store.specs.PlanViews.{path_or_root};
 ghost use Rattle.coap_store.specs.Messages.{response_message, option_at, number_at, each_at};
 

@@ -1,7 +1,7 @@
 //! Serves one connection over one input and one output.
 
 ghost use Rattle.std.specs.Prelude.{◌≡◌, ◌+◌, ◌≤◌, ◌<◌, ◌^◌, ℕ, false, List, [], ◌++◌, length, OnOk};
-ghost use Rattle.coap_conn.specs.LinkValue.{IsLive};
+ghost use Rattle.coap_conn.specs.Phases.{IsLive};
 ghost use Rattle.coap_serve.specs.Device.{HasGiven, AddsBytes};
 ghost use Rattle.coap_serve.specs.Connection.{IsKept, begun, own_announcement};
 ghost use Rattle.coap_serve.specs.Serving.{setup_of};
@@ -53,8 +53,8 @@ const PIECE: usize = 4_096;
 enum Turn {
     /// So many bytes were read, and the connection goes on.
     More(usize),
-    /// The input ended.
-    Ended,
+    /// The input ended, within a frame where it was cut.
+    Ended(Reason),
     /// So many bytes were read, and the connection stopped.
     Stopped(usize, Reason),
 }
@@ -127,11 +127,11 @@ fn run<R: Source, W: Outlet>(
     for _ in 0..turns {
         match take_turn(reader, writer, connection, host, &mut buffer)? {
             Turn::More(count) => read += count as u64,
-            Turn::Ended => {
+            Turn::Ended(reason) => {
                 return Ok(Report {
                     read,
                     messages: connection.handled(),
-                    reason: connection.end_reason(),
+                    reason,
                 });
             }
             Turn::Stopped(count, reason) => {
@@ -171,7 +171,7 @@ fn take_turn<R: Source, W: Outlet>(
         return Err(IoFault::Read);
     };
     if count == 0 {
-        return Ok(Turn::Ended);
+        return Ok(Turn::Ended(connection.end()));
     }
     match serve_piece(writer, connection, host, &buffer[..count]) {
         Ok(None) => Ok(Turn::More(count)),

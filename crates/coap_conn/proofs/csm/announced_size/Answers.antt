@@ -3,7 +3,7 @@ use Rattle.std.specs.Prelude.{find, option_map, is_none}
 use Rattle.coap_wire.specs.Message.{CoapOption}
 use Rattle.coap_wire.specs.Views.{coap_option}
 use Rattle.coap_conn.specs.Announced.{is_bad, first_size}
-use Rattle.coap_conn.proofs.CsmLemmas.{announced_is, bad_is}
+use Rattle.coap_conn.proofs.CsmLemmas.{announced_is}
 use Rattle.coap_conn.proofs.csm.announced_size.Goals as goal
 
 pub returns-in-None-bad_option-clause-size : goal.returns-in-None-bad_option-clause-size

@@ -1,24 +1,25 @@
 use Rattle.std.proofs.Common.{[], refl}
-use Rattle.coap_conn.proofs.FirstLaws.{first_stays}
+use Rattle.coap_conn.specs.Phases.{takes_messages, answers, is_open}
+use Rattle.coap_conn.proofs.FirstLaws.{first_stays, guarded_first}
 use Rattle.coap_conn.proofs.laws.own_announcement_comes_first.Goals as goal
 
-pub returns-clause-begun : goal.returns-clause-begun
-returns-clause-begun c = λ role limits tokens. ([], refl)
+pub returns-clause-new : goal.returns-clause-new
+returns-clause-new c = λ role limits tokens. ([], refl)
 
 pub returns-clause-message : goal.returns-clause-message
-returns-clause-message c = λ h m first. first_stays h _ first
+returns-clause-message c = λ h m first. guarded_first (takes_messages h.phase) h _ (first_stays h _ first) first
 
 pub returns-clause-sent : goal.returns-clause-sent
-returns-clause-sent c = λ h m less first. first_stays h _ first
+returns-clause-sent c = λ h m less first. guarded_first (answers h.phase) h _ (first_stays h _ first) first
 
 pub returns-clause-rejected : goal.returns-clause-rejected
-returns-clause-rejected c = λ h fault first. first_stays h _ first
+returns-clause-rejected c = λ h fault first. guarded_first (takes_messages h.phase) h _ (first_stays h _ first) first
 
 pub returns-clause-ended : goal.returns-clause-ended
-returns-clause-ended c = λ h cut first. first
+returns-clause-ended c = λ h cut first. guarded_first (takes_messages h.phase) h _ (first_stays h _ first) first
 
 pub returns-clause-released : goal.returns-clause-released
-returns-clause-released c = λ h first. first_stays h _ first
+returns-clause-released c = λ h first. guarded_first (is_open h.phase) h _ (first_stays h _ first) first
 
 pub returns-clause-written : goal.returns-clause-written
 returns-clause-written c = λ h n first. first

@@ -1,8 +1,8 @@
-use Rattle.coap_conn.proofs.HistoryLaws.{begun_fits, reaction_fits, sent_fits, stopped_fits, released_fits}
+use Rattle.coap_conn.proofs.HistoryLaws.{new_fits, reaction_fits, sent_fits, stopped_fits, released_fits}
 use Rattle.coap_conn.proofs.laws.what_is_queued_fits.Goals as goal
 
-pub returns-clause-begun : goal.returns-clause-begun
-returns-clause-begun c = begun_fits
+pub returns-clause-new : goal.returns-clause-new
+returns-clause-new c = new_fits
 
 pub returns-clause-message : goal.returns-clause-message
 returns-clause-message c = reaction_fits

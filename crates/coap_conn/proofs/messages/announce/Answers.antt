@@ -1,8 +1,8 @@
-use Rattle.std.proofs.Common.{rules, ◌≡◌, ℕ, length, ap, arith}
+use Rattle.std.proofs.Common.{rules, ◌≡◌, length, ap, arith}
 use Rattle.coap_wire.specs.Message.{Message}
 use Rattle.coap_wire.specs.Spelling.{spelling}
 use Rattle.coap_conn.specs.History.{own_csm}
-use Rattle.coap_conn.proofs.SmallLemmas.{csm_small, csm_text_small}
+use Rattle.coap_conn.proofs.SmallLemmas.{csm_small, csm_bytes_small}
 use Rattle.coap_conn.proofs.messages.announce.Goals as goal
 
 pub put-requires : goal.put-requires
@@ -11,4 +11,4 @@ put-requires c =
     omega (arith, csm_small c.args.max_message, ap (λ (m : Message). length (spelling m)) same, c.requires)
 
 pub returns-clause-small : goal.returns-clause-small
-returns-clause-small c = csm_text_small c.args.max_message
+returns-clause-small c = csm_bytes_small c.args.max_message

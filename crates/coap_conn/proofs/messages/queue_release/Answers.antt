@@ -2,7 +2,7 @@ use Rattle.std.proofs.Common.{rules, ◌≡◌, length, ap, arith}
 use Rattle.coap_wire.specs.Message.{Message}
 use Rattle.coap_wire.specs.Spelling.{spelling}
 use Rattle.coap_conn.specs.History.{release}
-use Rattle.coap_conn.proofs.SmallLemmas.{release_small, release_text_small}
+use Rattle.coap_conn.proofs.SmallLemmas.{release_small, release_bytes_small}
 use Rattle.coap_conn.proofs.messages.queue_release.Goals as goal
 
 pub put-requires : goal.put-requires
@@ -11,4 +11,4 @@ put-requires c =
     omega (arith, release_small, ap (λ (m : Message). length (spelling m)) same, c.requires)
 
 pub returns-clause-small : goal.returns-clause-small
-returns-clause-small c = release_text_small
+returns-clause-small c = release_bytes_small

@@ -21,7 +21,7 @@ returns-in_err-count-clause-run g c =
 
 pub returns-in-Ended-clause-run : goal.returns-in-Ended-clause-run
 returns-in-Ended-clause-run g c =
-    ended_turn _ c.loop.counter c.loop.read c.args.turns c.loop.host c.take_turn.new.host c.loop.connection c.take_turn.new.connection _ _ _ _ _ _ c.in_ok-count.field-0 _ c.loop.invariant.runs c.loop-test.true c.in_ok-count.ensures.turn c.in-Ended.is refl c.handled.ensures c.end_reason.ensures
+    ended_turn _ c.loop.counter c.loop.read c.args.turns c.loop.host c.take_turn.new.host c.loop.connection c.take_turn.new.connection _ _ _ _ _ _ c.in_ok-count.field-0 c.in-Ended.reason _ c.loop.invariant.runs c.loop-test.true c.in_ok-count.ensures.turn c.in-Ended.is refl c.handled.ensures refl
 
 pub returns-in-Stopped-clause-run : goal.returns-in-Stopped-clause-run
 returns-in-Stopped-clause-run g c =

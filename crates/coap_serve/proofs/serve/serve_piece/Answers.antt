@@ -1,5 +1,5 @@
 use Rattle.std.proofs.Common.{refl, ap, ◌∙◌, sym, arith}
-use Rattle.coap_serve.specs.Serving.{stop_of}
+use Rattle.coap_conn.specs.Phases.{stop_of}
 use Rattle.coap_serve.specs.Connection.{ConnectionValue}
 use Rattle.coap_serve.proofs.PieceLemmas.{begins, is_filled, is_used_up, took, handled_within, shorter, goes_further, served, stopped, refused, failed_write}
 use Rattle.coap_serve.proofs.serve.serve_piece.Goals as goal

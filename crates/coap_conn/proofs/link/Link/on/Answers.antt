@@ -1,9 +1,27 @@
+use Rattle.std.proofs.Common.{sym, ap, subst, ◌∙◌}
+use Rattle.coap_conn.specs.Reaction.{Reaction}
+use Rattle.coap_conn.specs.LinkValue.{LinkValue, IsReady, standing_in}
+use Rattle.coap_conn.specs.Phases.{IsAnswering}
 use Rattle.coap_conn.proofs.LinkLemmas.{message_shown}
-use Rattle.coap_conn.proofs.RequestLemmas.{request_answerable}
+use Rattle.coap_conn.proofs.RequestLemmas.{react_live, handled_is, request_stays, request_answering}
 use Rattle.coap_conn.proofs.link.Link.on.Goals as goal
 
+pub returns-clause-verdict : goal.returns-clause-verdict
+returns-clause-verdict c = c.handle.ensures.verdict ∙ ap (λ (r : Reaction). r.verdict) (sym (react_live (standing_in c.args.self.now) c.args.message.now c.requires.live))
+
+pub returns-clause-after : goal.returns-clause-after
+returns-clause-after c = c.handle.ensures.after ∙ sym (handled_is c.args.self.now c.args.message.now c.requires.live)
+
 pub returns-clause-shows : goal.returns-clause-shows
-returns-clause-shows c = message_shown c.args.self.now _ c.args.message.now c.handle.ensures.after
+returns-clause-shows c = message_shown c.args.self.now _ c.args.message.now (c.handle.ensures.after ∙ sym (handled_is c.args.self.now c.args.message.now c.requires.live))
+
+pub returns-clause-unchanged : goal.returns-clause-unchanged
+returns-clause-unchanged c = λ asked.
+    let told = c.handle.ensures.verdict ∙ ap (λ (r : Reaction). r.verdict) (sym (react_live (standing_in c.args.self.now) c.args.message.now c.requires.live)) in
+    c.handle.ensures.after ∙ sym (handled_is c.args.self.now c.args.message.now c.requires.live) ∙ request_stays c.args.self.now c.args.message.now (sym told ∙ asked)
 
 pub returns-clause-asked : goal.returns-clause-asked
-returns-clause-asked c = request_answerable c.args.self.now _ c.args.message.now _ c.requires.ready c.requires.live c.handle.ensures.after c.handle.ensures.verdict
+returns-clause-asked c = λ asked.
+    let told = c.handle.ensures.verdict ∙ ap (λ (r : Reaction). r.verdict) (sym (react_live (standing_in c.args.self.now) c.args.message.now c.requires.live)) in
+    let same = c.handle.ensures.after ∙ sym (handled_is c.args.self.now c.args.message.now c.requires.live) ∙ request_stays c.args.self.now c.args.message.now (sym told ∙ asked) in
+    (subst IsReady (sym same) c.requires.ready, subst (λ (v : LinkValue). IsAnswering v.phase) (sym same) (request_answering c.args.self.now c.args.message.now c.requires.live (sym told ∙ asked)))

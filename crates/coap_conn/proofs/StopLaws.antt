@@ -1,0 +1,31 @@
+-- Nothing follows a stop.
+use Rattle.std.proofs.Common.{◌≡◌, Bool, false, cond, Option, Some, refl, ap}
+use Rattle.std.specs.Prelude.{is_none}
+use Rattle.coap_wire.specs.Message.{Message}
+use Rattle.coap_conn.specs.declared.reason.Reason.{Reason}
+use Rattle.coap_conn.specs.declared.phase.Phase.{Phase}
+use Rattle.coap_conn.specs.declared.phase.Phase.TheVariants as phase
+use Rattle.coap_conn.specs.Phases.{stop_of, answers, is_open}
+use Rattle.coap_conn.specs.Verdicts as verdict
+use Rattle.coap_conn.specs.Reaction.{Standing, reaction_unless, react}
+use Rattle.coap_conn.specs.History.{History}
+
+-- what messages, faults and the end of input do where none is taken
+pub stays_over : (h after : History) (why : Reason) → stop_of h.phase ≡ Some why → cond (is_none (stop_of h.phase)) after h ≡ h
+stays_over h after why over = ap (λ (o : Option Reason). cond (is_none o) after h) over
+
+pub told_over : (s : Standing) (m : Message) (why : Reason) → stop_of s.phase ≡ Some why → (react s m).verdict ≡ verdict.Stopped why
+unfolding react
+told_over s m why over = ap (λ (o : Option Reason). (reaction_unless s m o).verdict) over
+
+not_open : (p : Phase) (why : Reason) → stop_of p ≡ Some why → is_open p ≡ false
+not_open phase.Waiting why over = absurd cc
+not_open phase.Open why over = absurd cc
+not_open (phase.Releasing because) why over = refl
+not_open (phase.Stopped because) why over = refl
+
+pub stays_released : (h after : History) (why : Reason) → stop_of h.phase ≡ Some why → cond (is_open h.phase) after h ≡ h
+stays_released h after why over = ap (λ (b : Bool). cond b after h) (not_open h.phase why over)
+
+pub stays_stopped : (h after : History) (why : Reason) → h.phase ≡ phase.Stopped why → cond (answers h.phase) after h ≡ h
+stays_stopped h after why stopped = ap (λ (p : Phase). cond (answers p) after h) stopped

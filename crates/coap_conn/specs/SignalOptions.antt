@@ -1,0 +1,14 @@
+-- The numbers of the options of Signalling Messages, which each code has for itself (RFC 8323 section 5.2).
+use Rattle.std.specs.Prelude.{ℕ}
+
+-- Max-Message-Size of Capabilities and Settings (RFC 8323 section 5.3.1)
+abbrev pub max_message_size : ℕ
+max_message_size = 2
+
+-- Custody of Ping and Pong (RFC 8323 section 5.4.1)
+abbrev pub custody : ℕ
+custody = 2
+
+-- Bad-CSM-Option of Abort (RFC 8323 section 5.6)
+abbrev pub bad_csm_option : ℕ
+bad_csm_option = 2
