@@ -3,7 +3,7 @@
     tests/memory.py bin/coap-server bin/coap-probe
 
 `coap-probe` serves standard streams as `coap-server --stdio` does, and stores up to 1,000 resources. No message but one that
-stores a representation allocates anything; each replacing PUT allocates as often as any other; nothing is lost.
+stores a representation allocates anything; a replacing PUT allocates the room of its bytes alone; nothing is lost.
 """
 
 import re
@@ -74,15 +74,14 @@ def flat(checks, command, before, kind):
 
 
 def replacing(checks, probe):
-    """Each replacing PUT allocates equally often."""
+    """Each replacing PUT allocates once."""
     counts = [
         counted(checks, "%d PUTs" % (2 * pairs), [probe], "00e1" + STORED[0] + REPLACING[0] * pairs, STORED[1] + REPLACING[1] * pairs)
         for pairs in (0, 500, 1000, 1500)
     ]
     first, second, third = (after - before for before, after in zip(counts, counts[1:]))
     checks.same("allocations of 1,000 more PUTs", (second, third), (first, first))
-    checks.same("a whole number for each PUT", first % 1000, 0)
-    print("a replacing PUT allocates %d times" % (first // 1000))
+    checks.same("one allocation for each PUT, its bytes", first, 1000)
 
 
 def main(programs):

@@ -6,7 +6,7 @@ use Rattle.coap_conn.specs.declared.phase.Phase.{Phase}
 use Rattle.coap_conn.specs.declared.phase.Phase.TheVariants as phase
 use Rattle.coap_conn.specs.Announced.{bad_csm_option}
 use Rattle.coap_conn.specs.Verdicts as verdict
-use Rattle.coap_conn.specs.MoreCodes as code
+use Rattle.coap_wire.specs.Codes as code
 use Rattle.coap_conn.specs.Phases.{stop_of, is_waiting}
 use Rattle.coap_conn.specs.Reaction.{Standing, Reaction, live_reaction, react, csm_reaction, is_reserved}
 use Rattle.coap_conn.specs.History.{History, AnnouncedFirst, own_csm}

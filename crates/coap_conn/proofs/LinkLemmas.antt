@@ -18,7 +18,7 @@ use Rattle.coap_conn.specs.Announced.{announcement, announced, last_or}
 use Rattle.coap_conn.specs.Fit.{bare_response}
 use Rattle.coap_conn.specs.Reaction.{Standing, Effect, react, send, abort, stop}
 use Rattle.coap_conn.specs.History.{History, IsHistory, bytes_of, own_csm, new_history, with_effect, standing_now, after_message, after_send, after_reply, after_reject, after_end, after_release, after_written, end_reason, release}
-use Rattle.coap_conn.specs.LinkValue.{LinkValue, link_of, Shows, new_link, link_with, standing_in, link_after_message, link_after_send, link_after_reply, link_after_reject, link_after_end, link_after_release, link_after_written}
+use Rattle.coap_conn.specs.LinkValue.{LinkValue, link_of, LinkShows, new_link, link_with, standing_in, link_after_message, link_after_send, link_after_reply, link_after_reject, link_after_end, link_after_release, link_after_written}
 
 -- ---- what is queued
 
@@ -40,7 +40,7 @@ effect_of : (h : History) (e : Effect) → IsHistory h → link_with (link_of h)
 effect_of h e is = ap (λ (w : List ℕ). link_at h w e.phase (announced h.handled)) (sym (waiting_more h e.queued is))
 
 -- the same where a test says whether there is an effect
-pub effect_shown : (v new : LinkValue) (h : History) (e : Effect) (does : Bool) → new ≡ cond does (link_with v e) v → Shows v h → Shows new (cond does (with_effect h e) h)
+pub effect_shown : (v new : LinkValue) (h : History) (e : Effect) (does : Bool) → new ≡ cond does (link_with v e) v → LinkShows v h → LinkShows new (cond does (with_effect h e) h)
 effect_shown v new h e true is shows = record {
   is_history = history_more h e.queued shows.is_history;
   same = is ∙ ap (λ (w : LinkValue). link_with w e) shows.same ∙ effect_of h e shows.is_history;
@@ -48,7 +48,7 @@ effect_shown v new h e true is shows = record {
 effect_shown v new h e false is shows = record { is_history = shows.is_history; same = is ∙ shows.same }
 
 -- a link stands as the history that it shows
-pub standing_shown : (v : LinkValue) (h : History) → Shows v h → standing_in v ≡ standing_now h
+pub standing_shown : (v : LinkValue) (h : History) → LinkShows v h → standing_in v ≡ standing_now h
 standing_shown v h shows = ap standing_in shows.same
 
 -- ---- what is announced
@@ -73,7 +73,7 @@ announced_none = refl
 
 -- ---- each call (what the contracts say of the code's link, for the worlds of the crates above too)
 
-pub new_shown : (role : Role) (limits : LimitValues) (tokens : ℕ) (new : LinkValue) → new ≡ new_link role limits tokens → Shows new (new_history role limits tokens)
+pub new_shown : (role : Role) (limits : LimitValues) (tokens : ℕ) (new : LinkValue) → new ≡ new_link role limits tokens → LinkShows new (new_history role limits tokens)
 new_shown role limits tokens new is = record {
   is_history = omega arith;
   same = is ∙ ap (λ (n : ℕ). link_at (new_history role limits tokens) (bytes_of (own_csm limits.max_message ∷ [])) (new_history role limits tokens).phase n) (sym announced_none);
@@ -91,37 +91,37 @@ heard_of h m e is =
     ap (λ (w : List ℕ). link_at h w e.phase (unwrap_or (announcement m) (announced h.handled))) (sym (waiting_more h e.queued is))
     ∙ ap (λ (n : ℕ). link_at h (drop h.written (bytes_of (h.queued ++ e.queued))) e.phase n) (sym (announced_more h.handled m))
 
-heard_shown : (v new : LinkValue) (h : History) (m : Message) (e : Effect) (does : Bool) → new ≡ cond does (link_heard v m e) v → Shows v h → Shows new (cond does (history_heard h m e) h)
+heard_shown : (v new : LinkValue) (h : History) (m : Message) (e : Effect) (does : Bool) → new ≡ cond does (link_heard v m e) v → LinkShows v h → LinkShows new (cond does (history_heard h m e) h)
 heard_shown v new h m e true is shows = record {
   is_history = history_more h e.queued shows.is_history;
   same = is ∙ ap (λ (w : LinkValue). link_heard w m e) shows.same ∙ heard_of h m e shows.is_history;
 }
 heard_shown v new h m e false is shows = record { is_history = shows.is_history; same = is ∙ shows.same }
 
-pub message_shown : (v new : LinkValue) (m : Message) → new ≡ link_after_message v m → (h : History) → Shows v h → Shows new (after_message h m)
+pub message_shown : (v new : LinkValue) (m : Message) → new ≡ link_after_message v m → (h : History) → LinkShows v h → LinkShows new (after_message h m)
 message_shown v new m is h shows =
     heard_shown v new h m (react (standing_now h) m).effect (takes_messages h.phase)
     (is ∙ ap (λ (s : Standing). cond (takes_messages s.phase) (link_heard v m (react s m).effect) v) (standing_shown v h shows)) shows
 
-pub send_shown : (v new : LinkValue) (m less : Message) → new ≡ link_after_send v m less → (h : History) → Shows v h → Shows new (after_send h m less)
+pub send_shown : (v new : LinkValue) (m less : Message) → new ≡ link_after_send v m less → (h : History) → LinkShows v h → LinkShows new (after_send h m less)
 send_shown v new m less is h shows =
     effect_shown v new h (send (standing_now h) m less) (answers h.phase)
     (is ∙ ap (λ (s : Standing). cond (answers s.phase) (link_with v (send s m less)) v) (standing_shown v h shows)) shows
 
-pub reply_shown : (v new : LinkValue) (m : Message) → new ≡ link_after_reply v m → (h : History) → Shows v h → Shows new (after_reply h m)
+pub reply_shown : (v new : LinkValue) (m : Message) → new ≡ link_after_reply v m → (h : History) → LinkShows v h → LinkShows new (after_reply h m)
 reply_shown v new m is h shows = send_shown v new m (bare_response m) is h shows
 
-pub reject_shown : (v new : LinkValue) (fault : Reject) → new ≡ link_after_reject v fault → (h : History) → Shows v h → Shows new (after_reject h fault)
+pub reject_shown : (v new : LinkValue) (fault : Reject) → new ≡ link_after_reject v fault → (h : History) → LinkShows v h → LinkShows new (after_reject h fault)
 reject_shown v new fault is h shows =
     effect_shown v new h (abort (standing_now h) (reject_reason fault)) (takes_messages h.phase)
     (is ∙ ap (λ (s : Standing). cond (takes_messages s.phase) (link_with v (abort s (reject_reason fault))) v) (standing_shown v h shows)) shows
 
-pub end_shown : (v new : LinkValue) (cut : Bool) → new ≡ link_after_end v cut → (h : History) → Shows v h → Shows new (after_end h cut)
+pub end_shown : (v new : LinkValue) (cut : Bool) → new ≡ link_after_end v cut → (h : History) → LinkShows v h → LinkShows new (after_end h cut)
 end_shown v new cut is h shows =
     effect_shown v new h (stop (standing_now h) (end_reason cut) []) (takes_messages h.phase)
     (is ∙ ap (λ (s : Standing). cond (takes_messages s.phase) (link_with v (stop s (end_reason cut) [])) v) (standing_shown v h shows)) shows
 
-pub release_shown : (v new : LinkValue) → new ≡ link_after_release v → (h : History) → Shows v h → Shows new (after_release h)
+pub release_shown : (v new : LinkValue) → new ≡ link_after_release v → (h : History) → LinkShows v h → LinkShows new (after_release h)
 release_shown v new is h shows =
     effect_shown v new h (stop (standing_now h) ReleasedHere (release ∷ [])) (is_open h.phase)
     (is ∙ ap (λ (s : Standing). cond (is_open s.phase) (link_with v (stop s ReleasedHere (release ∷ []))) v) (standing_shown v h shows)) shows
@@ -129,7 +129,7 @@ release_shown v new is h shows =
 written_of : (h : History) (n : ℕ) → link_after_written (link_of h) n ≡ link_of (after_written h n)
 written_of h n = ap (λ (w : List ℕ). link_at h w h.phase (announced h.handled)) (drop-drop n h.written (bytes_of h.queued))
 
-pub written_shown : (v new : LinkValue) (n : ℕ) → n ≤ length v.waiting → new ≡ link_after_written v n → (h : History) → Shows v h → Shows new (after_written h n)
+pub written_shown : (v new : LinkValue) (n : ℕ) → n ≤ length v.waiting → new ≡ link_after_written v n → (h : History) → LinkShows v h → LinkShows new (after_written h n)
 written_shown v new n within is h shows = record {
   is_history = omega (arith, within, shows.is_history, ap (λ (w : LinkValue). length w.waiting) shows.same, length-drop h.written (bytes_of h.queued));
   same = is ∙ ap (λ (w : LinkValue). link_after_written w n) shows.same ∙ written_of h n;

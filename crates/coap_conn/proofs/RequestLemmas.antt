@@ -11,7 +11,7 @@ use Rattle.coap_conn.specs.declared.phase.Role.{Role}
 use Rattle.coap_conn.specs.declared.phase.Role.TheVariants.{Server, Client}
 use Rattle.coap_conn.specs.declared.phase.Reply.{Reply}
 use Rattle.coap_conn.specs.declared.phase.Reply.TheVariants.{Whole, Bare, Stopped}
-use Rattle.coap_conn.specs.MoreCodes as code
+use Rattle.coap_wire.specs.Codes as code
 use Rattle.coap_conn.specs.Phases.{stop_of, takes_messages, IsLive, IsAnswering, is_waiting}
 use Rattle.coap_conn.specs.Announced.{has_critical_option, bad_csm_option, csm_size, announcement}
 use Rattle.coap_conn.specs.Fit.{fit, bare_response, without_options}

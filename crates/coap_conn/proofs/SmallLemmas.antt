@@ -6,8 +6,8 @@ use Rattle.std.proofs.lemmas.List.{append-nil, length-append}
 use Rattle.coap_wire.specs.Message.{CoapOption, Message}
 use Rattle.coap_wire.specs.Forms.{length_form, option_form}
 use Rattle.coap_wire.specs.Spelling.{spelling, option_spelling, body_spelling, head_spelling}
-use Rattle.coap_wire.specs.Uint.{uint_text, without_leading_zeros}
-use Rattle.coap_conn.specs.MoreCodes as code
+use Rattle.coap_wire.specs.Uint.{bytes_of_uint, without_leading_zeros}
+use Rattle.coap_wire.specs.Codes as code
 use Rattle.coap_conn.specs.SignalOptions as option
 use Rattle.coap_conn.specs.History.{own_csm, release}
 
@@ -40,8 +40,8 @@ few_zeros (zero ∷ s) = let h = few_zeros s in omega (arith, few_zeros s)
 few_zeros (suc b ∷ s) = omega arith
 
 pub csm_small : (M : ℕ) → length (spelling (own_csm M)) ≤ 24
-unfolding uint_text
-csm_small M = omega (arith, one_option code.csm [] (record { number = option.max_message_size; value = uint_text M }), few_zeros (to_be_bytes w64 M))
+unfolding bytes_of_uint
+csm_small M = omega (arith, one_option code.csm [] (record { number = option.max_message_size; value = bytes_of_uint M }), few_zeros (to_be_bytes w64 M))
 
 pub release_small : length (spelling release) ≡ 2
 unfolding spelling

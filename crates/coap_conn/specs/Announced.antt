@@ -4,7 +4,7 @@ use Rattle.std.specs.List.{list_any, filter_map}
 use Rattle.coap_wire.specs.Message.{CoapOption, Message}
 use Rattle.coap_wire.specs.Recognition.{is_critical}
 use Rattle.coap_wire.specs.Uint.{uint_of}
-use Rattle.coap_conn.specs.MoreCodes as code
+use Rattle.coap_wire.specs.Codes as code
 use Rattle.coap_conn.specs.SignalOptions as option
 
 -- as in any message, an option of a Signalling Message is critical where its number is odd (RFC 8323 section 5.2)

@@ -3,8 +3,7 @@ use Rattle.std.specs.Prelude.{ℕ, ◌≤◌, Bool, ◌||◌, List, [], ◌∷�
 use Rattle.std.specs.List.{AllByRecursion}
 use Rattle.coap_wire.specs.Message.{Message}
 use Rattle.coap_wire.specs.Spelling.{spelling}
-use Rattle.coap_wire.specs.Codes.{created, deleted, changed}
-use Rattle.coap_conn.specs.MoreCodes.{internal_server_error}
+use Rattle.coap_wire.specs.Codes.{created, deleted, changed, internal_server_error}
 use Rattle.coap_conn.specs.declared.phase.Reply.{Reply}
 use Rattle.coap_conn.specs.declared.phase.Reply.TheVariants.{Whole, Bare, Stopped}
 

@@ -3,8 +3,8 @@ use Rattle.std.specs.Prelude.{◌≡◌, ℕ, ◌+◌, ◌≤◌, Bool, true, fa
 use Rattle.std.specs.List.{flat_map}
 use Rattle.coap_wire.specs.Message.{Message}
 use Rattle.coap_wire.specs.Spelling.{spelling}
-use Rattle.coap_wire.specs.Uint.{uint_text}
-use Rattle.coap_conn.specs.MoreCodes as code
+use Rattle.coap_wire.specs.Uint.{bytes_of_uint}
+use Rattle.coap_wire.specs.Codes as code
 use Rattle.coap_conn.specs.SignalOptions as option
 use Rattle.coap_conn.specs.Phases.{takes_messages, answers, is_open}
 use Rattle.coap_conn.specs.declared.reason.Reason.{Reason}
@@ -32,7 +32,7 @@ pub record History : Type 0 where
 
 -- the own Capabilities and Settings: Max-Message-Size, and nothing else (RFC 8323 section 5.3)
 abbrev pub own_csm : ℕ → Message
-own_csm M = record { code = code.csm; token = []; options = record { number = option.max_message_size; value = uint_text M } ∷ []; payload = [] }
+own_csm M = record { code = code.csm; token = []; options = record { number = option.max_message_size; value = bytes_of_uint M } ∷ []; payload = [] }
 
 -- the connection begins with the own Capabilities and Settings
 abbrev pub new_history : Role → LimitValues → ℕ → History

@@ -1,6 +1,5 @@
 pub mod Limits
 pub mod LimitViews
-pub mod MoreCodes
 pub mod SignalOptions
 pub mod Phases
 pub mod Reasons

@@ -29,7 +29,7 @@ link_of h =
     record { role = h.role; limits = h.limits; waiting = drop h.written (bytes_of h.queued); phase = h.phase; peer_max = announced h.handled; tokens = h.tokens }
 
 -- the link shows the history
-pub record Shows (v : LinkValue) (h : History) : Type 0 where
+pub record LinkShows (v : LinkValue) (h : History) : Type 0 where
   pub is_history : IsHistory h
   pub same : v ≡ link_of h
 

@@ -2,7 +2,7 @@
 use Rattle.std.specs.Prelude.{ℕ, ◌/◌, Bool, true, false, ◌&&◌, ◌||◌, List, [], ◌∷◌, length, Option, Some, None, ◌==◌, if◌then◌else◌}
 use Rattle.std.specs.List.{list_any}
 use Rattle.coap_wire.specs.Message.{CoapOption, Message}
-use Rattle.coap_conn.specs.MoreCodes as code
+use Rattle.coap_wire.specs.Codes as code
 use Rattle.coap_conn.specs.SignalOptions as option
 use Rattle.coap_conn.specs.Phases.{stop_of, is_waiting}
 use Rattle.coap_conn.specs.declared.reason.Reason.{Reason}

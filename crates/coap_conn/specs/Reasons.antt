@@ -1,8 +1,8 @@
 -- Why a connection stops, and the Abort that tells the peer so (RFC 8323 section 5.6).
 use Rattle.std.specs.Prelude.{ℕ, List, [], ◌∷◌, Option, Some, None, codes, option_map, unwrap_or}
 use Rattle.coap_wire.specs.Message.{CoapOption, Message}
-use Rattle.coap_wire.specs.Uint.{uint_text}
-use Rattle.coap_conn.specs.MoreCodes as code
+use Rattle.coap_wire.specs.Uint.{bytes_of_uint}
+use Rattle.coap_wire.specs.Codes as code
 use Rattle.coap_conn.specs.SignalOptions as option
 use Rattle.coap_conn.specs.declared.reason.Reason.{Reason}
 use Rattle.coap_conn.specs.declared.reason.Reason.TheVariants.{Format, TooLarge, TokenLength, ReservedCode, CsmExpected, BadCsm, BadSignalOption, PeerAbort, PeerRelease, PeerTooSmall, Ended, Cut, ReleasedHere}
@@ -60,7 +60,7 @@ told_options None value = []
 told_options (Some number) value = record { number = option.bad_csm_option; value = value } ∷ []
 
 abbrev pub abort_options : Option ℕ → List CoapOption
-abort_options number = told_options number (uint_text (unwrap_or number 0))
+abort_options number = told_options number (bytes_of_uint (unwrap_or number 0))
 
 -- an Abort with these options and this text
 abbrev pub abort_with : List CoapOption → List ℕ → Message

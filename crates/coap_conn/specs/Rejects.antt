@@ -1,15 +1,21 @@
 -- What is wrong with the bytes behind the messages, and why a connection stops on them.
-use Rattle.coap_wire.specs.Stream.{StreamFault}
+use Rattle.coap_wire.specs.Stream.{StreamFault, OfFrame}
 use Rattle.coap_wire.specs.Stream as stream
+use Rattle.coap_wire.specs.declared.fault.FrameFault.{FrameFault}
+use Rattle.coap_wire.specs.declared.fault.FrameFault.TheVariants as frame
 use Rattle.coap_conn.specs.declared.reason.Reason.{Reason}
 use Rattle.coap_conn.specs.declared.reason.Reason.TheVariants.{Format, TooLarge, TokenLength}
 use Rattle.coap_conn.specs.declared.phase.Reject.{Reject}
 use Rattle.coap_conn.specs.declared.phase.Reject.TheVariants as reject
 
+-- a fault of a frame's first bytes
+abbrev pub reject_of_frame : FrameFault → Reject
+reject_of_frame frame.TokenLength = reject.TokenLength
+reject_of_frame frame.TooLarge = reject.TooLarge
+
 -- a stream that ends with this fault is rejected so
 abbrev pub reject_of : StreamFault → Reject
-reject_of stream.TokenLength = reject.TokenLength
-reject_of stream.TooLarge = reject.TooLarge
+reject_of (OfFrame fault) = reject_of_frame fault
 reject_of stream.Format = reject.Format
 
 abbrev pub reject_reason : Reject → Reason

@@ -9,7 +9,7 @@ ghost use Rattle.coap_conn.specs.Limits.{LimitValues, AreInRange};
 ghost use Rattle.coap_conn.specs.History.{History, AnnouncedFirst, new_history, limit_now, standing_now, release, after_message, after_send, after_reject, after_end, after_release, after_written};
 ghost use Rattle.coap_conn.specs.Phases.{stop_of};
 ghost use Rattle.coap_conn.specs.Reaction.{Standing, react, send, abort};
-ghost use Rattle.coap_conn.specs.MoreCodes as code;
+ghost use Rattle.coap_wire.specs.Codes as code;
 ghost use Rattle.coap_conn.specs.Verdicts.{Request};
 ghost use Rattle.coap_conn.specs.Verdicts as verdict;
 ghost use Rattle.coap_conn.specs.declared.phase.Phase.TheVariants.{Waiting, Open, Stopped};

@@ -60,7 +60,7 @@ impl Link {
     ghost use Rattle.coap_conn.specs.Verdicts as verdict;
     ghost use Rattle.coap_conn.specs.declared.phase.Phase.TheVariants as phase;
     ghost use Rattle.coap_conn.specs.History.{History, bytes_of, new_history, after_message, after_reject, after_end, after_reply, after_release, after_written};
-    ghost use Rattle.coap_conn.specs.LinkValue.{Shows, IsLink, IsReady, free_in, limit_in, standing_in, is_finished, new_link, link_with, link_handled, link_after_message, link_after_csm, link_after_reply, link_after_reject, link_after_end, link_after_release, link_after_written};
+    ghost use Rattle.coap_conn.specs.LinkValue.{LinkShows, IsLink, IsReady, free_in, limit_in, standing_in, is_finished, new_link, link_with, link_handled, link_after_message, link_after_csm, link_after_reply, link_after_reject, link_after_end, link_after_release, link_after_written};
     ghost use Rattle.coap_conn.specs.LinkViews.{verdict_value};
     ghost use Rattle.coap_conn.specs.Release.{release_refusal};
     ghost use Rattle.coap_conn.specs.contracts.link.Link.{the_row};
@@ -78,7 +78,7 @@ impl Link {
         tokens_from: u64,
     ) -> Result<Link, AllocError>
         ensures new { IfOk result (λ l. l ≡ new_link role limits tokens_from) }
-        ensures shows { IfOk result (λ l. Shows l (new_history role limits tokens_from)) }
+        ensures shows { IfOk result (λ l. LinkShows l (new_history role limits tokens_from)) }
     {
         let mut queue = OutQueue::new(alloc, limits.queue())?;
         announce(&mut queue, limits.max_message());
@@ -104,7 +104,7 @@ impl Link {
     pub fn written(&mut self, count: usize)
         requires { count ≤ length self.old.waiting }
         ensures after { self.new ≡ link_after_written self.old count }
-        ensures shows { (h : History) → Shows self.old h → Shows self.new (after_written h count) }
+        ensures shows { (h : History) → LinkShows self.old h → LinkShows self.new (after_written h count) }
     {
         self.queue.written(count);
     }
@@ -175,7 +175,7 @@ impl Link {
         requires live { IsLive self.old.phase }
         ensures verdict { verdict_value result ≡ (react (standing_in self.old) message.now).verdict }
         ensures after { self.new ≡ link_after_message self.old message.now }
-        ensures shows { (h : History) → Shows self.old h → Shows self.new (after_message h message.now) }
+        ensures shows { (h : History) → LinkShows self.old h → LinkShows self.new (after_message h message.now) }
         // A request changes nothing, and can be answered at once.
         ensures unchanged { verdict_value result ≡ verdict.Request → self.new ≡ self.old }
         ensures asked { verdict_value result ≡ verdict.Request → IsReady self.new × IsAnswering self.new.phase }
@@ -188,7 +188,7 @@ impl Link {
         requires ready { IsReady self.old }
         requires live { IsLive self.old.phase }
         ensures after { self.new ≡ link_after_reject self.old fault }
-        ensures shows { (h : History) → Shows self.old h → Shows self.new (after_reject h fault) }
+        ensures shows { (h : History) → LinkShows self.old h → LinkShows self.new (after_reject h fault) }
     {
         self.abort(reason_of(fault));
     }
@@ -196,7 +196,7 @@ impl Link {
     /// Stops as the input ends, within a frame where it was cut. Nothing changes where no message is taken any more.
     pub fn end(&mut self, cut: bool)
         ensures after { self.new ≡ link_after_end self.old cut }
-        ensures shows { (h : History) → Shows self.old h → Shows self.new (after_end h cut) }
+        ensures shows { (h : History) → LinkShows self.old h → LinkShows self.new (after_end h cut) }
     {
         if self.phase.stop().is_none() {
             self.stop(if cut { Reason::Cut } else { Reason::Ended });
@@ -211,7 +211,7 @@ impl Link {
         requires answering { IsAnswering self.old.phase }
         ensures reply { result ≡ fit (limit_in self.old) response.now (bare_response response.now) }
         ensures after { self.new ≡ link_after_reply self.old response.now }
-        ensures shows { (h : History) → Shows self.old h → Shows self.new (after_reply h response.now) }
+        ensures shows { (h : History) → LinkShows self.old h → LinkShows self.new (after_reply h response.now) }
     {
         let bare = bare_of(response);
         self.send(response, &bare)
@@ -226,7 +226,7 @@ impl Link {
     pub fn release(&mut self) -> Result<(), SendFault>
         ensures answer { RefusedBy result (release_refusal self.old) }
         ensures after { OnOk result (self.new ≡ link_after_release self.old) }
-        ensures shows { OnOk result ((h : History) → Shows self.old h → Shows self.new (after_release h)) }
+        ensures shows { OnOk result ((h : History) → LinkShows self.old h → LinkShows self.new (after_release h)) }
         ensures err { OnErr result (self.new ≡ self.old) }
     {
         let Phase::Open = self.phase else {

@@ -4,7 +4,7 @@ ghost use Rattle.std.specs.Prelude.{◌≡◌};
 ghost use Rattle.coap_conn.specs.Phases.{stop_of};
 
 use crate::reason::Reason;
-use coap_wire::Token;
+use coap_wire::{FrameFault, Token};
 use thiserror::Error;
 
 /// Which end of the connection this is.
@@ -93,6 +93,19 @@ pub enum Reject {
     TooLarge,
     /// A token length above 8.
     TokenLength,
+}
+
+impl From<FrameFault> for Reject {
+    ghost use Rattle.coap_conn.specs.Rejects.{reject_of_frame};
+
+    ghost from_gives = { λ fault reject. reject ≡ reject_of_frame fault };
+
+    fn from(fault: FrameFault) -> Reject {
+        match fault {
+            FrameFault::TokenLength => Reject::TokenLength,
+            FrameFault::TooLarge => Reject::TooLarge,
+        }
+    }
 }
 
 /// Why Release was not sent. The discriminants are the faults' numbers.

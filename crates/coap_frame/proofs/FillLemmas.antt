@@ -5,12 +5,12 @@ use Rattle.std.proofs.lemmas.List.{append-nil, take-append-drop, take_more, take
 use Rattle.coap_wire.specs.Reading.{declared_of}
 use Rattle.coap_wire.specs.declared.frame.Declared.{Declared}
 use Rattle.coap_wire.specs.declared.frame.Declared.TheVariants.{Unknown, Size, BadToken}
-use Rattle.coap_wire.specs.Stream.{StreamFault, TokenLength, TooLarge, Beginning, Unfinished, Whole, Faulty, beginning, fault_bytes, size_bytes}
+use Rattle.coap_wire.specs.declared.fault.FrameFault.{FrameFault}
+use Rattle.coap_wire.specs.declared.fault.FrameFault.TheVariants.{TokenLength, TooLarge}
+use Rattle.coap_wire.specs.Beginning.{Beginning, Unfinished, Whole, Faulty, beginning, fault_bytes, size_bytes}
 use Rattle.coap_wire.proofs.StreamSteps.{begin_unknown, begin_bad_token, begin_too_large, begin_short, begin_whole, unfinished_small, size_has_bytes, size_at_last, declared_more, faulty_more, fault_bytes_more, fault_at_last}
-use Rattle.coap_frame.specs.Framing.{frame_fault}
 use Rattle.coap_frame.specs.Filling.{IsTakenTo, IsFilled}
 use Rattle.coap_frame.specs.declared.filling.Standing.TheVariants as standing
-use Rattle.coap_frame.specs.declared.framer.FrameFault.TheVariants as faults
 use Rattle.std.proofs.Math.Seq.{take-append-add}
 
 -- bytes that do not tell their size are few
@@ -64,7 +64,7 @@ module _ (M : ℕ) (old piece new : List ℕ) (taken : ℕ) (size : Declared) (u
             omega (arith, ap (λ (s : List ℕ). length s) e, ap size_bytes e, last, few))
       ]
 
-  fault_is_new : (fault : StreamFault) → beginning M new ≡ Faulty fault → fault_bytes fault new ≡ new
+  fault_is_new : (fault : FrameFault) → beginning M new ≡ Faulty fault → fault_bytes fault new ≡ new
   fault_is_new fault faulty =
       elim h.first [
         | inl none ↦ (let bad : ◌≡◌ {A = Beginning} Unfinished (Faulty fault) = sym unfinished ∙ ap (beginning M) (sym (none_taken none)) ∙ faulty in absurd cc)
@@ -73,18 +73,18 @@ module _ (M : ℕ) (old piece new : List ℕ) (taken : ℕ) (size : Declared) (u
             ap (fault_bytes fault) e ∙ last ∙ sym e)
       ]
 
-  fault_stands : (fault : StreamFault) → beginning M new ≡ Faulty fault → IsFilled M old piece new taken (standing.Fault (frame_fault fault))
+  fault_stands : (fault : FrameFault) → beginning M new ≡ Faulty fault → IsFilled M old piece new taken (standing.Fault fault)
   fault_stands fault faulty =
       let bytes : fault_bytes fault (old ++ piece) ≡ new = ap (fault_bytes fault) all_bytes ∙ fault_bytes_more M new behind fault faulty ∙ fault_is_new fault faulty in
       record {
         within = h.within;
-        stands = (fault, ap (beginning M) all_bytes ∙ faulty_more M new behind fault faulty, refl, sym length_new ∙ sym (ap (λ (s : List ℕ). length s) bytes));
+        stands = (ap (beginning M) all_bytes ∙ faulty_more M new behind fault faulty, sym length_new ∙ sym (ap (λ (s : List ℕ). length s) bytes));
       }
 
-  pub filled_bad_token : size ≡ BadToken → IsFilled M old piece new taken (standing.Fault faults.TokenLength)
+  pub filled_bad_token : size ≡ BadToken → IsFilled M old piece new taken (standing.Fault TokenLength)
   filled_bad_token is = fault_stands TokenLength (begin_bad_token M new (sym h.size_is ∙ is))
 
-  pub filled_too_large : (n : ℕ) → size ≡ Size n → M < n → IsFilled M old piece new taken (standing.Fault faults.TooLarge)
+  pub filled_too_large : (n : ℕ) → size ≡ Size n → M < n → IsFilled M old piece new taken (standing.Fault TooLarge)
   filled_too_large n is large = fault_stands TooLarge (begin_too_large M new n (sym h.size_is ∙ is) large)
 
   pub filled_unknown : size ≡ Unknown → taken ≡ length piece → IsFilled M old piece new taken standing.Unfinished

@@ -3,45 +3,44 @@ use Rattle.std.proofs.Common.{◌≡◌, ◌≢◌, ℕ, ◌-◌, ◌<◌, ◌�
 use Rattle.std.specs.Prelude.{◌==◌}
 use Rattle.std.proofs.lemmas.Bool.{ne_eqb}
 use Rattle.std.proofs.lemmas.List.{length-append, length-drop, take-append-drop}
-use Rattle.coap_wire.specs.Stream.{Beginning, Unfinished, Whole, Faulty, beginning, fault_bytes}
-use Rattle.coap_wire.proofs.StreamSteps.{unfinished_empty, whole_parts, whole_itself, whole_more, faulty_more}
-use Rattle.coap_frame.specs.Framing.{FramerValue, IsFramer, Nothing, AFrame, AFault, frame_fault, split_frame, framing_at, framing, without_last, frame_back}
-use Rattle.coap_frame.specs.Advance.{framer_of, spent_in, held_of}
+use Rattle.coap_wire.specs.Beginning.{Beginning, Unfinished, Whole, Faulty, beginning, fault_bytes}
+use Rattle.coap_wire.proofs.StreamSteps.{unfinished_empty, unfinished_below, whole_parts, whole_itself, whole_more, faulty_more}
+use Rattle.coap_frame.specs.Framing.{FramerValue, IsFramer, Nothing, AFrame, AFault, split_frame, framing_at, framing, framed, framer_after, without_last, frame_back}
+use Rattle.coap_frame.specs.BufferViews.{framer_of, spent_in, held_of}
 use Rattle.coap_frame.specs.Filling.{IsFilled}
-use Rattle.coap_frame.specs.declared.framer.FrameFault.{FrameFault}
+use Rattle.coap_wire.specs.declared.fault.FrameFault.{FrameFault}
 use Rattle.coap_frame.specs.declared.framer.Held.{Held}
 use Rattle.coap_frame.specs.declared.framer.Held.TheVariants as held
 use Rattle.coap_frame.specs.declared.filling.Standing.{Standing}
 use Rattle.coap_frame.specs.declared.filling.Standing.TheVariants as standing
 
-module _ (v : FramerValue) (piece new : List ℕ) (taken : ℕ) where
-  pub framing_unfinished : IsFilled v.max v.kept piece new taken standing.Unfinished
-      → framing v piece ≡ record { taken = taken; finding = Nothing; after = record { max = v.max; kept = new; spent = [] } }
+module _ (max : ℕ) (kept piece new : List ℕ) (taken : ℕ) where
+  pub framing_unfinished : IsFilled max kept piece new taken standing.Unfinished
+      → framing max kept piece ≡ record { taken = taken; finding = Nothing; kept = new; spent = [] }
   unfolding framing
   framing_unfinished filled =
       let s = filled.stands in
-      ap (framing_at v piece) s.0
-      ∙ ap (λ (n : ℕ). record { taken = n; finding = Nothing; after = record { max = v.max; kept = v.kept ++ piece; spent = [] } }) (sym s.1)
-      ∙ ap (λ (k : List ℕ). record { taken = taken; finding = Nothing; after = record { max = v.max; kept = k; spent = [] } }) (sym s.2)
+      ap (framing_at kept piece) s.0
+      ∙ ap (λ (n : ℕ). record { taken = n; finding = Nothing; kept = kept ++ piece; spent = [] }) (sym s.1)
+      ∙ ap (λ (k : List ℕ). record { taken = taken; finding = Nothing; kept = k; spent = [] }) (sym s.2)
 
-  pub framing_whole : IsFilled v.max v.kept piece new taken standing.Whole
-      → framing v piece ≡ record { taken = taken; finding = AFrame new; after = record { max = v.max; kept = []; spent = split_frame v.kept new } }
+  pub framing_whole : IsFilled max kept piece new taken standing.Whole
+      → framing max kept piece ≡ record { taken = taken; finding = AFrame new; kept = []; spent = split_frame kept new }
   unfolding framing
   framing_whole filled =
       let s = filled.stands in
       let count : length piece - length s.0 ≡ taken = omega (arith, s.2) in
-      ap (framing_at v piece) s.1
-      ∙ ap (λ (n : ℕ). record { taken = n; finding = AFrame new; after = record { max = v.max; kept = []; spent = split_frame v.kept new } }) count
+      ap (framing_at kept piece) s.1
+      ∙ ap (λ (n : ℕ). record { taken = n; finding = AFrame new; kept = []; spent = split_frame kept new }) count
 
-  pub framing_fault : (fault : FrameFault) → IsFilled v.max v.kept piece new taken (standing.Fault fault)
-      → framing v piece ≡ record { taken = taken; finding = AFault fault; after = record { max = v.max; kept = []; spent = [] } }
+  pub framing_fault : (fault : FrameFault) → IsFilled max kept piece new taken (standing.Fault fault)
+      → framing max kept piece ≡ record { taken = taken; finding = AFault fault; kept = []; spent = [] }
   unfolding framing
   framing_fault fault filled =
       let s = filled.stands in
-      let count : length (fault_bytes s.0 (v.kept ++ piece)) - length v.kept ≡ taken = omega (arith, s.3) in
-      ap (framing_at v piece) s.1
-      ∙ ap (λ (n : ℕ). record { taken = n; finding = AFault (frame_fault s.0); after = record { max = v.max; kept = []; spent = [] } }) count
-      ∙ ap (λ (f : FrameFault). record { taken = taken; finding = AFault f; after = record { max = v.max; kept = []; spent = [] } }) (sym s.2)
+      let count : length (fault_bytes fault (kept ++ piece)) - length kept ≡ taken = omega (arith, s.1) in
+      ap (framing_at kept piece) s.0
+      ∙ ap (λ (n : ℕ). record { taken = n; finding = AFault fault; kept = []; spent = [] }) count
 
 -- a frame is split where the buffer was not empty
 pub held_is_split : (max : ℕ) (kept new : List ℕ) → framer_of max (held_of (not (length kept == 0))) new ≡ record { max = max; kept = []; spent = split_frame kept new }
@@ -74,20 +73,24 @@ split_is_whole : (max : ℕ) (kept frame : List ℕ) → beginning max frame ≡
 split_is_whole max [] frame e = inl refl
 split_is_whole max (b ∷ kept) frame e = inr (e, refl)
 
-framer_after : (v : FramerValue) (piece : List ℕ) (b : Beginning) → IsFramer v → beginning v.max (v.kept ++ piece) ≡ b → IsFramer (framing_at v piece b).after
-framer_after v piece Unfinished is e = record { low = is.low; high = is.high; unfinished = e; whole = inl refl }
-framer_after v piece (Whole frame rest) is e = record {
+framed_by : (v : FramerValue) (piece : List ℕ) (b : Beginning) → IsFramer v → beginning v.max (v.kept ++ piece) ≡ b → IsFramer (framed v (framing_at v.kept piece b))
+framed_by v piece Unfinished is e = record { low = is.low; high = is.high; unfinished = e; whole = inl refl }
+framed_by v piece (Whole frame rest) is e = record {
   low = is.low;
   high = is.high;
   unfinished = unfinished_empty v.max;
   whole = split_is_whole v.max v.kept frame (whole_itself v.max (v.kept ++ piece) frame rest e);
 }
-framer_after v piece (Faulty fault) is e = empty_framer v.max [] is.low is.high refl
+framed_by v piece (Faulty fault) is e = empty_framer v.max [] is.low is.high refl
 
 -- a framer stays one
-pub framing_is_framer : (v : FramerValue) (piece : List ℕ) → IsFramer v → IsFramer (framing v piece).after
+pub framing_is_framer : (v : FramerValue) (piece : List ℕ) → IsFramer v → IsFramer (framer_after v piece)
 unfolding framing
-framing_is_framer v piece is = framer_after v piece (beginning v.max (v.kept ++ piece)) is refl
+framing_is_framer v piece is = framed_by v piece (beginning v.max (v.kept ++ piece)) is refl
+
+-- what is kept is shorter than the greatest frame
+pub kept_below : (v : FramerValue) → IsFramer v → length v.kept < v.max
+kept_below v is = unfinished_below v.max v.kept (omega (arith, is.low)) is.unfinished
 
 -- ---- a frame that is taken back
 

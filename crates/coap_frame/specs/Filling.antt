@@ -1,10 +1,9 @@
 -- What filling a buffer does.
 use Rattle.std.specs.Prelude.{◌≡◌, ℕ, ◌+◌, ◌≤◌, List, ◌++◌, length, take, ◌⊎◌}
 use Rattle.coap_wire.specs.Reading.{declared_of}
-use Rattle.coap_wire.specs.Stream.{StreamFault, Unfinished, Whole, Faulty, beginning, fault_bytes}
+use Rattle.coap_wire.specs.Beginning.{Unfinished, Whole, Faulty, beginning, fault_bytes}
 use Rattle.coap_wire.specs.declared.frame.Declared.{Declared}
 use Rattle.coap_wire.specs.declared.frame.Declared.TheVariants.{Unknown}
-use Rattle.coap_frame.specs.Framing.{frame_fault}
 use Rattle.coap_frame.specs.declared.filling.Standing.{Standing}
 use Rattle.coap_frame.specs.declared.filling.Standing.TheVariants as standing
 
@@ -24,8 +23,8 @@ pub record IsHead (old piece new : List ℕ) (taken : ℕ) (size : Declared) : T
 abbrev pub StandsAs : ℕ → List ℕ → List ℕ → List ℕ → ℕ → Standing → Type 0
 StandsAs M old piece new taken standing.Unfinished = (beginning M (old ++ piece) ≡ Unfinished) × (taken ≡ length piece) × (new ≡ old ++ piece)
 StandsAs M old piece new taken standing.Whole = (rest : List ℕ) × (beginning M (old ++ piece) ≡ Whole new rest) × (taken + length rest ≡ length piece)
-StandsAs M old piece new taken (standing.Fault f) =
-    (fault : StreamFault) × (beginning M (old ++ piece) ≡ Faulty fault) × (f ≡ frame_fault fault) × (length old + taken ≡ length (fault_bytes fault (old ++ piece)))
+StandsAs M old piece new taken (standing.Fault fault) =
+    (beginning M (old ++ piece) ≡ Faulty fault) × (length old + taken ≡ length (fault_bytes fault (old ++ piece)))
 
 pub record IsFilled (M : ℕ) (old piece new : List ℕ) (taken : ℕ) (s : Standing) : Type 0 where
   pub within : taken ≤ length piece

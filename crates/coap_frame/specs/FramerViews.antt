@@ -2,7 +2,7 @@
 use Rattle.std.specs.Prelude.{◌≤◌}
 use Rattle.std.specs.Vec.{vec_capacity}
 use Rattle.coap_frame.specs.Framing.{FramerValue, IsFramer}
-use Rattle.coap_frame.specs.Advance.{framer_of}
+use Rattle.coap_frame.specs.BufferViews.{framer_of}
 use Rattle.coap_frame.specs.declared.framer.Framer.TheInside.{Inside}
 
 abbrev pub framer_value : Inside → FramerValue

@@ -1,8 +1,7 @@
 -- What a framer does with a piece of a stream.
 use Rattle.std.specs.Prelude.{◌≡◌, ◌≢◌, ℕ, ◌-◌, ◌≤◌, List, [], ◌∷◌, ◌++◌, length, take, ◌⊎◌}
-use Rattle.coap_wire.specs.Stream.{StreamFault, TokenLength, TooLarge, Format, Beginning, Unfinished, Whole, Faulty, beginning, fault_bytes}
-use Rattle.coap_frame.specs.declared.framer.FrameFault.{FrameFault}
-use Rattle.coap_frame.specs.declared.framer.FrameFault.TheVariants as faults
+use Rattle.coap_wire.specs.Beginning.{Beginning, Unfinished, Whole, Faulty, beginning, fault_bytes}
+use Rattle.coap_wire.specs.declared.fault.FrameFault.{FrameFault}
 
 -- A framer for frames of at most max bytes: the bytes kept of an unfinished frame, and the split frame that it gave last
 -- and that still lies in its buffer.
@@ -24,33 +23,43 @@ pub data Finding : Type 0 where
   AFrame : List ℕ → Finding
   AFault : FrameFault → Finding
 
--- how many bytes of a piece were taken, what was found, and the framer afterwards
+-- how many bytes of a piece are taken, what is found, and what is kept and what is spent then
 pub record Framing : Type 0 where
   pub taken : ℕ
   pub finding : Finding
-  pub after : FramerValue
-
-abbrev pub frame_fault : StreamFault → FrameFault
-frame_fault TokenLength = faults.TokenLength
-frame_fault TooLarge = faults.TooLarge
-frame_fault Format = faults.TooLarge
+  pub kept : List ℕ
+  pub spent : List ℕ
 
 -- a frame is split where bytes of it were kept
 abbrev pub split_frame : List ℕ → List ℕ → List ℕ
 split_frame [] frame = []
 split_frame (b ∷ kept) frame = frame
 
-abbrev pub framing_at : FramerValue → List ℕ → Beginning → Framing
-framing_at v piece Unfinished =
-    record { taken = length piece; finding = Nothing; after = record { max = v.max; kept = v.kept ++ piece; spent = [] } }
-framing_at v piece (Whole frame rest) =
-    record { taken = length piece - length rest; finding = AFrame frame; after = record { max = v.max; kept = []; spent = split_frame v.kept frame } }
-framing_at v piece (Faulty fault) =
-    record { taken = length (fault_bytes fault (v.kept ++ piece)) - length v.kept; finding = AFault (frame_fault fault); after = record { max = v.max; kept = []; spent = [] } }
+-- the same, where this stands at the front of the kept bytes and the piece
+abbrev pub framing_at : List ℕ → List ℕ → Beginning → Framing
+framing_at kept piece Unfinished = record { taken = length piece; finding = Nothing; kept = kept ++ piece; spent = [] }
+framing_at kept piece (Whole frame rest) =
+    record { taken = length piece - length rest; finding = AFrame frame; kept = []; spent = split_frame kept frame }
+framing_at kept piece (Faulty fault) =
+    record { taken = length (fault_bytes fault (kept ++ piece)) - length kept; finding = AFault fault; kept = []; spent = [] }
 
--- what the kept bytes and the piece spell, as one stream
-unfoldable pub framing : FramerValue → List ℕ → Framing
-framing v piece = framing_at v piece (beginning v.max (v.kept ++ piece))
+-- what the kept bytes and the piece spell, as one stream of frames of at most max bytes
+unfoldable pub framing : ℕ → List ℕ → List ℕ → Framing
+framing max kept piece = framing_at kept piece (beginning max (kept ++ piece))
+
+-- what a framer does with a piece
+abbrev pub framing_of : FramerValue → List ℕ → Framing
+framing_of v piece = framing v.max v.kept piece
+
+-- the framer afterwards
+abbrev pub framed : FramerValue → Framing → FramerValue
+framed v f = record v { kept = f.kept; spent = f.spent }
+
+-- the framer that took what it takes of a piece
+abbrev pub framer_after : FramerValue → List ℕ → FramerValue
+framer_after v piece = framed v (framing_of v piece)
+
+-- ---- a frame that is taken back
 
 -- all but the last
 abbrev pub without_last : List ℕ → List ℕ
@@ -62,7 +71,7 @@ frame_back [] piece = piece
 frame_back (b ∷ spent) piece = b ∷ spent
 
 abbrev pub with_frame_back : FramerValue → List ℕ → FramerValue
-with_frame_back v piece = record { max = v.max; kept = without_last (frame_back v.spent piece); spent = [] }
+with_frame_back v piece = record v { kept = without_last (frame_back v.spent piece); spent = [] }
 
 -- a frame was just given: it is split, or it is the piece itself, and nothing is kept
 abbrev pub MayUnread : FramerValue → List ℕ → Type 0

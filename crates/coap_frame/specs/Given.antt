@@ -1,9 +1,8 @@
 -- What a framer gives over a list of calls.
 use Rattle.std.specs.Prelude.{◌≡◌, ℕ, ◌-◌, List, [], ◌∷◌, ◌++◌, Option, Some, None, length, take, drop}
-use Rattle.coap_wire.specs.Stream.{StreamFault}
 use Rattle.coap_wire.specs.Frames.{Frames, frames_of}
-use Rattle.coap_frame.specs.Framing.{FramerValue, Finding, Nothing, AFrame, AFault, frame_fault, framing, with_frame_back}
-use Rattle.coap_frame.specs.declared.framer.FrameFault.{FrameFault}
+use Rattle.coap_frame.specs.Framing.{FramerValue, Finding, Nothing, AFrame, AFault, framing_of, framer_after, with_frame_back}
+use Rattle.coap_wire.specs.declared.fault.FrameFault.{FrameFault}
 
 -- the bytes taken in all, the frames given, the fault that ended them, and the framer afterwards
 pub record Given : Type 0 where
@@ -29,7 +28,7 @@ given_then go bytes after (AFault fault) = record { taken = bytes; frames = []; 
 unfoldable pub given_by : FramerValue → List (List ℕ) → Given
 given_by v [] = record { taken = []; frames = []; fault = None; after = v }
 given_by v (p ∷ ps) =
-    given_then (λ now. given_by now ps) (take (framing v p).taken p) (framing v p).after (framing v p).finding
+    given_then (λ now. given_by now ps) (take (framing_of v p).taken p) (framer_after v p) (framing_of v p).finding
 
 -- the frames, the rest and the fault of the stream that the kept bytes and then the taken bytes form
 abbrev pub stream_given : FramerValue → Given → Frames
@@ -41,14 +40,18 @@ pub record IsGiven (v : FramerValue) (given : Given) : Type 0 where
   pub frames : (stream_given v given).frames ≡ given.frames
   -- where no fault was given, the bytes kept afterwards are the rest of the stream
   pub rest : given.fault ≡ None → (stream_given v given).rest ≡ given.after.kept
-  -- where no fault was given, the stream has none
-  pub no_fault : given.fault ≡ None → (stream_given v given).fault ≡ None
-  -- a fault that was given is the stream's fault, and nothing is kept afterwards
-  pub fault : (fault : FrameFault) → given.fault ≡ Some fault → (f : StreamFault) × ((stream_given v given).fault ≡ Some f) × (frame_fault f ≡ fault) × (given.after.kept ≡ [])
+  -- the fault given is the stream's fault
+  pub fault : (stream_given v given).fault ≡ given.fault
+  -- where a fault was given, nothing is kept afterwards
+  pub nothing_kept : (fault : FrameFault) → given.fault ≡ Some fault → given.after.kept ≡ []
+
+-- the bytes that a framer takes of a piece
+abbrev pub taken_of : FramerValue → List ℕ → List ℕ
+taken_of v piece = take (framing_of v piece).taken piece
 
 -- the framer that took a piece and then took back the last byte of the frame that it gave
 abbrev pub unread_after : FramerValue → List ℕ → FramerValue
-unread_after v piece = with_frame_back (framing v piece).after (take (framing v piece).taken piece)
+unread_after v piece = with_frame_back (framer_after v piece) (taken_of v piece)
 
 -- the last byte of a frame
 abbrev pub last_byte : List ℕ → List ℕ

@@ -1,6 +1,6 @@
 pub mod Framing
 pub mod FramerViews
-pub mod Lending
+pub mod FramedViews
 pub mod Filling
-pub mod Advance
+pub mod BufferViews
 pub mod Given

@@ -1,13 +1,11 @@
 //! Fills a buffer with the bytes of a frame.
 
-ghost use Rattle.std.specs.Prelude.{◌≡◌, ◌+◌, ◌≤◌, ◌<◌, ◌++◌, length, take};
+ghost use Rattle.std.specs.Prelude.{◌≡◌, ◌+◌, ◌≤◌, ◌<◌, ◌++◌, length};
 ghost use Rattle.std.specs.Vec.{vec_len, vec_capacity};
-ghost use Rattle.coap_wire.specs.Stream.{Unfinished, beginning};
-ghost use Rattle.coap_wire.specs.Reading.{declared_of};
+ghost use Rattle.coap_wire.specs.Beginning.{Unfinished, beginning};
 ghost use Rattle.coap_frame.specs.Filling.{IsHead, IsFilled};
 
-use crate::framer::FrameFault;
-use coap_wire::{Declared, declared};
+use coap_wire::{Declared, FrameFault, declared};
 
 /// How a buffer stands.
 #[derive(Clone, Copy, Debug)]

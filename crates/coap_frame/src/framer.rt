@@ -2,25 +2,14 @@
 
 ghost use Rattle.std.specs.Prelude.{◌≡◌, ◌≤◌, length};
 ghost use Rattle.std.specs.Vec.{vec_capacity};
-ghost use Rattle.coap_wire.specs.Stream.{Unfinished, beginning};
-ghost use Rattle.coap_frame.specs.Framing.{framing};
-ghost use Rattle.coap_frame.specs.Advance.{framer_of, kept_in, finding_in, held_of};
+ghost use Rattle.coap_wire.specs.Beginning.{Unfinished, beginning};
+ghost use Rattle.coap_frame.specs.Framing.{framing_of, framer_after};
+ghost use Rattle.coap_frame.specs.BufferViews.{framer_of, kept_in, finding_in, held_of};
 
 use crate::filling::{Standing, append, fill};
+use coap_wire::FrameFault;
 use std::alloc::{AllocError, Global};
 use std::marker::Model;
-use thiserror::Error;
-
-/// What is wrong with a stream, before its frame is whole. The discriminants are the faults' numbers.
-#[derive(Clone, Copy, Debug, PartialEq, Eq, Error)]
-pub enum FrameFault {
-    /// A token length above 8, known at the frame's first byte (RFC 8323 section 3.2).
-    #[error("token length above 8")]
-    TokenLength = 1,
-    /// A frame of more bytes than the framer takes, known at the last byte of its length (RFC 8323 section 5.3.1).
-    #[error("frame too large")]
-    TooLarge = 2,
-}
 
 /// What a piece had.
 #[derive(Clone, Copy, Debug)]
@@ -75,12 +64,11 @@ impl Model for Framer {
 }
 
 impl Framer {
-    ghost use Rattle.std.specs.Prelude.{◌≡◌, ◌≢◌, ◌≤◌, ◌⊎◌, IfOk, [], ⊤, length};
+    ghost use Rattle.std.specs.Prelude.{◌≡◌, ◌≤◌, ◌<◌, IfOk, [], ⊤, length};
     ghost use Rattle.std.specs.Borrow.{sem, follows_so};
     ghost use mathlib.Core.Option.{none};
-    ghost use Rattle.coap_wire.specs.Stream.{Whole, beginning};
-    ghost use Rattle.coap_frame.specs.Framing.{IsFramer, MayUnread, framing, with_frame_back};
-    ghost use Rattle.coap_frame.specs.Lending.{IsFramed};
+    ghost use Rattle.coap_frame.specs.Framing.{IsFramer, MayUnread, framing_of, framer_after, with_frame_back};
+    ghost use Rattle.coap_frame.specs.FramedViews.{IsFramed};
     ghost use Rattle.coap_frame.specs.contracts.framer.Framer.{the_row};
 
     /// A framer for frames of at most `max` bytes, with nothing kept.
@@ -102,8 +90,8 @@ impl Framer {
 
     /// Takes bytes of the next piece up to the end of the first frame, to the byte of a fault, or all of them.
     pub fn next<'a>(&'a mut self, piece: &[u8]) -> Framed<'a>
-        ensures* writes_back { sem 𝓛 (follows_so the_row the_row self.entry.ghost_name none (λ _ _. ⊤) (λ f. f ≡ (framing self.old piece.now).after)) }
-        ensures framed { IsFramed result (framing self.old piece.now) }
+        ensures* writes_back { sem 𝓛 (follows_so the_row the_row self.entry.ghost_name none (λ _ _. ⊤) (λ f. f ≡ framer_after self.old piece.now)) }
+        ensures framed { IsFramed result (framing_of self.old piece.now) }
         ensures within { result.taken ≤ length piece.now }
     {
         let (taken, standing) = advance(&mut self.buffer, &mut self.held, self.max, piece);
@@ -117,7 +105,7 @@ impl Framer {
 
     /// Begins a new stream: nothing is kept or spent.
     pub fn clear(&mut self)
-        ensures { self.new ≡ record { max = self.old.max; kept = []; spent = [] } }
+        ensures { self.new ≡ record self.old { kept = []; spent = [] } }
     {
         self.buffer.clear();
         self.held = Held::Beginning;
@@ -126,6 +114,7 @@ impl Framer {
     /// The bytes kept of an unfinished frame, fewer than `max`.
     pub fn kept(&self) -> usize
         ensures kept { result ≡ length self.now.kept }
+        ensures below { result < self.now.max }
         ensures invariant { IsFramer self.now }
     {
         match self.held {
@@ -186,10 +175,10 @@ fn advance(buffer: &mut Vec<u8>, held: &mut Held, max: usize, piece: &[u8]) -> (
     requires unfinished { beginning max (framer_of max held.old buffer.old.items).kept ≡ Unfinished }
     requires low { 1152 ≤ max }
     requires room { max ≤ vec_capacity buffer.old }
-    ensures after { framer_of max held.new buffer.new.items ≡ (framing (framer_of max held.old buffer.old.items) piece.now).after }
-    ensures taken { result.0 ≡ (framing (framer_of max held.old buffer.old.items) piece.now).taken }
+    ensures after { framer_of max held.new buffer.new.items ≡ framer_after (framer_of max held.old buffer.old.items) piece.now }
+    ensures taken { result.0 ≡ (framing_of (framer_of max held.old buffer.old.items) piece.now).taken }
     ensures within { result.0 ≤ length piece.now }
-    ensures found { finding_in buffer.new.items result.1 ≡ (framing (framer_of max held.old buffer.old.items) piece.now).finding }
+    ensures found { finding_in buffer.new.items result.1 ≡ (framing_of (framer_of max held.old buffer.old.items) piece.now).finding }
     ensures capacity { max ≤ vec_capacity buffer.new }
 {
     keep_beginning(buffer, *held);

@@ -1,10 +1,10 @@
 //! What holds of framers, each as the contract of a function that does nothing.
 
 ghost use Rattle.std.specs.Prelude.{◌≡◌, ℕ, ◌≤◌, List, ◌++◌, length, take};
-ghost use Rattle.coap_wire.specs.Stream.{StreamFault, Faulty, beginning, fault_bytes};
-ghost use Rattle.coap_frame.specs.Framing.{FramerValue, IsFramer, Nothing, AFrame, AFault, MayUnread, frame_fault, framing};
-ghost use Rattle.coap_frame.specs.Given.{IsGiven, given_by, unread_after, last_byte};
-ghost use Rattle.coap_frame.specs.declared.framer.FrameFault.{FrameFault};
+ghost use Rattle.coap_wire.specs.Beginning.{Unfinished, Faulty, beginning, fault_bytes};
+ghost use Rattle.coap_wire.specs.declared.fault.FrameFault.{FrameFault};
+ghost use Rattle.coap_frame.specs.Framing.{FramerValue, IsFramer, Nothing, AFrame, AFault, MayUnread, framing, framing_of, framer_after, without_last};
+ghost use Rattle.coap_frame.specs.Given.{IsGiven, given_by, taken_of, unread_after, last_byte};
 
 /// Where each piece is given to one call, up to the first fault, the frames, the fault and the bytes kept are those of the
 /// stream that the kept bytes and the taken bytes form.
@@ -15,16 +15,24 @@ pub fn framer_gives_the_frames()
 /// A piece is taken to its end where nothing is found, else to the last byte of the frame or to the byte at which the fault
 /// is known.
 pub fn framer_takes_each_piece_to_its_end()
-    ensures within { (v : FramerValue) (piece : List ℕ) → IsFramer v → (framing v piece).taken ≤ length piece }
-    ensures nothing { (v : FramerValue) (piece : List ℕ) → IsFramer v → (framing v piece).finding ≡ Nothing → (framing v piece).taken ≡ length piece }
-    ensures frame { (v : FramerValue) (piece frame : List ℕ) → IsFramer v → (framing v piece).finding ≡ AFrame frame → frame ≡ v.kept ++ take (framing v piece).taken piece }
-    ensures fault { (v : FramerValue) (piece : List ℕ) (fault : FrameFault) → IsFramer v → (framing v piece).finding ≡ AFault fault
-        → (f : StreamFault) × (beginning v.max (v.kept ++ piece) ≡ Faulty f) × (frame_fault f ≡ fault) × (v.kept ++ take (framing v piece).taken piece ≡ fault_bytes f (v.kept ++ piece)) }
+    ensures within { (max : ℕ) (kept piece : List ℕ) → beginning max kept ≡ Unfinished → (framing max kept piece).taken ≤ length piece }
+    ensures nothing { (max : ℕ) (kept piece : List ℕ) → beginning max kept ≡ Unfinished → (framing max kept piece).finding ≡ Nothing → (framing max kept piece).taken ≡ length piece }
+    ensures frame { (max : ℕ) (kept piece frame : List ℕ) → beginning max kept ≡ Unfinished → (framing max kept piece).finding ≡ AFrame frame → frame ≡ kept ++ take (framing max kept piece).taken piece }
+    ensures fault { (max : ℕ) (kept piece : List ℕ) (fault : FrameFault) → beginning max kept ≡ Unfinished → (framing max kept piece).finding ≡ AFault fault
+        → (beginning max (kept ++ piece) ≡ Faulty fault) × (kept ++ take (framing max kept piece).taken piece ≡ fault_bytes fault (kept ++ piece)) }
 {}
 
-/// A frame that was just given may be unread, and comes again with its last byte.
-pub fn unread_frame_comes_again()
-    ensures allowed { (v : FramerValue) (piece frame : List ℕ) → IsFramer v → (framing v piece).finding ≡ AFrame frame → MayUnread (framing v piece).after (take (framing v piece).taken piece) }
-    ensures again { (v : FramerValue) (piece frame : List ℕ) → IsFramer v → (framing v piece).finding ≡ AFrame frame → (framing (unread_after v piece) (last_byte frame)).finding ≡ AFrame frame }
-    ensures taken { (v : FramerValue) (piece frame : List ℕ) → IsFramer v → (framing v piece).finding ≡ AFrame frame → (framing (unread_after v piece) (last_byte frame)).taken ≡ 1 }
+/// A framer stays one, whatever piece comes.
+pub fn framer_stays_one()
+    ensures { (v : FramerValue) (piece : List ℕ) → IsFramer v → IsFramer (framer_after v piece) }
+{}
+
+/// A frame that was just given may be unread. The framer is then as if the last byte that was taken had not come, and gives
+/// the frame again with that byte.
+pub fn unread_takes_one_byte_back()
+    ensures allowed { (v : FramerValue) (piece frame : List ℕ) → IsFramer v → (framing_of v piece).finding ≡ AFrame frame → MayUnread (framer_after v piece) (taken_of v piece) }
+    ensures one_less { (v : FramerValue) (piece frame : List ℕ) → IsFramer v → (framing_of v piece).finding ≡ AFrame frame → unread_after v piece ≡ framer_after v (without_last (taken_of v piece)) }
+    ensures nothing { (v : FramerValue) (piece frame : List ℕ) → IsFramer v → (framing_of v piece).finding ≡ AFrame frame → (framing_of v (without_last (taken_of v piece))).finding ≡ Nothing }
+    ensures again { (v : FramerValue) (piece frame : List ℕ) → IsFramer v → (framing_of v piece).finding ≡ AFrame frame → (framing_of (unread_after v piece) (last_byte frame)).finding ≡ AFrame frame }
+    ensures taken { (v : FramerValue) (piece frame : List ℕ) → IsFramer v → (framing_of v piece).finding ≡ AFrame frame → (framing_of (unread_after v piece) (last_byte frame)).taken ≡ 1 }
 {}

@@ -5,4 +5,5 @@ mod filling;
 mod framer;
 pub mod laws;
 
-pub use framer::{Found, FrameFault, Framed, Framer};
+pub use coap_wire::FrameFault;
+pub use framer::{Found, Framed, Framer};

@@ -1,7 +1,7 @@
 pub mod DeviceLemmas
 pub mod TalkLemmas
 pub mod ProgressLemmas
-pub mod StepLemmas
+pub mod AdvanceLemmas
 pub mod FlushLemmas
 pub mod PieceLemmas
 pub mod OutcomeLemmas

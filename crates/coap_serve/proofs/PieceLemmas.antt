@@ -7,11 +7,11 @@ use Rattle.coap_conn.specs.Phases.{stop_of, IsLive}
 use Rattle.coap_serve.specs.Device.{AddsBytes, WritesPart}
 use Rattle.coap_serve.specs.declared.host.Host.{Host}
 use Rattle.coap_serve.specs.declared.serve.IoFault.TheVariants.{Write, Memory}
-use Rattle.coap_serve.specs.Connection.{ConnectionValue, IsKept, Step, step, RefusesFirst, IsRefusedWith}
+use Rattle.coap_serve.specs.Connection.{ConnectionValue, IsKept, Advance, advance, RefusesFirst, IsRefusedWith}
 use Rattle.coap_serve.specs.Turns.{Progress, progress_from, value_of, stop_in, IsServed}
 use Rattle.coap_serve.proofs.DeviceLemmas.{bytes_none, bytes_then}
 use Rattle.coap_serve.proofs.ProgressLemmas.{after_text, progress_more, idle, no_message}
-use Rattle.coap_serve.proofs.StepLemmas.{value_flushed, Steps, steps}
+use Rattle.coap_serve.proofs.AdvanceLemmas.{value_flushed, IsAdvance, advances}
 
 -- A connection v with what is stored has come to w and now, with the bytes taken of the piece, and rest is left of it. The
 -- outlet told x before the piece, and tells y now.
@@ -64,11 +64,11 @@ served host v piece x now w rest y so_far none =
     )
 
 -- what a take did, from its parts
-pub took : (host : Host) (w : ConnectionValue) (rest : List ℕ) (count : ℕ) (after : ConnectionValue) (now : Host) → count ≡ (step host w rest).count → after ≡ (step host w rest).after → now ≡ (step host w rest).host
-    → step host w rest ≡ record { count = count; after = after; host = now }
+pub took : (host : Host) (w : ConnectionValue) (rest : List ℕ) (count : ℕ) (after : ConnectionValue) (now : Host) → count ≡ (advance host w rest).count → after ≡ (advance host w rest).after → now ≡ (advance host w rest).host
+    → advance host w rest ≡ record { count = count; after = after; host = now }
 took host w rest count after now count_is after_is now_is =
-    ap (λ (n : ℕ). record (step host w rest) { count = n }) (sym count_is)
-    ∙ ap (λ (u : ConnectionValue). record (step host w rest) { count = count; after = u }) (sym after_is)
+    ap (λ (n : ℕ). record (advance host w rest) { count = n }) (sym count_is)
+    ∙ ap (λ (u : ConnectionValue). record (advance host w rest) { count = count; after = u }) (sym after_is)
     ∙ ap (λ (h : Host). record { count = count; after = after; host = h }) (sym now_is)
 
 module _ (host : Host) (v : ConnectionValue) (piece : List ℕ) (x : Option (List ℕ)) (now : Host) (w : ConnectionValue) (rest : List ℕ) (y : Option (List ℕ)) (so_far : Serves host v piece x now w rest y) where
@@ -93,9 +93,9 @@ module _ (host : Host) (v : ConnectionValue) (piece : List ℕ) (x : Option (Lis
         written = subst (λ (p : Progress). AddsBytes x y p.text) (sym here) so_far.written;
       }
 
-module _ (host : Host) (v : ConnectionValue) (piece : List ℕ) (x : Option (List ℕ)) (now : Host) (w : ConnectionValue) (rest : List ℕ) (y : Option (List ℕ)) (s : Step) (so_far : Serves host v piece x now w rest y) (is : step now w rest ≡ s) where
-  taken_is : Steps now w rest s
-  taken_is = subst (Steps now w rest) is (steps now w rest so_far.kept so_far.quiet so_far.live)
+module _ (host : Host) (v : ConnectionValue) (piece : List ℕ) (x : Option (List ℕ)) (now : Host) (w : ConnectionValue) (rest : List ℕ) (y : Option (List ℕ)) (s : Advance) (so_far : Serves host v piece x now w rest y) (is : advance now w rest ≡ s) where
+  taken_is : IsAdvance now w rest s
+  taken_is = subst (IsAdvance now w rest) is (advances now w rest so_far.kept so_far.quiet so_far.live)
 
   -- a take handles no more messages than it takes bytes
   pub handled_within : 0 < length rest → s.after.handled ≤ v.handled + length piece

@@ -1,11 +1,12 @@
 -- How far a connection has come after more bytes.
 use Rattle.std.proofs.Common.{◌≡◌, ℕ, ◌+◌, List, [], ◌++◌, Option, None, refl, sym, ap, subst, ◌∙◌, append_assoc, arith}
 use Rattle.std.proofs.lemmas.List.{append-nil}
-use Rattle.coap_wire.specs.Stream.{StreamFault, Stream, Unfinished, beginning, split}
+use Rattle.coap_wire.specs.Stream.{StreamFault, Stream, split}
+use Rattle.coap_wire.specs.Beginning.{Unfinished, beginning}
 use Rattle.coap_wire.proofs.StreamSteps.{split_more, split_rest, split_unfinished, unfinished_empty}
 use Rattle.coap_conn.specs.Limits.{LimitValues, AreInRange}
 use Rattle.coap_serve.specs.declared.host.Host.{Host}
-use Rattle.coap_serve.specs.Connection.{ConnectionValue, IsKept, greatest, begun}
+use Rattle.coap_serve.specs.Connection.{ConnectionValue, IsKept, greatest, fresh}
 use Rattle.coap_serve.specs.Turns.{Talk, talk, talk_end, Progress, progress_behind, progress_with, progress_from, value_of, stop_in}
 use Rattle.coap_serve.proofs.TalkLemmas.{then_talk, talk_on, talk-append, talk_none, talk_limits, then_end, no_fault, all_quiet}
 
@@ -106,5 +107,5 @@ unfolding progress_from
 progress_quiet host v bytes quiet = all_quiet host v.link (split (greatest v) (v.frame ++ bytes)).messages (split (greatest v) (v.frame ++ bytes)).fault quiet
 
 -- with no byte nothing has come
-pub begun_idle : (host : Host) (limits : LimitValues) → progress_from host (begun limits) [] ≡ record { link = (begun limits).link; host = host; text = []; handled = 0; rest = [] }
-begun_idle host limits = no_message host (begun limits) [] (unfinished_empty limits.max_message)
+pub begun_idle : (host : Host) (limits : LimitValues) → progress_from host (fresh limits) [] ≡ record { link = (fresh limits).link; host = host; text = []; handled = 0; rest = [] }
+begun_idle host limits = no_message host (fresh limits) [] (unfinished_empty limits.max_message)

@@ -15,7 +15,7 @@ use Rattle.coap_serve.specs.declared.serve.Turn.TheVariants.{More, Ended, Stoppe
 use Rattle.coap_serve.specs.declared.host.Host.{Host}
 use Rattle.coap_serve.specs.Serving.{Setup, Outcome, outcome, stdio_output, is_cut}
 use Rattle.coap_serve.specs.StdioRun.{AreNotEmpty, GoesOn, EndsRun, IsStdioRun}
-use Rattle.coap_serve.specs.Connection.{ConnectionValue, IsKept, host_of, link_flushed, opened, own_announcement, begun, IsRefusedWith}
+use Rattle.coap_serve.specs.Connection.{ConnectionValue, IsKept, host_of, link_flushed, opened, own_announcement, fresh, IsRefusedWith}
 use Rattle.coap_serve.specs.Turns.{Progress, progress_from, value_of, stop_in, RefusesIn, WritesPartOf, IsServed, setup_with, HasRead, IsTurn}
 use Rattle.coap_serve.proofs.DeviceLemmas.{bytes_none, bytes_then, given_none, given_then}
 use Rattle.coap_serve.proofs.ProgressLemmas.{after_text, progress_more, progress_quiet, value_kept, begun_idle}
@@ -65,7 +65,7 @@ abbrev pub Ran : Setup → ℕ → Told → Told → Option (List ℕ) → Optio
 Ran setup turns a b x y result =
     (pieces : List (List ℕ)) × (output : List ℕ) × HasGiven a b pieces × AddsBytes x y output × IsStdioRun setup turns pieces (own_announcement setup.limits ++ output) result
 
-pub begins : (setup : Setup) (v : ConnectionValue) (a : Told) (x : Option (List ℕ)) → v ≡ begun setup.limits → IsKept v → RunsOn setup 0 0 (host_of setup) v a a x x
+pub begins : (setup : Setup) (v : ConnectionValue) (a : Told) (x : Option (List ℕ)) → v ≡ fresh setup.limits → IsKept v → RunsOn setup 0 0 (host_of setup) v a a x x
 begins setup v a x new kept =
     let none = begun_idle (host_of setup) setup.limits in
     record {
@@ -106,7 +106,7 @@ module _ (setup : Setup) (turns read : ℕ) (host now : Host) (v after : Connect
 
   -- between two turns nothing waits, and the connection takes messages
   pub quiet : v.link.waiting ≡ []
-  quiet = ap (λ (w : ConnectionValue). w.link.waiting) so_far.shows ∙ progress_quiet (host_of setup) (begun setup.limits) bytes refl
+  quiet = ap (λ (w : ConnectionValue). w.link.waiting) so_far.shows ∙ progress_quiet (host_of setup) (fresh setup.limits) bytes refl
 
   pub live : IsLive v.link.phase
   live = ap (λ (w : ConnectionValue). stop_of w.link.phase) so_far.shows ∙ so_far.going
@@ -114,7 +114,7 @@ module _ (setup : Setup) (turns read : ℕ) (host now : Host) (v after : Connect
   -- how far the connection comes with more bytes
   came_further : (more : List ℕ) → came setup (bytes ++ more) ≡ after_text (came setup bytes).text (progress_from host v more)
   came_further more =
-      progress_more (host_of setup) (begun setup.limits) bytes more so_far.going
+      progress_more (host_of setup) (fresh setup.limits) bytes more so_far.going
       ∙ ap (λ (h : Host). after_text (came setup bytes).text (progress_from h (value_of (came setup bytes)) more)) (sym so_far.host_is)
       ∙ ap (λ (w : ConnectionValue). after_text (came setup bytes).text (progress_from host w more)) (sym so_far.shows)
 
@@ -302,9 +302,9 @@ next_turn setup turns read host now v after a b c x y z (Ended reason) count so_
 next_turn setup turns read host now v after a b c x y z (Stopped n why) count so_far t is = absurd cc
 
 -- what waits on a new connection was not written whole
-pub not_announced : (setup : Setup) (limit : ℕ) (v : ConnectionValue) (a : Told) (x z : Option (List ℕ)) → v ≡ opened setup.limits → WritesPart x z v.link.waiting
+pub not_greeted : (setup : Setup) (limit : ℕ) (v : ConnectionValue) (a : Told) (x z : Option (List ℕ)) → v ≡ opened setup.limits → WritesPart x z v.link.waiting
     → (pieces : List (List ℕ)) × (output : List ℕ) × HasGiven a a pieces × AddsBytes x z output × IsStdioRun setup limit pieces output (Err Write)
-not_announced setup limit v a x z new w =
+not_greeted setup limit v a x z new w =
     let none : own_announcement setup.limits ++ [] ≡ stdio_output setup [] = ap (λ (p : Progress). own_announcement setup.limits ++ p.text) (sym (begun_idle (host_of setup) setup.limits)) ∙ output_is setup [] in
     let parts : own_announcement setup.limits ≡ w.0 ++ w.1 = sym (ap (λ (c : ConnectionValue). c.link.waiting) new) ∙ w.3 in (
       [],
@@ -315,18 +315,18 @@ not_announced setup limit v a x z new w =
     )
 
 -- writing what waits leaves the limits
-pub announced_limits : (setup : Setup) (v w : ConnectionValue) → v ≡ opened setup.limits → w ≡ record v { link = link_flushed v.link } → w.link.limits ≡ setup.limits
-announced_limits setup v w new is = ap (λ (k : ConnectionValue). k.link.limits) is ∙ ap (λ (k : ConnectionValue). k.link.limits) new
+pub greeted_limits : (setup : Setup) (v w : ConnectionValue) → v ≡ opened setup.limits → w ≡ record v { link = link_flushed v.link } → w.link.limits ≡ setup.limits
+greeted_limits setup v w new is = ap (λ (k : ConnectionValue). k.link.limits) is ∙ ap (λ (k : ConnectionValue). k.link.limits) new
 
 -- after what waits on a new connection was written
-pub announced : (setup : Setup) (limit turns : ℕ) (host : Host) (v w : ConnectionValue) (a c : Told) (x y z : Option (List ℕ)) (result : Result Report IoFault) → v ≡ opened setup.limits → host ≡ host_of setup → w.link.limits ≡ setup.limits → turns ≡ limit
+pub greeted : (setup : Setup) (limit turns : ℕ) (host : Host) (v w : ConnectionValue) (a c : Told) (x y z : Option (List ℕ)) (result : Result Report IoFault) → v ≡ opened setup.limits → host ≡ host_of setup → w.link.limits ≡ setup.limits → turns ≡ limit
     → AddsBytes x y v.link.waiting → Ran (setup_with w.link.limits host) turns a c y z result → (pieces : List (List ℕ)) × (output : List ℕ) × HasGiven a c pieces × AddsBytes x z output × IsStdioRun setup limit pieces output result
-announced setup limit turns host v w a c x y z result new new_host same turns_are wrote ran =
+greeted setup limit turns host v w a c x y z result new new_host same turns_are wrote ran =
     let here : AddsBytes x y (own_announcement setup.limits) = subst (AddsBytes x y) (ap (λ (k : ConnectionValue). k.link.waiting) new) wrote in
     let setups : setup_with w.link.limits host ≡ setup = ap (λ (l : LimitValues). setup_with l host) same ∙ ap (setup_with setup.limits) new_host in
     let all : Ran setup limit a c y z result = subst (λ (t : ℕ). Ran setup t a c y z result) turns_are (subst (λ (s : Setup). Ran s turns a c y z result) setups ran) in
     (all.0, own_announcement setup.limits ++ all.1, all.2, bytes_then x y z (own_announcement setup.limits) all.1 here all.3, all.4)
 
 -- what a run that did not begin did
-pub not_begun : (setup : Setup) (limit : ℕ) (a : Told) (x : Option (List ℕ)) → (pieces : List (List ℕ)) × (output : List ℕ) × HasGiven a a pieces × AddsBytes x x output × IsStdioRun setup limit pieces output (Err Memory)
-not_begun setup limit a x = ([], [], given_none a, bytes_none x, inl (refl, refl))
+pub not_fresh : (setup : Setup) (limit : ℕ) (a : Told) (x : Option (List ℕ)) → (pieces : List (List ℕ)) × (output : List ℕ) × HasGiven a a pieces × AddsBytes x x output × IsStdioRun setup limit pieces output (Err Memory)
+not_fresh setup limit a x = ([], [], given_none a, bytes_none x, inl (refl, refl))

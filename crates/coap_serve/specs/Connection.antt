@@ -2,11 +2,10 @@
 use Rattle.std.specs.Prelude.{◌≡◌, ℕ, ◌+◌, List, [], ◌∷◌, ◌++◌, None, Result, Ok, Err, if◌then◌else◌}
 use Rattle.coap_wire.specs.Message.{Message}
 use Rattle.coap_wire.specs.Reading.{message_of}
-use Rattle.coap_wire.specs.Stream.{StreamFault, TokenLength, TooLarge, Unfinished, beginning, split}
+use Rattle.coap_wire.specs.Beginning.{Unfinished, beginning}
+use Rattle.coap_wire.specs.Stream.{OfFrame, split}
 use Rattle.coap_wire.specs.declared.fault.FormatFault.{FormatFault}
 use Rattle.coap_frame.specs.Framing.{FramerValue, Finding, Nothing, AFrame, AFault, Framing, framing}
-use Rattle.coap_frame.specs.declared.framer.FrameFault.{FrameFault}
-use Rattle.coap_frame.specs.declared.framer.FrameFault.TheVariants as faults
 use Rattle.coap_conn.specs.declared.phase.Role.TheVariants.{Server}
 use Rattle.coap_conn.specs.declared.phase.Reject.TheVariants as reject
 use Rattle.coap_conn.specs.Limits.{LimitValues, AreInRange}
@@ -49,25 +48,16 @@ abbrev pub own_announcement : LimitValues → List ℕ
 own_announcement limits = (opened limits).link.waiting
 
 -- a new connection that has announced itself
-abbrev pub begun : LimitValues → ConnectionValue
-begun limits = record { frame = []; link = link_flushed (opened limits).link; handled = 0 }
+abbrev pub fresh : LimitValues → ConnectionValue
+fresh limits = record { frame = []; link = link_flushed (opened limits).link; handled = 0 }
 
 -- a connection with this framer
 abbrev pub connected : FramerValue → LinkValue → ℕ → ConnectionValue
 connected f link handled = record { frame = f.kept; link = link; handled = handled }
 
--- a framer that keeps what the connection does
-abbrev pub framer_in : ConnectionValue → FramerValue
-framer_in v = record { max = greatest v; kept = v.frame; spent = [] }
-
 -- a connection whose input ended
 abbrev pub input_ended : ConnectionValue → ConnectionValue
 input_ended v = record v { link = link_after_end v.link (is_cut v.frame) }
-
--- the fault of a stream that a framer found
-abbrev pub stream_fault : FrameFault → StreamFault
-stream_fault faults.TokenLength = TokenLength
-stream_fault faults.TooLarge = TooLarge
 
 -- ---- one message
 
@@ -107,27 +97,27 @@ pub record MayBeRefused (host : Host) (l : LinkValue) (m : Message) : Type 0 whe
 -- ---- the front of a piece
 
 -- what the front of a piece did: how many bytes were taken, and the connection and what is stored after them
-pub record Step : Type 0 where
+pub record Advance : Type 0 where
   pub count : ℕ
   pub after : ConnectionValue
   pub host : Host
 
-abbrev pub step_by : Framing → Host → LinkValue → ℕ → Step
-step_by f host link handled = record { count = f.taken; after = connected f.after link handled; host = host }
+abbrev pub advance_by : Framing → Host → LinkValue → ℕ → Advance
+advance_by f host link handled = record { count = f.taken; after = record { frame = f.kept; link = link; handled = handled }; host = host }
 
-abbrev pub step_read : Host → ConnectionValue → Framing → Result Message FormatFault → Step
-step_read host v f (Ok m) = step_by f (host_served host v.link m) (link_served host v.link m) (v.handled + 1)
-step_read host v f (Err e) = step_by f host (link_after_reject v.link reject.Format) v.handled
+abbrev pub advance_read : Host → ConnectionValue → Framing → Result Message FormatFault → Advance
+advance_read host v f (Ok m) = advance_by f (host_served host v.link m) (link_served host v.link m) (v.handled + 1)
+advance_read host v f (Err e) = advance_by f host (link_after_reject v.link reject.Format) v.handled
 
 -- what comes of what was found
-abbrev pub step_found : Host → ConnectionValue → Framing → Finding → Step
-step_found host v f Nothing = step_by f host v.link v.handled
-step_found host v f (AFault fault) = step_by f host (link_after_reject v.link (reject_of (stream_fault fault))) v.handled
-step_found host v f (AFrame frame) = step_read host v f (message_of frame)
+abbrev pub advance_found : Host → ConnectionValue → Framing → Finding → Advance
+advance_found host v f Nothing = advance_by f host v.link v.handled
+advance_found host v f (AFault fault) = advance_by f host (link_after_reject v.link (reject_of (OfFrame fault))) v.handled
+advance_found host v f (AFrame frame) = advance_read host v f (message_of frame)
 
 -- what the first frame or fault of a piece does, behind the bytes that are kept, or all of the piece
-unfoldable pub step : Host → ConnectionValue → List ℕ → Step
-step host v piece = step_found host v (framing (framer_in v) piece) (framing (framer_in v) piece).finding
+unfoldable pub advance : Host → ConnectionValue → List ℕ → Advance
+advance host v piece = advance_found host v (framing (greatest v) v.frame piece) (framing (greatest v) v.frame piece).finding
 
 -- with one byte more a message is whole for which memory may be refused
 pub record IsRefusedWith (host : Host) (v : ConnectionValue) (last : ℕ) : Type 0 where

@@ -34,7 +34,7 @@ setup_of c = record {
 }
 
 -- what happened on the connection, what is stored, and the moment
-pub record World : Type 0 where
+pub record Service : Type 0 where
   pub history : History
   pub store : StoreValue
   pub now : ℕ
@@ -45,62 +45,62 @@ pub record World : Type 0 where
 abbrev pub flushed : History → History
 flushed h = record h { written = length (bytes_of h.queued) }
 
-abbrev pub world_flushed : World → World
-world_flushed w = record w { history = flushed w.history }
+abbrev pub service_flushed : Service → Service
+service_flushed w = record w { history = flushed w.history }
 
 -- what a request is answered
-abbrev pub answer_in : World → Message → Answer
+abbrev pub answer_in : Service → Message → Answer
 answer_in w m = prompt_answer w.store w.now m
 
 -- a request is answered with its token, and changes the store
-abbrev pub world_answering : World → Message → Answer → World
-world_answering w m a = record w { history = after_reply w.history (response_message m.token a.response); store = changed w.store a.change }
+abbrev pub service_answering : Service → Message → Answer → Service
+service_answering w m a = record w { history = after_reply w.history (response_message m.token a.response); store = changed w.store a.change }
 
-abbrev pub answered : World → Message → VerdictValue → World
-answered w m what = if is_request what then world_answering w m (answer_in w m) else w
+abbrev pub answered : Service → Message → VerdictValue → Service
+answered w m what = if is_request what then service_answering w m (answer_in w m) else w
 
 -- a message was handled, before what comes of it
-abbrev pub told : World → Message → World
+abbrev pub told : Service → Message → Service
 told w m = record w { history = after_message w.history m }
 
 -- a message was handled, and what came of it was written
-abbrev pub served : World → Message → World
-served w m = world_flushed (answered (told w m) m (react (standing_now w.history) m).verdict)
+abbrev pub served : Service → Message → Service
+served w m = service_flushed (answered (told w m) m (react (standing_now w.history) m).verdict)
 
 -- a message is a request that stores a representation
-pub record AsksToStore (w : World) (m : Message) : Type 0 where
+pub record AsksToStore (w : Service) (m : Message) : Type 0 where
   pub request : (react (standing_now w.history) m).verdict ≡ verdict.Request
   pub put : IsPut (answer_in w m).change
 
 -- ---- the messages of a stream
 
 -- messages one after the other, up to the one after which none is taken
-unfoldable pub served_all : World → List Message → World
+unfoldable pub served_all : Service → List Message → Service
 served_all w [] = w
 served_all w (m ∷ ms) = if takes_messages w.history.phase then served_all (served w m) ms else w
 
-abbrev pub rejected : World → StreamFault → World
-rejected w fault = world_flushed (record w { history = after_reject w.history (reject_of fault) })
+abbrev pub rejected : Service → StreamFault → Service
+rejected w fault = service_flushed (record w { history = after_reject w.history (reject_of fault) })
 
 -- the fault behind all messages stops the connection, where it still takes any
-abbrev pub stopped_by : World → Option StreamFault → World
+abbrev pub stopped_by : Service → Option StreamFault → Service
 stopped_by w None = w
 stopped_by w (Some fault) = if takes_messages w.history.phase then rejected w fault else w
 
 -- a new connection that has announced itself
-abbrev pub announced : Setup → World
-announced setup = record { history = flushed (new_history Server setup.limits 0); store = setup.store; now = setup.now }
+abbrev pub greeted : Setup → Service
+greeted setup = record { history = flushed (new_history Server setup.limits 0); store = setup.store; now = setup.now }
 
 -- what bytes spell
 abbrev pub stream_of : Setup → List ℕ → Stream
 stream_of setup bytes = split setup.limits.max_message bytes
 
-abbrev pub world_with : Setup → Stream → World
-world_with setup stream = stopped_by (served_all (announced setup) stream.messages) stream.fault
+abbrev pub service_with : Setup → Stream → Service
+service_with setup stream = stopped_by (served_all (greeted setup) stream.messages) stream.fault
 
 -- how a server stands after these bytes
-unfoldable pub world_of : Setup → List ℕ → World
-world_of setup bytes = world_with setup (stream_of setup bytes)
+unfoldable pub service_of : Setup → List ℕ → Service
+service_of setup bytes = service_with setup (stream_of setup bytes)
 
 -- ---- what comes of it
 
@@ -116,7 +116,7 @@ abbrev pub outcome_with : History → List ℕ → Outcome
 outcome_with h rest = record { output = bytes_of h.queued; messages = length h.handled; rest = rest; stop = stop_of h.phase }
 
 unfoldable pub outcome : Setup → List ℕ → Outcome
-outcome setup bytes = outcome_with (world_of setup bytes).history (stream_of setup bytes).rest
+outcome setup bytes = outcome_with (service_of setup bytes).history (stream_of setup bytes).rest
 
 -- all that is written for these bytes: the own Capabilities and Settings, and what each message and the fault queue
 abbrev pub stdio_output : Setup → List ℕ → List ℕ

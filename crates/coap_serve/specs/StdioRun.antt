@@ -7,7 +7,7 @@ use Rattle.coap_conn.specs.History.{end_reason}
 use Rattle.coap_serve.specs.declared.serve.Report.{Report}
 use Rattle.coap_serve.specs.declared.serve.IoFault.{IoFault}
 use Rattle.coap_serve.specs.declared.serve.IoFault.TheVariants.{Read, Write, Memory, Turns}
-use Rattle.coap_serve.specs.Serving.{Setup, AsksToStore, stream_of, world_of, outcome, stdio_output, is_cut}
+use Rattle.coap_serve.specs.Serving.{Setup, AsksToStore, stream_of, service_of, outcome, stdio_output, is_cut}
 
 -- no read found the end
 abbrev pub AreNotEmpty : List (List ℕ) → Type 0
@@ -62,7 +62,7 @@ pub record IsLastByte (setup : Setup) (taken : List ℕ) (last : ℕ) : Type 0 w
   pub no_stop : (outcome setup taken).stop ≡ None
   pub message : Message
   pub one_more : stream_of setup (taken ++ last ∷ []) ≡ record { messages = (stream_of setup taken).messages ++ message ∷ []; rest = []; fault = None }
-  pub asks : AsksToStore (world_of setup taken) message
+  pub asks : AsksToStore (service_of setup taken) message
 
 -- A run in which memory was refused for a representation: it ended with the piece that has the last byte of its request, of
 -- which nothing was handled, and all that is defined for the bytes before that byte was written.

@@ -1,14 +1,12 @@
 //! A connection that takes one piece of its input after another.
 
 ghost use Rattle.std.specs.Prelude.{◌≡◌};
-ghost use Rattle.coap_conn.specs.Rejects.{reject_of};
-ghost use Rattle.coap_serve.specs.Connection.{stream_fault};
 
 use crate::device::Outlet;
 use crate::host::Host;
 use crate::output::{WriteFailed, flush};
 use coap_conn::{Limits, Link, Reason, Reject, Role, Verdict};
-use coap_frame::{Found, FrameFault, Framer};
+use coap_frame::{Found, Framer};
 use coap_wire::parse;
 use std::alloc::{AllocError, Global};
 use std::marker::Model;
@@ -38,7 +36,7 @@ impl Connection {
     ghost use Rattle.coap_conn.specs.Phases.{stop_of, IsLive};
     ghost use Rattle.coap_conn.specs.History.{end_reason};
     ghost use Rattle.coap_serve.specs.Device.{AddsBytes, WritesPart};
-    ghost use Rattle.coap_serve.specs.Connection.{opened, step, link_flushed, input_ended, IsKept, RefusesFirst};
+    ghost use Rattle.coap_serve.specs.Connection.{opened, advance, link_flushed, input_ended, IsKept, RefusesFirst};
     ghost use Rattle.coap_serve.specs.Serving.{is_cut};
 
     /// A new connection with these limits, whose own Capabilities and Settings wait. It reserves its room here.
@@ -59,15 +57,15 @@ impl Connection {
     /// # Errors
     ///
     /// Where memory is refused for a representation that the message stores. Nothing of it was handled then.
-    #[tactic(auto, unfolding(crate::specs::Connection::step, coap_frame::specs::Framing::framing))]
+    #[tactic(auto, unfolding(crate::specs::Connection::advance, coap_frame::specs::Framing::framing))]
     pub(crate) fn take(&mut self, host: &mut Host, piece: &[u8]) -> Result<usize, AllocError>
         requires quiet { self.old.link.waiting ≡ [] }
         requires live { IsLive self.old.link.phase }
         requires fits { self.old.handled + 1 < 2 ^ 64 }
         ensures within { IfOk result (λ count. count ≤ length piece.now) }
-        ensures count { IfOk result (λ count. count ≡ (step host.old self.old piece.now).count) }
-        ensures after { OnOk result (self.new ≡ (step host.old self.old piece.now).after) }
-        ensures host { OnOk result (host.new ≡ (step host.old self.old piece.now).host) }
+        ensures count { IfOk result (λ count. count ≡ (advance host.old self.old piece.now).count) }
+        ensures after { OnOk result (self.new ≡ (advance host.old self.old piece.now).after) }
+        ensures host { OnOk result (host.new ≡ (advance host.old self.old piece.now).host) }
         ensures refused { OnErr result (RefusesFirst host.old self.old piece.now) }
         ensures unchanged { OnErr result (host.new ≡ host.old) }
     {
@@ -75,7 +73,7 @@ impl Connection {
         let count = framed.taken;
         match framed.what {
             Found::More => {}
-            Found::Fault(fault) => self.link.reject(fault_for(fault)),
+            Found::Fault(fault) => self.link.reject(Reject::from(fault)),
             Found::Frame(frame) => match parse(frame) {
                 Err(_) => self.link.reject(Reject::Format),
                 Ok(message) => {
@@ -125,15 +123,5 @@ impl Connection {
             unreachable!()
         };
         reason
-    }
-}
-
-/// What is wrong with bytes that have this fault.
-fn fault_for(fault: FrameFault) -> Reject
-    ensures { result ≡ reject_of (stream_fault fault) }
-{
-    match fault {
-        FrameFault::TokenLength => Reject::TokenLength,
-        FrameFault::TooLarge => Reject::TooLarge,
     }
 }

@@ -3,7 +3,7 @@
 ghost use Rattle.std.specs.Prelude.{◌≡◌, ◌+◌, ◌≤◌, ◌<◌, ◌^◌, ℕ, false, List, [], ◌++◌, length, OnOk};
 ghost use Rattle.coap_conn.specs.Phases.{IsLive};
 ghost use Rattle.coap_serve.specs.Device.{HasGiven, AddsBytes};
-ghost use Rattle.coap_serve.specs.Connection.{IsKept, begun, own_announcement};
+ghost use Rattle.coap_serve.specs.Connection.{IsKept, fresh, own_announcement};
 ghost use Rattle.coap_serve.specs.Serving.{setup_of};
 ghost use Rattle.coap_serve.specs.Turns.{setup_with, IsServed, IsTurn};
 ghost use Rattle.coap_serve.specs.StdioRun.{IsStdioRun};
@@ -112,7 +112,7 @@ fn run<R: Source, W: Outlet>(
 ) -> Result<Report, IoFault>
     requires reader_works { R.is_failed reader.old ≡ false }
     requires writer_works { W.is_failed writer.old ≡ false }
-    requires new { connection.old ≡ begun connection.old.link.limits }
+    requires new { connection.old ≡ fresh connection.old.link.limits }
     requires kept { IsKept connection.old }
     requires few { turns ≤ 1000000000000 }
     ensures run { (pieces : List (List ℕ)) × (output : List ℕ)

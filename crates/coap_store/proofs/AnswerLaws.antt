@@ -13,7 +13,7 @@ use Rattle.coap_store.specs.Store.{Representation, StoreValue, found_in}
 use Rattle.coap_store.specs.State.{is_dynamic, is_async, place_of, key_for, stored_at, state_at, Target, target_of}
 use Rattle.coap_store.specs.Listing.{listing}
 use Rattle.coap_store.specs.Requests.{values_of, value_of, number_of, has_option, is_get, is_delete, is_method, path_of, preconditions_hold, is_good_query}
-use Rattle.coap_store.specs.Answer.{Response, Answer, only, says, when, refuse, first_of, is_accepted, etag_at, is_among, valid, content, watched, held, get_answer, greatest_version, stored_under, too_large, store_answer, deletion, delete_answer, needs_resource, read_answer, method_answer, resource_answer, answer_at, removes_watch, finally, answer_of, unheld_by, unheld, prompt_answer}
+use Rattle.coap_store.specs.Answer.{Answer, only, says, when, refuse, first_of, is_accepted, etag_at, is_among, valid, content, watched, late, get_answer, greatest_version, stored_under, too_large, store_answer, deletion, delete_answer, needs_resource, read_answer, method_answer, resource_answer, answer_at, removes_watch, finally, answer_of, unheld_by, unheld, prompt_answer}
 use Rattle.coap_store.specs.Changes.{TakesPut, TakesChange, changes}
 use Rattle.coap_store.specs.declared.place.Place.{Place}
 use Rattle.coap_store.specs.declared.place.Place.TheVariants.{Root, Time, Async, Listing, Dynamic}
@@ -39,8 +39,8 @@ OfErrors P = (c : ℕ) → is_error c ≡ true → P (says (only c))
 
 -- what holds of each answer to a GET of a representation
 pub record OfContents (P : Answer → Type 0) (place : Place) (r : Representation) (m : Message) : Type 0 where
-  pub valid : P (watched place m (valid place r))
-  pub held : P (held place r m)
+  pub valid : is_among (etag_at place r) (values_of numbers.etag m) ≡ true → P (watched place m (valid place r))
+  pub late : P (late place r m)
   pub content : P (watched place m (content place r))
 
 pub get_cases : (P : Answer → Type 0) (place : Place) (r : Representation) (m : Message) → OfErrors P → OfContents P place r m → P (get_answer place r m)
@@ -48,15 +48,15 @@ unfolding get_answer
 get_cases P place r m errors contents =
     let last = watched place m (content place r) in
     let wants_late = is_async place && not (is_good_query (value_of numbers.uri_query m)) in
-    let fourth = when (is_async place) (held place r m) ∷ [] in
+    let fourth = when (is_async place) (late place r m) ∷ [] in
     let third = refuse wants_late code.bad_request ∷ fourth in
     let is_valid = is_among (etag_at place r) (values_of numbers.etag m) in
     let second = when is_valid (watched place m (valid place r)) ∷ third in
     let other_format = not (is_accepted (number_of numbers.accept m) r.format) in
     checked P other_format (says (only code.not_acceptable)) second last (λ _. errors code.not_acceptable refl) (λ _.
-    checked P is_valid (watched place m (valid place r)) third last (λ _. contents.valid) (λ _.
+    checked P is_valid (watched place m (valid place r)) third last (λ among. contents.valid among) (λ _.
     checked P wants_late (says (only code.bad_request)) fourth last (λ _. errors code.bad_request refl) (λ _.
-    checked P (is_async place) (held place r m) [] last (λ _. contents.held) (λ _. contents.content))))
+    checked P (is_async place) (late place r m) [] last (λ _. contents.late) (λ _. contents.content))))
 
 -- nothing speaks against storing
 pub record CanStore (s : StoreValue) (t : Target) (m : Message) : Type 0 where
@@ -82,8 +82,8 @@ store_cases P s t m errors large can =
 -- what holds of each answer of a method, where it may be used
 pub record OfMethods (P : Answer → Type 0) (s : StoreValue) (t : Target) (m : Message) : Type 0 where
   pub read : (r : Representation) → t.state ≡ Some r → P (get_answer t.place r m)
-  pub deleted : is_dynamic t.place ≡ true → P (delete_answer t)
-  pub stored : is_dynamic t.place ≡ true → P (store_answer s t m)
+  pub deleted : is_dynamic t.place ≡ true → is_get m ≡ false → P (delete_answer t)
+  pub stored : is_dynamic t.place ≡ true → is_get m ≡ false → P (store_answer s t m)
 
 read_cases : (P : Answer → Type 0) (place : Place) (state : Option Representation) (m : Message) → OfErrors P → ((r : Representation) → state ≡ Some r → P (get_answer place r m)) → P (read_answer place state m)
 read_cases P place None m errors read = errors code.not_found refl
@@ -100,7 +100,7 @@ unfolding method_answer
 method_cases P s t m errors methods allowed =
     chosen P (is_get m) _ _ (λ _. read_cases P t.place t.state m errors methods.read) (λ other.
     let dynamic : is_dynamic t.place ≡ true = not_get _ _ allowed other in
-    chosen P (is_delete m) _ _ (λ _. methods.deleted dynamic) (λ _. methods.stored dynamic))
+    chosen P (is_delete m) _ _ (λ _. methods.deleted dynamic other) (λ _. methods.stored dynamic other))
 
 resource_cases : (P : Answer → Type 0) (s : StoreValue) (t : Target) (m : Message) → OfErrors P → OfMethods P s t m → P (resource_answer s t m)
 unfolding resource_answer
@@ -144,26 +144,6 @@ hold_finally false a = refl
 pub unheld_finally : (b : Bool) (a : Answer) → unheld (finally b a) ≡ finally b (unheld a)
 unheld_finally b a = ap (λ (h : Option ℕ). unheld_by h (finally b a)) (hold_finally b a) ∙ unheld_by_finally b a.hold a
 
--- what is held for no time is answered at once
-unheld_at : (a : Answer) → a.hold ≡ None → unheld a ≡ a
-unheld_at a none = ap (λ (h : Option ℕ). unheld_by h a) none
-
-pub unheld_says : (r : Response) → unheld (says r) ≡ says r
-unheld_says r = refl
-
-pub unheld_delete : (t : Target) → unheld (delete_answer t) ≡ delete_answer t
-unheld_delete t = refl
-
-hold_stored : (key : Option Path) (state : Option Representation) (m : Message) → (stored_under key state m).hold ≡ None
-hold_stored None state m = refl
-hold_stored (Some path) None m = refl
-hold_stored (Some path) (Some r) m = refl
-
--- what is stored is answered at once
-pub unheld_store : (s : StoreValue) (t : Target) (m : Message) → unheld (store_answer s t m) ≡ store_answer s t m
-unheld_store s t m =
-    unheld_at (store_answer s t m) (store_cases (λ a. a.hold ≡ None) s t m (λ c e. refl) refl (λ can. hold_stored t.key t.state m))
-
 -- the change stays
 pub change_unheld : (hold : Option ℕ) (a : Answer) → (unheld_by hold a).change ≡ a.change
 change_unheld None a = refl
@@ -175,7 +155,7 @@ change_finally false a = refl
 
 -- ---- the change of an answer is one that the store takes
 
-place_dynamic : (place : Place) → is_dynamic place ≡ true → place ≡ Dynamic
+pub place_dynamic : (place : Place) → is_dynamic place ≡ true → place ≡ Dynamic
 place_dynamic Root e = absurd cc
 place_dynamic Time e = absurd cc
 place_dynamic Async e = absurd cc
@@ -183,7 +163,7 @@ place_dynamic Listing e = absurd cc
 place_dynamic Dynamic e = refl
 
 -- a key is the path that it is the key for
-key_is : (path q : Path) → key_for path ≡ Some q → (is_path q ≡ true) × (path ≡ q)
+pub key_is : (path q : Path) → key_for path ≡ Some q → (is_path q ≡ true) × (path ≡ q)
 unfolding key_for
 key_is path q e =
     elim (is_path path) as (λ b. is_path path ≡ b → (if b then Some path else None) ≡ Some q → (is_path q ≡ true) × (path ≡ q)) [
@@ -239,9 +219,9 @@ taken_at s now path m small =
     let t = target_of s now path in
     let P : Answer → Type 0 = λ a. TakesChange s a.change in
     answer_cases P s t m (λ c e. tt) (record {
-      read = λ r is. get_cases P t.place r m (λ c e. tt) (record { valid = tt; held = tt; content = tt });
-      deleted = λ dynamic. deletion_taken s t.key t.state (state_dynamic s now t.key t.place dynamic);
-      stored = λ dynamic. store_cases P s t m (λ c e. tt) tt (λ can. stored_taken s t.key t.state m (λ q key. put_taken s now path q m small dynamic can key));
+      read = λ r is. get_cases P t.place r m (λ c e. tt) (record { valid = λ among. tt; late = tt; content = tt });
+      deleted = λ dynamic other. deletion_taken s t.key t.state (state_dynamic s now t.key t.place dynamic);
+      stored = λ dynamic other. store_cases P s t m (λ c e. tt) tt (λ can. stored_taken s t.key t.state m (λ q key. put_taken s now path q m small dynamic can key));
     })
 
 pub taken_of : (s : StoreValue) (now : ℕ) (m : Message) → s.versions < 2 ^ 64 → TakesChange s (answer_of s now m).change
@@ -270,9 +250,9 @@ stored_bare (Some path) (Some r) m e = refl
 bare_at : (s : StoreValue) (t : Target) (m : Message) → IsBare (answer_at s t m)
 bare_at s t m =
     answer_cases IsBare s t m (λ c e h. refl) (record {
-      read = λ r is. get_cases IsBare t.place r m (λ c e h. refl) (record { valid = λ h. refl; held = λ h. absurd cc; content = λ h. absurd cc });
-      deleted = λ dynamic h. refl;
-      stored = λ dynamic. store_cases IsBare s t m (λ c e h. refl) (λ h. refl) (λ can. stored_bare t.key t.state m);
+      read = λ r is. get_cases IsBare t.place r m (λ c e h. refl) (record { valid = λ among h. refl; late = λ h. absurd cc; content = λ h. absurd cc });
+      deleted = λ dynamic other h. refl;
+      stored = λ dynamic other. store_cases IsBare s t m (λ c e h. refl) (λ h. refl) (λ can. stored_bare t.key t.state m);
     })
 
 bare_finally : (b : Bool) (a : Answer) → IsBare a → IsBare (finally b a)
@@ -323,9 +303,9 @@ short_at s now path m short small =
     let none : 0 ≤ 1048576 = omega arith in
     answer_cases IsShort s t m (λ c e. none) (record {
       read = λ r is. (let bytes : length r.bytes ≤ 1048576 = state_short s now t.key t.place r short small is in
-          get_cases IsShort t.place r m (λ c e. none) (record { valid = none; held = bytes; content = bytes }));
-      deleted = λ dynamic. none;
-      stored = λ dynamic. store_cases IsShort s t m (λ c e. none) none (λ can. stored_short t.key t.state m);
+          get_cases IsShort t.place r m (λ c e. none) (record { valid = λ among. none; late = bytes; content = bytes }));
+      deleted = λ dynamic other. none;
+      stored = λ dynamic other. store_cases IsShort s t m (λ c e. none) none (λ can. stored_short t.key t.state m);
     })
 
 short_finally : (b : Bool) (a : Answer) → IsShort a → IsShort (finally b a)

@@ -1,19 +1,21 @@
 -- The map of the resources against their list.
 use Rattle.std.proofs.Common.{◌≡◌, ℕ, ◌+◌, ◌≤◌, Bool, true, false, List, [], ◌++◌, length, Option, Some, None, refl, sym, ap, subst, ◌∙◌, arith}
-use Rattle.std.specs.Prelude.{option_map}
-use Rattle.std.specs.Option.{is_some, option_copied}
+use Rattle.std.specs.Prelude.{option_map, not, nat_eq}
+use Rattle.std.specs.Option.{is_some, option_copied, option_eq}
+use Rattle.std.proofs.lemmas.Bool.{eqb-true}
 use Rattle.std.specs.Borrow.{Bor}
-use Rattle.std.specs.Map.{lookup}
+use Rattle.std.specs.Map.{lookup, set_value}
 use Rattle.std.proofs.lemmas.List.{length-map}
+use Rattle.std.specs.String.{string_bytes}
 use Rattle.indexmap.specs.IndexMap.{insert_entry, shift_remove_entry}
 use Rattle.coap_store.specs.Paths.{Path}
 use Rattle.coap_store.specs.Store.{Representation, found_in, put_at, removed_at}
-use Rattle.coap_store.specs.Listing.{entry_text, built_in_text, listing}
+use Rattle.coap_store.specs.Listing.{entry_bytes, built_in_bytes, listing}
 use Rattle.coap_store.specs.StoreViews.{representation, resources_in, AreListed, IsListed}
 use Rattle.coap_store.specs.declared.resource.Resource.{Resource}
 use Rattle.coap_store.specs.contracts.path.PathKeyPartialEq.TheImpl as key_eq
 use Rattle.coap_store.proofs.PathLemmas.{key_equality, same_path_sound}
-use Rattle.coap_store.proofs.ListingLemmas.{resources_found, resources_put, resources_removed, put_listed, removed_listed, listing_created, listing_grows, listing_shrinks}
+use Rattle.coap_store.proofs.ListingLemmas.{resources_found, resources_put, resources_written, resources_removed, put_listed, written_listed, removed_listed, listing_created, listing_replaced, listing_grows, listing_shrinks}
 
 -- how the map compares its keys
 abbrev pub key_test : Path → Path → Bool
@@ -56,9 +58,9 @@ pub none_there : (entries : List (Path × Resource)) → entries ≡ [] → reso
 unfolding resources_in
 none_there entries none = ap resources_in none
 
-pub text_of_none : (entries : List (Path × Resource)) → entries ≡ [] → listing (resources_in entries) ≡ built_in_text
+pub bytes_of_none : (entries : List (Path × Resource)) → entries ≡ [] → listing (resources_in entries) ≡ built_in_bytes
 unfolding resources_in listing
-text_of_none entries none = ap (λ es. listing (resources_in es)) none
+bytes_of_none entries none = ap (λ es. listing (resources_in es)) none
 
 -- ---- a resource is stored
 
@@ -72,14 +74,41 @@ module _ (entries after : List (Path × Resource)) (path : Path) (r : Resource) 
       (put_listed IsListed key_test (λ p q same. same_path_sound p q (sym (key_equality p q) ∙ same)) entries path r all here)
 
   -- the text of a new resource goes behind that of the others
-  pub text_of_created : (old text new : List ℕ) → is_some (found_in (resources_in entries) path) ≡ false → old ≡ listing (resources_in entries) → text ≡ entry_text path r.format → new ≡ old ++ text → new ≡ listing (resources_in after)
-  text_of_created old text new absent ready listed more =
+  pub bytes_of_created : (old text new : List ℕ) → is_some (found_in (resources_in entries) path) ≡ false → old ≡ listing (resources_in entries) → text ≡ entry_bytes path r.format → new ≡ old ++ text → new ≡ listing (resources_in after)
+  bytes_of_created old text new absent ready listed more =
       more ∙ ap (λ front. front ++ text) ready ∙ ap (λ back. listing (resources_in entries) ++ back) listed
       ∙ sym (listing_created (resources_in entries) path (representation r) (none_of_some _ absent))
       ∙ ap listing (sym stored_list)
 
-  pub text_of_stored_fits : length (listing (resources_in after)) ≤ length (listing (resources_in entries)) + length (entry_text path r.format)
-  text_of_stored_fits = omega (arith, ap (λ rs. length (listing rs)) stored_list, listing_grows (resources_in entries) path (representation r))
+  pub bytes_of_stored_fit : length (listing (resources_in after)) ≤ length (listing (resources_in entries)) + length (entry_bytes path r.format)
+  bytes_of_stored_fit = omega (arith, ap (λ rs. length (listing rs)) stored_list, listing_grows (resources_in entries) path (representation r))
+
+-- formats that compare equal are the same
+pub same_format : (a b : Option ℕ) → not (option_eq nat_eq a b) ≡ false → a ≡ b
+same_format None None is = refl
+same_format None (Some n) is = absurd cc
+same_format (Some m) None is = absurd cc
+same_format (Some m) (Some n) is = ap Some (eqb-true m n (not_false (nat_eq m n) is))
+  where
+    not_false : (b : Bool) → not b ≡ false → b ≡ true
+    not_false true is = refl
+    not_false false is = sym is
+
+-- ---- a representation is written in the place of another of its format
+
+module _ (entries after : List (Path × Resource)) (path : Path) (old new : Resource) (found : lookup (key_test path) entries ≡ Some old) (is : after ≡ set_value (key_test path) entries new) where
+  pub written_list : resources_in after ≡ put_at (resources_in entries) path (representation new)
+  written_list = ap resources_in is ∙ resources_written key_test key_equality entries path old new found
+
+  pub written_are_listed : new.listed ≡ old.listed → new.format ≡ old.format → AreListed entries → AreListed after
+  written_are_listed text format all =
+      subst (λ (es : List (Path × Resource)). AreListed es) (sym is)
+      (written_listed IsListed (key_test path) entries old new found (λ p listed. ap string_bytes text ∙ listed ∙ ap (entry_bytes p) (sym format)) all)
+
+  pub bytes_of_written : new.format ≡ old.format → listing (resources_in after) ≡ listing (resources_in entries)
+  bytes_of_written format =
+      ap listing written_list
+      ∙ listing_replaced (resources_in entries) path (representation old) (representation new) (resources_found key_test key_equality entries path ∙ ap (option_map representation) found) (sym format)
 
 -- ---- a resource is taken away
 
@@ -91,5 +120,5 @@ module _ (entries after : List (Path × Resource)) (path : Path) (is : after ≡
   removed_are_listed all =
       subst (λ (es : List (Path × Resource)). AreListed es) (sym is) (removed_listed IsListed (key_test path) entries all)
 
-  pub text_of_removed_fits : length (listing (resources_in after)) ≤ length (listing (resources_in entries))
-  text_of_removed_fits = omega (arith, ap (λ rs. length (listing rs)) removed_list, listing_shrinks (resources_in entries) path)
+  pub bytes_of_removed_fit : length (listing (resources_in after)) ≤ length (listing (resources_in entries))
+  bytes_of_removed_fit = omega (arith, ap (λ rs. length (listing rs)) removed_list, listing_shrinks (resources_in entries) path)

@@ -10,7 +10,8 @@ use Rattle.coap_store.specs.Store.{Representation, Resource, StoreValue, found_i
 use Rattle.coap_store.specs.State.{stored_at, state_of, target_of}
 use Rattle.coap_store.specs.Requests.{path_of}
 use Rattle.coap_store.specs.Answer.{Answer, Change, Nothing, Put, Delete, only, says, stored_under, deletion, answer_at, removes_watch, finally, answer_of, changed, unheld, prompt_answer}
-use Rattle.coap_store.specs.Changes.{TakesChange, changes, says_change, AreDistinct}
+use Rattle.coap_store.specs.Changes.{changes, says_change}
+use Rattle.coap_store.specs.Invariant.{AreDistinct}
 use Rattle.coap_store.proofs.AnswerLaws.{is_error, OfErrors, get_cases, store_cases, answer_cases, state_dynamic, change_finally, change_unheld, unheld_finally}
 
 -- ---- the same path
@@ -36,7 +37,7 @@ found_put (r ∷ rs) path now =
       | false ↦ λ e. rw e (found_put rs path now)
     ] refl
 
-other_put : (rs : List Resource) (path q : Path) (now : Representation) → q ≢ path → found_in (put_at rs path now) q ≡ found_in rs q
+pub other_put : (rs : List Resource) (path q : Path) (now : Representation) → q ≢ path → found_in (put_at rs path now) q ≡ found_in rs q
 unfolding found_in put_at
 other_put [] path q now apart = rw (other_path q path apart) refl
 other_put (r ∷ rs) path q now apart =
@@ -45,7 +46,7 @@ other_put (r ∷ rs) path q now apart =
       | false ↦ λ e. ap (λ (o : Option Representation). if same_path q r.path then Some r.now else o) (other_put rs path q now apart)
     ] refl
 
-other_removed : (rs : List Resource) (path q : Path) → q ≢ path → found_in (removed_at rs path) q ≡ found_in rs q
+pub other_removed : (rs : List Resource) (path q : Path) → q ≢ path → found_in (removed_at rs path) q ≡ found_in rs q
 unfolding found_in removed_at
 other_removed [] path q apart = refl
 other_removed (r ∷ rs) path q apart =
@@ -67,10 +68,10 @@ found_removed (r ∷ rs) path distinct =
 -- ---- no path comes to stand twice
 
 -- a path that does not compare equal is another
-apart_from : (p q : Path) → same_path p q ≡ false → q ≢ p
+pub apart_from : (p q : Path) → same_path p q ≡ false → q ≢ p
 apart_from p q e same = let itself = same_as_itself p in let back : same_path p p ≡ false = ap (same_path p) (sym same) ∙ e in absurd cc
 
-put_distinct : (rs : List Resource) (path : Path) (now : Representation) → AreDistinct rs → AreDistinct (put_at rs path now)
+pub put_distinct : (rs : List Resource) (path : Path) (now : Representation) → AreDistinct rs → AreDistinct (put_at rs path now)
 unfolding found_in put_at
 put_distinct [] path now distinct = (refl, tt)
 put_distinct (r ∷ rs) path now distinct =
@@ -79,7 +80,7 @@ put_distinct (r ∷ rs) path now distinct =
       | false ↦ λ e. (other_put rs path r.path now (apart_from path r.path e) ∙ distinct.0, put_distinct rs path now distinct.1)
     ] refl
 
-removed_distinct : (rs : List Resource) (path : Path) → AreDistinct rs → AreDistinct (removed_at rs path)
+pub removed_distinct : (rs : List Resource) (path : Path) → AreDistinct rs → AreDistinct (removed_at rs path)
 unfolding removed_at
 removed_distinct [] path distinct = tt
 removed_distinct (r ∷ rs) path distinct =
@@ -134,11 +135,6 @@ other_store s Nothing found e same = absurd cc
 other_store s (Put path format bytes) found e same = omega (arith, ap (λ (v : StoreValue). v.versions) same)
 other_store s (Delete path) found e same = omega (arith, length_removed s.resources path found, ap (λ (v : StoreValue). length v.resources) same)
 
-pub changed_for_good : (s : StoreValue) (c : Change) → TakesChange s c → changes c ≡ true → changed s c ≢ s
-changed_for_good s Nothing takes e = other_store s Nothing tt e
-changed_for_good s (Put path format bytes) takes e = other_store s (Put path format bytes) tt e
-changed_for_good s (Delete path) takes e = other_store s (Delete path) takes e
-
 -- ---- what an answer says of the store
 
 -- no refusal says that the store changes
@@ -176,9 +172,9 @@ tells_at s now path m =
     let P : Answer → Type 0 = TellsBoth t.state in
     let errors : OfErrors P = λ c e. (error_says_none c t.state e, error_says_none c t.state e) in
     answer_cases P s t m errors (record {
-      read = λ r is. get_cases P t.place r m errors (record { valid = (refl, refl); held = (refl, refl); content = (refl, refl) });
-      deleted = λ dynamic. (let is = deletion_tells s t.key t.state (state_dynamic s now t.key t.place dynamic) in (is, is));
-      stored = λ dynamic. store_cases P s t m errors (refl, refl) (λ can. stored_tells t.key t.state t.state m);
+      read = λ r is. get_cases P t.place r m errors (record { valid = λ among. (refl, refl); late = (refl, refl); content = (refl, refl) });
+      deleted = λ dynamic other. (let is = deletion_tells s t.key t.state (state_dynamic s now t.key t.place dynamic) in (is, is));
+      stored = λ dynamic other. store_cases P s t m errors (refl, refl) (λ can. stored_tells t.key t.state t.state m);
     })
 
 -- what an answer deletes is there
@@ -197,9 +193,9 @@ found_at s now path m =
     let t = target_of s now path in
     let P : Answer → Type 0 = λ a. IsFound s a.change in
     answer_cases P s t m (λ c e. tt) (record {
-      read = λ r is. get_cases P t.place r m (λ c e. tt) (record { valid = tt; held = tt; content = tt });
-      deleted = λ dynamic. deletion_found s t.key t.state (state_dynamic s now t.key t.place dynamic);
-      stored = λ dynamic. store_cases P s t m (λ c e. tt) tt (λ can. stored_found s t.key t.state m);
+      read = λ r is. get_cases P t.place r m (λ c e. tt) (record { valid = λ among. tt; late = tt; content = tt });
+      deleted = λ dynamic other. deletion_found s t.key t.state (state_dynamic s now t.key t.place dynamic);
+      stored = λ dynamic other. store_cases P s t m (λ c e. tt) tt (λ can. stored_found s t.key t.state m);
     })
 
 tells_finally : (b : Bool) (state : Option Representation) (a : Answer) → Tells state a → Tells state (finally b a)

@@ -4,10 +4,13 @@ mod PlaceLemmas
 mod TargetLemmas
 mod GetLemmas
 pub mod RequestLemmas
+pub mod NotingLemmas
 pub mod CatalogueLemmas
 pub mod EscapeLemmas
 pub mod ListingLemmas
-mod StoreLemmas
+pub mod StoreLemmas
+pub mod VersionLaws
 pub mod AnswerLaws
 mod AnswerLemmas
 pub mod ChangeLaws
+pub mod ServingLaws

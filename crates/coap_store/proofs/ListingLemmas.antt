@@ -1,9 +1,9 @@
 -- The listing, and the resources that are kept, after a change.
-use Rattle.std.proofs.Common.{◌≡◌, ℕ, suc, ◌+◌, ◌*◌, ◌<◌, ◌≤◌, Bool, true, false, ◌&&◌, List, [], ◌∷◌, ◌++◌, length, Option, Some, None, refl, sym, ap, subst, ◌∙◌, append_assoc, arith}
+use Rattle.std.proofs.Common.{◌≡◌, ℕ, ◌+◌, ◌*◌, ◌<◌, ◌≤◌, Bool, true, false, ◌&&◌, List, [], ◌∷◌, ◌++◌, length, Option, Some, None, refl, sym, ap, subst, ◌∙◌, append_assoc, arith}
 use Rattle.std.specs.Prelude.{IfSome, option_map, if◌then◌else◌, nat_le, codes, ◌/◌, ◌%◌, not}
 use Rattle.std.specs.List.{AllByRecursion, flat_map, list_any}
 use Rattle.std.specs.Fmt.{decimal}
-use Rattle.std.specs.Map.{lookup, values_of}
+use Rattle.std.specs.Map.{lookup, set_value, values_of}
 use Rattle.std.specs.String.{string_bytes}
 use Rattle.std.proofs.lemmas.Bool.{and_parts, leb-true}
 use Rattle.std.proofs.lemmas.Fmt.{length-decimal-le}
@@ -13,7 +13,7 @@ use lib.Pointwise.{pointwise_decides, bytes_decides}
 use Rattle.coap_store.specs.Paths.{Path, same_path, written_length, is_path, is_dots, is_one_empty}
 use Rattle.coap_store.specs.Store.{Representation, found_in, put_at, removed_at}
 use Rattle.coap_store.specs.Store as store
-use Rattle.coap_store.specs.Listing.{is_unreserved, hex_digit, encoded_byte, path_text, format_text, entry_text, built_in_text, listing}
+use Rattle.coap_store.specs.Listing.{is_unreserved, hex_digit, encoded_byte, path_bytes, format_bytes, entry_bytes, built_in_bytes, listing}
 use Rattle.coap_store.specs.StoreViews.{representation, resource_at, resources_in, AreListed}
 use Rattle.coap_store.specs.declared.resource.Resource.{Resource}
 
@@ -22,20 +22,20 @@ pub same_path_is : (p q : Path) → same_path p q ≡ true → p ≡ q
 same_path_is p q h = (pointwise_decides bytes_decides p q).0 h
 
 abbrev line : store.Resource → List ℕ
-line r = entry_text r.path r.now.format
+line r = entry_bytes r.path r.now.format
 
 abbrev lines : List store.Resource → List ℕ
 lines rs = flat_map line rs
 
 -- ---- the text after a change
 
-lines_created : (rs : List store.Resource) (path : Path) (now : Representation) → found_in rs path ≡ None → lines (put_at rs path now) ≡ lines rs ++ entry_text path now.format
+lines_created : (rs : List store.Resource) (path : Path) (now : Representation) → found_in rs path ≡ None → lines (put_at rs path now) ≡ lines rs ++ entry_bytes path now.format
 unfolding found_in put_at
-lines_created [] path now none = append-nil (entry_text path now.format)
+lines_created [] path now none = append-nil (entry_bytes path now.format)
 lines_created (r ∷ rs) path now none =
-    elim (same_path path r.path) as (λ b. (if b then Some r.now else found_in rs path) ≡ None → lines (if b then (record r { now = now } ∷ rs) else (r ∷ put_at rs path now)) ≡ lines (r ∷ rs) ++ entry_text path now.format) [
+    elim (same_path path r.path) as (λ b. (if b then Some r.now else found_in rs path) ≡ None → lines (if b then (record r { now = now } ∷ rs) else (r ∷ put_at rs path now)) ≡ lines (r ∷ rs) ++ entry_bytes path now.format) [
       | true ↦ λ e. absurd cc
-      | false ↦ λ e. ap (λ (t : List ℕ). line r ++ t) (lines_created rs path now e) ∙ sym (append_assoc (line r) (lines rs) (entry_text path now.format))
+      | false ↦ λ e. ap (λ (t : List ℕ). line r ++ t) (lines_created rs path now e) ∙ sym (append_assoc (line r) (lines rs) (entry_bytes path now.format))
     ] none
 
 lines_replaced : (rs : List store.Resource) (path : Path) (old now : Representation) → found_in rs path ≡ Some old → old.format ≡ now.format → lines (put_at rs path now) ≡ lines rs
@@ -43,16 +43,16 @@ unfolding found_in put_at
 lines_replaced [] path old now some same = absurd cc
 lines_replaced (r ∷ rs) path old now some same =
     elim (same_path path r.path) as (λ b. (if b then Some r.now else found_in rs path) ≡ Some old → lines (if b then (record r { now = now } ∷ rs) else (r ∷ put_at rs path now)) ≡ lines (r ∷ rs)) [
-      | true ↦ λ e. (let is : r.now ≡ old = cc in let format : now.format ≡ r.now.format = sym (ap (λ (v : Representation). v.format) is ∙ same) in ap (λ (f : Option ℕ). entry_text r.path f ++ lines rs) format)
+      | true ↦ λ e. (let is : r.now ≡ old = cc in let format : now.format ≡ r.now.format = sym (ap (λ (v : Representation). v.format) is ∙ same) in ap (λ (f : Option ℕ). entry_bytes r.path f ++ lines rs) format)
       | false ↦ λ e. ap (λ (t : List ℕ). line r ++ t) (lines_replaced rs path old now e same)
     ] some
 
-lines_grow : (rs : List store.Resource) (path : Path) (now : Representation) → length (lines (put_at rs path now)) ≤ length (lines rs) + length (entry_text path now.format)
+lines_grow : (rs : List store.Resource) (path : Path) (now : Representation) → length (lines (put_at rs path now)) ≤ length (lines rs) + length (entry_bytes path now.format)
 unfolding put_at
-lines_grow [] path now = omega (arith, length-append (entry_text path now.format) [])
+lines_grow [] path now = omega (arith, length-append (entry_bytes path now.format) [])
 lines_grow (r ∷ rs) path now =
-    elim (same_path path r.path) as (λ b. same_path path r.path ≡ b → length (lines (if b then (record r { now = now } ∷ rs) else (r ∷ put_at rs path now))) ≤ length (lines (r ∷ rs)) + length (entry_text path now.format)) [
-      | true ↦ λ e. (let is = ap (λ (p : Path). length (entry_text p now.format)) (same_path_is path r.path e) in omega (arith, is, length-append (entry_text r.path now.format) (lines rs), length-append (line r) (lines rs)))
+    elim (same_path path r.path) as (λ b. same_path path r.path ≡ b → length (lines (if b then (record r { now = now } ∷ rs) else (r ∷ put_at rs path now))) ≤ length (lines (r ∷ rs)) + length (entry_bytes path now.format)) [
+      | true ↦ λ e. (let is = ap (λ (p : Path). length (entry_bytes p now.format)) (same_path_is path r.path e) in omega (arith, is, length-append (entry_bytes r.path now.format) (lines rs), length-append (line r) (lines rs)))
       | false ↦ λ e. omega (arith, lines_grow rs path now, length-append (line r) (lines (put_at rs path now)), length-append (line r) (lines rs))
     ] refl
 
@@ -66,25 +66,25 @@ lines_shrink (r ∷ rs) path =
     ]
 
 -- a new resource goes last
-pub listing_created : (rs : List store.Resource) (path : Path) (now : Representation) → found_in rs path ≡ None → listing (put_at rs path now) ≡ listing rs ++ entry_text path now.format
+pub listing_created : (rs : List store.Resource) (path : Path) (now : Representation) → found_in rs path ≡ None → listing (put_at rs path now) ≡ listing rs ++ entry_bytes path now.format
 unfolding listing
 listing_created rs path now none =
-    ap (λ (t : List ℕ). built_in_text ++ t) (lines_created rs path now none) ∙ sym (append_assoc built_in_text (lines rs) (entry_text path now.format))
+    ap (λ (t : List ℕ). built_in_bytes ++ t) (lines_created rs path now none) ∙ sym (append_assoc built_in_bytes (lines rs) (entry_bytes path now.format))
 
 -- a resource that keeps its format keeps its text
 pub listing_replaced : (rs : List store.Resource) (path : Path) (old now : Representation) → found_in rs path ≡ Some old → old.format ≡ now.format → listing (put_at rs path now) ≡ listing rs
 unfolding listing
-listing_replaced rs path old now some same = ap (λ (t : List ℕ). built_in_text ++ t) (lines_replaced rs path old now some same)
+listing_replaced rs path old now some same = ap (λ (t : List ℕ). built_in_bytes ++ t) (lines_replaced rs path old now some same)
 
-pub listing_grows : (rs : List store.Resource) (path : Path) (now : Representation) → length (listing (put_at rs path now)) ≤ length (listing rs) + length (entry_text path now.format)
+pub listing_grows : (rs : List store.Resource) (path : Path) (now : Representation) → length (listing (put_at rs path now)) ≤ length (listing rs) + length (entry_bytes path now.format)
 unfolding listing
 listing_grows rs path now =
-    omega (arith, lines_grow rs path now, length-append built_in_text (lines (put_at rs path now)), length-append built_in_text (lines rs))
+    omega (arith, lines_grow rs path now, length-append built_in_bytes (lines (put_at rs path now)), length-append built_in_bytes (lines rs))
 
 pub listing_shrinks : (rs : List store.Resource) (path : Path) → length (listing (removed_at rs path)) ≤ length (listing rs)
 unfolding listing
 listing_shrinks rs path =
-    omega (arith, lines_shrink rs path, length-append built_in_text (lines (removed_at rs path)), length-append built_in_text (lines rs))
+    omega (arith, lines_shrink rs path, length-append built_in_bytes (lines (removed_at rs path)), length-append built_in_bytes (lines rs))
 
 -- ---- how long the text is
 
@@ -98,11 +98,11 @@ segment_short : (s : List ℕ) → length (flat_map encoded_byte s) ≤ 3 * leng
 segment_short [] = omega arith
 segment_short (b ∷ s) = omega (arith, byte_short b, segment_short s, length-append (encoded_byte b) (flat_map encoded_byte s))
 
-path_short : (p : Path) → length (path_text p) ≤ 3 * written_length p
-unfolding path_text
+path_short : (p : Path) → length (path_bytes p) ≤ 3 * written_length p
+unfolding path_bytes
 path_short [] = omega arith
 path_short (s ∷ ss) =
-    omega (arith, path_short ss, segment_short s, length-append (47 ∷ flat_map encoded_byte s) (path_text ss))
+    omega (arith, path_short ss, segment_short s, length-append (47 ∷ flat_map encoded_byte s) (path_bytes ss))
 
 is_path_short : (p : Path) → is_path p ≡ true → written_length p ≤ 255
 unfolding is_path
@@ -111,7 +111,7 @@ is_path_short p h =
     let two = and_parts (nat_le (length p) 16 && nat_le (written_length p) 255) (not (list_any is_dots p)) three.0 in
     leb-true (written_length p) 255 (and_parts (nat_le (length p) 16) (nat_le (written_length p) 255) two.0).1
 
-format_short : (format : Option ℕ) → IfSome format (λ n. n < 65536) → length (format_text format) ≤ 9
+format_short : (format : Option ℕ) → IfSome format (λ n. n < 65536) → length (format_bytes format) ≤ 9
 format_short None h = omega arith
 format_short (Some format) h =
     omega (arith, length-decimal-le 5 format (omega arith) (omega (arith, h)) (omega (arith, h)), length-append (codes ";ct=") (decimal format))
@@ -120,18 +120,18 @@ format_short (Some format) h =
 abbrev pub CanBeListed : store.Resource → Type 0
 CanBeListed r = (is_path r.path ≡ true) × IfSome r.now.format (λ n. n < 65536)
 
-pub entry_short : (path : Path) (format : Option ℕ) → is_path path ≡ true → IfSome format (λ n. n < 65536) → length (entry_text path format) ≤ 781
-unfolding entry_text
+pub entry_short : (path : Path) (format : Option ℕ) → is_path path ≡ true → IfSome format (λ n. n < 65536) → length (entry_bytes path format) ≤ 781
+unfolding entry_bytes
 entry_short path format is small =
     omega (
       arith,
       path_short path,
       is_path_short path is,
       format_short format small,
-      length-append (codes ",<") (path_text path ++ (codes ">" ++ (format_text format ++ codes ";obs"))),
-      length-append (path_text path) (codes ">" ++ (format_text format ++ codes ";obs")),
-      length-append (codes ">") (format_text format ++ codes ";obs"),
-      length-append (format_text format) (codes ";obs"),
+      length-append (codes ",<") (path_bytes path ++ (codes ">" ++ (format_bytes format ++ codes ";obs"))),
+      length-append (path_bytes path) (codes ">" ++ (format_bytes format ++ codes ";obs")),
+      length-append (codes ">") (format_bytes format ++ codes ";obs"),
+      length-append (format_bytes format) (codes ";obs"),
     )
 
 lines_bound : (rs : List store.Resource) → AllByRecursion CanBeListed rs → length (lines rs) ≤ 781 * length rs
@@ -141,7 +141,7 @@ lines_bound (r ∷ rs) h = omega (arith, lines_bound rs h.1, entry_short r.path 
 -- the listing of a thousand resources fits a mebibyte
 pub listing_bound : (rs : List store.Resource) → AllByRecursion CanBeListed rs → length rs ≤ 1000 → length (listing rs) ≤ 1048576
 unfolding listing
-listing_bound rs each few = omega (arith, lines_bound rs each, length-append built_in_text (lines rs))
+listing_bound rs each few = omega (arith, lines_bound rs each, length-append built_in_bytes (lines rs))
 
 -- ---- what the entries of the map show
 
@@ -161,6 +161,15 @@ module _ {K V : Type 0} (P : K × V → Type 0) where
   removed_listed test (e ∷ es) all =
       elim (test e.0) as (λ b. AllByRecursion P (if b then es else (e ∷ shift_remove_entry test es))) [ true ↦ all.1 | false ↦ (all.0, removed_listed test es all.1) ]
 
+  -- a value that is written in the place of another, for which it stands at each key
+  pub written_listed : (test : K → Bool) (entries : List (K × V)) (old new : V) → lookup test entries ≡ Some old → ((k : K) → P (k, old) → P (k, new)) → AllByRecursion P entries → AllByRecursion P (set_value test entries new)
+  written_listed test [] old new found stands all = tt
+  written_listed test (e ∷ es) old new found stands all =
+      elim (test e.0) as (λ b. (if b then Some e.1 else lookup test es) ≡ Some old → AllByRecursion P (if b then (e.0, new) ∷ es else (e ∷ set_value test es new))) [
+        | true ↦ λ is. (let here : e.1 ≡ old = cc in (stands e.0 (subst (λ (v : V). P (e.0, v)) here all.0), all.1))
+        | false ↦ λ is. (all.0, written_listed test es old new is stands all.1)
+      ] found
+
 module _ (eq : Path → Path → Bool) (same : (p q : Path) → eq p q ≡ same_path p q) where
   pub resources_put : (entries : List (Path × Resource)) (path : Path) (r : Resource) → resources_in (insert_entry eq entries path r) ≡ put_at (resources_in entries) path (representation r)
   unfolding resources_in put_at
@@ -169,6 +178,15 @@ module _ (eq : Path → Path → Bool) (same : (p q : Path) → eq p q ≡ same_
       rw (same path e.0) (elim (same_path path e.0) as (λ b. resources_in (if b then (e.0, r) ∷ es else (e ∷ insert_entry eq es path r)) ≡ (if b then (record { path = e.0; now = representation r } ∷ resources_in es) else (resource_at e ∷ put_at (resources_in es) path (representation r)))) [
         | true ↦ refl
         | false ↦ ap (λ (rs : List store.Resource). resource_at e ∷ rs) (resources_put es path r)
+      ])
+
+  pub resources_written : (entries : List (Path × Resource)) (path : Path) (old new : Resource) → lookup (eq path) entries ≡ Some old → resources_in (set_value (eq path) entries new) ≡ put_at (resources_in entries) path (representation new)
+  unfolding resources_in put_at
+  resources_written [] path old new = λ found. absurd cc
+  resources_written (e ∷ es) path old new =
+      rw (same path e.0) (elim (same_path path e.0) as (λ b. (if b then Some e.1 else lookup (eq path) es) ≡ Some old → resources_in (if b then (e.0, new) ∷ es else (e ∷ set_value (eq path) es new)) ≡ (if b then (record { path = e.0; now = representation new } ∷ resources_in es) else (resource_at e ∷ put_at (resources_in es) path (representation new)))) [
+        | true ↦ λ is. refl
+        | false ↦ λ is. ap (λ (rs : List store.Resource). resource_at e ∷ rs) (resources_written es path old new is)
       ])
 
   pub resources_removed : (entries : List (Path × Resource)) (path : Path) → resources_in (shift_remove_entry (eq path) entries) ≡ removed_at (resources_in entries) path
@@ -191,31 +209,19 @@ module _ (eq : Path → Path → Bool) (same : (p q : Path) → eq p q ≡ same_
 
 -- ---- the listing as it is written
 
-abbrev pub listed_text : List Resource → List ℕ
-listed_text rs = flat_map (λ r. string_bytes r.listed) rs
+abbrev pub listed_bytes : List Resource → List ℕ
+listed_bytes rs = flat_map (λ r. string_bytes r.listed) rs
 
-lines_listed : (entries : List (Path × Resource)) → AreListed entries → lines (resources_in entries) ≡ listed_text (values_of entries)
+lines_listed : (entries : List (Path × Resource)) → AreListed entries → lines (resources_in entries) ≡ listed_bytes (values_of entries)
 unfolding resources_in
 lines_listed [] all = refl
 lines_listed (e ∷ es) all = ap (λ (t : List ℕ). t ++ lines (resources_in es)) (sym all.0) ∙ ap (λ (t : List ℕ). string_bytes e.1.listed ++ t) (lines_listed es all.1)
 
 -- the texts of the entries, behind that of the built-in resources
-pub listing_listed : (entries : List (Path × Resource)) → AreListed entries → listing (resources_in entries) ≡ built_in_text ++ listed_text (values_of entries)
+pub listing_listed : (entries : List (Path × Resource)) → AreListed entries → listing (resources_in entries) ≡ built_in_bytes ++ listed_bytes (values_of entries)
 unfolding listing
-listing_listed entries all = ap (λ (t : List ℕ). built_in_text ++ t) (lines_listed entries all)
+listing_listed entries all = ap (λ (t : List ℕ). built_in_bytes ++ t) (lines_listed entries all)
 
-pub listing_front : (rs : List store.Resource) → length built_in_text ≤ length (listing rs)
+pub listing_front : (rs : List store.Resource) → length built_in_bytes ≤ length (listing rs)
 unfolding listing
-listing_front rs = omega (arith, length-append built_in_text (lines rs))
-
--- ---- from the entries to the resources
-
-pub resources_count : (entries : List (Path × Resource)) → length (resources_in entries) ≡ length entries
-unfolding resources_in
-resources_count [] = refl
-resources_count (e ∷ es) = ap suc (resources_count es)
-
-pub resources_listable : (entries : List (Path × Resource)) → AllByRecursion (λ e. CanBeListed (resource_at e)) entries → AllByRecursion CanBeListed (resources_in entries)
-unfolding resources_in
-resources_listable [] all = all
-resources_listable (e ∷ es) all = (all.0, resources_listable es all.1)
+listing_front rs = omega (arith, length-append built_in_bytes (lines rs))

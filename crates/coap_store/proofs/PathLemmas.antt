@@ -2,9 +2,8 @@
 use Rattle.std.proofs.Common.{◌≡◌, ℕ, zero, suc, ◌+◌, ◌<◌, ◌≤◌, Bool, true, false, ◌||◌, cond, Some, None, List, [], ◌∷◌, ◌++◌, length, get_or, take, drop, refl, sym, ap, subst, ◌∙◌, arith, append_assoc, length-append}
 use Rattle.std.proofs.Math.Seq.{take-append_seam, drop-append_seam}
 use Rattle.std.proofs.lemmas.Bool.{and_parts, leb-true}
-use Rattle.std.proofs.lemmas.List.Elements.{All-nil, All-cons}
 use Rattle.std.proofs.lemmas.List.{append-nil, append_cancel_left, length-take, take-append-drop, at_drop_more, at_drop_all, length-map, nil_from_length}
-use Rattle.std.specs.List.{All, list_any}
+use Rattle.std.specs.List.{list_any}
 use Rattle.std.specs.Borrow.{Bor}
 use lib.Pointwise.{bytes_decides, pointwise_decides}
 use Rattle.coap_store.specs.Paths.{Path, same_path, is_path, written_length}
@@ -18,9 +17,6 @@ same_path_decides = pointwise_decides bytes_decides
 
 pub same_path_sound : (p q : Path) → same_path p q ≡ true → p ≡ q
 same_path_sound p q same = (same_path_decides p q).0 same
-
-pub same_path_refl : (p : Path) → same_path p p ≡ true
-same_path_refl p = (same_path_decides p p).1 refl
 
 -- ---- what is kept
 
@@ -55,9 +51,9 @@ key_equality p q =
     (λ same. (same_path_decides p q).1 (written_once p q ((bytes_decides (written p) (written q)).0 same)))
     (λ same. (bytes_decides (written p) (written q)).1 (ap written (same_path_sound p q same)))
 
--- the map of resources compares keys as the definitions compare paths
-pub keys_are_compared_as_paths : (key_eq.ghosts).eq ≡ same_path
-keys_are_compared_as_paths = λ i p q. key_equality p q i
+-- keys are equal where the paths are
+pub keys_equal : (p q : Path) → ((key_eq.ghosts).eq p q ≡ true → p ≡ q) × (p ≡ q → (key_eq.ghosts).eq p q ≡ true)
+keys_equal p q = ((λ same. same_path_sound p q (sym (key_equality p q) ∙ same)), (λ same. key_equality p q ∙ (same_path_decides p q).1 same))
 
 -- ---- how large a path is
 
@@ -68,14 +64,6 @@ path_fits p is = leb-true (written_length p) 255 (and_parts _ _ (and_parts _ _ (
 pub few_segments : (p : Path) → is_path p ≡ true → length p ≤ 16
 unfolding is_path
 few_segments p is = leb-true (length p) 16 (and_parts _ _ (and_parts _ _ (and_parts _ _ is).0).0).0
-
-short_where : (p : Path) (most : ℕ) → written_length p ≤ 1 + most → All (λ s. length s ≤ most) p
-short_where [] most fit = All-nil (λ s. length s ≤ most)
-short_where (s ∷ ss) most fit =
-    All-cons (λ t. length t ≤ most) s ss (omega arith) (short_where ss most (omega arith))
-
-pub short_segments : (p : Path) → is_path p ≡ true → All (λ s. length s ≤ 254) p
-short_segments p is = short_where p 254 (path_fits p is)
 
 -- ---- going from segment to segment
 

@@ -1,6 +1,6 @@
 -- The recognised options with one number, and their values.
 use Rattle.std.proofs.Common.{◌≡◌, ℕ, ◌<◌, ◌≤◌, Bool, true, false, ◌&&◌, ◌||◌, cond, ◌==◌, List, [], ◌∷◌, length, map, filter, get_or, Option, Some, None, refl, sym, ap, subst, ◌∙◌, arith}
-use Rattle.std.specs.Prelude.{option_map, find, nat_le, is_some, IfSome}
+use Rattle.std.specs.Prelude.{option_map, nat_le, is_some, IfSome}
 use Rattle.std.specs.Bool.{then_some}
 use Rattle.std.specs.List.{list_any, list_all}
 use Rattle.std.proofs.lemmas.Bool.{and_parts, and_left, and_right, leb-true, le-leb, lt-leb, eqb-true}
@@ -8,7 +8,7 @@ use Rattle.std.proofs.lemmas.List.Folds.{list_all_at}
 use Rattle.coap_wire.specs.Message.{CoapOption, Message}
 use Rattle.coap_wire.specs.OptionNumbers as numbers
 use Rattle.coap_wire.specs.Recognition.{Placed, placed, once, kind_of, has_kind, is_recognised, known_behind, known_options}
-use Rattle.coap_wire.specs.Uint.{uint_of, uint_text}
+use Rattle.coap_wire.specs.Uint.{uint_of, bytes_of_uint}
 use Rattle.coap_wire.specs.declared.kinds.OptionKind.{OptionKind}
 use Rattle.coap_store.specs.Paths.{same_bytes}
 use Rattle.coap_store.specs.Store.{Representation}
@@ -22,13 +22,7 @@ has_number number o = o.number == number
 abbrev pub values_in : ℕ → List CoapOption → List (List ℕ)
 values_in number os = map (λ o. o.value) (filter (has_number number) os)
 
--- a test that is settled
-first_at : (test : Bool) (o : CoapOption) (os : List CoapOption) (found : Option CoapOption) → option_map (λ (o : CoapOption). o.value) found ≡ first_or_none (map (λ (o : CoapOption). o.value) os)
-    → option_map (λ (o : CoapOption). o.value) (cond test (Some o) found) ≡ first_or_none (map (λ (o : CoapOption). o.value) (cond test (o ∷ os) os))
-first_at true o os found rest = refl
-first_at false o os found rest = rest
-
-given_at : (test : Bool) (o : CoapOption) (os : List CoapOption) (any : Bool) → any ≡ is_given (map (λ (o : CoapOption). o.value) os) → (test || any) ≡ is_given (map (λ (o : CoapOption). o.value) (cond test (o ∷ os) os))
+pub given_at : (test : Bool) (o : CoapOption) (os : List CoapOption) (any : Bool) → any ≡ is_given (map (λ (o : CoapOption). o.value) os) → (test || any) ≡ is_given (map (λ (o : CoapOption). o.value) (cond test (o ∷ os) os))
 given_at true o os any rest = refl
 given_at false o os any rest = rest
 
@@ -37,15 +31,6 @@ any_at : (passes : List ℕ → Bool) (test : Bool) (o : CoapOption) (os : List 
 any_at passes true o os any rest = ap (λ (b : Bool). passes o.value || b) rest
 any_at passes false o os any rest = rest
 
--- the first value is that of the first option with the number
-first_in : (number : ℕ) (os : List CoapOption) → option_map (λ (o : CoapOption). o.value) (find (has_number number) os) ≡ first_or_none (values_in number os)
-first_in number [] = refl
-first_in number (o ∷ os) = first_at (has_number number o) o (filter (has_number number) os) (find (has_number number) os) (first_in number os)
-
-given_in : (number : ℕ) (os : List CoapOption) → list_any (has_number number) os ≡ is_given (values_in number os)
-given_in number [] = refl
-given_in number (o ∷ os) = given_at (has_number number o) o (filter (has_number number) os) (list_any (has_number number) os) (given_in number os)
-
 any_in : (passes : List ℕ → Bool) (number : ℕ) (os : List CoapOption) → list_any (λ (o : CoapOption). has_number number o && passes o.value) os ≡ list_any passes (values_in number os)
 any_in passes number [] = refl
 any_in passes number (o ∷ os) =
@@ -53,17 +38,18 @@ any_in passes number (o ∷ os) =
 
 -- ---- in a request
 
-pub value_found : (number : ℕ) (m : Message) → option_map (λ (o : CoapOption). o.value) (find (has_number number) (known_options m.options)) ≡ value_of number m
-unfolding value_of values_of
-value_found number m = first_in number (known_options m.options)
-
-pub option_found : (number : ℕ) (m : Message) → list_any (has_number number) (known_options m.options) ≡ has_option number m
-unfolding has_option values_of
-option_found number m = given_in number (known_options m.options)
-
 pub value_passes : (passes : List ℕ → Bool) (number : ℕ) (m : Message) → list_any (λ (o : CoapOption). has_number number o && passes o.value) (known_options m.options) ≡ list_any passes (values_of number m)
 unfolding values_of
 value_passes passes number m = any_in passes number (known_options m.options)
+
+given_none : (passes : List ℕ → Bool) (values : List (List ℕ)) → false ≡ is_given values → false ≡ list_any passes values
+given_none passes [] none = refl
+given_none passes (v ∷ vs) none = absurd cc
+
+-- no value passes where there is none
+pub none_passes : (passes : List ℕ → Bool) (number : ℕ) (m : Message) → false ≡ has_option number m → false ≡ list_any passes (values_of number m)
+unfolding has_option
+none_passes passes number m none = given_none passes (values_of number m) none
 
 -- ---- the length of a recognised option's value
 
@@ -136,13 +122,13 @@ match_of_none (Some r) m asked is = let bad : ◌≡◌ {A = Option ℕ} None (S
 abbrev pub is_match : List ℕ → List ℕ → Bool
 is_match etag value = length value == 0 || same_bytes value etag
 
-pub match_of_version : (state : Option Representation) (m : Message) (version : ℕ) (etag : List ℕ) → true ≡ has_option numbers.if_match m → Some version ≡ option_map (λ (r : Representation). r.version) state → etag ≡ uint_text version
+pub match_of_version : (state : Option Representation) (m : Message) (version : ℕ) (etag : List ℕ) → true ≡ has_option numbers.if_match m → Some version ≡ option_map (λ (r : Representation). r.version) state → etag ≡ bytes_of_uint version
     → list_any (is_match etag) (values_of numbers.if_match m) ≡ match_holds state m
 unfolding match_holds
 match_of_version None m version etag asked is etag_is = let bad : ◌≡◌ {A = Option ℕ} (Some version) None = is in absurd cc
 match_of_version (Some r) m version etag asked is etag_is =
     let same : version ≡ r.version = cc in
-    let etags : etag ≡ uint_text r.version = etag_is ∙ ap uint_text same in
+    let etags : etag ≡ bytes_of_uint r.version = etag_is ∙ ap bytes_of_uint same in
     rw (sym asked) (ap (λ (e : List ℕ). list_any (is_match e) (values_of numbers.if_match m)) etags)
 
 -- ---- seconds
@@ -171,9 +157,3 @@ is_some-then_some false n = refl
 pub if_then_some : (test : Bool) (n m : ℕ) → n ≡ m → IfSome (then_some test n) (λ k. k ≡ m)
 if_then_some true n m e = e
 if_then_some false n m e = tt
-
--- ---- segments
-
-pub values_start : (number : ℕ) (m : Message) → values_in number (known_options m.options) ≡ values_of number m
-unfolding values_of
-values_start number m = refl

@@ -1,75 +1,100 @@
--- No change passes a limit of the store.
-use Rattle.std.proofs.Common.{◌≡◌, ℕ, ◌+◌, ◌<◌, ◌≤◌, true, false, ◌||◌, List, [], ◌∷◌, length, Option, Some, None, refl, sym, ap, subst, arith, nat_lt}
+-- A store stays one over each change, and what is found in it is kept as it is to be.
+use Rattle.std.proofs.Common.{◌≡◌, ◌≢◌, ℕ, ◌+◌, ◌<◌, ◌≤◌, ◌^◌, true, false, ◌||◌, List, [], ◌∷◌, length, Option, Some, None, refl, sym, ap, subst, ◌∙◌, arith, nat_lt}
 use Rattle.std.specs.Prelude.{IfSome, option_map, if◌then◌else◌}
 use Rattle.std.specs.Option.{is_some}
 use Rattle.std.specs.Borrow.{Bor}
 use Rattle.std.specs.List.{AllByRecursion}
 use Rattle.std.proofs.lemmas.Bool.{ltb-true}
 use Rattle.coap_store.specs.Paths.{Path, same_path}
-use Rattle.coap_store.specs.Store.{Representation, StoreValue, found_in, put_at, removed_at}
-use Rattle.coap_store.specs.Store as store
+use Rattle.coap_store.specs.Store.{Representation, Resource, StoreValue, found_in, put_at, removed_at, put_in, removed_in}
 use Rattle.coap_store.specs.Listing.{listing}
 use Rattle.coap_store.specs.StoreViews.{representation}
-use Rattle.coap_store.specs.Changes.{TakesPut}
-use Rattle.coap_store.specs.StoreInside.{store_value, IsSmall, IsStore}
-use Rattle.coap_store.specs.declared.store.Store.TheInside.{Inside}
-use Rattle.coap_store.specs.declared.resource.Resource.{Resource}
+use Rattle.coap_store.specs.Answer.{Change, Nothing, Put, Delete, changed}
+use Rattle.coap_store.specs.Changes.{TakesPut, TakesChange, HasSmallFormat}
+use Rattle.coap_store.specs.Invariant.{HaveOwnVersions, IsKept, IsStore}
+use Rattle.coap_store.specs.declared.resource.Resource as lent
 use Rattle.coap_store.proofs.PathLemmas.{same_path_sound}
 use Rattle.coap_store.proofs.ListingLemmas.{CanBeListed, listing_bound}
+use Rattle.coap_store.proofs.ChangeLaws.{put_distinct, removed_distinct}
 
 -- ---- each resource
 
-module _ (most : ℕ) where
-  -- what is found is small
-  found_bytes : (rs : List store.Resource) (path : Path) → AllByRecursion (IsSmall most) rs → IfSome (found_in rs path) (λ now. length now.bytes ≤ most)
-  unfolding found_in
-  found_bytes [] path all = tt
-  found_bytes (r ∷ rs) path all =
-      elim (same_path path r.path) as (λ b. IfSome (if b then Some r.now else found_in rs path) (λ now. length now.bytes ≤ most)) [
-        | true ↦ all.0.bytes
-        | false ↦ found_bytes rs path all.1
-      ]
+all_to : (P Q : Resource → Type 0) → ((r : Resource) → P r → Q r) → (rs : List Resource) → AllByRecursion P rs → AllByRecursion Q rs
+all_to P Q to [] all = tt
+all_to P Q to (r ∷ rs) all = (to r all.0, all_to P Q to rs all.1)
 
-  pub put_small : (rs : List store.Resource) (path : Path) (now : Representation) → AllByRecursion (IsSmall most) rs → IsSmall most (record { path = path; now = now }) → AllByRecursion (IsSmall most) (put_at rs path now)
+module _ (P : Resource → Type 0) where
+  -- what holds of each resource holds of the one that is found
+  pub found_all : (rs : List Resource) (path : Path) (now : Representation) → AllByRecursion P rs → found_in rs path ≡ Some now → P (record { path = path; now = now })
+  unfolding found_in
+  found_all [] path now all is = absurd cc
+  found_all (r ∷ rs) path now all is =
+      elim (same_path path r.path) as (λ b. same_path path r.path ≡ b → (if b then Some r.now else found_in rs path) ≡ Some now → P (record { path = path; now = now })) [
+        | true ↦ λ same e. (let here : r.now ≡ now = cc in subst (λ (p : Path). P (record { path = p; now = now })) (sym (same_path_sound path r.path same)) (subst (λ (n : Representation). P (record { path = r.path; now = n })) here all.0))
+        | false ↦ λ other e. found_all rs path now all.1 e
+      ] refl is
+
+  pub put_all : (rs : List Resource) (path : Path) (now : Representation) → AllByRecursion P rs → P (record { path = path; now = now }) → AllByRecursion P (put_at rs path now)
   unfolding put_at
-  put_small [] path now all here = (here, tt)
-  put_small (r ∷ rs) path now all here =
-      elim (same_path path r.path) as (λ b. same_path path r.path ≡ b → AllByRecursion (IsSmall most) (if b then (record r { now = now } ∷ rs) else (r ∷ put_at rs path now))) [
-        | true ↦ λ is. (subst (λ (p : Path). IsSmall most (record { path = p; now = now })) (same_path_sound path r.path is) here, all.1)
-        | false ↦ λ is. (all.0, put_small rs path now all.1 here)
+  put_all [] path now all here = (here, tt)
+  put_all (r ∷ rs) path now all here =
+      elim (same_path path r.path) as (λ b. same_path path r.path ≡ b → AllByRecursion P (if b then (record r { now = now } ∷ rs) else (r ∷ put_at rs path now))) [
+        | true ↦ λ is. (subst (λ (p : Path). P (record { path = p; now = now })) (same_path_sound path r.path is) here, all.1)
+        | false ↦ λ is. (all.0, put_all rs path now all.1 here)
       ] refl
 
-  pub removed_small : (rs : List store.Resource) (path : Path) → AllByRecursion (IsSmall most) rs → AllByRecursion (IsSmall most) (removed_at rs path)
+  pub removed_all : (rs : List Resource) (path : Path) → AllByRecursion P rs → AllByRecursion P (removed_at rs path)
   unfolding removed_at
-  removed_small [] path all = all
-  removed_small (r ∷ rs) path all =
-      elim (same_path path r.path) as (λ b. AllByRecursion (IsSmall most) (if b then rs else (r ∷ removed_at rs path))) [
+  removed_all [] path all = all
+  removed_all (r ∷ rs) path all =
+      elim (same_path path r.path) as (λ b. AllByRecursion P (if b then rs else (r ∷ removed_at rs path))) [
         | true ↦ all.1
-        | false ↦ (all.0, removed_small rs path all.1)
+        | false ↦ (all.0, removed_all rs path all.1)
       ]
 
-  small_listed : (rs : List store.Resource) → AllByRecursion (IsSmall most) rs → AllByRecursion CanBeListed rs
-  small_listed [] all = tt
-  small_listed (r ∷ rs) all = ((all.0.path, all.0.format), small_listed rs all.1)
+-- ---- no version stands twice
 
-  -- what the catalogue gives is small
-  pub found_small : (rs : List store.Resource) (path : Path) (found : Option (Bor Resource)) → AllByRecursion (IsSmall most) rs → most ≤ 1048576 → option_map (λ r. representation r.now) found ≡ found_in rs path → IfSome found (λ r. length r.now.bytes.items ≤ 1048576)
-  found_small rs path None all largest is = tt
-  found_small rs path (Some r) all largest is =
-      let small : length r.now.bytes.items ≤ most = subst (λ (o : Option Representation). IfSome o (λ now. length now.bytes ≤ most)) (sym is) (found_bytes rs path all) in
-      omega arith
+-- another version than that of r
+abbrev HasOther : ℕ → Resource → Type 0
+HasOther version r = version ≢ r.now.version
 
-  pub stored_small : (rs : List store.Resource) → AllByRecursion (IsSmall most) rs → most ≤ 1048576 → (path : Path) (r : Representation) → found_in rs path ≡ Some r → length r.bytes ≤ 1048576
-  stored_small rs all largest path r is =
-      let small : length r.bytes ≤ most = subst (λ (o : Option Representation). IfSome o (λ now. length now.bytes ≤ most)) is (found_bytes rs path all) in
-      omega arith
+put_own : (rs : List Resource) (path : Path) (now : Representation) → AllByRecursion (HasOther now.version) rs → HaveOwnVersions rs → HaveOwnVersions (put_at rs path now)
+unfolding put_at
+put_own [] path now fresh own = (tt, tt)
+put_own (r ∷ rs) path now fresh own =
+    elim (same_path path r.path) as (λ b. HaveOwnVersions (if b then (record r { now = now } ∷ rs) else (r ∷ put_at rs path now))) [
+      | true ↦ (fresh.1, own.1)
+      | false ↦ (put_all (HasOther r.now.version) rs path now own.0 (λ e. fresh.0 (sym e)), put_own rs path now fresh.1 own.1)
+    ]
 
-  pub listing_short : (rs : List store.Resource) (slots : ℕ) → AllByRecursion (IsSmall most) rs → length rs ≤ slots → slots ≤ 1000 → length (listing rs) ≤ 1048576
-  listing_short rs slots all few least = listing_bound rs (small_listed rs all) (omega arith)
+removed_own : (rs : List Resource) (path : Path) → HaveOwnVersions rs → HaveOwnVersions (removed_at rs path)
+unfolding removed_at
+removed_own [] path own = own
+removed_own (r ∷ rs) path own =
+    elim (same_path path r.path) as (λ b. HaveOwnVersions (if b then rs else (r ∷ removed_at rs path))) [
+      | true ↦ own.1
+      | false ↦ (removed_all (HasOther r.now.version) rs path own.0, removed_own rs path own.1)
+    ]
+
+-- two that are found with one version are one
+pub one_version : (rs : List Resource) (p q : Path) (a b : Representation) → HaveOwnVersions rs → found_in rs p ≡ Some a → found_in rs q ≡ Some b → a.version ≡ b.version → (p ≡ q) × (a ≡ b)
+unfolding found_in
+one_version [] p q a b own at_p at_q same = absurd cc
+one_version (r ∷ rs) p q a b own at_p at_q same =
+    elim (same_path p r.path) as (λ c. same_path p r.path ≡ c → (if c then Some r.now else found_in rs p) ≡ Some a → (p ≡ q) × (a ≡ b)) [
+      | true ↦ λ is_p e. elim (same_path q r.path) as (λ d. same_path q r.path ≡ d → (if d then Some r.now else found_in rs q) ≡ Some b → (p ≡ q) × (a ≡ b)) [
+        | true ↦ λ is_q f. (same_path_sound p r.path is_p ∙ sym (same_path_sound q r.path is_q), (let one : r.now ≡ a = cc in let two : r.now ≡ b = cc in sym one ∙ two))
+        | false ↦ λ no f. (let one : r.now ≡ a = cc in absurd (found_all (HasOther r.now.version) rs q b own.0 f (ap (λ (n : Representation). n.version) one ∙ same)))
+      ] refl at_q
+      | false ↦ λ no e. elim (same_path q r.path) as (λ d. same_path q r.path ≡ d → (if d then Some r.now else found_in rs q) ≡ Some b → (p ≡ q) × (a ≡ b)) [
+        | true ↦ λ is_q f. (let two : r.now ≡ b = cc in absurd (found_all (HasOther r.now.version) rs p a own.0 e (ap (λ (n : Representation). n.version) two ∙ sym same)))
+        | false ↦ λ other f. one_version rs p q a b own.1 e f same
+      ] refl at_q
+    ] refl at_p
 
 -- ---- how many there are
 
-put_present : (rs : List store.Resource) (path : Path) (now : Representation) → is_some (found_in rs path) ≡ true → length (put_at rs path now) ≡ length rs
+put_present : (rs : List Resource) (path : Path) (now : Representation) → is_some (found_in rs path) ≡ true → length (put_at rs path now) ≡ length rs
 unfolding found_in put_at
 put_present [] path now present = absurd cc
 put_present (r ∷ rs) path now present =
@@ -78,7 +103,7 @@ put_present (r ∷ rs) path now present =
       | false ↦ λ is. omega (arith, put_present rs path now is)
     ] present
 
-put_more : (rs : List store.Resource) (path : Path) (now : Representation) → length (put_at rs path now) ≤ length rs + 1
+put_more : (rs : List Resource) (path : Path) (now : Representation) → length (put_at rs path now) ≤ length rs + 1
 unfolding put_at
 put_more [] path now = omega arith
 put_more (r ∷ rs) path now =
@@ -88,14 +113,14 @@ put_more (r ∷ rs) path now =
     ]
 
 -- a resource is there, or one more may be made
-pub put_few : (rs : List store.Resource) (path : Path) (now : Representation) (slots : ℕ) → (is_some (found_in rs path) || nat_lt (length rs) slots) ≡ true → length rs ≤ slots → length (put_at rs path now) ≤ slots
+pub put_few : (rs : List Resource) (path : Path) (now : Representation) (slots : ℕ) → (is_some (found_in rs path) || nat_lt (length rs) slots) ≡ true → length rs ≤ slots → length (put_at rs path now) ≤ slots
 put_few rs path now slots room few =
     elim (is_some (found_in rs path)) as (λ b. is_some (found_in rs path) ≡ b → (b || nat_lt (length rs) slots) ≡ true → length (put_at rs path now) ≤ slots) [
       | true ↦ λ is left. omega (arith, put_present rs path now is)
       | false ↦ λ is left. (let less = ltb-true (length rs) slots left in omega (arith, put_more rs path now))
     ] refl room
 
-pub removed_few : (rs : List store.Resource) (path : Path) → length (removed_at rs path) ≤ length rs
+pub removed_few : (rs : List Resource) (path : Path) → length (removed_at rs path) ≤ length rs
 unfolding removed_at
 removed_few [] path = omega arith
 removed_few (r ∷ rs) path =
@@ -106,22 +131,70 @@ removed_few (r ∷ rs) path =
 
 -- ---- the store
 
+-- more versions may be given
+more_given : (versions more rep_max : ℕ) (r : Resource) → versions ≤ more → IsKept versions rep_max r → IsKept more rep_max r
+more_given versions more rep_max r le kept = record {
+  path = kept.path;
+  place = kept.place;
+  numbered = kept.numbered;
+  given = omega (arith, kept.given);
+  format = kept.format;
+  small = kept.small;
+}
+
+-- a version that was not given is no resource's
+not_given : (versions rep_max : ℕ) (r : Resource) → IsKept versions rep_max r → HasOther (versions + 1) r
+not_given versions rep_max r kept = λ e. omega (arith, kept.given)
+
 -- it is a store after a representation is put that it takes
-pub store_put : (s : Inside) (value : StoreValue) (path : Path) (now : Representation) (after : List store.Resource) (versions : ℕ) → store_value s ≡ value → after ≡ put_at s.resources path now → IsStore s → TakesPut value path now.bytes → IfSome now.format (λ format. format < 65536) → IsStore (record s { resources = after; versions = versions })
-store_put s value path now after versions seen is kept taken short =
-    let takes : TakesPut (store_value s) path now.bytes = subst (λ (v : StoreValue). TakesPut v path now.bytes) (sym seen) taken in
-    let here : IsSmall s.rep_max (record { path = path; now = now }) = record { path = takes.path_ok; format = short; bytes = takes.small } in
+pub store_put : (s : StoreValue) (path : Path) (format : Option ℕ) (bytes : List ℕ) → IsStore s → TakesPut s path bytes → IfSome format (λ f. f < 65536) → IsStore (put_in s path format bytes)
+store_put s path format bytes is takes short =
+    let now : Representation = record { version = s.versions + 1; format = format; bytes = bytes } in
+    let kept = all_to (IsKept s.versions s.rep_max) (IsKept (s.versions + 1) s.rep_max) (λ r. more_given s.versions (s.versions + 1) s.rep_max r (omega arith)) s.resources is.kept in
+    let fresh = all_to (IsKept s.versions s.rep_max) (HasOther (s.versions + 1)) (not_given s.versions s.rep_max) s.resources is.kept in
     record {
-      small = subst (λ (rs : List store.Resource). AllByRecursion (IsSmall s.rep_max) rs) (sym is) (put_small s.rep_max s.resources path now kept.small here);
-      few = omega (arith, ap length is, put_few s.resources path now s.dynamic_max takes.room kept.few);
-      most = kept.most;
-      largest = kept.largest;
+      paths = put_distinct s.resources path now is.paths;
+      own_versions = put_own s.resources path now fresh is.own_versions;
+      kept = put_all (IsKept (s.versions + 1) s.rep_max) s.resources path now kept (record { path = takes.path_ok; place = takes.place; numbered = omega arith; given = omega arith; format = short; small = takes.small });
+      few = put_few s.resources path now s.dynamic_max takes.room is.few;
+      most = is.most;
+      largest = is.largest;
+      versions = takes.version_left;
     }
 
-pub store_removed : (s : Inside) (path : Path) (after : List store.Resource) → after ≡ removed_at s.resources path → IsStore s → IsStore (record s { resources = after })
-store_removed s path after is kept = record {
-  small = subst (λ (rs : List store.Resource). AllByRecursion (IsSmall s.rep_max) rs) (sym is) (removed_small s.rep_max s.resources path kept.small);
-  few = omega (arith, ap length is, removed_few s.resources path, kept.few);
-  most = kept.most;
-  largest = kept.largest;
+pub store_removed : (s : StoreValue) (path : Path) → IsStore s → IsStore (removed_in s path)
+store_removed s path is = record {
+  paths = removed_distinct s.resources path is.paths;
+  own_versions = removed_own s.resources path is.own_versions;
+  kept = removed_all (IsKept s.versions s.rep_max) s.resources path is.kept;
+  few = omega (arith, removed_few s.resources path, is.few);
+  most = is.most;
+  largest = is.largest;
+  versions = is.versions;
 }
+
+pub store_changed : (s : StoreValue) (c : Change) → IsStore s → TakesChange s c → HasSmallFormat c → IsStore (changed s c)
+store_changed s Nothing is takes short = is
+store_changed s (Put path format bytes) is takes short = store_put s path format bytes is takes short
+store_changed s (Delete path) is takes short = store_removed s path is
+
+pub store_empty : (dynamic_max rep_max versions : ℕ) → dynamic_max ≤ 1000 → rep_max ≤ 1048576 → versions < 2 ^ 64 → IsStore (record { dynamic_max = dynamic_max; rep_max = rep_max; resources = []; versions = versions })
+store_empty dynamic_max rep_max versions most largest fits = record { paths = tt; own_versions = tt; kept = tt; few = omega arith; most = most; largest = largest; versions = fits }
+
+-- what is found is kept as it is to be
+pub found_kept : (s : StoreValue) (path : Path) (now : Representation) → IsStore s → found_in s.resources path ≡ Some now → IsKept s.versions s.rep_max (record { path = path; now = now })
+found_kept s path now is found = found_all (IsKept s.versions s.rep_max) s.resources path now is.kept found
+
+pub stored_small : (s : StoreValue) → IsStore s → (path : Path) (r : Representation) → found_in s.resources path ≡ Some r → length r.bytes ≤ 1048576
+stored_small s is path r found = let kept = found_kept s path r is found in omega (arith, kept.small, is.largest)
+
+-- what the catalogue lends is small
+pub lent_small : (s : StoreValue) (path : Path) (found : Option (Bor lent.Resource)) → IsStore s → option_map (λ r. representation r.now) found ≡ found_in s.resources path → IfSome found (λ r. length r.now.bytes.items ≤ 1048576)
+lent_small s path None is same = tt
+lent_small s path (Some r) is same = stored_small s is path (representation r.now) (sym same)
+
+listable : (versions rep_max : ℕ) (rs : List Resource) → AllByRecursion (IsKept versions rep_max) rs → AllByRecursion CanBeListed rs
+listable versions rep_max rs kept = all_to (IsKept versions rep_max) CanBeListed (λ r is. (is.path, is.format)) rs kept
+
+pub listing_short : (s : StoreValue) → IsStore s → length (listing s.resources) ≤ 1048576
+listing_short s is = listing_bound s.resources (listable s.versions s.rep_max s.resources is.kept) (omega (arith, is.few, is.most))

@@ -2,12 +2,14 @@
 use Rattle.std.proofs.Common.{◌≡◌, ℕ, List, [], ◌∷◌, refl}
 use Rattle.std.specs.Prelude.{codes}
 use Rattle.coap_wire.specs.Message.{CoapOption, Message}
+use Rattle.coap_wire.specs.Codes as code
+use Rattle.coap_wire.specs.OptionNumbers as numbers
 use Rattle.coap_wire.specs.Spelling.{spelling}
-use Rattle.coap_wire.specs.Uint.{uint_text}
+use Rattle.coap_wire.specs.Uint.{bytes_of_uint}
 use Rattle.coap_wire.specs.Recognition.{kind_of, is_recognised, known_behind, first_critical_behind}
 use Rattle.coap_store.specs.Paths.{is_path}
 use Rattle.coap_store.specs.Store.{StoreValue, found_in, put_at, removed_at}
-use Rattle.coap_store.specs.Listing.{encoded_byte, path_text, entry_text, listing}
+use Rattle.coap_store.specs.Listing.{encoded_byte, path_bytes, entry_bytes, listing}
 use Rattle.coap_store.specs.State.{place_of, key_for, state_at}
 use Rattle.coap_store.specs.Requests.{values_of, has_option, value_of, number_of, match_holds, is_seconds}
 use Rattle.coap_store.specs.Answer.{get_answer, store_answer, method_answer, resource_answer, answer_at, answer_of, changed}
@@ -17,7 +19,7 @@ abbrev empty_store : ℕ → StoreValue
 empty_store most = record { dynamic_max = most; rep_max = 65000; resources = []; versions = 0 }
 
 abbrev asks : ℕ → ℕ → List CoapOption → List ℕ → Message
-asks code token options payload = record { code = code; token = token ∷ []; options = options; payload = payload }
+asks method token options payload = record { code = method; token = token ∷ []; options = options; payload = payload }
 
 abbrev option : ℕ → List ℕ → CoapOption
 option number value = record { number = number; value = value }
@@ -30,32 +32,32 @@ text_at s m = spelling (response_message m.token (answer_of s 0 m).response)
 abbrev after : StoreValue → Message → StoreValue
 after s m = changed s (answer_of s 0 m).change
 
-root : text_at (empty_store 0) (asks 1 1 [] []) ≡ 0xa1 ∷ 0x45 ∷ 0x01 ∷ 0xc0 ∷ 0xff ∷ codes "coap+tcp"
-unfolding spelling answer_of answer_at resource_answer method_answer get_answer store_answer state_at key_for place_of is_path found_in put_at removed_at values_of has_option value_of number_of match_holds is_seconds listing entry_text path_text encoded_byte uint_text kind_of is_recognised known_behind first_critical_behind
+root : text_at (empty_store 0) (asks code.get 1 [] []) ≡ 0xa1 ∷ 0x45 ∷ 0x01 ∷ 0xc0 ∷ 0xff ∷ codes "coap+tcp"
+unfolding spelling answer_of answer_at resource_answer method_answer get_answer store_answer state_at key_for place_of is_path found_in put_at removed_at values_of has_option value_of number_of match_holds is_seconds listing entry_bytes path_bytes encoded_byte bytes_of_uint kind_of is_recognised known_behind first_critical_behind
 root = refl
 
 -- PUT a, PUT b, DELETE a, DELETE a again, PUT b, the listing, where one resource may be there
 abbrev first_put : Message
-first_put = asks 3 1 (option 11 (codes "a") ∷ []) (codes "x")
+first_put = asks code.put 1 (option numbers.uri_path (codes "a") ∷ []) (codes "x")
 
 abbrev other_put : Message
-other_put = asks 3 2 (option 11 (codes "b") ∷ []) (codes "y")
+other_put = asks code.put 2 (option numbers.uri_path (codes "b") ∷ []) (codes "y")
 
 abbrev removal : Message
-removal = asks 4 3 (option 11 (codes "a") ∷ []) []
+removal = asks code.delete 3 (option numbers.uri_path (codes "a") ∷ []) []
 
 created : text_at (empty_store 1) first_put ≡ 0x01 ∷ 0x41 ∷ 0x01 ∷ []
-unfolding spelling answer_of answer_at resource_answer method_answer get_answer store_answer state_at key_for place_of is_path found_in put_at removed_at values_of has_option value_of number_of match_holds is_seconds listing entry_text path_text encoded_byte uint_text kind_of is_recognised known_behind first_critical_behind
+unfolding spelling answer_of answer_at resource_answer method_answer get_answer store_answer state_at key_for place_of is_path found_in put_at removed_at values_of has_option value_of number_of match_holds is_seconds listing entry_bytes path_bytes encoded_byte bytes_of_uint kind_of is_recognised known_behind first_critical_behind
 created = refl
 
 full : text_at (after (empty_store 1) first_put) other_put ≡ 0x01 ∷ 0x86 ∷ 0x02 ∷ []
-unfolding spelling answer_of answer_at resource_answer method_answer get_answer store_answer state_at key_for place_of is_path found_in put_at removed_at values_of has_option value_of number_of match_holds is_seconds listing entry_text path_text encoded_byte uint_text kind_of is_recognised known_behind first_critical_behind
+unfolding spelling answer_of answer_at resource_answer method_answer get_answer store_answer state_at key_for place_of is_path found_in put_at removed_at values_of has_option value_of number_of match_holds is_seconds listing entry_bytes path_bytes encoded_byte bytes_of_uint kind_of is_recognised known_behind first_critical_behind
 full = refl
 
 deleted : text_at (after (empty_store 1) first_put) removal ≡ 0x01 ∷ 0x42 ∷ 0x03 ∷ []
-unfolding spelling answer_of answer_at resource_answer method_answer get_answer store_answer state_at key_for place_of is_path found_in put_at removed_at values_of has_option value_of number_of match_holds is_seconds listing entry_text path_text encoded_byte uint_text kind_of is_recognised known_behind first_critical_behind
+unfolding spelling answer_of answer_at resource_answer method_answer get_answer store_answer state_at key_for place_of is_path found_in put_at removed_at values_of has_option value_of number_of match_holds is_seconds listing entry_bytes path_bytes encoded_byte bytes_of_uint kind_of is_recognised known_behind first_critical_behind
 deleted = refl
 
-listed : text_at (after (after (after (empty_store 1) first_put) removal) other_put) (asks 1 6 (option 11 (codes ".well-known") ∷ option 11 (codes "core") ∷ []) []) ≡ 0xd1 ∷ 0x26 ∷ 0x45 ∷ 0x06 ∷ 0xc1 ∷ 0x28 ∷ 0xff ∷ codes "</>;ct=0,</time>;ct=0;obs,</async>;ct=0,</b>;obs"
-unfolding spelling answer_of answer_at resource_answer method_answer get_answer store_answer state_at key_for place_of is_path found_in put_at removed_at values_of has_option value_of number_of match_holds is_seconds listing entry_text path_text encoded_byte uint_text kind_of is_recognised known_behind first_critical_behind
+listed : text_at (after (after (after (empty_store 1) first_put) removal) other_put) (asks code.get 6 (option numbers.uri_path (codes ".well-known") ∷ option numbers.uri_path (codes "core") ∷ []) []) ≡ 0xd1 ∷ 0x26 ∷ 0x45 ∷ 0x06 ∷ 0xc1 ∷ 0x28 ∷ 0xff ∷ codes "</>;ct=0,</time>;ct=0;obs,</async>;ct=0,</b>;obs"
+unfolding spelling answer_of answer_at resource_answer method_answer get_answer store_answer state_at key_for place_of is_path found_in put_at removed_at values_of has_option value_of number_of match_holds is_seconds listing entry_bytes path_bytes encoded_byte bytes_of_uint kind_of is_recognised known_behind first_critical_behind
 listed = refl

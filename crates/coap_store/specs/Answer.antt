@@ -30,7 +30,7 @@ pub data Change : Type 0 where
   Put : (path : Path) (format : Option ℕ) (bytes : List ℕ) → Change
   Delete : (path : Path) → Change
 
--- watch says what becomes of the observer with the request's token, hold for how many seconds the response is held
+-- watch says what the request asks of the observers, hold for how many seconds the response is held
 pub record Answer : Type 0 where
   pub response : Response
   pub change : Change
@@ -101,8 +101,8 @@ abbrev pub watched : Place → Message → Response → Answer
 watched place m r = record (says r) { watch = watch_of place m }
 
 -- the answer is held as long as the query asks
-abbrev pub held : Place → Representation → Message → Answer
-held place r m = record (says (content place r)) { hold = Some (seconds_of (value_of numbers.uri_query m)) }
+abbrev pub late : Place → Representation → Message → Answer
+late place r m = record (says (content place r)) { hold = Some (seconds_of (value_of numbers.uri_query m)) }
 
 unfoldable pub get_answer : Place → Representation → Message → Answer
 get_answer place r m =
@@ -110,7 +110,7 @@ get_answer place r m =
     refuse (not (is_accepted (number_of numbers.accept m) r.format)) code.not_acceptable
     ∷ when (is_among (etag_at place r) (values_of numbers.etag m)) (watched place m (valid place r))
     ∷ refuse (is_async place && not (is_good_query (value_of numbers.uri_query m))) code.bad_request
-    ∷ when (is_async place) (held place r m)
+    ∷ when (is_async place) (late place r m)
     ∷ [])
     (watched place m (content place r))
 

@@ -1,10 +1,10 @@
 -- Which changes a store takes.
-use Rattle.std.specs.Prelude.{◌≡◌, ℕ, ◌+◌, ◌<◌, ◌≤◌, ◌^◌, Bool, true, false, ◌&&◌, ◌||◌, List, [], ◌∷◌, length, Option, None, is_some, nat_lt, ◌==◌}
+use Rattle.std.specs.Prelude.{◌≡◌, ℕ, ◌+◌, ◌<◌, ◌≤◌, ◌^◌, Bool, true, false, ◌&&◌, ◌||◌, List, [], ◌∷◌, length, Option, is_some, nat_lt, IfSome, ◌==◌}
 use Rattle.coap_wire.specs.Codes as code
 use Rattle.coap_store.specs.Paths.{Path, is_path}
-use Rattle.coap_store.specs.Store.{Representation, Resource, StoreValue, found_in}
+use Rattle.coap_store.specs.Store.{Representation, StoreValue, found_in}
 use Rattle.coap_store.specs.State.{place_of}
-use Rattle.coap_store.specs.Answer.{Response, Change, Nothing, Put, Delete}
+use Rattle.coap_store.specs.Answer.{Response, Change, Nothing, Put, Delete, changed}
 use Rattle.coap_store.specs.declared.place.Place.TheVariants.{Dynamic}
 
 -- a representation that is not too large, at a path where one is or may be made, while a version is left
@@ -31,13 +31,24 @@ changes (Delete path) = true
 abbrev pub says_change : Response → Option Representation → Bool
 says_change r state = r.code == code.created || r.code == code.changed || (r.code == code.deleted && is_some state)
 
--- no path stands twice
-abbrev pub AreDistinct : List Resource → Type 0
-AreDistinct [] = Unit {0}
-AreDistinct (r ∷ rs) = (found_in rs r.path ≡ None) × AreDistinct rs
-
 -- a representation is put
 abbrev pub IsPut : Change → Type 0
 IsPut Nothing = ⊥
 IsPut (Put path format bytes) = Unit {0}
 IsPut (Delete path) = ⊥
+
+-- its format, where it has one, is one of two bytes
+abbrev pub HasSmallFormat : Change → Type 0
+HasSmallFormat Nothing = Unit {0}
+HasSmallFormat (Put path format bytes) = IfSome format (λ number. number < 65536)
+HasSmallFormat (Delete path) = Unit {0}
+
+-- one change after the other
+abbrev pub changed_by : StoreValue → List Change → StoreValue
+changed_by s [] = s
+changed_by s (c ∷ cs) = changed_by (changed s c) cs
+
+-- the store takes each, as it is by then
+abbrev pub TakesChanges : StoreValue → List Change → Type 0
+TakesChanges s [] = Unit {0}
+TakesChanges s (c ∷ cs) = TakesChange s c × TakesChanges (changed s c) cs

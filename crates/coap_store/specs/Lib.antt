@@ -6,10 +6,14 @@ pub mod StoreViews
 pub mod State
 pub mod Requests
 pub mod Answer
+pub mod Invariant
 pub mod Changes
 pub mod Messages
+pub mod Serving
 pub mod PlanViews
 pub mod PlanAnswer
 pub mod Targets
 pub mod CatalogueInside
 pub mod StoreInside
+pub mod Noting
+pub mod AskedInside

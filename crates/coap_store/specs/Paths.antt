@@ -1,5 +1,5 @@
 -- Paths of resources (RFC 7252 sections 5.10.1, 6.4).
-use Rattle.std.specs.Prelude.{ℕ, ◌+◌, Bool, not, ◌&&◌, ◌||◌, List, [], ◌∷◌, length, nat_le, nat_eq}
+use Rattle.std.specs.Prelude.{ℕ, ◌+◌, Bool, not, ◌&&◌, ◌||◌, List, [], ◌∷◌, length, nat_le, nat_eq, codes}
 use lib.Pointwise.{pointwise}
 use Rattle.std.specs.List.{list_any}
 
@@ -16,7 +16,7 @@ same_path p q = pointwise same_bytes p q
 
 -- `.` and `..`
 abbrev pub is_dots : List ℕ → Bool
-is_dots s = same_bytes s (46 ∷ []) || same_bytes s (46 ∷ 46 ∷ [])
+is_dots s = same_bytes s (codes ".") || same_bytes s (codes "..")
 
 -- one byte more than those of each segment
 abbrev pub written_length : Path → ℕ

@@ -1,5 +1,5 @@
 -- How the code's values are seen in contracts.
-use Rattle.std.specs.Prelude.{ℕ, List, [], Option, Some, None}
+use Rattle.std.specs.Prelude.{ℕ, Bool, true, false, List, [], Option, Some, None}
 use Rattle.coap_store.specs.Paths.{Path}
 use Rattle.coap_store.specs.Answer as answer
 use Rattle.coap_store.specs.declared.plan.Bytes.{Bytes}
@@ -21,3 +21,10 @@ change_value (changes.Delete path) = answer.Delete path
 abbrev pub path_or_root : Option Path → Path
 path_or_root None = []
 path_or_root (Some path) = path
+
+-- the path of what is put, where it is told
+abbrev pub location_in : Bool → answer.Change → Path
+location_in false change = []
+location_in true answer.Nothing = []
+location_in true (answer.Put path format bytes) = path
+location_in true (answer.Delete path) = []

@@ -2,7 +2,7 @@
 use Rattle.std.specs.Prelude.{ℕ, ◌+◌, ◌*◌, ◌-◌, Bool, true, false, not, ◌&&◌, ◌||◌, List, [], ◌∷◌, length, map, filter, fold, Option, Some, None, option_map, nat_le, ◌==◌}
 use Rattle.std.specs.List.{list_any, list_all}
 use Rattle.coap_wire.specs.Message.{Message}
-use Rattle.coap_wire.specs.Uint.{uint_of, uint_text}
+use Rattle.coap_wire.specs.Uint.{uint_of, bytes_of_uint}
 use Rattle.coap_wire.specs.Codes as code
 use Rattle.coap_wire.specs.OptionNumbers as numbers
 use Rattle.coap_wire.specs.Recognition.{known_options}
@@ -55,7 +55,7 @@ is_method m = is_get m || is_post m || is_put m || is_delete m
 
 -- the ETag of a stored representation: its version
 abbrev pub etag_of : Representation → List ℕ
-etag_of r = uint_text r.version
+etag_of r = bytes_of_uint r.version
 
 -- an empty If-Match asks that the resource exists, another one its ETag
 abbrev pub matches : Representation → List ℕ → Bool
@@ -87,16 +87,16 @@ abbrev pub is_digit : ℕ → Bool
 is_digit b = nat_le 48 b && nat_le b 57
 
 abbrev pub digits_mean : List ℕ → ℕ
-digits_mean text = fold (λ n b. 10 * n + (b - 48)) 0 text
+digits_mean bytes = fold (λ n b. 10 * n + (b - 48)) 0 bytes
 
 unfoldable pub is_seconds : List ℕ → Bool
-is_seconds text = nat_le 1 (length text) && nat_le (length text) 4 && list_all is_digit text && nat_le (digits_mean text) 3600
+is_seconds bytes = nat_le 1 (length bytes) && nat_le (length bytes) 4 && list_all is_digit bytes && nat_le (digits_mean bytes) 3600
 
 abbrev pub is_good_query : Option (List ℕ) → Bool
 is_good_query None = true
-is_good_query (Some text) = is_seconds text
+is_good_query (Some bytes) = is_seconds bytes
 
 -- for how many seconds the answer is held: 5 where the request does not say
 abbrev pub seconds_of : Option (List ℕ) → ℕ
 seconds_of None = 5
-seconds_of (Some text) = digits_mean text
+seconds_of (Some bytes) = digits_mean bytes

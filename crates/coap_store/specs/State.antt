@@ -58,16 +58,23 @@ abbrev pub stored_at : StoreValue → Option Path → Option Representation
 stored_at s None = None
 stored_at s (Some path) = found_in s.resources path
 
+-- the Content-Formats text/plain and application/link-format (RFC 7252 section 12.3)
+abbrev pub text_plain : ℕ
+text_plain = 0
+
+abbrev pub link_format : ℕ
+link_format = 40
+
 -- a representation of a built-in resource: it has version 0, which is no version of a stored one
 abbrev pub built : ℕ → List ℕ → Option Representation
 built format bytes = Some (record { version = 0; format = Some format; bytes = bytes })
 
 -- a greeting, the moment in seconds, what is answered late, the listing, or what is stored
 unfoldable pub state_at : StoreValue → ℕ → Option Path → Place → Option Representation
-state_at s now key Root = built 0 (codes "coap+tcp")
-state_at s now key Time = built 0 (decimal now)
-state_at s now key Async = built 0 (codes "done")
-state_at s now key Listing = built 40 (listing s.resources)
+state_at s now key Root = built text_plain (codes "coap+tcp")
+state_at s now key Time = built text_plain (decimal now)
+state_at s now key Async = built text_plain (codes "done")
+state_at s now key Listing = built link_format (listing s.resources)
 state_at s now key Dynamic = stored_at s key
 
 -- the state of a path at a moment; nothing where it is absent

@@ -5,7 +5,7 @@ use Rattle.std.specs.String.{string_bytes}
 use Rattle.coap_store.specs.Paths.{Path}
 use Rattle.coap_store.specs.Store.{Representation}
 use Rattle.coap_store.specs.Store as store
-use Rattle.coap_store.specs.Listing.{entry_text}
+use Rattle.coap_store.specs.Listing.{entry_bytes}
 use Rattle.coap_store.specs.declared.resource.Resource.{Resource}
 
 -- what is stored, without its text in the listing
@@ -20,7 +20,7 @@ resources_in entries = map resource_at entries
 
 -- each keeps its text in the listing
 abbrev pub IsListed : Path × Resource → Type 0
-IsListed e = string_bytes e.1.listed ≡ entry_text e.0 e.1.format
+IsListed e = string_bytes e.1.listed ≡ entry_bytes e.0 e.1.format
 
 abbrev pub AreListed : List (Path × Resource) → Type 0
 AreListed entries = AllByRecursion IsListed entries

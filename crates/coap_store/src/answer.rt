@@ -11,14 +11,10 @@ ghost use Rattle.coap_store.specs.Targets.{found_value, target_value};
 use crate::path::PathKey;
 use crate::place::Place;
 use crate::plan::{Bytes, Change, Plan, Watch};
-use crate::request::{
-    has_good_query, has_option, is_among, match_holds, none_match_holds, observe_of,
-    small_number_of,
-};
+use crate::request::Asked;
 use crate::store::Store;
-use crate::target::{Found, LINK_FORMAT, TEXT_PLAIN, Target, decimal_text, key_of, place_for};
+use crate::target::{Found, LINK_FORMAT, TEXT_PLAIN, Target, decimal_digits, place_for};
 use arrayvec::ArrayVec;
-use coap_wire::option_numbers::{ACCEPT, CONTENT_FORMAT, PROXY_SCHEME, PROXY_URI};
 use coap_wire::{Code, MessageRef, uint_bytes};
 
 impl Store {
@@ -28,6 +24,7 @@ impl Store {
     ghost use Rattle.coap_store.specs.State.{target_of, state_at};
     ghost use Rattle.coap_store.specs.Answer.{answer_at, resource_answer, store_answer, needs_resource as needs, unheld, prompt_answer};
     ghost use Rattle.coap_store.specs.Changes.{TakesChange, changes};
+    ghost use Rattle.coap_store.specs.Invariant.{IsStore};
     ghost use Rattle.coap_store.specs.Targets.{found_value, target_value};
 
     /// The answer to a request at a moment in seconds. It allocates nothing, and changes nothing: `apply` makes the change.
@@ -37,10 +34,12 @@ impl Store {
         ensures taken { TakesChange self.now result.change }
         ensures bare { changes result.change ≡ true → result.response.payload ≡ [] }
         ensures short { length result.response.payload ≤ 1048576 }
+        ensures store { IsStore self.now }
     {
-        self.bounds();
-        let plan = self.checked(request, now);
-        if removes_watch(request) {
+        self.is_kept();
+        let asked = Asked::by(request);
+        let plan = self.checked(&asked, now);
+        if removes_watch(&asked) {
             plan.with_watch(Watch::Drop)
         } else {
             plan
@@ -49,26 +48,26 @@ impl Store {
 
     /// The answer by the checks of the request alone, and then those of the resource.
     #[tactic(auto, unfolding(crate::specs::Answer::answer_at))]
-    fn checked<'s, 'r>(&'s self, request: &MessageRef<'r>, now: u64) -> Plan<'s, 'r>
-        ensures { result ≡ unheld (answer_at self.now (target_of self.now now (path_of request.now)) request.now) }
+    fn checked<'s, 'r>(&'s self, asked: &Asked<'_, 'r>, now: u64) -> Plan<'s, 'r>
+        ensures { result ≡ unheld (answer_at self.now (target_of self.now now (path_of asked.now)) asked.now) }
     {
-        if request.first_critical().is_some() {
+        if asked.has_bad_option() {
             return Plan::only(Code::BAD_OPTION);
         }
-        if has_option(request, PROXY_URI) || has_option(request, PROXY_SCHEME) {
+        if asked.asks_proxy() {
             return Plan::only(Code::PROXYING_NOT_SUPPORTED);
         }
-        if !is_method(request.code()) {
+        if !is_method(asked.code()) {
             return Plan::only(Code::METHOD_NOT_ALLOWED);
         }
-        self.at_target(request, self.target(request, now))
+        self.at_target(asked, self.target(asked, now))
     }
 
     /// What the request is about.
-    fn target(&self, request: &MessageRef, now: u64) -> Target<'_>
-        ensures { target_value result ≡ target_of self.now now (path_of request.now) }
+    fn target(&self, asked: &Asked, now: u64) -> Target<'_>
+        ensures { target_value result ≡ target_of self.now now (path_of asked.now) }
     {
-        let key = key_of(request);
+        let key = asked.key();
         let place = place_for(key.as_ref());
         let state = self.state(key.as_ref(), place, now);
         Target { key, place, state }
@@ -81,7 +80,7 @@ impl Store {
     {
         match place {
             Place::Root => Some(Found::built(TEXT_PLAIN, Bytes::Stored(b"coap+tcp"))),
-            Place::Time => Some(Found::built(TEXT_PLAIN, Bytes::Decimal(decimal_text(now)))),
+            Place::Time => Some(Found::built(TEXT_PLAIN, Bytes::Decimal(decimal_digits(now)))),
             Place::Async => Some(Found::built(TEXT_PLAIN, Bytes::Stored(b"done"))),
             Place::Listing => Some(Found::built(LINK_FORMAT, Bytes::Stored(self.listing()))),
             Place::Dynamic => {
@@ -97,26 +96,26 @@ impl Store {
 
     /// The answer by the checks of the resource, and then those of the method.
     #[tactic(auto, unfolding(crate::specs::Answer::resource_answer, crate::specs::Answer::method_answer))]
-    fn at_target<'s, 'r>(&'s self, request: &MessageRef<'r>, target: Target<'s>) -> Plan<'s, 'r>
-        ensures { result ≡ unheld (resource_answer self.now (target_value target.entry) request.now) }
+    fn at_target<'s, 'r>(&'s self, asked: &Asked<'_, 'r>, target: Target<'s>) -> Plan<'s, 'r>
+        ensures { result ≡ unheld (resource_answer self.now (target_value target.entry) asked.now) }
     {
-        let code = request.code();
+        let code = asked.code();
         if target.state.is_none() && self.needs_resource(code) {
             return Plan::only(Code::NOT_FOUND);
         }
         if !target.place.is_dynamic() && code != Code::GET {
             return Plan::only(Code::METHOD_NOT_ALLOWED);
         }
-        if !preconditions_hold(request, target.state.as_ref()) {
+        if !preconditions_hold(asked, target.state.as_ref()) {
             return Plan::only(Code::PRECONDITION_FAILED);
         }
         if code == Code::GET {
-            return read(request, target);
+            return read(asked, target);
         }
         if code == Code::DELETE {
             return delete(target);
         }
-        self.put_or_post(request, target)
+        self.put_or_post(asked, target)
     }
 
     /// Whether a request with this code needs a resource that is there.
@@ -128,12 +127,12 @@ impl Store {
 
     /// The answer to PUT and POST (RFC 7252 sections 5.8.2, 5.8.3).
     #[tactic(auto, unfolding(crate::specs::Answer::store_answer))]
-    fn put_or_post<'s, 'r>(&'s self, request: &MessageRef<'r>, target: Target<'s>) -> Plan<'s, 'r>
-        ensures { result ≡ unheld (store_answer self.now (target_value target.entry) request.now) }
+    fn put_or_post<'s, 'r>(&'s self, asked: &Asked<'_, 'r>, target: Target<'s>) -> Plan<'s, 'r>
+        ensures { result ≡ unheld (store_answer self.now (target_value target.entry) asked.now) }
     {
         let is_new = target.state.is_none();
         let greatest = self.rep_max();
-        if request.payload().len() > greatest {
+        if asked.payload().len() > greatest {
             return Plan::too_large(greatest as u32);
         }
         if is_new && target.key.is_none() {
@@ -146,7 +145,7 @@ impl Store {
             return Plan::only(Code::SERVICE_UNAVAILABLE);
         }
         match target.key {
-            Some(path) => stored(request, path, is_new),
+            Some(path) => stored(asked, path, is_new),
             None => Plan::only(Code::BAD_REQUEST),
         }
     }
@@ -160,16 +159,16 @@ fn is_method(code: Code) -> bool
 }
 
 /// Whether If-Match and If-None-Match hold (RFC 7252 section 5.10.8).
-fn preconditions_hold(request: &MessageRef, state: Option<&Found>) -> bool
-    ensures { result ≡ hold (option_map (λ f. found_value f.now) state.entry) request.now }
+fn preconditions_hold(asked: &Asked, state: Option<&Found>) -> bool
+    ensures { result ≡ hold (option_map (λ f. found_value f.now) state.entry) asked.now }
 {
     let version = state.map(|found| found.version);
-    match_holds(request, version) && none_match_holds(request, version.is_some())
+    asked.match_holds(version) && asked.none_match_holds(version.is_some())
 }
 
 /// The answer to GET (RFC 7252 section 5.8.1).
-fn read<'s, 'r>(request: &MessageRef<'r>, target: Target<'s>) -> Plan<'s, 'r>
-    ensures { result ≡ unheld (read_answer target.entry.place (option_map found_value target.entry.state) request.now) }
+fn read<'s, 'r>(asked: &Asked<'_, 'r>, target: Target<'s>) -> Plan<'s, 'r>
+    ensures { result ≡ unheld (read_answer target.entry.place (option_map found_value target.entry.state) asked.now) }
 {
     let Target {
         key: _,
@@ -177,30 +176,30 @@ fn read<'s, 'r>(request: &MessageRef<'r>, target: Target<'s>) -> Plan<'s, 'r>
         state,
     } = target;
     match state {
-        Some(found) => get(request, place, found),
+        Some(found) => get(asked, place, found),
         None => Plan::only(Code::NOT_FOUND),
     }
 }
 
 /// The answer to GET at a resource.
-#[tactic(auto, unfolding(crate::specs::Answer::get_answer, coap_wire::specs::Recognition::kind_of))]
-fn get<'s, 'r>(request: &MessageRef<'r>, place: Place, found: Found<'s>) -> Plan<'s, 'r>
-    ensures { result ≡ unheld (get_answer place (found_value found.entry) request.now) }
+#[tactic(auto, unfolding(crate::specs::Answer::get_answer))]
+fn get<'s, 'r>(asked: &Asked<'_, 'r>, place: Place, found: Found<'s>) -> Plan<'s, 'r>
+    ensures { result ≡ unheld (get_answer place (found_value found.entry) asked.now) }
 {
-    if !is_accepted(small_number_of(request, ACCEPT), found.format) {
+    if !is_accepted(asked.accept(), found.format) {
         return Plan::only(Code::NOT_ACCEPTABLE);
     }
     let etag = etag_for(place, found.version);
-    if is_valid(request, etag.as_ref()) {
-        return Plan::valid(etag, watch_for(request, place));
+    if is_valid(asked, etag.as_ref()) {
+        return Plan::valid(etag, watch_for(asked, place));
     }
-    if place.is_async() && !has_good_query(request) {
+    if place.is_async() && !asked.has_good_query() {
         return Plan::only(Code::BAD_REQUEST);
     }
     if place.is_async() {
         return Plan::only(Code::SERVICE_UNAVAILABLE);
     }
-    Plan::content(etag, found, max_age_of(place), watch_for(request, place))
+    Plan::content(etag, found, max_age_of(place), watch_for(asked, place))
 }
 
 /// Whether a representation has the format that Accept names, if it names one (RFC 7252 section 5.10.4).
@@ -228,20 +227,20 @@ fn etag_for(place: Place, version: u64) -> Option<ArrayVec<u8, 8>>
 }
 
 /// Whether one of the request's ETags is this one (RFC 7252 section 5.10.6.2).
-fn is_valid(request: &MessageRef, etag: Option<&ArrayVec<u8, 8>>) -> bool
-    ensures { result ≡ is_one_of (option_map (λ etag. etag.now.items) etag.entry) (values_of numbers.etag request.now) }
+fn is_valid(asked: &Asked, etag: Option<&ArrayVec<u8, 8>>) -> bool
+    ensures { result ≡ is_one_of (option_map (λ etag. etag.now.items) etag.entry) (values_of numbers.etag asked.now) }
 {
     match etag {
-        Some(etag) => is_among(request, etag.as_slice()),
+        Some(etag) => asked.has_etag(etag.as_slice()),
         None => false,
     }
 }
 
 /// What Observe asks for (RFC 7641 section 2).
-fn watch_for(request: &MessageRef, place: Place) -> Watch
-    ensures { result ≡ watch_of place request.now }
+fn watch_for(asked: &Asked, place: Place) -> Watch
+    ensures { result ≡ watch_of place asked.now }
 {
-    if place.is_observable() && observe_of(request) == Some(0) {
+    if place.is_observable() && asked.observe() == Some(0) {
         Watch::Add
     } else {
         Watch::Nothing
@@ -249,10 +248,10 @@ fn watch_for(request: &MessageRef, place: Place) -> Watch
 }
 
 /// Whether the request asks to be removed from the observers (RFC 7641 section 3.6).
-fn removes_watch(request: &MessageRef) -> bool
-    ensures { result ≡ asks_removal request.now }
+fn removes_watch(asked: &Asked) -> bool
+    ensures { result ≡ asks_removal asked.now }
 {
-    request.code() == Code::GET && observe_of(request) == Some(1)
+    asked.code() == Code::GET && asked.observe() == Some(1)
 }
 
 /// For how many seconds a representation holds, where that is said.
@@ -263,22 +262,17 @@ fn max_age_of(place: Place) -> Option<u32>
 }
 
 /// The answer to a request that stores its payload at a path.
-#[tactic(auto, unfolding(coap_wire::specs::Recognition::kind_of))]
-fn stored<'s, 'r>(request: &MessageRef<'r>, path: PathKey, is_new: bool) -> Plan<'s, 'r>
-    ensures { (state : Option Representation) → is_none state ≡ is_new → result ≡ stored_there path state request.now }
+fn stored<'s, 'r>(asked: &Asked<'_, 'r>, path: PathKey, is_new: bool) -> Plan<'s, 'r>
+    ensures { (state : Option Representation) → is_none state ≡ is_new → result ≡ stored_there path state asked.now }
 {
-    let location = if is_new && request.code() == Code::POST {
-        Some(path.duplicate())
-    } else {
-        None
-    };
+    let tells_location = is_new && asked.code() == Code::POST;
     let code = if is_new { Code::CREATED } else { Code::CHANGED };
     let change = Change::Put {
         path,
-        format: small_number_of(request, CONTENT_FORMAT),
-        bytes: request.payload(),
+        format: asked.content_format(),
+        bytes: asked.payload(),
     };
-    Plan::changing(code, location, change)
+    Plan::changing(code, tells_location, change)
 }
 
 /// The answer to DELETE (RFC 7252 section 5.8.4).
@@ -300,5 +294,5 @@ fn delete<'s, 'r>(target: Target) -> Plan<'s, 'r>
         }
         None => Change::Nothing,
     };
-    Plan::changing(Code::DELETED, None, change)
+    Plan::changing(Code::DELETED, false, change)
 }

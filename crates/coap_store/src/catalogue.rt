@@ -1,6 +1,6 @@
-//! The dynamic resources of a store, with the text that lists them.
+//! The dynamic resources of a store, with the listing of them.
 
-ghost use Rattle.std.specs.Prelude.{◌≡◌, OnOk, OnErr, true, false};
+ghost use Rattle.std.specs.Prelude.{◌≡◌, OnOk, OnErr, IfNone, IfSome, true, false};
 ghost use Rattle.std.specs.Option.{is_some};
 ghost use Rattle.coap_store.specs.Store.{found_in, put_at};
 ghost use Rattle.coap_store.specs.Listing.{listing as listing_of};
@@ -12,7 +12,7 @@ use indexmap::IndexMap;
 use std::alloc::{AllocError, Global};
 use std::marker::Model;
 
-/// The dynamic resources in order of creation, and the text of `/.well-known/core`, which is kept ready. Contracts see the
+/// The dynamic resources in order of creation, and the bytes of `/.well-known/core`, which are kept ready. Contracts see the
 /// list of the resources.
 #[derive(Debug, Drop)]
 pub(crate) struct Catalogue {
@@ -65,7 +65,7 @@ impl Catalogue {
         self.resources.get(path)
     }
 
-    /// The text of `/.well-known/core` (RFC 6690).
+    /// The bytes of `/.well-known/core` (RFC 6690).
     pub(crate) fn listing(&self) -> &[u8]
         ensures { result.now ≡ listing_of self.now }
     {
@@ -87,10 +87,14 @@ impl Catalogue {
         ensures ok { OnOk result (self.new ≡ put_at self.old path (record { version = version; format = format; bytes = bytes.now })) }
         ensures err { OnErr result (self.new ≡ self.old) }
     {
+        let bytes = Vec::from_slice(self.alloc, bytes)?;
+        let Some(bytes) = replace_alike(&mut self.resources, &path, version, format, bytes) else {
+            return Ok(());
+        };
         let resource = Resource {
             version,
             format,
-            bytes: Vec::from_slice(self.alloc, bytes)?,
+            bytes,
             listed: entry_text(self.alloc, &path, format)?,
         };
         if self.resources.contains_key(&path) {
@@ -133,7 +137,34 @@ fn create(
     Ok(())
 }
 
-/// Replaces a resource that is there. The text is written anew, since the format may be another one.
+/// Replaces the representation of a resource that has this format, and so keeps its text. Gives the bytes back where there
+/// is none.
+fn replace_alike(
+    resources: &mut Resources,
+    path: &PathKey,
+    version: u64,
+    format: Option<u16>,
+    bytes: Vec<u8>,
+) -> Option<Vec<u8>>
+    requires { AreListed resources.old.entries }
+    ensures stored { IfNone result (resources_in resources.new.entries ≡ put_at (resources_in resources.old.entries) path.now (record { version = version; format = format; bytes = bytes.items })) }
+    ensures ready { IfNone result (listing_of (resources_in resources.new.entries) ≡ listing_of (resources_in resources.old.entries)) }
+    ensures all_listed { AreListed resources.new.entries }
+    ensures unchanged { IfSome result (λ back. resources.new.entries ≡ resources.old.entries) }
+    ensures back { IfSome result (λ back. back.items ≡ bytes.items) }
+{
+    let Some(resource) = resources.get_mut(path) else {
+        return Some(bytes);
+    };
+    if resource.format != format {
+        return Some(bytes);
+    }
+    resource.version = version;
+    resource.bytes = bytes;
+    None
+}
+
+/// Replaces a resource that is there, and has another format. The listing is written anew.
 fn replace(
     resources: &mut Resources,
     listing: &mut Vec<u8>,

@@ -1,13 +1,19 @@
 //! What holds of every store and every answer, each as the contract of a function that does nothing.
 
-ghost use Rattle.std.specs.Prelude.{◌≡◌, ◌≢◌, ℕ, ◌+◌, List, [], Option, Some, None, IsTrue, IsFalse};
+ghost use Rattle.std.specs.Prelude.{◌≡◌, ◌≢◌, ◌↔◌, ℕ, ◌+◌, ◌<◌, ◌≤◌, ◌^◌, List, [], Option, Some, None, IsTrue, IsFalse};
 ghost use Rattle.coap_wire.specs.Message.{Message};
-ghost use Rattle.coap_store.specs.Paths.{Path};
-ghost use Rattle.coap_store.specs.Store.{StoreValue, found_in};
-ghost use Rattle.coap_store.specs.State.{state_of};
-ghost use Rattle.coap_store.specs.Requests.{path_of};
-ghost use Rattle.coap_store.specs.Answer.{Change, Put, Delete, answer_of, prompt_answer, changed};
-ghost use Rattle.coap_store.specs.Changes.{says_change, AreDistinct};
+ghost use Rattle.coap_wire.specs.Codes as code;
+ghost use Rattle.coap_store.specs.Paths.{Path, is_path};
+ghost use Rattle.coap_store.specs.Store.{Representation, StoreValue, found_in};
+ghost use Rattle.coap_store.specs.State.{place_of, state_of};
+ghost use Rattle.coap_store.specs.Requests.{is_get, path_of, etag_of};
+ghost use Rattle.coap_store.specs.Answer.{Change, Nothing, Put, Delete, answer_of, prompt_answer, changed};
+ghost use Rattle.coap_store.specs.Changes.{says_change, TakesChange, HasSmallFormat, changed_by, TakesChanges};
+ghost use Rattle.coap_store.specs.Invariant.{AreDistinct, IsStore};
+ghost use Rattle.coap_store.specs.Serving.{plain_get, IsStoredCode, TellsState, TellsEtag, IsElsewhere, content_of, put_by};
+ghost use Rattle.coap_store.specs.declared.place.Place.TheVariants.{Listing, Dynamic};
+
+use crate::path::PathKey;
 
 /// A store changes for a 2.01, a 2.04, and a 2.02 of what was there, and for no other answer (RFC 7252 section 5.9.1).
 pub fn store_changes_where_said()
@@ -41,4 +47,50 @@ pub fn other_paths_stay()
 pub fn paths_stay_distinct()
     ensures begun { AreDistinct [] }
     ensures changed { (s : StoreValue) (change : Change) → AreDistinct s.resources → AreDistinct (changed s change).resources }
+{}
+
+/// An empty store is a store, and a store stays one over each change that it takes, whose format is one of two bytes where it
+/// has one.
+pub fn stores_stay_stores()
+    ensures empty { (dynamic_max rep_max versions : ℕ) → dynamic_max ≤ 1000 → rep_max ≤ 1048576 → versions < 2 ^ 64 → IsStore (record { dynamic_max = dynamic_max; rep_max = rep_max; resources = []; versions = versions }) }
+    ensures changed { (s : StoreValue) (change : Change) → IsStore s → TakesChange s change → HasSmallFormat change → IsStore (changed s change) }
+{}
+
+/// A representation that is put has a greater version than each that is stored. So, of all that a store has and comes to have,
+/// those with one ETag are one representation of one path (RFC 7252 section 5.10.6).
+pub fn versions_come_once()
+    ensures newer { (s : StoreValue) (path other : Path) (format : Option ℕ) (bytes : List ℕ) (old new : Representation) → IsStore s → found_in s.resources other ≡ Some old → found_in (changed s (Put path format bytes)).resources path ≡ Some new → old.version < new.version }
+    ensures together { (s : StoreValue) (path other : Path) (r o : Representation) → IsStore s → found_in s.resources path ≡ Some r → found_in s.resources other ≡ Some o → etag_of r ≡ etag_of o → (path ≡ other) × (r ≡ o) }
+    ensures later { (s : StoreValue) (changes : List Change) (path other : Path) (old new : Representation) → IsStore s → TakesChanges s changes → found_in s.resources path ≡ Some old → found_in (changed_by s changes).resources other ≡ Some new → etag_of old ≡ etag_of new → (path ≡ other) × (old ≡ new) }
+{}
+
+/// A GET changes nothing (RFC 7252 section 5.8.1).
+pub fn get_changes_nothing()
+    ensures { (s : StoreValue) (now : ℕ) (m : Message) → IsTrue (is_get m) → (answer_of s now m).change ≡ Nothing }
+{}
+
+/// A 2.05 has the bytes and the format of the state of the path that is asked for, and its ETag where it is stored
+/// (RFC 7252 sections 5.9.1.5, 5.10.6), and a 2.03 its ETag (section 5.9.1.3).
+pub fn responses_tell_the_state()
+    ensures content { (s : StoreValue) (now : ℕ) (m : Message) → (answer_of s now m).response.code ≡ code.content → TellsState (place_of (path_of m)) (state_of s now (path_of m)) (answer_of s now m).response }
+    ensures valid { (s : StoreValue) (now : ℕ) (m : Message) → (answer_of s now m).response.code ≡ code.valid → TellsEtag (state_of s now (path_of m)) (answer_of s now m).response }
+{}
+
+/// A GET with no option but Uri-Path is answered 2.05 with what is stored (RFC 7252 section 5.8.1): after a request that is
+/// answered 2.01 or 2.04 that is its payload, with its Content-Format, and with the ETag of a new version.
+pub fn what_is_stored_is_served()
+    ensures stored { (s : StoreValue) (now : ℕ) (token : List ℕ) (path : Path) (r : Representation) → IsTrue (is_path path) → place_of path ≡ Dynamic → found_in s.resources path ≡ Some r → (answer_of s now (plain_get token path)).response ≡ content_of r }
+    ensures put { (s : StoreValue) (now later : ℕ) (m : Message) (token : List ℕ) → IsStoredCode (answer_of s now m).response.code → (answer_of (changed s (answer_of s now m).change) later (plain_get token (path_of m))).response ≡ content_of (put_by m (s.versions + 1)) }
+{}
+
+/// A change leaves the state of every path that is not its own, the listing's excepted, and a request makes a change of no path
+/// but its own.
+pub fn other_states_stay()
+    ensures change { (s : StoreValue) (change : Change) (now : ℕ) (other : Path) → place_of other ≢ Listing → IsElsewhere other change → state_of (changed s change) now other ≡ state_of s now other }
+    ensures request { (s : StoreValue) (now later : ℕ) (m : Message) (other : Path) → place_of other ≢ Listing → other ≢ path_of m → state_of (changed s (answer_of s now m).change) later other ≡ state_of s later other }
+{}
+
+/// Two keys are equal exactly where their lists of segments are.
+pub fn keys_are_equal_where_their_segments_are()
+    ensures { (p q : Path) → (IsTrue (⟦<PathKey as PartialEq>⟧.eq p q) ↔ (p ≡ q)) }
 {}

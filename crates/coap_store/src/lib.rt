@@ -4,6 +4,7 @@
 mod answer;
 mod catalogue;
 pub mod laws;
+mod notes;
 mod path;
 mod place;
 mod plan;
@@ -16,3 +17,4 @@ pub use path::{PathKey, Segments};
 pub use place::Place;
 pub use plan::{Bytes, Change, Plan, Watch};
 pub use store::Store;
+pub use target::request_path;

@@ -72,26 +72,29 @@ impl<'r> Change<'r> {
     }
 }
 
-/// What becomes of the observer that has the request's token (RFC 7641 section 4.1).
+/// What a request asks of the observers of its path (RFC 7641 sections 2, 3.6, 4.1). Whoever keeps observers removes an entry
+/// with the request's token before that, whatever this says: a token names one request of its client.
 #[derive(Clone, Copy, Debug, PartialEq, Eq)]
 pub enum Watch {
-    /// The request asks nothing of it.
+    /// Nothing.
     Nothing,
-    /// It asks to be entered.
+    /// It asks that an observer with its token is entered: a GET with Observe 0 of a resource that can be observed, which is
+    /// answered 2.05 or 2.03.
     Add,
-    /// It asks to be removed.
+    /// It asks that the observer with its token is removed: a GET with Observe 1, whatever its answer.
     Drop,
 }
 
-/// The answer to a request: the response, apart from the request's token, what the request changes, and what becomes of its
-/// observer. It borrows the bytes of the store and of the request. Contracts see an `Answer`.
+/// The answer to a request: the response, apart from the request's token, what the request changes, and what it asks of
+/// the observers. It borrows the bytes of the store and of the request. Contracts see an `Answer`.
 #[derive(Debug, Drop)]
 pub struct Plan<'s, 'r> {
     code: Code,
     etag: Option<ArrayVec<u8, 8>>,
     format: Option<u16>,
     max_age: Option<u32>,
-    location: Option<PathKey>,
+    /// Whether the path of the change is told.
+    tells_location: bool,
     size1: Option<u32>,
     payload: Bytes<'s>,
     change: Change<'r>,
@@ -112,7 +115,7 @@ impl<'s, 'r> Plan<'s, 'r> {
     ghost use Rattle.std.specs.Prelude.{◌≡◌, ◌≤◌, [], Some, IfSome, length, option_map};
     ghost use Rattle.coap_wire.specs.Codes as code;
     ghost use Rattle.coap_store.specs.Answer.{says, only};
-    ghost use Rattle.coap_store.specs.PlanViews.{bytes_in, change_value, path_or_root};
+    ghost use Rattle.coap_store.specs.PlanViews.{bytes_in, change_value, path_or_root, location_in};
 
     /// A response with this code and nothing else, which changes nothing.
     pub(crate) fn only(code: Code) -> Plan<'s, 'r>
@@ -123,7 +126,7 @@ impl<'s, 'r> Plan<'s, 'r> {
             etag: None,
             format: None,
             max_age: None,
-            location: None,
+            tells_location: false,
             size1: None,
             payload: Bytes::Stored(&[]),
             change: Change::Nothing,
@@ -171,22 +174,18 @@ impl<'s, 'r> Plan<'s, 'r> {
         }
     }
 
-    /// The response to a change.
-    pub(crate) fn changing(
-        code: Code,
-        location: Option<PathKey>,
-        change: Change<'r>,
-    ) -> Plan<'s, 'r>
-        ensures { result ≡ record (says (record (only code) { location = path_or_root location })) { change = change_value change.entry } }
+    /// The response to a change, which tells the path of what is put or not.
+    pub(crate) fn changing(code: Code, tells_location: bool, change: Change<'r>) -> Plan<'s, 'r>
+        ensures { result ≡ record (says (record (only code) { location = location_in tells_location (change_value change.entry) })) { change = change_value change.entry } }
     {
         Plan {
-            location,
+            tells_location,
             change,
             ..Plan::only(code)
         }
     }
 
-    /// The same answer with another word on the observer.
+    /// The same answer, which asks something else of the observers.
     pub(crate) fn with_watch(self, watch: Watch) -> Plan<'s, 'r>
         ensures { result ≡ record self.entry { watch = watch } }
     {
@@ -227,7 +226,11 @@ impl<'s, 'r> Plan<'s, 'r> {
     pub fn location(&self) -> Option<&PathKey>
         ensures { path_or_root (option_map (λ path. path.now) result) ≡ self.now.response.location }
     {
-        self.location.as_ref()
+        match &self.change {
+            Change::Put { path, .. } => self.tells_location.then_some(path),
+            Change::Nothing => None,
+            Change::Delete(_) => None,
+        }
     }
 
     /// Its Size1, the greatest representation in bytes, where it has one (RFC 7252 section 5.10.9).
@@ -251,7 +254,7 @@ impl<'s, 'r> Plan<'s, 'r> {
         self.change.duplicate()
     }
 
-    /// What becomes of the observer that has the request's token.
+    /// What the request asks of the observers.
     pub fn watch(&self) -> Watch
         ensures { result ≡ self.now.watch }
     {
@@ -267,7 +270,7 @@ impl<'s, 'r> Plan<'s, 'r> {
             etag: self.etag,
             format: self.format,
             max_age: self.max_age,
-            location: self.location,
+            tells_location: self.tells_location,
             size1: self.size1,
             payload: Bytes::Stored(&[]),
             change: self.change,

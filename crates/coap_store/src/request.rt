@@ -1,32 +1,46 @@
 //! What a request asks for, by its recognised options (RFC 7252 sections 5.4, 5.10).
 
-ghost use Rattle.std.specs.Prelude.{◌≡◌, ◌<◌, ◌≤◌, Option, Some, length, map, option_map, option_copied, is_some, IfSome, IfNone};
-ghost use Rattle.std.specs.List.{list_any};
-ghost use Rattle.coap_wire.specs.OptionNumbers as numbers;
-ghost use Rattle.coap_wire.specs.Recognition.{kind_of, once};
+ghost use Rattle.std.specs.Prelude.{◌≡◌, ◌≤◌, Option, length, is_some, IfSome};
 ghost use Rattle.coap_wire.specs.Uint.{uint_of};
-ghost use Rattle.coap_store.specs.Paths.{same_bytes};
-ghost use Rattle.coap_store.specs.Store.{Representation};
+ghost use Rattle.coap_wire.specs.Recognition.{known_options};
 ghost use Rattle.coap_store.specs.Requests as spec;
 ghost use Rattle.coap_store.specs.Requests.{digits_mean};
+ghost use Rattle.coap_store.specs.Noting.{nothing, all_noted, notes_value};
 
-use arrayvec::ArrayVec;
-use coap_wire::option_numbers::{ETAG, IF_MATCH, IF_NONE_MATCH, OBSERVE, URI_PATH, URI_QUERY};
-use coap_wire::{MessageRef, uint_bytes, uint_value};
+use crate::notes::Notes;
+use crate::path::PathKey;
+use coap_wire::option_numbers::{ETAG, IF_MATCH};
+use coap_wire::{Code, MessageRef, uint_bytes, uint_value};
+use std::marker::Model;
 
-/// The value of the first recognised option with this number.
-pub(crate) fn value_of<'r>(request: &MessageRef<'r>, number: u16) -> Option<&'r [u8]>
-    ensures { option_copied result ≡ spec.value_of number request.now }
-{
-    let option = request.known().find(|option| option.number == number)?;
-    Some(option.value)
+/// A request whose recognised options were read once. Contracts see its message.
+#[derive(Drop)]
+pub(crate) struct Asked<'q, 'r> {
+    request: &'q MessageRef<'r>,
+    notes: Notes<'r>,
 }
 
-/// Whether a recognised option has this number.
-pub(crate) fn has_option(request: &MessageRef, number: u16) -> bool
-    ensures { result ≡ spec.has_option number request.now }
+impl<'q, 'r> Model for Asked<'q, 'r> {
+    ghost use Rattle.coap_wire.specs.Message.{Message};
+
+    ghost Value = { Message };
+
+    ghost use Rattle.coap_store.specs.AskedInside.{message_of, is_asked};
+
+    ghost view = { message_of };
+
+    ghost invariant = { is_asked };
+}
+
+/// Notes what the recognised options of a request say.
+fn notes_of<'r>(request: &MessageRef<'r>) -> Notes<'r>
+    ensures { notes_value result ≡ all_noted nothing (known_options request.now.options) }
 {
-    request.known().any(|option| option.number == number)
+    let mut notes = Notes::nothing();
+    for option in request.known() {
+        notes.note(&option);
+    }
+    notes
 }
 
 /// The number that at most 2 bytes mean in network order (RFC 7252 section 3.2).
@@ -42,54 +56,132 @@ fn small_value(bytes: &[u8]) -> u16
     }
 }
 
-/// The number that Content-Format or Accept has, or another option whose value has at most 2 bytes (RFC 7252 sections
-/// 3.2, 5.10.3, 5.10.4).
-pub(crate) fn small_number_of(request: &MessageRef, number: u16) -> Option<u16>
-    requires { kind_of number ≡ Some (once 0 2) }
-    ensures { result ≡ spec.number_of number request.now }
-{
-    let value = value_of(request, number)?;
-    Some(small_value(value))
-}
+impl<'q, 'r> Asked<'q, 'r> {
+    ghost use Rattle.std.specs.Prelude.{◌≡◌, ◌||◌, Option, option_map, is_some};
+    ghost use Rattle.coap_wire.specs.Recognition.{first_critical};
+    ghost use Rattle.std.specs.List.{list_any};
+    ghost use Rattle.coap_wire.specs.OptionNumbers as numbers;
+    ghost use Rattle.coap_store.specs.Paths.{same_bytes};
+    ghost use Rattle.coap_store.specs.Store.{Representation};
+    ghost use Rattle.coap_store.specs.State.{key_for};
+    ghost use Rattle.coap_store.specs.Requests as spec;
 
-/// The number that Observe has (RFC 7641 section 2).
-pub(crate) fn observe_of(request: &MessageRef) -> Option<u32>
-    ensures { result ≡ spec.number_of numbers.observe request.now }
-{
-    let value = value_of(request, OBSERVE)?;
-    uint_value(value)
-}
-
-/// Whether If-Match holds for a resource with this version, or for one that does not exist: it is absent, or one of its
-/// values is empty, or the version's ETag (RFC 7252 section 5.10.8.1).
-pub(crate) fn match_holds(request: &MessageRef, version: Option<u64>) -> bool
-    ensures { (state : Option Representation) → version ≡ option_map (λ r. r.version) state → result ≡ spec.match_holds state request.now }
-{
-    if !has_option(request, IF_MATCH) {
-        return true;
+    /// Reads the recognised options of a request.
+    pub(crate) fn by(request: &'q MessageRef<'r>) -> Asked<'q, 'r>
+        ensures { result ≡ request.now }
+    {
+        Asked {
+            request,
+            notes: notes_of(request),
+        }
     }
-    let Some(version) = version else {
-        return false;
-    };
-    let etag = uint_bytes(version);
-    request.known().any(|option| option.number == IF_MATCH
-        && (option.value.is_empty() || option.value == etag.as_slice()))
-}
 
-/// Whether If-None-Match holds for a resource: it is absent, or the resource does not exist (RFC 7252 section 5.10.8.2).
-pub(crate) fn none_match_holds(request: &MessageRef, is_present: bool) -> bool
-    ensures { (state : Option Representation) → is_present ≡ spec.is_present state → result ≡ spec.none_match_holds state request.now }
-{
-    !(is_present && has_option(request, IF_NONE_MATCH))
-}
+    /// The code.
+    pub(crate) fn code(&self) -> Code
+        ensures { result ≡ self.now.code }
+    {
+        self.request.code()
+    }
 
-/// Whether one of the request's ETags is this one (RFC 7252 section 5.10.6.2).
-pub(crate) fn is_among(request: &MessageRef, etag: &[u8]) -> bool
-    ensures { result ≡ list_any (λ value. same_bytes value etag.now) (spec.values_of numbers.etag request.now) }
-{
-    request
-        .known()
-        .any(|option| option.number == ETAG && option.value == etag)
+    /// The payload, empty where there is none.
+    pub(crate) fn payload(&self) -> &'r [u8]
+        ensures { result.now ≡ self.now.payload }
+    {
+        self.request.payload()
+    }
+
+    /// Whether an option is critical and not recognised.
+    pub(crate) fn has_bad_option(&self) -> bool
+        ensures { result ≡ is_some (first_critical self.now.options) }
+    {
+        self.request.first_critical().is_some()
+    }
+
+    /// Whether the request asks a proxy (RFC 7252 section 5.10.2).
+    pub(crate) fn asks_proxy(&self) -> bool
+        ensures { result ≡ (spec.has_option numbers.proxy_uri self.now || spec.has_option numbers.proxy_scheme self.now) }
+    {
+        self.notes.has_proxy_uri || self.notes.has_proxy_scheme
+    }
+
+    /// The path that is asked for, where it is one of a resource (RFC 7252 section 5.10.1).
+    pub(crate) fn key(&self) -> Option<PathKey>
+        ensures { result ≡ key_for (spec.path_of self.now) }
+    {
+        if self.notes.has_more {
+            return None;
+        }
+        PathKey::from_segments(self.notes.segments.as_slice())
+    }
+
+    /// The Content-Format of the payload (RFC 7252 section 5.10.3).
+    pub(crate) fn content_format(&self) -> Option<u16>
+        ensures { result ≡ spec.number_of numbers.content_format self.now }
+    {
+        let value = self.notes.content_format?;
+        Some(small_value(value))
+    }
+
+    /// The Content-Format that is accepted (RFC 7252 section 5.10.4).
+    pub(crate) fn accept(&self) -> Option<u16>
+        ensures { result ≡ spec.number_of numbers.accept self.now }
+    {
+        let value = self.notes.accept?;
+        Some(small_value(value))
+    }
+
+    /// The number that Observe has (RFC 7641 section 2).
+    pub(crate) fn observe(&self) -> Option<u32>
+        ensures { result ≡ spec.number_of numbers.observe self.now }
+    {
+        let value = self.notes.observe?;
+        uint_value(value)
+    }
+
+    /// Whether the first Uri-Query, where there is one, is a number of seconds.
+    pub(crate) fn has_good_query(&self) -> bool
+        ensures { result ≡ spec.is_good_query (spec.value_of numbers.uri_query self.now) }
+    {
+        match self.notes.query {
+            Some(bytes) => is_seconds(bytes),
+            None => true,
+        }
+    }
+
+    /// Whether If-Match holds for a resource with this version, or for one that does not exist: it is absent, or one of its
+    /// values is empty, or the version's ETag (RFC 7252 section 5.10.8.1).
+    pub(crate) fn match_holds(&self, version: Option<u64>) -> bool
+        ensures { (state : Option Representation) → version ≡ option_map (λ r. r.version) state → result ≡ spec.match_holds state self.now }
+    {
+        if !self.notes.has_if_match {
+            return true;
+        }
+        let Some(version) = version else {
+            return false;
+        };
+        let etag = uint_bytes(version);
+        self.request.known().any(|option| option.number == IF_MATCH
+            && (option.value.is_empty() || option.value == etag.as_slice()))
+    }
+
+    /// Whether If-None-Match holds for a resource: it is absent, or the resource does not exist (RFC 7252 section 5.10.8.2).
+    pub(crate) fn none_match_holds(&self, is_present: bool) -> bool
+        ensures { (state : Option Representation) → is_present ≡ spec.is_present state → result ≡ spec.none_match_holds state self.now }
+    {
+        !(is_present && self.notes.has_if_none_match)
+    }
+
+    /// Whether one of the request's ETags is this one (RFC 7252 section 5.10.6.2).
+    pub(crate) fn has_etag(&self, etag: &[u8]) -> bool
+        ensures { result ≡ list_any (λ value. same_bytes value etag.now) (spec.values_of numbers.etag self.now) }
+    {
+        if !self.notes.has_etag {
+            return false;
+        }
+        self.request
+            .known()
+            .any(|option| option.number == ETAG && option.value == etag)
+    }
 }
 
 /// The most digits of a number of seconds.
@@ -98,16 +190,16 @@ const MAX_DIGITS: usize = 4;
 /// The most seconds for which an answer is held.
 const MAX_SECONDS: u16 = 3600;
 
-/// The number of seconds that a text of 1 to 4 decimal digits means, `None` above 3,600 and for another text.
-fn seconds_in(text: &[u8]) -> Option<u16>
-    ensures good { is_some result ≡ spec.is_seconds text.now }
-    ensures value { IfSome result (λ seconds. seconds ≡ digits_mean text.now) }
+/// The number of seconds that 1 to 4 decimal digits mean, `None` above 3,600 and for other bytes.
+fn seconds_in(bytes: &[u8]) -> Option<u16>
+    ensures good { is_some result ≡ spec.is_seconds bytes.now }
+    ensures value { IfSome result (λ seconds. seconds ≡ digits_mean bytes.now) }
 {
-    if text.is_empty() || text.len() > MAX_DIGITS {
+    if bytes.is_empty() || bytes.len() > MAX_DIGITS {
         return None;
     }
     let mut seconds = 0;
-    for byte in text {
+    for byte in bytes {
         if !byte.is_ascii_digit() {
             return None;
         }
@@ -116,36 +208,9 @@ fn seconds_in(text: &[u8]) -> Option<u16>
     (seconds <= MAX_SECONDS).then_some(seconds)
 }
 
-/// Whether the text is 1 to 4 decimal digits of a number of seconds up to 3,600.
-pub(crate) fn is_seconds(text: &[u8]) -> bool
-    ensures { result ≡ spec.is_seconds text.now }
+/// Whether the bytes are 1 to 4 decimal digits of a number of seconds up to 3,600.
+pub(crate) fn is_seconds(bytes: &[u8]) -> bool
+    ensures { result ≡ spec.is_seconds bytes.now }
 {
-    seconds_in(text).is_some()
-}
-
-/// Whether the first Uri-Query, where there is one, is a number of seconds.
-pub(crate) fn has_good_query(request: &MessageRef) -> bool
-    ensures { result ≡ spec.is_good_query (spec.value_of numbers.uri_query request.now) }
-{
-    match value_of(request, URI_QUERY) {
-        Some(text) => is_seconds(text),
-        None => true,
-    }
-}
-
-/// The most segments of a path.
-const MAX_SEGMENTS: usize = 16;
-
-/// The segments that Uri-Path has, `None` where there are more than 16 (RFC 7252 section 5.10.1).
-pub(crate) fn segments_of<'r>(request: &MessageRef<'r>) -> Option<ArrayVec<&'r [u8], MAX_SEGMENTS>>
-    ensures few { IfSome result (λ segments. map (λ s. s.now) segments.items ≡ spec.values_of numbers.uri_path request.now) }
-    ensures many { IfNone result (MAX_SEGMENTS < length (spec.values_of numbers.uri_path request.now)) }
-{
-    let mut segments = ArrayVec::new();
-    for option in request.known() {
-        if option.number == URI_PATH && segments.try_push(option.value).is_err() {
-            return None;
-        }
-    }
-    Some(segments)
+    seconds_in(bytes).is_some()
 }

@@ -1,10 +1,10 @@
-//! A dynamic resource, and the text of all of them.
+//! A dynamic resource, and the listing of all of them.
 
 ghost use Rattle.std.specs.Prelude.{◌≡◌, ◌≤◌, ◌∷◌, ◌++◌, length, IfOk, OnOk};
 ghost use Rattle.std.specs.List.{flat_map};
 ghost use Rattle.std.specs.Vec.{vec_capacity};
 ghost use Rattle.std.specs.String.{string_bytes};
-ghost use Rattle.coap_store.specs.Listing.{listing as listing_of, entry_text as text_of_entry, encoded_byte, path_text, format_text};
+ghost use Rattle.coap_store.specs.Listing.{listing as listing_of, entry_bytes, slash, encoded_byte, path_bytes, format_bytes};
 ghost use Rattle.coap_store.specs.StoreViews.{resources_in, AreListed};
 
 use crate::path::PathKey;
@@ -43,16 +43,16 @@ const ESCAPED: AsciiSet = ascii_set!(
 
 /// A slash and the segment, escaped (RFC 3986 section 2.1).
 fn push_segment(text: &mut String, segment: &[u8]) -> Result<(), AllocError>
-    ensures { OnOk result (string_bytes text.new ≡ string_bytes text.old ++ (47 ∷ flat_map encoded_byte segment.now)) }
+    ensures { OnOk result (string_bytes text.new ≡ string_bytes text.old ++ (slash ∷ flat_map encoded_byte segment.now)) }
 {
     text.push_str("/")?;
     percent_encode(segment, ESCAPED).append_to(text)
 }
 
 /// Each segment of the path.
-#[tactic(auto, unfolding(crate::specs::Listing::path_text))]
+#[tactic(auto, unfolding(crate::specs::Listing::path_bytes))]
 fn push_path(text: &mut String, path: &PathKey) -> Result<(), AllocError>
-    ensures { OnOk result (string_bytes text.new ≡ string_bytes text.old ++ path_text path.now) }
+    ensures { OnOk result (string_bytes text.new ≡ string_bytes text.old ++ path_bytes path.now) }
 {
     for segment in path.segments() {
         push_segment(text, segment)?;
@@ -62,7 +62,7 @@ fn push_path(text: &mut String, path: &PathKey) -> Result<(), AllocError>
 
 /// The Content-Format, where there is one (RFC 7252 section 7.2.1).
 fn push_format(text: &mut String, format: Option<u16>) -> Result<(), AllocError>
-    ensures { OnOk result (string_bytes text.new ≡ string_bytes text.old ++ format_text format) }
+    ensures { OnOk result (string_bytes text.new ≡ string_bytes text.old ++ format_bytes format) }
 {
     let Some(format) = format else {
         return Ok(());
@@ -73,13 +73,13 @@ fn push_format(text: &mut String, format: Option<u16>) -> Result<(), AllocError>
 }
 
 /// The text of a resource in the listing.
-#[tactic(auto, using(std::proofs::Common::append_assoc), unfolding(crate::specs::Listing::entry_text))]
+#[tactic(auto, using(std::proofs::Common::append_assoc), unfolding(crate::specs::Listing::entry_bytes))]
 pub(crate) fn entry_text(
     alloc: Global,
     path: &PathKey,
     format: Option<u16>,
 ) -> Result<String, AllocError>
-    ensures { IfOk result (λ text. string_bytes text ≡ text_of_entry path.now format) }
+    ensures { IfOk result (λ text. string_bytes text ≡ entry_bytes path.now format) }
 {
     let mut text = String::new(alloc);
     text.push_str(",<")?;

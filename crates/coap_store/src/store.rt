@@ -25,21 +25,21 @@ impl Model for Store {
 
     ghost Value = { StoreValue };
 
-    ghost use Rattle.coap_store.specs.StoreInside.{store_value, IsStore};
+    ghost use Rattle.coap_store.specs.StoreInside.{store_value, is_store};
 
     ghost view = { store_value };
 
-    ghost invariant = { IsStore };
+    ghost invariant = { is_store };
 }
 
 impl Store {
-    ghost use Rattle.std.specs.Prelude.{◌≡◌, ◌≤◌, ◌<◌, ◌^◌, [], Some, IfOk, IfSome, OnOk, OnErr, length, not, nat_le, ◌==◌, option_map};
-    ghost use Rattle.coap_store.specs.Answer.{changed};
-    ghost use Rattle.coap_store.specs.Store.{Representation, found_in, put_in};
-    ghost use Rattle.coap_store.specs.Paths.{Path};
+    ghost use Rattle.std.specs.Prelude.{◌≡◌, ◌≤◌, ◌<◌, [], IfOk, IfSome, OnOk, OnErr, length, not, nat_le, ◌==◌, option_map};
+    ghost use Rattle.coap_store.specs.Answer.{changed, greatest_version};
+    ghost use Rattle.coap_store.specs.Store.{found_in, put_in};
     ghost use Rattle.coap_store.specs.Listing.{listing as listing_of};
     ghost use Rattle.coap_store.specs.StoreViews.{representation};
     ghost use Rattle.coap_store.specs.Changes.{TakesChange, TakesPut, IsPut};
+    ghost use Rattle.coap_store.specs.Invariant.{IsStore};
     ghost use Rattle.coap_store.specs.PlanViews.{change_value};
 
     /// An empty store for at most `dynamic_max` resources (0 to 1,000) of at most `rep_max` bytes each (0 to 1,048,576),
@@ -56,7 +56,8 @@ impl Store {
     ) -> Result<Store, AllocError>
         requires few { dynamic_max ≤ 1000 }
         requires small { rep_max ≤ 1048576 }
-        ensures { IfOk result (λ s. s ≡ record { dynamic_max = dynamic_max; rep_max = rep_max; resources = []; versions = versions_from }) }
+        ensures empty { IfOk result (λ s. s ≡ record { dynamic_max = dynamic_max; rep_max = rep_max; resources = []; versions = versions_from }) }
+        ensures store { IfOk result IsStore }
     {
         Ok(Store {
             dynamic_max,
@@ -76,19 +77,19 @@ impl Store {
         ensures ok { OnOk result (self.new ≡ changed self.old (change_value change.entry)) }
         ensures err { OnErr result (self.new ≡ self.old) }
         ensures put { OnErr result (IsPut (change_value change.entry)) }
+        ensures store { IsStore self.new }
     {
         match change {
-            Change::Nothing => Ok(()),
+            Change::Nothing => {}
             Change::Put {
                 path,
                 format,
                 bytes,
-            } => self.store(path, format, bytes),
-            Change::Delete(path) => {
-                self.resources.remove(&path);
-                Ok(())
-            }
+            } => self.store(path, format, bytes)?,
+            Change::Delete(path) => self.resources.remove(&path),
         }
+        self.is_kept();
+        Ok(())
     }
 
     /// What is stored at a path.
@@ -99,7 +100,7 @@ impl Store {
         self.resources.get(path)
     }
 
-    /// The text of `/.well-known/core` (RFC 6690).
+    /// The bytes of `/.well-known/core` (RFC 6690).
     pub(crate) fn listing(&self) -> &[u8]
         ensures value { result.now ≡ listing_of self.now.resources }
         ensures short { length result.now ≤ 1048576 }
@@ -131,19 +132,17 @@ impl Store {
 
     /// Whether another representation may be stored: one version is left at least.
     pub(crate) fn has_version(&self) -> bool
-        ensures { result ≡ not (self.now.versions == 18446744073709551615) }
+        ensures { result ≡ not (self.now.versions == greatest_version) }
     {
         self.versions != u64::MAX
     }
 
-    /// Nothing happens: what holds of every store is told. Its versions fit 64 bits, and no representation has more than
-    /// 1,048,576 bytes, the listing included.
-    pub(crate) fn bounds(&self)
-        ensures versions { self.now.versions < 2 ^ 64 }
-        ensures listing { length (listing_of self.now.resources) ≤ 1048576 }
-        ensures stored { (path : Path) (r : Representation) → found_in self.now.resources path ≡ Some r → length r.bytes ≤ 1048576 }
+    /// Tells the proof of a caller what holds of every store. It reads the store, which is what the proof needs to know that
+    /// its invariant holds, and does nothing.
+    pub(crate) fn is_kept(&self)
+        ensures store { IsStore self.now }
     {
-        let _versions = self.versions;
+        let _read = self.versions;
     }
 
     /// Stores a representation.
@@ -151,6 +150,7 @@ impl Store {
         requires { TakesPut self.old path bytes.now }
         ensures ok { OnOk result (self.new ≡ put_in self.old path format bytes.now) }
         ensures err { OnErr result (self.new ≡ self.old) }
+        ensures store { IsStore self.new }
     {
         self.resources
             .put(path, self.versions + 1, in_range(format), bytes)?;
@@ -159,7 +159,7 @@ impl Store {
     }
 }
 
-/// The same format: a number of 16 bits, where it has one.
+/// The same format. The two arms tell the proof of a caller that it is a number of 16 bits.
 fn in_range(format: Option<u16>) -> Option<u16>
     ensures value { result ≡ format }
     ensures small { IfSome result (λ number. number < 65536) }

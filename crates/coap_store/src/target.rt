@@ -9,7 +9,7 @@ ghost use Rattle.coap_store.specs.State.{key_for, place_of as place_named};
 use crate::path::PathKey;
 use crate::place::{Place, place_of};
 use crate::plan::Bytes;
-use crate::request::segments_of;
+use crate::request::Asked;
 use arrayvec::ArrayVec;
 use coap_wire::MessageRef;
 use itoa::Buffer;
@@ -61,7 +61,7 @@ impl<'s> Found<'s> {
 }
 
 /// A number in decimal.
-pub(crate) fn decimal_text(number: u64) -> ArrayVec<u8, 20>
+pub(crate) fn decimal_digits(number: u64) -> ArrayVec<u8, 20>
     ensures { result.items ≡ decimal number }
 {
     let mut buffer = Buffer::new();
@@ -71,12 +71,11 @@ pub(crate) fn decimal_text(number: u64) -> ArrayVec<u8, 20>
     text
 }
 
-/// The path that the request asks for, where it is one of a resource (RFC 7252 section 5.10.1).
-pub(crate) fn key_of(request: &MessageRef) -> Option<PathKey>
+/// The path that a request asks for, by its Uri-Path options: `None` where it is none of a resource (RFC 7252 section 5.10.1).
+pub fn request_path(request: &MessageRef) -> Option<PathKey>
     ensures { result ≡ key_for (path_asked request.now) }
 {
-    let segments = segments_of(request)?;
-    PathKey::from_segments(segments.as_slice())
+    Asked::by(request).key()
 }
 
 /// Which resource the path names.

@@ -4,7 +4,7 @@ use Rattle.std.proofs.lemmas.Bool.{eq-eqb, ne_eqb, ltb-false, lt-ltb, le-ltb, ca
 use Rattle.std.proofs.lemmas.List.{append-nil, length-take, length-append, take-append-drop, take_at, drop_at}
 use Rattle.coap_wire.specs.Message.{CoapOption, AreOrdered, last_number, AreBytes}
 use Rattle.coap_wire.specs.Forms.{IsOptionForm}
-use Rattle.coap_wire.specs.Spelling.{IsOptionHead, IsOneOption, IsOptionText, payload_text}
+use Rattle.coap_wire.specs.Spelling.{IsOptionHead, IsOneOption, IsOptionBytes, payload_bytes}
 use Rattle.coap_wire.specs.declared.fault.FormatFault.{FormatFault}
 use Rattle.coap_wire.specs.declared.fault.FormatFault.TheVariants.{OptionDelta, OptionLength, OptionCut, OptionNumber, EmptyPayload}
 use Rattle.coap_wire.specs.Reading.{◌>>=◌, option_number_at, or_cut, both_at, option_head_at, value_at, option_at, body_at}
@@ -253,28 +253,28 @@ body_induction P c base s = body_by P c (length s) base s (omega arith)
 
 -- ---- what a body gives
 
-TextTaken : ℕ → List ℕ → Body → Type 0
-TextTaken base s r = AreBytes s → (x : List CoapOption × List ℕ) → r ≡ Ok x → IsOptionText base x.0 s (payload_text x.1)
+BytesTaken : ℕ → List ℕ → Body → Type 0
+BytesTaken base s r = AreBytes s → (x : List CoapOption × List ℕ) → r ≡ Ok x → IsOptionBytes base x.0 s (payload_bytes x.1)
 
-text_cases : BodyCases TextTaken
-unfolding TextTaken
-text_cases = record {
-  at_end = λ base fits x e. subst (λ (y : List CoapOption × List ℕ). IsOptionText base y.0 [] (payload_text y.1)) (ok_is ([], []) x e) refl;
+bytes_cases : BodyCases BytesTaken
+unfolding BytesTaken
+bytes_cases = record {
+  at_end = λ base fits x e. subst (λ (y : List CoapOption × List ℕ). IsOptionBytes base y.0 [] (payload_bytes y.1)) (ok_is ([], []) x e) refl;
   nothing = λ base fits x e. absurd cc;
-  payload = λ base c s fits x e. subst (λ (y : List CoapOption × List ℕ). IsOptionText base y.0 (255 ∷ c ∷ s) (payload_text y.1)) (ok_is ([], c ∷ s) x e) refl;
+  payload = λ base c s fits x e. subst (λ (y : List CoapOption × List ℕ). IsOptionBytes base y.0 (255 ∷ c ∷ s) (payload_bytes y.1)) (ok_is ([], c ∷ s) x e) refl;
   fault = λ base b s d other is fits x e. absurd cc;
   option = λ base b s o rest other is before fits x e.
       let t = option_takes base b s (o, rest) fits is in
       let a = bind_ok (body_at o.number rest) (λ others. Ok (o ∷ others.0, others.1)) x e in
       let made : List CoapOption × List ℕ = (o ∷ a.0.0, a.0.1) in
-      let text : IsOptionText o.number a.0.0 rest (payload_text a.0.1) = before t.1 a.0 a.1 in
-      subst (λ (y : List CoapOption × List ℕ). IsOptionText base y.0 (b ∷ s) (payload_text y.1)) (ok_is made x a.2) (rest, t.0, text);
+      let bytes : IsOptionBytes o.number a.0.0 rest (payload_bytes a.0.1) = before t.1 a.0 a.1 in
+      subst (λ (y : List CoapOption × List ℕ). IsOptionBytes base y.0 (b ∷ s) (payload_bytes y.1)) (ok_is made x a.2) (rest, t.0, bytes);
 }
 
 -- a body that is read is spelled so
-pub body_takes : (base : ℕ) (s : List ℕ) (x : List CoapOption × List ℕ) → AreBytes s → body_at base s ≡ Ok x → IsOptionText base x.0 s (payload_text x.1)
-unfolding TextTaken
-body_takes base s x fits e = body_induction TextTaken text_cases base s fits x e
+pub body_takes : (base : ℕ) (s : List ℕ) (x : List CoapOption × List ℕ) → AreBytes s → body_at base s ≡ Ok x → IsOptionBytes base x.0 s (payload_bytes x.1)
+unfolding BytesTaken
+body_takes base s x fits e = body_induction BytesTaken bytes_cases base s fits x e
 
 Ordered : ℕ → List ℕ → Body → Type 0
 Ordered base s r = (x : List CoapOption × List ℕ) → r ≡ Ok x → AreOrdered base x.0
@@ -318,21 +318,21 @@ with_front_cons o os (Ok x) = refl
 with_front_cons o os (Err e) = refl
 
 -- behind options that are spelled, reading goes on
-pub body_after : (base : ℕ) (os : List CoapOption) (s rest : List ℕ) → IsOptionText base os s rest → body_at base s ≡ with_front os (body_at (last_number base os) rest)
-body_after base [] s rest text = ap (body_at base) text ∙ sym (with_front_nil (body_at base rest))
-body_after base (o ∷ os) s rest text =
-    let one = option_again base o s text.0 text.1 in
-    let step : body_at base (one.first ∷ one.behind) ≡ (body_at o.number text.0 >>= λ others. Ok (o ∷ others.0, others.1)) =
-    body_option base one.first one.behind o text.0 one.no_marker one.is in
-    let others = body_after o.number os text.0 rest text.2 in
+pub body_after : (base : ℕ) (os : List CoapOption) (s rest : List ℕ) → IsOptionBytes base os s rest → body_at base s ≡ with_front os (body_at (last_number base os) rest)
+body_after base [] s rest bytes = ap (body_at base) bytes ∙ sym (with_front_nil (body_at base rest))
+body_after base (o ∷ os) s rest bytes =
+    let one = option_again base o s bytes.0 bytes.1 in
+    let step : body_at base (one.first ∷ one.behind) ≡ (body_at o.number bytes.0 >>= λ others. Ok (o ∷ others.0, others.1)) =
+    body_option base one.first one.behind o bytes.0 one.no_marker one.is in
+    let others = body_after o.number os bytes.0 rest bytes.2 in
     ap (body_at base) one.bytes ∙ step ∙ rw others (with_front_cons o os (body_at (last_number o.number os) rest))
 
-payload_again : (base : ℕ) (payload : List ℕ) → body_at base (payload_text payload) ≡ Ok ([], payload)
+payload_again : (base : ℕ) (payload : List ℕ) → body_at base (payload_bytes payload) ≡ Ok ([], payload)
 payload_again base [] = body_end base
 payload_again base (b ∷ bs) = body_marker base (b ∷ bs) (omega arith)
 
 -- a body that is spelled is read
-pub body_again : (base : ℕ) (os : List CoapOption) (s payload : List ℕ) → IsOptionText base os s (payload_text payload) → body_at base s ≡ Ok (os, payload)
-body_again base os s payload text =
-    body_after base os s (payload_text payload) text
+pub body_again : (base : ℕ) (os : List CoapOption) (s payload : List ℕ) → IsOptionBytes base os s (payload_bytes payload) → body_at base s ≡ Ok (os, payload)
+body_again base os s payload bytes =
+    body_after base os s (payload_bytes payload) bytes
     ∙ rw (payload_again (last_number base os) payload, append-nil os) refl

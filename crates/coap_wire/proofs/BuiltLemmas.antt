@@ -5,7 +5,7 @@ use Rattle.std.proofs.lemmas.List.{map_push, length-append, length-map}
 use Rattle.coap_wire.specs.declared.options.OptionRef.{OptionRef}
 use Rattle.coap_wire.specs.Message.{Message, AreOrdered, last_number}
 use Rattle.coap_wire.specs.Forms.{length_form}
-use Rattle.coap_wire.specs.Spelling.{HasOptionForm, options_spelling, payload_text, body_spelling, head_spelling, spelling}
+use Rattle.coap_wire.specs.Spelling.{HasOptionForm, options_spelling, payload_bytes, body_spelling, head_spelling, spelling}
 use Rattle.coap_wire.specs.Views.{coap_option, coap_options, CanBeBuilt}
 use Rattle.coap_wire.proofs.OptionLists.{ordered-push, forms-push}
 
@@ -26,10 +26,10 @@ option_added m xs ys o options_are built more order number value room =
 
 -- ---- the lengths of the parts
 
-pub length-spelling : (m : Message) → length (spelling m) ≡ length (head_spelling m.code m.token (length (body_spelling m))) + (length (options_spelling 0 m.options) + length (payload_text m.payload))
+pub length-spelling : (m : Message) → length (spelling m) ≡ length (head_spelling m.code m.token (length (body_spelling m))) + (length (options_spelling 0 m.options) + length (payload_bytes m.payload))
 unfolding spelling
 length-spelling m =
-    omega (arith, length-append (head_spelling m.code m.token (length (body_spelling m))) (body_spelling m), length-append (options_spelling 0 m.options) (payload_text m.payload))
+    omega (arith, length-append (head_spelling m.code m.token (length (body_spelling m))) (body_spelling m), length-append (options_spelling 0 m.options) (payload_bytes m.payload))
 
 joined : (a b c d first second third : List ℕ) → first ≡ a ++ b → second ≡ first ++ c → third ≡ second ++ d → third ≡ a ++ (b ++ (c ++ d))
 joined a b c d first second third first_is second_is third_is = rw (third_is, second_is, first_is) (simp append_assoc)
@@ -57,20 +57,20 @@ module _ (m now : Message) (n : ℕ) (token : List ℕ) (same : m ≡ now) (n_is
   options_room space left room step = omega (arith, length-spelling m, ap length head_is, room_is space room)
 
   pub payload_room : (space left rest : ℕ) → length (spelling now) ≤ space → left + length (head_spelling m.code token n) ≡ space → rest + length (options_spelling 0 m.options) ≡ left
-      → length (payload_text m.payload) ≤ rest
+      → length (payload_bytes m.payload) ≤ rest
   payload_room space left rest room step next = omega (arith, length-spelling m, ap length head_is, room_is space room)
 
   pub all_room : (space first second third : ℕ) → first + length (head_spelling m.code token n) ≡ space → second + length (options_spelling 0 m.options) ≡ first
-      → third + length (payload_text m.payload) ≡ second → third + length (spelling now) ≡ space
+      → third + length (payload_bytes m.payload) ≡ second → third + length (spelling now) ≡ space
   all_room space first second third first_is second_is third_is =
       subst (λ (v : Message). third + length (spelling v) ≡ space) same (omega (arith, length-spelling m, ap length head_is))
 
   pub all_written : (start first second third : List ℕ) → first ≡ start ++ head_spelling m.code token n → second ≡ first ++ options_spelling 0 m.options
-      → third ≡ second ++ payload_text m.payload → third ≡ start ++ spelling now
+      → third ≡ second ++ payload_bytes m.payload → third ≡ start ++ spelling now
   unfolding spelling
   all_written start first second third first_is second_is third_is =
       subst (λ (v : Message). third ≡ start ++ spelling v) same
-      (joined start (head_spelling m.code m.token (length (body_spelling m))) (options_spelling 0 m.options) (payload_text m.payload) first second third (first_is ∙ ap (λ (h : List ℕ). start ++ h) head_is) second_is third_is)
+      (joined start (head_spelling m.code m.token (length (body_spelling m))) (options_spelling 0 m.options) (payload_bytes m.payload) first second third (first_is ∙ ap (λ (h : List ℕ). start ++ h) head_is) second_is third_is)
 
 -- the size that is computed without writing
 pub size_is : (m now : Message) (n extension token : ℕ) → m ≡ now → n ≡ length (body_spelling now) → extension ≡ length (length_form n).1 → token ≡ length m.token → 2 + extension + token + n ≡ length (spelling now)

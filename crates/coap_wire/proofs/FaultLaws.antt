@@ -2,7 +2,7 @@
 use Rattle.std.proofs.Common.{◌≡◌, ◌≢◌, ℕ, ◌+◌, ◌/◌, ◌%◌, ◌<◌, List, [], ◌∷◌, length, drop, take, None, Result, Ok, Err, inl, inr, refl, sym, ap, subst, ◌∙◌, arith}
 use Rattle.std.proofs.lemmas.Bool.{cases_lt, cases_eq}
 use Rattle.coap_wire.specs.Message.{CoapOption, last_number, AreBytes}
-use Rattle.coap_wire.specs.Spelling.{IsOptionHead, IsOptionText}
+use Rattle.coap_wire.specs.Spelling.{IsOptionHead, IsOptionBytes}
 use Rattle.coap_wire.specs.Faults.{option_extension, IsOptionHeadCut, IsOptionFault}
 use Rattle.coap_wire.specs.declared.fault.FormatFault.{FormatFault}
 use Rattle.coap_wire.specs.declared.fault.FormatFault.TheVariants.{TokenLength, OptionDelta, OptionLength, OptionCut, OptionNumber, EmptyPayload, NotOneFrame}
@@ -138,7 +138,7 @@ option_fault_again base s NotOneFrame w = absurd w
 pub record HasBodyFault (base : ℕ) (s : List ℕ) (fault : FormatFault) : Type 0 where
   pub options : List CoapOption
   pub rest : List ℕ
-  pub text : IsOptionText base options s rest
+  pub bytes : IsOptionBytes base options s rest
   pub wrong : IsOptionFault (last_number base options) rest fault
 
 FaultTaken : ℕ → List ℕ → Result (List CoapOption × List ℕ) FormatFault → Type 0
@@ -153,13 +153,13 @@ fault_cases : BodyCases FaultTaken
 unfolding FaultTaken
 fault_cases = record {
   at_end = λ base fits e h. absurd cc;
-  nothing = λ base fits e h. subst (HasBodyFault base (255 ∷ [])) (err_is {A = List CoapOption × List ℕ} EmptyPayload e h) (record { options = []; rest = 255 ∷ []; text = refl; wrong = refl });
+  nothing = λ base fits e h. subst (HasBodyFault base (255 ∷ [])) (err_is {A = List CoapOption × List ℕ} EmptyPayload e h) (record { options = []; rest = 255 ∷ []; bytes = refl; wrong = refl });
   payload = λ base c s fits e h. absurd cc;
-  fault = λ base b s d other is fits e h. subst (HasBodyFault base (b ∷ s)) (err_is {A = List CoapOption × List ℕ} d e h) (record { options = []; rest = b ∷ s; text = refl; wrong = option_fault base b s d fits other is });
+  fault = λ base b s d other is fits e h. subst (HasBodyFault base (b ∷ s)) (err_is {A = List CoapOption × List ℕ} d e h) (record { options = []; rest = b ∷ s; bytes = refl; wrong = option_fault base b s d fits other is });
   option = λ base b s o rest other is before fits e h.
       let t = option_takes base b s (o, rest) fits is in
       let w = before t.1 e (bind_fault (body_at o.number rest) (λ others. (o ∷ others.0, others.1)) e h) in
-      record { options = o ∷ w.options; rest = w.rest; text = (rest, t.0, w.text); wrong = w.wrong };
+      record { options = o ∷ w.options; rest = w.rest; bytes = (rest, t.0, w.bytes); wrong = w.wrong };
 }
 
 -- a body that cannot be read is wrong in the way that is told
@@ -168,6 +168,6 @@ unfolding FaultTaken
 body_fault_takes base s e fits h = body_induction FaultTaken fault_cases base s fits e h
 
 -- where an option of a body is wrong, reading stops so
-pub body_fault_again : (base : ℕ) (os : List CoapOption) (s rest : List ℕ) (e : FormatFault) → IsOptionText base os s rest → IsOptionFault (last_number base os) rest e → body_at base s ≡ Err e
-body_fault_again base os s rest e text wrong =
-    body_after base os s rest text ∙ ap (with_front os) (option_fault_again (last_number base os) rest e wrong)
+pub body_fault_again : (base : ℕ) (os : List CoapOption) (s rest : List ℕ) (e : FormatFault) → IsOptionBytes base os s rest → IsOptionFault (last_number base os) rest e → body_at base s ≡ Err e
+body_fault_again base os s rest e bytes wrong =
+    body_after base os s rest bytes ∙ ap (with_front os) (option_fault_again (last_number base os) rest e wrong)

@@ -1,11 +1,13 @@
 -- The one form of a number is its only form.
-use Rattle.std.proofs.Common.{◌≡◌, ℕ, zero, suc, ◌-◌, ◌<◌, ◌≤◌, List, [], ◌∷◌, ◌++◌, length, get_or, refl, sym, ap, subst, ◌∙◌, arith, inl, inr, le-ltb, lt-ltb}
+use Rattle.std.proofs.Common.{◌≡◌, ℕ, zero, suc, ◌+◌, ◌-◌, ◌*◌, ◌<◌, ◌≤◌, List, [], ◌∷◌, ◌++◌, length, get_or, refl, sym, ap, subst, ◌∙◌, arith, inl, inr, le-ltb, lt-ltb}
 use Rattle.std.specs.Int.{w16, w32, to_be_bytes, from_be_bytes}
 use Rattle.std.proofs.lemmas.Bool.{cases_lt, cases_eq}
 use Rattle.std.proofs.lemmas.Nat.{be_bytes_2, be_bytes_4, from_be_bytes-to_be_bytes_2, from_be_bytes-to_be_bytes_4}
 use Rattle.std.specs.List.{AllByRecursion}
 use Rattle.coap_wire.specs.Message.{IsByte}
-use Rattle.coap_wire.specs.Forms.{IsLengthForm, length_form, greatest_length, IsOptionForm, option_form, greatest_option_form}
+use Rattle.coap_wire.specs.Forms.{IsLengthForm, length_form, greatest_length, IsOptionForm, option_form, greatest_option_form, greatest_token, IsTokenForm, token_form}
+use Rattle.coap_wire.specs.Spelling.{IsHeadAndBody}
+use Rattle.coap_wire.specs.Size.{IsSizeHead}
 
 -- ---- what the forms share
 
@@ -103,13 +105,6 @@ length_form_bound x (a ∷ b ∷ c ∷ []) n form = absurd form
 length_form_bound x (a ∷ b ∷ c ∷ d ∷ []) n form = (omega (arith, form.0), omega (arith, number_4 a b c d form.1, form.2))
 length_form_bound x (a ∷ b ∷ c ∷ d ∷ e ∷ es) n form = absurd form
 
--- Two forms of one length are one form.
-pub length_form_same : (x y : ℕ) (e f : List ℕ) (n : ℕ) → IsLengthForm x e n → IsLengthForm y f n → (x ≡ y) × (e ≡ f)
-length_form_same x y e f n left right =
-    let l = length_form_only x e n left in
-    let r = length_form_only y f n right in
-    (l.0 ∙ sym r.0, l.1 ∙ sym r.1)
-
 -- A form means one length.
 pub length_form_value : (x : ℕ) (e : List ℕ) (m n : ℕ) → IsLengthForm x e m → IsLengthForm x e n → m ≡ n
 length_form_value x [] m n left right = left.1 ∙ sym right.1
@@ -201,45 +196,27 @@ option_form_bound x (a ∷ []) n form = (omega (arith, form.0), omega (arith, fo
 option_form_bound x (a ∷ b ∷ []) n form = (omega (arith, form.0), omega (arith, number_2 a b form.1, form.2))
 option_form_bound x (a ∷ b ∷ c ∷ es) n form = absurd form
 
--- Two forms of one option delta or length are one form.
-pub option_form_same : (x y : ℕ) (e f : List ℕ) (n : ℕ) → IsOptionForm x e n → IsOptionForm y f n → (x ≡ y) × (e ≡ f)
-option_form_same x y e f n left right =
-    let l = option_form_only x e n left in
-    let r = option_form_only y f n right in
-    (l.0 ∙ sym r.0, l.1 ∙ sym r.1)
+-- ---- a token's length
 
--- A form means one option delta or length.
-pub option_form_value : (x : ℕ) (e : List ℕ) (m n : ℕ) → IsOptionForm x e m → IsOptionForm x e n → m ≡ n
-option_form_value x [] m n left right = left.1 ∙ sym right.1
-option_form_value x (a ∷ []) m n left right = left.2 ∙ sym right.2
-option_form_value x (a ∷ b ∷ []) m n left right = left.2 ∙ sym right.2
-option_form_value x (a ∷ b ∷ c ∷ es) m n left right = absurd left
+-- no bytes extend a token's length, which is its nibble
+pub token_form_is : (x : ℕ) (e : List ℕ) (n : ℕ) → IsTokenForm x e n → (e ≡ []) × (x ≡ n) × (n ≤ greatest_token)
+token_form_is x [] n form = (refl, form.0, form.1)
+token_form_is x (a ∷ e) n form = absurd form
 
--- how many bytes extend the nibble of an option delta or length
-record IsOptionWidth (x k : ℕ) : Type 0 where
-  none : x < 13 → k ≡ 0
-  one : x ≡ 13 → k ≡ 1
-  two : x ≡ 14 → k ≡ 2
-  fits : x < 15
+-- A token's length has one form.
+pub token_form_has : (n : ℕ) → n ≤ greatest_token → IsTokenForm (token_form n).0 (token_form n).1 n
+token_form_has n small = (refl, small)
 
-option_width : (x : ℕ) (e : List ℕ) (n : ℕ) → IsOptionForm x e n → IsOptionWidth x (length e)
-option_width x [] n form = let h = form.0 in record { none = λ _. refl; one = λ is. absurd (omega arith); two = λ is. absurd (omega arith); fits = omega arith }
-option_width x (a ∷ []) n form = let h = form.0 in record { none = λ is. absurd (omega arith); one = λ _. refl; two = λ is. absurd (omega arith); fits = omega arith }
-option_width x (a ∷ b ∷ []) n form = let h = form.0 in record { none = λ is. absurd (omega arith); one = λ is. absurd (omega arith); two = λ _. refl; fits = omega arith }
-option_width x (a ∷ b ∷ c ∷ es) n form = absurd form
+pub token_form_only : (n x : ℕ) (e : List ℕ) → IsTokenForm x e n → (x ≡ (token_form n).0) × (e ≡ (token_form n).1)
+token_form_only n x e form = let t = token_form_is x e n form in (t.1, t.0)
 
-one_option_width : (x j k : ℕ) → IsOptionWidth x j → IsOptionWidth x k → j ≡ k
-one_option_width x j k left right =
-    let fits : x < 15 = left.fits in
-    elim (cases_lt x 13) [
-      | inl lt ↦ left.none lt ∙ sym (right.none lt)
-      | inr le ↦ elim (cases_eq x 13) [
-        | inl is ↦ left.one is ∙ sym (right.one is)
-        | inr not_13 ↦ left.two (omega (arith, not_13)) ∙ sym (right.two (omega (arith, not_13)))
-      ]
-    ]
+-- a head and a body, where no bytes extend the token's length
+pub head_bytes : (s : List ℕ) (code : ℕ) (token body : List ℕ) → (h : IsHeadAndBody s code token body) → s ≡ (16 * h.length_nibble + h.token_nibble) ∷ (h.extension ++ code ∷ (token ++ body))
+head_bytes s code token body h =
+    h.bytes ∙ ap (λ (e : List ℕ). (16 * h.length_nibble + h.token_nibble) ∷ (h.extension ++ code ∷ (e ++ (token ++ body)))) (token_form_is h.token_nibble h.token_extension (length token) h.token_form).0
 
--- With one nibble the extensions end at the same place.
-pub option_form_front : (x : ℕ) (e f s t : List ℕ) (m n : ℕ) → IsOptionForm x e m → IsOptionForm x f n → e ++ s ≡ f ++ t → (e ≡ f) × (s ≡ t)
-option_form_front x e f s t m n left right same =
-    front_of e f s t (one_option_width x (length e) (length f) (option_width x e m left) (option_width x f n right)) same
+-- the size that a head declares, where no bytes extend the token's length
+pub size_bytes_are : (bytes : List ℕ) (n : ℕ) → (h : IsSizeHead bytes n) → n ≡ 1 + length h.extension + 1 + h.token_nibble + h.body_length
+size_bytes_are bytes n h =
+    let t = token_form_is h.token_nibble h.token_extension h.token_length h.token_form in
+    omega (arith, h.size, t.1, ap (λ (e : List ℕ). length e) t.0)

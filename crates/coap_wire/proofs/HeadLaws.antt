@@ -11,6 +11,7 @@ use Rattle.coap_wire.specs.declared.frame.Declared.TheVariants.{Unknown, Size, B
 use Rattle.coap_wire.specs.declared.fault.FormatFault.{FormatFault}
 use Rattle.coap_wire.specs.declared.fault.FormatFault.TheVariants.{TokenLength, NotOneFrame}
 use Rattle.coap_wire.specs.Reading.{length_at, size_from, declared_of, Head, head_from, head_at}
+use Rattle.coap_wire.proofs.FormLaws.{token_form_is, head_bytes, size_bytes_are}
 use Rattle.coap_wire.proofs.NumberLaws.{option_cases, AreBytes-tail, length_again, TakesLength, length_takes}
 use Rattle.coap_wire.proofs.BodySteps.{ok_is}
 use Rattle.coap_wire.proofs.BodyLaws.{ok_or_err, nibbles}
@@ -30,9 +31,13 @@ declared_nothing : declared_of [] ≡ Unknown
 unfolding declared_of
 declared_nothing = refl
 
+-- bytes with a bad token begin with the byte that states it
+pub bad_token_first : (s : List ℕ) (bad : HasBadToken s) → s ≡ bad.3.0 ∷ bad.1
+bad_token_first s bad = bad.2 ∙ ap (λ (head : List ℕ). head ++ bad.1) bad.3.1
+
 -- a first byte that states a token of more than 8 bytes
 pub bad_token_declared : (s : List ℕ) → HasBadToken s → declared_of s ≡ BadToken
-bad_token_declared s bad = ap declared_of bad.2 ∙ declared_bad bad.0 bad.1 bad.3
+bad_token_declared s bad = ap declared_of (bad_token_first s bad) ∙ declared_bad bad.3.0 bad.1 bad.3.2
 
 -- the first byte and the extension of a size that is spelled, and what is read there
 pub record ReadsSize (s : List ℕ) (n : ℕ) : Type 0 where
@@ -51,7 +56,8 @@ size_again s n d =
     let h = d.3 in
     let x = h.length_nibble in
     let t = h.token_nibble in
-    let small : t ≤ 8 = omega (arith, h.token_form.0, h.token_form.1) in
+    let token = token_form_is t h.token_extension h.token_length h.token_form in
+    let small : t ≤ 8 = omega (arith, token.1, token.2) in
     let k = nibbles x t (omega arith) in
     record {
       first = 16 * x + t;
@@ -61,7 +67,7 @@ size_again s n d =
       bytes = d.2 ∙ ap (λ (head : List ℕ). head ++ d.1) h.head;
       token = omega (arith, k.1);
       is = rw (k.0) (length_again x h.extension h.body_length d.1 h.length_form);
-      size = rw (k.1) (omega (arith, h.size, h.token_form.0));
+      size = rw (k.1) (size_bytes_are d.0 n h);
     }
 
 size_is : (t : ℕ) (extension more : List ℕ) (k n : ℕ) → n ≡ 1 + length extension + 1 + t + k → size_from t (extension ++ more) (Some (k, more)) ≡ Size n
@@ -87,6 +93,7 @@ declares_size b s y small t =
         length_nibble = b / 16;
         extension = t.extension;
         token_nibble = b % 16;
+        token_extension = [];
         body_length = y.0;
         token_length = b % 16;
         length_form = t.form;
@@ -101,7 +108,7 @@ pub declares : (s : List ℕ) → AreBytes s → Declares s (declared_of s)
 declares [] fits = rw declared_nothing (declares_unknown [] declared_nothing)
 declares (b ∷ s) fits =
     elim (cases_lt 8 (b % 16)) [
-      | inl bad ↦ rw (declared_bad b s bad) (b, s, refl, bad)
+      | inl bad ↦ rw (declared_bad b s bad) (b ∷ [], s, refl, (b, refl, bad))
       | inr good ↦ elim (option_cases (length_at (b / 16) s)) [
         | inl y ↦
             let byte : b < 256 = fits 0 in
@@ -203,6 +210,7 @@ head_takes (b ∷ s) h fits e =
                     length_nibble = b / 16;
                     extension = l.extension;
                     token_nibble = b % 16;
+                    token_extension = [];
                     length_form = subst (λ (n : ℕ). IsLengthForm (b / 16) l.extension n) (sym p.body) l.form;
                     token_form = (sym p.token, omega (arith, p.token));
                     bytes = ap (λ (k : ℕ). k ∷ s) split ∙ ap (λ (r : List ℕ). (16 * (b / 16) + b % 16) ∷ r) l.parts ∙ ap (λ (r : List ℕ). (16 * (b / 16) + b % 16) ∷ (l.extension ++ r)) p.parts;
@@ -219,13 +227,14 @@ head_again s code token body h =
     let x = h.length_nibble in
     let t = h.token_nibble in
     let behind = code ∷ (token ++ body) in
-    let small : t ≤ 8 = omega (arith, h.token_form.0, h.token_form.1) in
+    let token_is = token_form_is t h.token_extension (length token) h.token_form in
+    let small : t ≤ 8 = omega (arith, token_is.1, token_is.2) in
     let k = nibbles x t (omega arith) in
     let is : length_at x (h.extension ++ behind) ≡ Some (length body, behind) = length_again x h.extension (length body) behind h.length_form in
-    let len : length behind ≡ 1 + t + length body = omega (arith, h.token_form.0, length-append token body) in
-    ap head_at h.bytes
+    let len : length behind ≡ 1 + t + length body = omega (arith, token_is.1, length-append token body) in
+    ap head_at (head_bytes s code token body h)
     ∙ head_good (16 * x + t) (h.extension ++ behind) (omega (arith, k.1))
-    ∙ rw (k.0, k.1, is) (head_whole t (length body) behind len ∙ ap Ok (made_is code token body t (sym h.token_form.0)))
+    ∙ rw (k.0, k.1, is) (head_whole t (length body) behind len ∙ ap Ok (made_is code token body t (sym token_is.1)))
 
 -- a frame's head can be read
 pub frame_head : (s : List ℕ) → IsFrame s → (h : Head) × (head_at s ≡ Ok h)
@@ -239,18 +248,17 @@ frame_head s f =
 -- a head and the body that it states are a frame
 pub head_frame : (s : List ℕ) (code : ℕ) (token body : List ℕ) → IsHeadAndBody s code token body → IsFrame s
 head_frame s code token body h =
-    let x = h.length_nibble in
-    let t = h.token_nibble in
-    let behind = code ∷ (token ++ body) in
-    let len : length s ≡ 1 + length h.extension + 1 + length token + length body =
-    omega (arith, ap length h.bytes, length-append h.extension behind, length-append token body) in (
-      (16 * x + t) ∷ h.extension,
+    let behind = code ∷ (h.token_extension ++ (token ++ body)) in
+    let len : length s ≡ 1 + length h.extension + 1 + length h.token_extension + length token + length body =
+    omega (arith, ap length h.bytes, length-append h.extension behind, length-append h.token_extension (token ++ body), length-append token body) in (
+      (16 * h.length_nibble + h.token_nibble) ∷ h.extension,
       behind,
       h.bytes,
       record {
-        length_nibble = x;
+        length_nibble = h.length_nibble;
         extension = h.extension;
-        token_nibble = t;
+        token_nibble = h.token_nibble;
+        token_extension = h.token_extension;
         body_length = length body;
         token_length = length token;
         length_form = h.length_form;
@@ -264,7 +272,7 @@ head_frame s code token body h =
 
 -- a first byte that states a token of more than 8 bytes is a fault
 pub bad_token_read : (s : List ℕ) → HasBadToken s → head_at s ≡ Err TokenLength
-bad_token_read s bad = ap head_at bad.2 ∙ head_bad bad.0 bad.1 bad.3
+bad_token_read s bad = ap head_at (bad_token_first s bad) ∙ head_bad bad.3.0 bad.1 bad.3.2
 
 not_one_frame : (s : List ℕ) → head_at s ≡ Err NotOneFrame → IsFirstFault s NotOneFrame
 not_one_frame s e =
@@ -287,7 +295,7 @@ head_fault (b ∷ s) e h =
     elim (cases_lt 8 (b % 16)) [
       | inl bad ↦
           let same : TokenLength ≡ e = cc (head_bad b s bad) in
-          subst (IsFirstFault (b ∷ s)) same (b, s, refl, bad)
+          subst (IsFirstFault (b ∷ s)) same (b ∷ [], s, refl, (b, refl, bad))
       | inr good ↦
           let same : NotOneFrame ≡ e = from_fault b s (length_at (b / 16) s) e (sym (head_good b s good) ∙ h) in
           subst (IsFirstFault (b ∷ s)) same (not_one_frame (b ∷ s) (h ∙ ap Err (sym same)))

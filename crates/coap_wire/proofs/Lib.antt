@@ -2,6 +2,7 @@ pub mod BodyLemmas
 mod Worked
 pub mod OptionLists
 pub mod UintLemmas
+pub mod UintLaws
 pub mod BodySteps
 pub mod NumberLaws
 pub mod FormLaws
@@ -15,6 +16,5 @@ pub mod ReadingLaws
 pub mod ParseLemmas
 pub mod StreamSteps
 pub mod StreamLaws
-pub mod TokenLaws
 pub mod FramesLaws
 pub mod RecognitionLaws

@@ -108,22 +108,6 @@ option_form_nibble x (a ∷ []) n f = omega arith
 option_form_nibble x (a ∷ b ∷ []) n f = omega arith
 option_form_nibble x (a ∷ b ∷ c ∷ es) n f = absurd f
 
--- a nibble of a length form is below 16
-pub length_form_nibble : (x : ℕ) (e : List ℕ) (n : ℕ) → IsLengthForm x e n → x < 16
-length_form_nibble x [] n f = omega arith
-length_form_nibble x (a ∷ []) n f = omega arith
-length_form_nibble x (a ∷ b ∷ []) n f = omega arith
-length_form_nibble x (a ∷ b ∷ c ∷ []) n f = absurd f
-length_form_nibble x (a ∷ b ∷ c ∷ d ∷ []) n f = omega arith
-length_form_nibble x (a ∷ b ∷ c ∷ d ∷ g ∷ es) n f = absurd f
-
--- the nibble says how many bytes extend it
-pub option_form_extension : (x : ℕ) (e : List ℕ) (n : ℕ) → IsOptionForm x e n → length e ≡ option_extension x
-option_form_extension x [] n f = rw (lt-ltb x 13 f.0) refl
-option_form_extension x (a ∷ []) n f = rw (f.0) refl
-option_form_extension x (a ∷ b ∷ []) n f = rw (f.0) refl
-option_form_extension x (a ∷ b ∷ c ∷ es) n f = absurd f
-
 -- ---- what is read is spelled so
 
 -- the option number y stands in front of s, behind the nibble x

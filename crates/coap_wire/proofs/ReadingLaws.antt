@@ -55,7 +55,7 @@ fault_is_first s f fits e =
           let behind : (body_at 0 good.0.body >>= λ body. Ok (record { code = good.0.code; token = good.0.token; options = body.0; payload = body.1 })) ≡ Err f = rw good.1 at e in
           let bad = bind_fault (body_at 0 good.0.body) (λ (body : List CoapOption × List ℕ). record { code = good.0.code; token = good.0.token; options = body.0; payload = body.1 }) f behind in
           let w = body_fault_takes 0 good.0.body f h.1 bad in
-          first_of_option s f (record { code = good.0.code; token = good.0.token; body = good.0.body; head = h.0; options = w.options; rest = w.rest; text = w.text; wrong = w.wrong })
+          first_of_option s f (record { code = good.0.code; token = good.0.token; body = good.0.body; head = h.0; options = w.options; rest = w.rest; bytes = w.bytes; wrong = w.wrong })
       | inr bad ↦
           let then : ◌≡◌ {A = Result Message FormatFault} (Err bad.0) (Err f) = rw bad.1 at e in
           subst (IsFirstFault s) (err_is {A = Message} bad.0 f then) (head_fault s bad.0 bad.1)
@@ -63,7 +63,7 @@ fault_is_first s f fits e =
 
 option_fault_read : (s : List ℕ) (f : FormatFault) → HasOptionFault s f → message_of s ≡ Err f
 unfolding message_of
-option_fault_read s f w = rw (head_again s w.code w.token w.body w.head, body_fault_again 0 w.options w.body w.rest f w.text w.wrong) refl
+option_fault_read s f w = rw (head_again s w.code w.token w.body w.head, body_fault_again 0 w.options w.body w.rest f w.bytes w.wrong) refl
 
 head_fault_read : (s : List ℕ) (f : FormatFault) → head_at s ≡ Err f → message_of s ≡ Err f
 unfolding message_of

@@ -2,9 +2,9 @@
 use Rattle.std.proofs.Common.{◌≡◌, ℕ, ◌+◌, ◌-◌, ◌*◌, ◌≤◌, List, [], ◌∷◌, ◌++◌, length, refl, sym, ap, subst, ◌∙◌, append_assoc, arith}
 use Rattle.std.specs.List.{AllByRecursion}
 use Rattle.coap_wire.specs.Message.{CoapOption, Message, AreOrdered}
-use Rattle.coap_wire.specs.Forms.{length_form, greatest_length, IsOptionForm, option_form}
-use Rattle.coap_wire.specs.Spelling.{IsOneOption, IsOptionText, payload_text, IsHeadAndBody, Spells, option_spelling, options_spelling, body_spelling, head_spelling, spelling, HasOptionForm, HasSpelling}
-use Rattle.coap_wire.proofs.FormLaws.{length_form_is, length_form_only, length_form_bound, option_form_is, option_form_only, option_form_bound}
+use Rattle.coap_wire.specs.Forms.{length_form, greatest_token, greatest_length, IsOptionForm, option_form}
+use Rattle.coap_wire.specs.Spelling.{IsOneOption, IsOptionBytes, payload_bytes, IsHeadAndBody, Spells, option_spelling, options_spelling, body_spelling, head_spelling, spelling, HasOptionForm, HasSpelling}
+use Rattle.coap_wire.proofs.FormLaws.{length_form_is, length_form_only, length_form_bound, option_form_is, option_form_only, option_form_bound, token_form_is, head_bytes}
 
 -- ---- one option
 
@@ -53,28 +53,28 @@ option_is_spelled base o tail le has = record {
 -- ---- the options
 
 -- The bytes that begin with options begin with their one spelling.
-pub options_spelled_as : (base : ℕ) (os : List CoapOption) (s tail : List ℕ) → IsOptionText base os s tail → s ≡ options_spelling base os ++ tail
-options_spelled_as base [] s tail text = text
-options_spelled_as base (o ∷ os) s tail text =
-    option_spelled_as base o s text.0 text.1
-    ∙ ap (λ (t : List ℕ). option_spelling base o ++ t) (options_spelled_as o.number os text.0 tail text.2)
+pub options_spelled_as : (base : ℕ) (os : List CoapOption) (s tail : List ℕ) → IsOptionBytes base os s tail → s ≡ options_spelling base os ++ tail
+options_spelled_as base [] s tail bytes = bytes
+options_spelled_as base (o ∷ os) s tail bytes =
+    option_spelled_as base o s bytes.0 bytes.1
+    ∙ ap (λ (t : List ℕ). option_spelling base o ++ t) (options_spelled_as o.number os bytes.0 tail bytes.2)
     ∙ sym (append_assoc (option_spelling base o) (options_spelling o.number os) tail)
 
 -- Options that are spelled stand in order.
-pub options_ordered : (base : ℕ) (os : List CoapOption) (s tail : List ℕ) → IsOptionText base os s tail → AreOrdered base os
-options_ordered base [] s tail text = tt
-options_ordered base (o ∷ os) s tail text =
-    (number_above base text.1.delta o.number text.1.number, options_ordered o.number os text.0 tail text.2)
+pub options_ordered : (base : ℕ) (os : List CoapOption) (s tail : List ℕ) → IsOptionBytes base os s tail → AreOrdered base os
+options_ordered base [] s tail bytes = tt
+options_ordered base (o ∷ os) s tail bytes =
+    (number_above base bytes.1.delta o.number bytes.1.number, options_ordered o.number os bytes.0 tail bytes.2)
 
 -- Options that are spelled have a form each.
-pub options_have_form : (base : ℕ) (os : List CoapOption) (s tail : List ℕ) → IsOptionText base os s tail → AllByRecursion HasOptionForm os
-options_have_form base [] s tail text = tt
-options_have_form base (o ∷ os) s tail text =
-    let head = text.1.head in
-    ((text.1.number_fits, (option_form_bound head.length_nibble head.length_extension (length o.value) head.length_form).1), options_have_form o.number os text.0 tail text.2)
+pub options_have_form : (base : ℕ) (os : List CoapOption) (s tail : List ℕ) → IsOptionBytes base os s tail → AllByRecursion HasOptionForm os
+options_have_form base [] s tail bytes = tt
+options_have_form base (o ∷ os) s tail bytes =
+    let head = bytes.1.head in
+    ((bytes.1.number_fits, (option_form_bound head.length_nibble head.length_extension (length o.value) head.length_form).1), options_have_form o.number os bytes.0 tail bytes.2)
 
 -- Options in order that have a form each are spelled so.
-pub options_are_spelled : (base : ℕ) (os : List CoapOption) (tail : List ℕ) → AreOrdered base os → AllByRecursion HasOptionForm os → IsOptionText base os (options_spelling base os ++ tail) tail
+pub options_are_spelled : (base : ℕ) (os : List CoapOption) (tail : List ℕ) → AreOrdered base os → AllByRecursion HasOptionForm os → IsOptionBytes base os (options_spelling base os ++ tail) tail
 options_are_spelled base [] tail ordered has = refl
 options_are_spelled base (o ∷ os) tail ordered has =
     let one = option_is_spelled base o (options_spelling o.number os ++ tail) ordered.0 has.0 in
@@ -82,8 +82,8 @@ options_are_spelled base (o ∷ os) tail ordered has =
 
 -- ---- the message
 
-head_bytes : (s : List ℕ) (x y p q code : ℕ) (e g token body : List ℕ) → x ≡ p → y ≡ q → e ≡ g → s ≡ (16 * x + y) ∷ (e ++ code ∷ (token ++ body)) → s ≡ ((16 * p + q) ∷ (g ++ code ∷ token)) ++ body
-head_bytes s x y p q code e g token body at_x at_y at_e is =
+head_joined : (s : List ℕ) (x y p q code : ℕ) (e g token body : List ℕ) → x ≡ p → y ≡ q → e ≡ g → s ≡ (16 * x + y) ∷ (e ++ code ∷ (token ++ body)) → s ≡ ((16 * p + q) ∷ (g ++ code ∷ token)) ++ body
+head_joined s x y p q code e g token body at_x at_y at_e is =
     is ∙ (λ i. (16 * at_x i + at_y i) ∷ (at_e i ++ code ∷ (token ++ body)))
     ∙ ap (λ (t : List ℕ). (16 * p + q) ∷ t) (sym (append_assoc g (code ∷ token) body))
 
@@ -91,21 +91,23 @@ head_bytes s x y p q code e g token body at_x at_y at_e is =
 pub head_spelled_as : (s : List ℕ) (code : ℕ) (token body : List ℕ) → IsHeadAndBody s code token body → s ≡ head_spelling code token (length body) ++ body
 head_spelled_as s code token body head =
     let l = length_form_only head.length_nibble head.extension (length body) head.length_form in
-    head_bytes s head.length_nibble head.token_nibble _ (length token) code head.extension _ token body l.0 head.token_form.0 l.1 head.bytes
+    let t = token_form_is head.token_nibble head.token_extension (length token) head.token_form in
+    head_joined s head.length_nibble head.token_nibble _ (length token) code head.extension _ token body l.0 t.1 l.1 (head_bytes s code token body head)
 
 -- The one head of a body, and the body, are a head and a body.
-pub head_is_spelled : (code : ℕ) (token body : List ℕ) → length token ≤ 8 → length body ≤ greatest_length → IsHeadAndBody (head_spelling code token (length body) ++ body) code token body
+pub head_is_spelled : (code : ℕ) (token body : List ℕ) → length token ≤ greatest_token → length body ≤ greatest_length → IsHeadAndBody (head_spelling code token (length body) ++ body) code token body
 head_is_spelled code token body short fits = record {
   length_nibble = (length_form (length body)).0;
   extension = (length_form (length body)).1;
   token_nibble = length token;
+  token_extension = [];
   length_form = length_form_is (length body) fits;
   token_form = (refl, short);
   bytes = ap (λ (t : List ℕ). (16 * (length_form (length body)).0 + length token) ∷ t) (append_assoc (length_form (length body)).1 (code ∷ token) body);
 }
 
 body_spelled_as : (s : List ℕ) (m : Message) → (spelled : Spells s m) → spelled.body ≡ body_spelling m
-body_spelled_as s m spelled = options_spelled_as 0 m.options spelled.body (payload_text m.payload) spelled.options
+body_spelled_as s m spelled = options_spelled_as 0 m.options spelled.body (payload_bytes m.payload) spelled.options
 
 -- The bytes that spell a message are its one spelling.
 pub spelled_as : (s : List ℕ) (m : Message) → Spells s m → s ≡ spelling m
@@ -117,9 +119,9 @@ spelled_as s m spelled =
 -- A message that bytes spell has a spelling.
 pub has_spelling : (s : List ℕ) (m : Message) → Spells s m → HasSpelling m
 has_spelling s m spelled = record {
-  token = spelled.head.token_form.1;
-  ordered = options_ordered 0 m.options spelled.body (payload_text m.payload) spelled.options;
-  each = options_have_form 0 m.options spelled.body (payload_text m.payload) spelled.options;
+  token = (token_form_is spelled.head.token_nibble spelled.head.token_extension (length m.token) spelled.head.token_form).2;
+  ordered = options_ordered 0 m.options spelled.body (payload_bytes m.payload) spelled.options;
+  each = options_have_form 0 m.options spelled.body (payload_bytes m.payload) spelled.options;
   body = subst (λ (body : List ℕ). length body ≤ greatest_length) (body_spelled_as s m spelled) (length_form_bound spelled.head.length_nibble spelled.head.extension (length spelled.body) spelled.head.length_form).1;
 }
 
@@ -129,7 +131,7 @@ unfolding spelling
 spelling_spells m has = record {
   body = body_spelling m;
   head = head_is_spelled m.code m.token (body_spelling m) has.token has.body;
-  options = options_are_spelled 0 m.options (payload_text m.payload) has.ordered has.each;
+  options = options_are_spelled 0 m.options (payload_bytes m.payload) has.ordered has.each;
 }
 
 -- All bytes that spell a message are the same.

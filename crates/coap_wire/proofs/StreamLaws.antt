@@ -1,22 +1,27 @@
 -- The laws of a stream: what it spells as a relation and as a function are one.
-use Rattle.std.proofs.Common.{◌≡◌, ℕ, zero, suc, ◌+◌, ◌*◌, ◌<◌, ◌≤◌, List, [], ◌∷◌, ◌++◌, length, take, drop, Option, Some, None, Err, inl, inr, refl, sym, ap, subst, ◌∙◌, arith}
+use Rattle.std.proofs.Common.{◌≡◌, ℕ, ◌+◌, ◌*◌, ◌<◌, ◌≤◌, List, [], ◌∷◌, ◌++◌, length, take, drop, Option, Some, None, Err, inl, inr, refl, sym, ap, subst, ◌∙◌, arith}
 use Rattle.std.specs.List.{concat}
 use Rattle.std.proofs.lemmas.Bool.{cases_lt}
 use Rattle.std.proofs.lemmas.List.{append-nil, append_assoc, get_or_append_left, get_or_past, length-append, take-append-drop, take_at, take-append-le, take_all, drop_all}
 use Rattle.coap_wire.specs.Message.{Message, AreBytes}
 use Rattle.coap_wire.specs.Forms.{IsLengthForm}
 use Rattle.coap_wire.specs.Spelling.{Spells}
-use Rattle.coap_wire.specs.Size.{IsSizeHead, IsDeclaredSize, IsFrame, HasBadToken, Declares}
+use Rattle.coap_wire.specs.Size.{IsTokenLengthFault, IsSizeHead, IsDeclaredSize, IsFrame, HasBadToken, Declares}
 use Rattle.coap_wire.specs.declared.frame.Declared.TheVariants.{Size, BadToken}
 use Rattle.coap_wire.specs.declared.fault.FormatFault.{FormatFault}
 use Rattle.coap_wire.specs.Reading.{length_at, declared_of, message_of}
-use Rattle.coap_wire.specs.Stream.{StreamFault, TokenLength, TooLarge, Format, IsTokenLengthFault, IsTooLarge, IsFormatFault, IsUnfinished, EndsWith, StandsBehind, SpellEach, AreAtMost, Splits, Beginning, Unfinished, Whole, Faulty, beginning, extension_of, size_bytes, Stream, fault_bytes, with_message, split}
+use Rattle.coap_wire.specs.declared.fault.FrameFault.{FrameFault}
+use Rattle.coap_wire.specs.declared.fault.FrameFault.TheVariants.{TokenLength, TooLarge}
+use Rattle.coap_wire.specs.Beginning.{IsTooLarge, IsFrameFault, IsUnfinished, Beginning, Unfinished, Whole, Faulty, beginning, extension_of, size_bytes, fault_size, fault_bytes}
+use Rattle.coap_wire.specs.Frames.{AreAtMost, StandsBehind}
+use Rattle.coap_wire.specs.Stream.{StreamFault, OfFrame, Format, IsFormatFault, EndsWith, SpellEach, Splits, Stream, with_message, split}
+use Rattle.coap_wire.proofs.FormLaws.{token_form_is}
 use Rattle.coap_wire.proofs.NumberLaws.{AreBytes-tail, length_again}
 use Rattle.coap_wire.proofs.BodyLaws.{result_cases, ok_or_err, nibbles}
 use Rattle.coap_wire.proofs.HeadLaws.{bad_token_declared, size_declared, declares}
 use Rattle.coap_wire.proofs.SizeLaws.{spelling_is_frame}
 use Rattle.coap_wire.proofs.ReadingLaws.{message_spelled, message_again}
-use Rattle.coap_wire.proofs.StreamSteps.{length_at_taken, size_has_bytes, begin_bad_token, begin_too_large, begin_whole, whole_parts, whole_shorter, whole_more, token_length_declared, too_large_declared, format_not_begun, faulty_more, unfinished_empty, split_unfinished, split_faulty, split_message, split_bad}
+use Rattle.coap_wire.proofs.StreamSteps.{length_at_taken, size_has_bytes, begin_bad_token, begin_too_large, begin_whole, whole_parts, whole_more, token_length_declared, too_large_declared, faulty_more, by_frames, split_unfinished, split_faulty, split_message, split_bad}
 
 -- the bytes in front are bytes
 pub AreBytes-front : (front bytes : List ℕ) → AreBytes (front ++ bytes) → AreBytes front
@@ -40,7 +45,8 @@ size_bytes_at x t e h k = rw ((nibbles x t h).0) (omega (arith, k))
 -- a size's head ends with the last byte of the length
 pub size_head_bytes : (head more : List ℕ) (n : ℕ) → IsSizeHead head n → size_bytes (head ++ more) ≡ length head
 size_head_bytes head more n h =
-    let small : h.token_nibble < 16 = omega (arith, h.token_form.0, h.token_form.1) in
+    let token = token_form_is h.token_nibble h.token_extension h.token_length h.token_form in
+    let small : h.token_nibble < 16 = omega (arith, token.1, token.2) in
     ap (λ (l : List ℕ). size_bytes (l ++ more)) h.head
     ∙ size_bytes_at h.length_nibble h.token_nibble h.extension small (length_form_extension h.length_nibble h.extension h.body_length h.length_form)
     ∙ sym (ap (λ (l : List ℕ). length l) h.head)
@@ -78,22 +84,31 @@ frame_begins M frame rest f small =
 
 -- ---- a fault at the front
 
--- a token length above 8 is a fault at the front
-pub token_length_begins : (M : ℕ) (r more : List ℕ) → IsTokenLengthFault r → beginning M (r ++ more) ≡ Faulty TokenLength
-token_length_begins M r more f = faulty_more M r more TokenLength (begin_bad_token M r (bad_token_declared r (f.0, [], f.1, f.2)))
+-- the bytes of a fault, whatever comes behind them
+token_length_bytes : (r more : List ℕ) → IsTokenLengthFault r → take 1 (r ++ more) ≡ r
+token_length_bytes r more f = take_at r more 1 (ap (λ (l : List ℕ). length l) f.1)
 
--- a size above M is a fault at the front
-pub too_large_begins : (M : ℕ) (r more : List ℕ) → IsTooLarge M r → beginning M (r ++ more) ≡ Faulty TooLarge
-too_large_begins M r more f = faulty_more M r more TooLarge (begin_too_large M r f.0 (size_declared r f.0 (r, [], sym (append-nil r), f.1)) f.2)
+too_large_bytes : (M : ℕ) (r more : List ℕ) → IsTooLarge M r → take (size_bytes (r ++ more)) (r ++ more) ≡ r
+too_large_bytes M r more f = take_at r more (size_bytes (r ++ more)) (sym (size_head_bytes r more f.0 f.1))
+
+pub fault_bytes_again : (M : ℕ) (r more : List ℕ) (fault : FrameFault) → IsFrameFault M fault r → fault_bytes fault (r ++ more) ≡ r
+fault_bytes_again M r more TokenLength f = token_length_bytes r more f
+fault_bytes_again M r more TooLarge f = too_large_bytes M r more f
+
+-- a fault at its byte is a fault at the front, whatever comes behind it
+pub fault_begins : (M : ℕ) (r more : List ℕ) (fault : FrameFault) → IsFrameFault M fault r → beginning M (r ++ more) ≡ Faulty fault
+fault_begins M r more TokenLength f = faulty_more M r more TokenLength (begin_bad_token M r (bad_token_declared r (r, [], sym (append-nil r), f)))
+fault_begins M r more TooLarge f = faulty_more M r more TooLarge (begin_too_large M r f.0 (size_declared r f.0 (r, [], sym (append-nil r), f.1)) f.2)
 
 -- the byte of a bad token length is the first one
-pub token_length_found : (M : ℕ) (s : List ℕ) → AreBytes s → beginning M s ≡ Faulty TokenLength → IsTokenLengthFault (take 1 s)
+token_length_found : (M : ℕ) (s : List ℕ) → AreBytes s → beginning M s ≡ Faulty TokenLength → IsTokenLengthFault (take 1 s)
 token_length_found M s fits e =
     let bad : HasBadToken s = bad_token_of s fits (token_length_declared M s e) in
-    (bad.0, ap (take 1) bad.2, bad.3)
+    let head : take 1 s ≡ bad.0 = ap (take 1) bad.2 ∙ token_length_bytes bad.0 bad.1 bad.3 in
+    subst (λ (r : List ℕ). IsTokenLengthFault r) (sym head) bad.3
 
 -- the byte of a size above M is the last one of the length
-pub too_large_found : (M : ℕ) (s : List ℕ) → AreBytes s → beginning M s ≡ Faulty TooLarge → IsTooLarge M (take (size_bytes s) s)
+too_large_found : (M : ℕ) (s : List ℕ) → AreBytes s → beginning M s ≡ Faulty TooLarge → IsTooLarge M (take (size_bytes s) s)
 too_large_found M s fits e =
     let f = too_large_declared M s e in
     let d : IsDeclaredSize s f.0 = size_head_of s f.0 fits f.1 in
@@ -101,18 +116,17 @@ too_large_found M s fits e =
     let head : take (size_bytes s) s ≡ d.0 = ap (take (size_bytes s)) d.2 ∙ take_at d.0 d.1 (size_bytes s) (sym len) in
     (f.0, subst (λ (r : List ℕ). IsSizeHead r f.0) (sym head) d.3, f.2)
 
--- the bytes of a fault at the front are a fault
-pub fault_found : (M : ℕ) (s : List ℕ) (fault : StreamFault) → AreBytes s → beginning M s ≡ Faulty fault → EndsWith M (fault_bytes fault s) (Some fault)
+-- the bytes of a fault at the front are that fault at its byte
+pub fault_found : (M : ℕ) (s : List ℕ) (fault : FrameFault) → AreBytes s → beginning M s ≡ Faulty fault → IsFrameFault M fault (fault_bytes fault s)
 fault_found M s TokenLength fits e = token_length_found M s fits e
 fault_found M s TooLarge fits e = too_large_found M s fits e
-fault_found M s Format fits e = absurd (format_not_begun M s e)
 
 -- ---- what is not finished
 
 two_beginnings : (M : ℕ) (s frame rest : List ℕ) → beginning M s ≡ Unfinished → beginning M s ≡ Whole frame rest → ⊥
 two_beginnings M s frame rest u e = cc
 
-fault_or_not : (M : ℕ) (s : List ℕ) (fault : StreamFault) → beginning M s ≡ Unfinished → beginning M s ≡ Faulty fault → ⊥
+fault_or_not : (M : ℕ) (s : List ℕ) (fault : FrameFault) → beginning M s ≡ Unfinished → beginning M s ≡ Faulty fault → ⊥
 fault_or_not M s fault u e = cc
 
 no_frame_in : (M : ℕ) (p q : List ℕ) → beginning M (p ++ q) ≡ Unfinished → IsFrame p → ⊥
@@ -127,16 +141,13 @@ pub unfinished_is : (M : ℕ) (s : List ℕ) → beginning M s ≡ Unfinished �
 unfinished_is M s u p q is =
     let v : beginning M (p ++ q) ≡ Unfinished = sym (ap (beginning M) is) ∙ u in (
       no_frame_in M p q v,
-      λ f. fault_or_not M (p ++ q) TokenLength v (token_length_begins M p q f),
-      λ f. fault_or_not M (p ++ q) TooLarge v (too_large_begins M p q f),
+      λ fault f. fault_or_not M (p ++ q) fault v (fault_begins M p q fault f),
     )
 
 unfinished_by : (M : ℕ) (s : List ℕ) (b : Beginning) → AreBytes s → IsUnfinished M s → beginning M s ≡ b → beginning M s ≡ Unfinished
 unfinished_by M s Unfinished fits u e = e
 unfinished_by M s (Whole frame rest) fits u e = absurd ((u frame rest (whole_parts M s frame rest e).bytes).0 (whole_frame M s frame rest fits e))
-unfinished_by M s (Faulty TokenLength) fits u e = absurd ((u (take 1 s) (drop 1 s) (sym (take-append-drop 1 s))).1 (token_length_found M s fits e))
-unfinished_by M s (Faulty TooLarge) fits u e = absurd ((u (take (size_bytes s) s) (drop (size_bytes s) s) (sym (take-append-drop (size_bytes s) s))).2 (too_large_found M s fits e))
-unfinished_by M s (Faulty Format) fits u e = absurd (format_not_begun M s e)
+unfinished_by M s (Faulty fault) fits u e = absurd ((u (fault_bytes fault s) (drop (fault_size fault s) s) (sym (take-append-drop (fault_size fault s) s))).1 fault (fault_found M s fault fits e))
 
 -- where no front is a frame or a fault, nothing stands at the front yet
 pub unfinished_again : (M : ℕ) (s : List ℕ) → AreBytes s → IsUnfinished M s → beginning M s ≡ Unfinished
@@ -147,17 +158,6 @@ unfinished_again M s fits u = unfinished_by M s (beginning M s) fits u refl
 -- the bytes are split so
 abbrev SplitsTo : ℕ → List ℕ → Stream → Type 0
 SplitsTo M s stream = Splits M s stream.messages stream.rest stream.fault
-
--- how many bytes a fault has
-abbrev fault_size : StreamFault → List ℕ → ℕ
-fault_size TokenLength s = 1
-fault_size TooLarge s = size_bytes s
-fault_size Format s = length s
-
-fault_front : (fault : StreamFault) (s : List ℕ) → fault_bytes fault s ≡ take (fault_size fault s) s
-fault_front TokenLength s = refl
-fault_front TooLarge s = refl
-fault_front Format s = sym (take_all (length s) s (omega arith))
 
 splits_unfinished : (M : ℕ) (s : List ℕ) → beginning M s ≡ Unfinished → Splits M s [] s None
 splits_unfinished M s u = record {
@@ -170,11 +170,11 @@ splits_unfinished M s u = record {
   behind = refl;
 }
 
-splits_faulty : (M : ℕ) (s : List ℕ) (fault : StreamFault) → AreBytes s → beginning M s ≡ Faulty fault → Splits M s [] (fault_bytes fault s) (Some fault)
+splits_faulty : (M : ℕ) (s : List ℕ) (fault : FrameFault) → AreBytes s → beginning M s ≡ Faulty fault → Splits M s [] (fault_bytes fault s) (Some (OfFrame fault))
 splits_faulty M s fault fits e = record {
   frames = [];
   more = drop (fault_size fault s) s;
-  whole = sym (ap (λ (r : List ℕ). r ++ drop (fault_size fault s) s) (fault_front fault s) ∙ take-append-drop (fault_size fault s) s);
+  whole = sym (take-append-drop (fault_size fault s) s);
   spelled = tt;
   small = tt;
   ended = fault_found M s fault fits e;
@@ -208,10 +208,14 @@ splits_message M frame rest m ms r fault spelled small others = record {
   behind = others.behind;
 }
 
-splits_step : (M : ℕ) (s : List ℕ) (b : Beginning) → AreBytes s → ((frame rest : List ℕ) → beginning M s ≡ Whole frame rest → AreBytes rest → SplitsTo M rest (split M rest)) → beginning M s ≡ b → SplitsTo M s (split M s)
-splits_step M s Unfinished fits again e = subst (SplitsTo M s) (sym (split_unfinished M s e)) (splits_unfinished M s e)
-splits_step M s (Faulty fault) fits again e = subst (SplitsTo M s) (sym (split_faulty M s fault e)) (splits_faulty M s fault fits e)
-splits_step M s (Whole frame rest) fits again e =
+-- where s has bytes only, what the function gives splits it
+abbrev IsSplit : ℕ → List ℕ → Type 0
+IsSplit M s = AreBytes s → SplitsTo M s (split M s)
+
+splits_step : (M : ℕ) (s : List ℕ) (b : Beginning) → ((frame rest : List ℕ) → beginning M s ≡ Whole frame rest → IsSplit M rest) → beginning M s ≡ b → IsSplit M s
+splits_step M s Unfinished again e fits = subst (SplitsTo M s) (sym (split_unfinished M s e)) (splits_unfinished M s e)
+splits_step M s (Faulty fault) again e fits = subst (SplitsTo M s) (sym (split_faulty M s fault e)) (splits_faulty M s fault fits e)
+splits_step M s (Whole frame rest) again e fits =
     let c = whole_parts M s frame rest e in
     let both : AreBytes (frame ++ rest) = subst (λ (l : List ℕ). AreBytes l) c.bytes fits in
     elim (result_cases (message_of frame)) [
@@ -224,19 +228,9 @@ splits_step M s (Whole frame rest) fits again e =
       | inr bad ↦ subst (SplitsTo M s) (sym (split_bad M s frame rest bad.0 e bad.1)) (splits_bad M s frame rest bad.0 fits e bad.1)
     ]
 
-splits_within : (turns M : ℕ) (s : List ℕ) → AreBytes s → length s ≤ turns → SplitsTo M s (split M s)
-splits_within turns M [] fits k = splits_step M [] Unfinished fits (λ frame rest e. absurd (two_beginnings M [] frame rest (unfinished_empty M) e)) (unfinished_empty M)
-splits_within zero M (b ∷ s) fits k = absurd (omega arith)
-splits_within (suc turns) M (b ∷ s) fits k =
-    splits_step M (b ∷ s) (beginning M (b ∷ s)) fits
-    (λ frame rest e behind.
-    let shorter : length rest < length (b ∷ s) = whole_shorter M (b ∷ s) frame rest e in
-    splits_within turns M rest behind (omega arith))
-    refl
-
 -- What the function gives, the relation allows.
 pub split_splits : (M : ℕ) (bytes : List ℕ) → AreBytes bytes → Splits M bytes (split M bytes).messages (split M bytes).rest (split M bytes).fault
-split_splits M bytes fits = splits_within (length bytes) M bytes fits (omega arith)
+split_splits M bytes fits = by_frames M (IsSplit M) (λ r again. splits_step M r (beginning M r) again refl) bytes fits
 
 -- ---- what the relation allows, the function gives
 
@@ -248,22 +242,13 @@ format_fault_read M r fits f =
       | inr bad ↦ bad
     ]
 
-too_large_bytes : (M : ℕ) (r more : List ℕ) → IsTooLarge M r → take (size_bytes (r ++ more)) (r ++ more) ≡ r
-too_large_bytes M r more f = take_at r more (size_bytes (r ++ more)) (sym (size_head_bytes r more f.0 f.1))
-
-token_length_bytes : (r more : List ℕ) → IsTokenLengthFault r → take 1 (r ++ more) ≡ r
-token_length_bytes r more f = take_at r more 1 (ap (λ (l : List ℕ). length l) f.1)
-
 split_ending : (M : ℕ) (rest more : List ℕ) (fault : Option StreamFault) → AreBytes (rest ++ more) → EndsWith M rest fault → StandsBehind more fault → split M (rest ++ more) ≡ record { messages = []; rest = rest; fault = fault }
 split_ending M rest more None fits ended behind =
     let is : rest ++ more ≡ rest = ap (λ (l : List ℕ). rest ++ l) behind ∙ append-nil rest in
     ap (split M) is ∙ split_unfinished M rest (unfinished_again M rest (AreBytes-front rest more fits) ended)
-split_ending M rest more (Some TokenLength) fits ended behind =
-    split_faulty M (rest ++ more) TokenLength (token_length_begins M rest more ended)
-    ∙ ap (λ (r : List ℕ). record { messages = []; rest = r; fault = Some TokenLength }) (token_length_bytes rest more ended)
-split_ending M rest more (Some TooLarge) fits ended behind =
-    split_faulty M (rest ++ more) TooLarge (too_large_begins M rest more ended)
-    ∙ ap (λ (r : List ℕ). record { messages = []; rest = r; fault = Some TooLarge }) (too_large_bytes M rest more ended)
+split_ending M rest more (Some (OfFrame fault)) fits ended behind =
+    split_faulty M (rest ++ more) fault (fault_begins M rest more fault ended)
+    ∙ ap (λ (r : List ℕ). record { messages = []; rest = r; fault = Some (OfFrame fault) }) (fault_bytes_again M rest more fault ended)
 split_ending M rest more (Some Format) fits ended behind =
     let bad = format_fault_read M rest (AreBytes-front rest more fits) ended in
     split_bad M (rest ++ more) rest more bad.0 (frame_begins M rest more ended.0 ended.1) bad.1
@@ -285,9 +270,3 @@ pub splits_split : (M : ℕ) (bytes : List ℕ) (ms : List Message) (rest : List
 splits_split M bytes ms rest fault fits s =
     ap (split M) s.whole
     ∙ split_frames M s.frames ms rest s.more fault (subst (λ (l : List ℕ). AreBytes l) s.whole fits) s.spelled s.small s.ended s.behind
-
--- Bytes are split in one way.
-pub splits_only : (M : ℕ) (bytes : List ℕ) (ms ns : List Message) (rest tail : List ℕ) (fault other : Option StreamFault) → AreBytes bytes → Splits M bytes ms rest fault → Splits M bytes ns tail other → (ms ≡ ns) × (rest ≡ tail) × (fault ≡ other)
-splits_only M bytes ms ns rest tail fault other fits left right =
-    let same = sym (splits_split M bytes ms rest fault fits left) ∙ splits_split M bytes ns tail other fits right in
-    (ap (λ (stream : Stream). stream.messages) same, ap (λ (stream : Stream). stream.rest) same, ap (λ (stream : Stream). stream.fault) same)

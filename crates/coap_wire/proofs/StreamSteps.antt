@@ -8,7 +8,11 @@ use Rattle.coap_wire.specs.declared.frame.Declared.{Declared}
 use Rattle.coap_wire.specs.declared.frame.Declared.TheVariants.{Unknown, Size, BadToken}
 use Rattle.coap_wire.specs.declared.fault.FormatFault.{FormatFault}
 use Rattle.coap_wire.specs.Reading.{one_byte_at, two_bytes_at, four_bytes_at, plus, length_at, size_from, declared_of, message_of}
-use Rattle.coap_wire.specs.Stream.{StreamFault, TokenLength, TooLarge, Format, Beginning, Unfinished, Whole, Faulty, begun, beginning, extension_of, size_bytes, Stream, fault_bytes, with_message, frame_then, begun_then, split_within, split}
+use Rattle.coap_wire.specs.declared.fault.FrameFault.{FrameFault}
+use Rattle.coap_wire.specs.declared.fault.FrameFault.TheVariants.{TokenLength, TooLarge}
+use Rattle.coap_wire.specs.Beginning.{Beginning, Unfinished, Whole, Faulty, begins_with, beginning, extension_of, size_bytes, fault_bytes}
+use Rattle.coap_wire.specs.Frames.{Frames, with_frame, frames_then, frames_within, frames_of}
+use Rattle.coap_wire.specs.Stream.{StreamFault, OfFrame, Format, Stream, with_message, frame_then, read_found, split, stream_then, gone_on, split_on}
 use Rattle.coap_wire.proofs.BodySteps.{some_is}
 use Rattle.coap_wire.proofs.NumberLaws.{option_cases}
 use Rattle.coap_wire.proofs.BodyLaws.{result_cases}
@@ -251,27 +255,27 @@ size_at_last (a ∷ s) b n u e =
 -- where no size is known yet, nothing stands at the front
 pub begin_unknown : (M : ℕ) (s : List ℕ) → declared_of s ≡ Unknown → beginning M s ≡ Unfinished
 unfolding beginning
-begin_unknown M s e = ap (begun M s) e
+begin_unknown M s e = ap (begins_with M s) e
 
 -- a token length above 8 stands at the front
 pub begin_bad_token : (M : ℕ) (s : List ℕ) → declared_of s ≡ BadToken → beginning M s ≡ Faulty TokenLength
 unfolding beginning
-begin_bad_token M s e = ap (begun M s) e
+begin_bad_token M s e = ap (begins_with M s) e
 
 -- a size above M stands at the front
 pub begin_too_large : (M : ℕ) (s : List ℕ) (n : ℕ) → declared_of s ≡ Size n → M < n → beginning M s ≡ Faulty TooLarge
 unfolding beginning
-begin_too_large M s n e h = ap (begun M s) e ∙ rw (lt-ltb M n h) refl
+begin_too_large M s n e h = ap (begins_with M s) e ∙ rw (lt-ltb M n h) refl
 
 -- where a byte of a frame of at most M bytes is missing, nothing stands at the front
 pub begin_short : (M : ℕ) (s : List ℕ) (n : ℕ) → declared_of s ≡ Size n → n ≤ M → length s < n → beginning M s ≡ Unfinished
 unfolding beginning
-begin_short M s n e h k = ap (begun M s) e ∙ rw (le-ltb M n h, lt-ltb (length s) n k) refl
+begin_short M s n e h k = ap (begins_with M s) e ∙ rw (le-ltb M n h, lt-ltb (length s) n k) refl
 
 -- a whole frame stands at the front
 pub begin_whole : (M : ℕ) (s : List ℕ) (n : ℕ) → declared_of s ≡ Size n → n ≤ M → n ≤ length s → beginning M s ≡ Whole (take n s) (drop n s)
 unfolding beginning
-begin_whole M s n e h k = ap (begun M s) e ∙ rw (le-ltb M n h, le-ltb (length s) n k) refl
+begin_whole M s n e h k = ap (begins_with M s) e ∙ rw (le-ltb M n h, le-ltb (length s) n k) refl
 
 -- a size of at most M is known, and a byte of the frame is missing
 record IsShort (M : ℕ) (s : List ℕ) : Type 0 where
@@ -290,30 +294,29 @@ record IsWhole (M : ℕ) (s frame rest : List ℕ) : Type 0 where
   behind : drop size s ≡ rest
 
 -- what is known of s where this stands at its front
-abbrev IsBegun : ℕ → List ℕ → Beginning → Type 0
-IsBegun M s Unfinished = (declared_of s ≡ Unknown) ⊎ IsShort M s
-IsBegun M s (Whole frame rest) = IsWhole M s frame rest
-IsBegun M s (Faulty TokenLength) = declared_of s ≡ BadToken
-IsBegun M s (Faulty TooLarge) = (n : ℕ) × (declared_of s ≡ Size n) × (M < n)
-IsBegun M s (Faulty Format) = ⊥
+abbrev IsFront : ℕ → List ℕ → Beginning → Type 0
+IsFront M s Unfinished = (declared_of s ≡ Unknown) ⊎ IsShort M s
+IsFront M s (Whole frame rest) = IsWhole M s frame rest
+IsFront M s (Faulty TokenLength) = declared_of s ≡ BadToken
+IsFront M s (Faulty TooLarge) = (n : ℕ) × (declared_of s ≡ Size n) × (M < n)
 
-begun_of_size : (M : ℕ) (s : List ℕ) (n : ℕ) → declared_of s ≡ Size n → IsBegun M s (beginning M s)
-begun_of_size M s n e =
+front_of_size : (M : ℕ) (s : List ℕ) (n : ℕ) → declared_of s ≡ Size n → IsFront M s (beginning M s)
+front_of_size M s n e =
     elim (cases_lt M n) [
-      | inl large ↦ subst (IsBegun M s) (sym (begin_too_large M s n e large)) (n, e, large)
+      | inl large ↦ subst (IsFront M s) (sym (begin_too_large M s n e large)) (n, e, large)
       | inr small ↦ elim (cases_lt (length s) n) [
-        | inl short ↦ subst (IsBegun M s) (sym (begin_short M s n e small short)) (inr (record { size = n; declared = e; small = small; short = short }))
-        | inr long ↦ subst (IsBegun M s) (sym (begin_whole M s n e small long)) (record { size = n; declared = e; small = small; long = long; front = refl; behind = refl })
+        | inl short ↦ subst (IsFront M s) (sym (begin_short M s n e small short)) (inr (record { size = n; declared = e; small = small; short = short }))
+        | inr long ↦ subst (IsFront M s) (sym (begin_whole M s n e small long)) (record { size = n; declared = e; small = small; long = long; front = refl; behind = refl })
       ]
     ]
 
-begun_by : (M : ℕ) (s : List ℕ) (d : Declared) → declared_of s ≡ d → IsBegun M s (beginning M s)
-begun_by M s Unknown e = subst (IsBegun M s) (sym (begin_unknown M s e)) (inl e)
-begun_by M s (Size n) e = begun_of_size M s n e
-begun_by M s BadToken e = subst (IsBegun M s) (sym (begin_bad_token M s e)) e
+front_by : (M : ℕ) (s : List ℕ) (d : Declared) → declared_of s ≡ d → IsFront M s (beginning M s)
+front_by M s Unknown e = subst (IsFront M s) (sym (begin_unknown M s e)) (inl e)
+front_by M s (Size n) e = front_of_size M s n e
+front_by M s BadToken e = subst (IsFront M s) (sym (begin_bad_token M s e)) e
 
-begun_is : (M : ℕ) (s : List ℕ) (b : Beginning) → beginning M s ≡ b → IsBegun M s b
-begun_is M s b e = subst (IsBegun M s) e (begun_by M s (declared_of s) refl)
+front_is : (M : ℕ) (s : List ℕ) (b : Beginning) → beginning M s ≡ b → IsFront M s b
+front_is M s b e = subst (IsFront M s) e (front_by M s (declared_of s) refl)
 
 -- nothing stands at the front of no bytes
 pub unfinished_empty : (M : ℕ) → beginning M [] ≡ Unfinished
@@ -329,7 +332,7 @@ pub record IsCut (M : ℕ) (s frame rest : List ℕ) : Type 0 where
 -- a frame and what stands behind it
 pub whole_parts : (M : ℕ) (s frame rest : List ℕ) → beginning M s ≡ Whole frame rest → IsCut M s frame rest
 whole_parts M s frame rest e =
-    let w : IsWhole M s frame rest = begun_is M s (Whole frame rest) e in
+    let w : IsWhole M s frame rest = front_is M s (Whole frame rest) e in
     let len : length frame ≡ w.size = sym (ap (λ (l : List ℕ). length l) w.front) ∙ length-take-le w.size s w.long in
     record {
       bytes = sym (take-append-drop w.size s) ∙ (λ i. w.front i ++ w.behind i);
@@ -346,30 +349,25 @@ whole_shorter M s frame rest e =
 
 -- where the front has a token length above 8, it is declared so
 pub token_length_declared : (M : ℕ) (s : List ℕ) → beginning M s ≡ Faulty TokenLength → declared_of s ≡ BadToken
-token_length_declared M s e = begun_is M s (Faulty TokenLength) e
+token_length_declared M s e = front_is M s (Faulty TokenLength) e
 
 -- where the front is too large, its size is declared
 pub too_large_declared : (M : ℕ) (s : List ℕ) → beginning M s ≡ Faulty TooLarge → (n : ℕ) × (declared_of s ≡ Size n) × (M < n)
-too_large_declared M s e = begun_is M s (Faulty TooLarge) e
-
--- the front alone is never a frame that spells no message
-pub format_not_begun : (M : ℕ) (s : List ℕ) → beginning M s ≡ Faulty Format → ⊥
-format_not_begun M s e = begun_is M s (Faulty Format) e
+too_large_declared M s e = front_is M s (Faulty TooLarge) e
 
 -- a whole frame stays whole, whatever comes behind it
 pub whole_more : (M : ℕ) (s t frame rest : List ℕ) → beginning M s ≡ Whole frame rest → beginning M (s ++ t) ≡ Whole frame (rest ++ t)
 whole_more M s t frame rest e =
-    let w : IsWhole M s frame rest = begun_is M s (Whole frame rest) e in
+    let w : IsWhole M s frame rest = front_is M s (Whole frame rest) e in
     begin_whole M (s ++ t) w.size (declared_more s t w.size w.declared) w.small (omega (arith, length-append s t, w.long))
     ∙ rw (take-append-le w.size s t w.long, drop-append-le w.size s t w.long) (λ i. Whole (w.front i) (w.behind i ++ t))
 
 -- a fault stays the fault, whatever comes behind it
-pub faulty_more : (M : ℕ) (s t : List ℕ) (fault : StreamFault) → beginning M s ≡ Faulty fault → beginning M (s ++ t) ≡ Faulty fault
-faulty_more M s t TokenLength e = begin_bad_token M (s ++ t) (bad_token_more s t (begun_is M s (Faulty TokenLength) e))
+pub faulty_more : (M : ℕ) (s t : List ℕ) (fault : FrameFault) → beginning M s ≡ Faulty fault → beginning M (s ++ t) ≡ Faulty fault
+faulty_more M s t TokenLength e = begin_bad_token M (s ++ t) (bad_token_more s t (front_is M s (Faulty TokenLength) e))
 faulty_more M s t TooLarge e =
-    let f : (n : ℕ) × (declared_of s ≡ Size n) × (M < n) = begun_is M s (Faulty TooLarge) e in
+    let f : (n : ℕ) × (declared_of s ≡ Size n) × (M < n) = front_is M s (Faulty TooLarge) e in
     begin_too_large M (s ++ t) f.0 (declared_more s t f.0 f.1) f.2
-faulty_more M s t Format e = absurd (begun_is M s (Faulty Format) e)
 
 whole_alone : (M : ℕ) (s frame rest : List ℕ) → IsCut M s frame rest → beginning M s ≡ Whole frame rest → (d : Declared) → declared_of frame ≡ d → beginning M frame ≡ Whole frame []
 whole_alone M s [] rest c e d is = absurd (omega (arith, c.some))
@@ -395,18 +393,17 @@ bad_has_byte : (s : List ℕ) → declared_of s ≡ BadToken → 1 ≤ length s
 bad_has_byte s e = declared_some s (λ u. unknown_not_bad (sym u ∙ e))
 
 -- the byte of a fault stands among the bytes at which it was known
-pub fault_bytes_more : (M : ℕ) (s t : List ℕ) (fault : StreamFault) → beginning M s ≡ Faulty fault → fault_bytes fault (s ++ t) ≡ fault_bytes fault s
-fault_bytes_more M s t TokenLength e = take-append-le 1 s t (bad_has_byte s (begun_is M s (Faulty TokenLength) e))
+pub fault_bytes_more : (M : ℕ) (s t : List ℕ) (fault : FrameFault) → beginning M s ≡ Faulty fault → fault_bytes fault (s ++ t) ≡ fault_bytes fault s
+fault_bytes_more M s t TokenLength e = take-append-le 1 s t (bad_has_byte s (front_is M s (Faulty TokenLength) e))
 fault_bytes_more M s t TooLarge e =
-    let f : (n : ℕ) × (declared_of s ≡ Size n) × (M < n) = begun_is M s (Faulty TooLarge) e in
+    let f : (n : ℕ) × (declared_of s ≡ Size n) × (M < n) = front_is M s (Faulty TooLarge) e in
     let h = size_has_bytes s f.0 f.1 in
     ap (λ (n : ℕ). take n (s ++ t)) (size_bytes_more s t (omega (arith, size_bytes_positive s f.0 f.1))) ∙ take-append-le (size_bytes s) s t h.1
-fault_bytes_more M s t Format e = absurd (begun_is M s (Faulty Format) e)
 
 last_is_size : (M : ℕ) (s : List ℕ) (b size : ℕ) → beginning M s ≡ Unfinished → declared_of (s ++ b ∷ []) ≡ Size size → size ≤ length (s ++ b ∷ []) → size ≡ length (s ++ b ∷ [])
 last_is_size M s b size u d long =
     let len : length (s ++ b ∷ []) ≡ length s + 1 = length-append s (b ∷ []) in
-    elim (begun_is M s Unfinished u) [
+    elim (front_is M s Unfinished u) [
       | inl unknown ↦ absurd (omega (arith, size_at_last s b size unknown d, size_has_bytes (s ++ b ∷ []) size d))
       | inr short ↦
           let same : short.size ≡ size = same_size short.size size (sym (declared_more s (b ∷ []) short.size short.declared) ∙ d) in
@@ -416,15 +413,12 @@ last_is_size M s b size u d long =
 -- a frame that one more byte completes ends with that byte
 pub whole_at_last : (M : ℕ) (s : List ℕ) (b : ℕ) (frame rest : List ℕ) → beginning M s ≡ Unfinished → beginning M (s ++ b ∷ []) ≡ Whole frame rest → (rest ≡ []) × (frame ≡ s ++ b ∷ [])
 whole_at_last M s b frame rest u e =
-    let w : IsWhole M (s ++ b ∷ []) frame rest = begun_is M (s ++ b ∷ []) (Whole frame rest) e in
+    let w : IsWhole M (s ++ b ∷ []) frame rest = front_is M (s ++ b ∷ []) (Whole frame rest) e in
     let size = last_is_size M s b w.size u w.declared w.long in
     (sym w.behind ∙ drop_all w.size (s ++ b ∷ []) (omega arith), sym w.front ∙ take_all w.size (s ++ b ∷ []) (omega arith))
 
-unfinished_not_faulty : (M : ℕ) (s : List ℕ) (fault : StreamFault) → beginning M s ≡ Unfinished → beginning M s ≡ Faulty fault → ⊥
+unfinished_not_faulty : (M : ℕ) (s : List ℕ) (fault : FrameFault) → beginning M s ≡ Unfinished → beginning M s ≡ Faulty fault → ⊥
 unfinished_not_faulty M s fault u e = cc
-
-unfinished_not_whole : (M : ℕ) (s frame rest : List ℕ) → beginning M s ≡ Unfinished → beginning M s ≡ Whole frame rest → ⊥
-unfinished_not_whole M s frame rest u e = cc
 
 bad_at_last : (M : ℕ) (s : List ℕ) (b : ℕ) → beginning M s ≡ Unfinished → declared_of (s ++ b ∷ []) ≡ BadToken → take 1 (s ++ b ∷ []) ≡ s ++ b ∷ []
 bad_at_last M [] b u e = refl
@@ -434,7 +428,7 @@ bad_at_last M (a ∷ s) b u e =
 
 large_at_last : (M : ℕ) (s : List ℕ) (b n : ℕ) → beginning M s ≡ Unfinished → declared_of (s ++ b ∷ []) ≡ Size n → M < n → take (size_bytes (s ++ b ∷ [])) (s ++ b ∷ []) ≡ s ++ b ∷ []
 large_at_last M s b n u e large =
-    elim (begun_is M s Unfinished u) [
+    elim (front_is M s Unfinished u) [
       | inl unknown ↦ take_all (size_bytes (s ++ b ∷ [])) (s ++ b ∷ []) (omega (arith, size_at_last s b n unknown e))
       | inr short ↦
           let same : short.size ≡ n = same_size short.size n (sym (declared_more s (b ∷ []) short.size short.declared) ∙ e) in
@@ -442,12 +436,11 @@ large_at_last M s b n u e large =
     ]
 
 -- a fault that one more byte makes known is known at that byte
-pub fault_at_last : (M : ℕ) (s : List ℕ) (b : ℕ) (fault : StreamFault) → beginning M s ≡ Unfinished → beginning M (s ++ b ∷ []) ≡ Faulty fault → fault_bytes fault (s ++ b ∷ []) ≡ s ++ b ∷ []
-fault_at_last M s b TokenLength u e = bad_at_last M s b u (begun_is M (s ++ b ∷ []) (Faulty TokenLength) e)
+pub fault_at_last : (M : ℕ) (s : List ℕ) (b : ℕ) (fault : FrameFault) → beginning M s ≡ Unfinished → beginning M (s ++ b ∷ []) ≡ Faulty fault → fault_bytes fault (s ++ b ∷ []) ≡ s ++ b ∷ []
+fault_at_last M s b TokenLength u e = bad_at_last M s b u (front_is M (s ++ b ∷ []) (Faulty TokenLength) e)
 fault_at_last M s b TooLarge u e =
-    let f : (n : ℕ) × (declared_of (s ++ b ∷ []) ≡ Size n) × (M < n) = begun_is M (s ++ b ∷ []) (Faulty TooLarge) e in
+    let f : (n : ℕ) × (declared_of (s ++ b ∷ []) ≡ Size n) × (M < n) = front_is M (s ++ b ∷ []) (Faulty TooLarge) e in
     large_at_last M s b f.0 u f.1 f.2
-fault_at_last M s b Format u e = refl
 
 extension_by_small : (small one two : Bool) → cond small 0 (cond one 1 (cond two 2 4)) ≤ 4
 extension_by_small true one two = omega arith
@@ -468,7 +461,7 @@ unknown_small (b ∷ s) e =
 -- what is not finished has fewer bytes than a length takes, or than the greatest frame
 pub unfinished_small : (M : ℕ) (s : List ℕ) → beginning M s ≡ Unfinished → (length s < 5) ⊎ (length s < M)
 unfinished_small M s u =
-    elim (begun_is M s Unfinished u) [
+    elim (front_is M s Unfinished u) [
       | inl unknown ↦ inl (unknown_small s unknown)
       | inr short ↦ inr (omega (arith, short.small, short.short))
     ]
@@ -481,76 +474,106 @@ unfinished_below M s h u =
       | inr below ↦ below
     ]
 
+-- what is not finished where frames of M bytes are taken is not finished where greater ones are
+pub unfinished_larger : (M N : ℕ) (s : List ℕ) → M ≤ N → beginning M s ≡ Unfinished → beginning N s ≡ Unfinished
+unfinished_larger M N s h u =
+    elim (front_is M s Unfinished u) [
+      | inl unknown ↦ begin_unknown N s unknown
+      | inr short ↦ begin_short N s short.size short.declared (omega (arith, short.small)) short.short
+    ]
+
 -- ---- the turns do not matter
 
-frame_same : (go hop : List ℕ → Stream) (frame rest : List ℕ) (r : Result Message FormatFault) → go rest ≡ hop rest → frame_then go frame rest r ≡ frame_then hop frame rest r
-frame_same go hop frame rest (Ok m) h = ap (with_message m) h
-frame_same go hop frame rest (Err e) h = refl
-
--- two readers that agree behind each frame
-then_same : (go hop : List ℕ → Stream) (s : List ℕ) (b : Beginning) → ((frame rest : List ℕ) → b ≡ Whole frame rest → go rest ≡ hop rest) → begun_then go s b ≡ begun_then hop s b
+-- two searches that agree behind each frame
+then_same : (go hop : List ℕ → Frames) (s : List ℕ) (b : Beginning) → ((frame rest : List ℕ) → b ≡ Whole frame rest → go rest ≡ hop rest) → frames_then go s b ≡ frames_then hop s b
 then_same go hop s Unfinished h = refl
 then_same go hop s (Faulty fault) h = refl
-then_same go hop s (Whole frame rest) h = frame_same go hop frame rest (message_of frame) (h frame rest refl)
+then_same go hop s (Whole frame rest) h = ap (with_frame frame) (h frame rest refl)
 
-within_end : (turns M : ℕ) → split_within turns M [] ≡ record { messages = []; rest = []; fault = None }
-unfolding split_within
+within_end : (turns M : ℕ) → frames_within turns M [] ≡ record { frames = []; rest = []; fault = None }
+unfolding frames_within
 within_end zero M = refl
-within_end (suc turns) M = ap (begun_then (split_within turns M) []) (unfinished_empty M)
+within_end (suc turns) M = ap (frames_then (frames_within turns M) []) (unfinished_empty M)
 
-within_same : (m n M : ℕ) (s : List ℕ) → length s ≤ m → length s ≤ n → split_within m M s ≡ split_within n M s
-unfolding split_within
+within_same : (m n M : ℕ) (s : List ℕ) → length s ≤ m → length s ≤ n → frames_within m M s ≡ frames_within n M s
+unfolding frames_within
 within_same m n M [] p q = within_end m M ∙ sym (within_end n M)
 within_same zero n M (b ∷ s) p q = absurd (omega arith)
 within_same (suc m) zero M (b ∷ s) p q = absurd (omega arith)
 within_same (suc m) (suc n) M (b ∷ s) p q =
-    then_same (split_within m M) (split_within n M) (b ∷ s) (beginning M (b ∷ s))
+    then_same (frames_within m M) (frames_within n M) (b ∷ s) (beginning M (b ∷ s))
     (λ frame rest e.
     let k : length rest < length (b ∷ s) = whole_shorter M (b ∷ s) frame rest e in
     within_same m n M rest (omega arith) (omega arith))
 
 -- no more turns are needed than there are bytes
-pub split_enough : (turns M : ℕ) (s : List ℕ) → length s ≤ turns → split_within turns M s ≡ split M s
-unfolding split
-split_enough turns M s h = within_same turns (length s) M s h (omega arith)
+pub frames_enough : (turns M : ℕ) (s : List ℕ) → length s ≤ turns → frames_within turns M s ≡ frames_of M s
+unfolding frames_of
+frames_enough turns M s h = within_same turns (length s) M s h (omega arith)
 
--- ---- the steps
+-- ---- the frames, step by step
+
+-- the frames of bytes are what stands at their front, and then the frames of the others
+pub frames_step : (M : ℕ) (s : List ℕ) → frames_of M s ≡ frames_then (frames_of M) s (beginning M s)
+unfolding frames_within
+frames_step M s =
+    sym (frames_enough (suc (length s)) M s (omega arith))
+    ∙ then_same (frames_within (length s) M) (frames_of M) s (beginning M s)
+    (λ frame rest e. frames_enough (length s) M rest (omega (arith, whole_shorter M s frame rest e)))
+
+-- what is not finished is left
+pub frames_unfinished : (M : ℕ) (s : List ℕ) → beginning M s ≡ Unfinished → frames_of M s ≡ record { frames = []; rest = s; fault = None }
+frames_unfinished M s e = frames_step M s ∙ ap (frames_then (frames_of M) s) e
+
+-- a fault ends the frames
+pub frames_faulty : (M : ℕ) (s : List ℕ) (fault : FrameFault) → beginning M s ≡ Faulty fault → frames_of M s ≡ record { frames = []; rest = fault_bytes fault s; fault = Some fault }
+frames_faulty M s fault e = frames_step M s ∙ ap (frames_then (frames_of M) s) e
+
+-- a frame, and then the frames of the others
+pub frames_whole : (M : ℕ) (s frame rest : List ℕ) → beginning M s ≡ Whole frame rest → frames_of M s ≡ with_frame frame (frames_of M rest)
+frames_whole M s frame rest e = frames_step M s ∙ ap (frames_then (frames_of M) s) e
+
+-- ---- what holds of all bytes, frame by frame
+
+by_turns : (turns M : ℕ) (P : List ℕ → Type 0) → ((s : List ℕ) → ((frame rest : List ℕ) → beginning M s ≡ Whole frame rest → P rest) → P s) → (s : List ℕ) → length s ≤ turns → P s
+by_turns zero M P step s k = step s (λ frame rest e. absurd (omega (arith, k, whole_shorter M s frame rest e)))
+by_turns (suc turns) M P step s k = step s (λ frame rest e. by_turns turns M P step rest (omega (arith, k, whole_shorter M s frame rest e)))
+
+-- what holds of bytes wherever it holds behind the frame at their front holds of all bytes
+pub by_frames : (M : ℕ) (P : List ℕ → Type 0) → ((s : List ℕ) → ((frame rest : List ℕ) → beginning M s ≡ Whole frame rest → P rest) → P s) → (s : List ℕ) → P s
+by_frames M P step s = by_turns (length s) M P step s (omega arith)
+
+-- ---- the stream, step by step
+
+split_by : (M : ℕ) (s : List ℕ) (b : Beginning) → beginning M s ≡ b → split M s ≡ stream_then (split M) s b
+unfolding split
+split_by M s Unfinished e = ap read_found (frames_unfinished M s e)
+split_by M s (Faulty fault) e = ap read_found (frames_faulty M s fault e)
+split_by M s (Whole frame rest) e = ap read_found (frames_whole M s frame rest e)
 
 -- what bytes spell is what stands at their front, and then what the others spell
-pub split_step : (M : ℕ) (s : List ℕ) → split M s ≡ begun_then (split M) s (beginning M s)
-unfolding split_within
-split_step M s =
-    sym (split_enough (suc (length s)) M s (omega arith))
-    ∙ then_same (split_within (length s) M) (split M) s (beginning M s)
-    (λ frame rest e. split_enough (length s) M rest (omega (arith, whole_shorter M s frame rest e)))
+pub split_step : (M : ℕ) (s : List ℕ) → split M s ≡ stream_then (split M) s (beginning M s)
+split_step M s = split_by M s (beginning M s) refl
 
 -- what is not finished is left
 pub split_unfinished : (M : ℕ) (s : List ℕ) → beginning M s ≡ Unfinished → split M s ≡ record { messages = []; rest = s; fault = None }
-split_unfinished M s e = split_step M s ∙ ap (begun_then (split M) s) e
+split_unfinished M s e = split_by M s Unfinished e
 
 -- a fault ends the stream
-pub split_faulty : (M : ℕ) (s : List ℕ) (fault : StreamFault) → beginning M s ≡ Faulty fault → split M s ≡ record { messages = []; rest = fault_bytes fault s; fault = Some fault }
-split_faulty M s fault e = split_step M s ∙ ap (begun_then (split M) s) e
+pub split_faulty : (M : ℕ) (s : List ℕ) (fault : FrameFault) → beginning M s ≡ Faulty fault → split M s ≡ record { messages = []; rest = fault_bytes fault s; fault = Some (OfFrame fault) }
+split_faulty M s fault e = split_by M s (Faulty fault) e
 
 -- a frame that spells a message, and then what the others spell
 pub split_message : (M : ℕ) (s frame rest : List ℕ) (m : Message) → beginning M s ≡ Whole frame rest → message_of frame ≡ Ok m → split M s ≡ with_message m (split M rest)
-split_message M s frame rest m e is = split_step M s ∙ ap (begun_then (split M) s) e ∙ ap (frame_then (split M) frame rest) is
+split_message M s frame rest m e is = split_by M s (Whole frame rest) e ∙ ap (λ (r : Result Message FormatFault). frame_then frame r (split M rest)) is
 
 -- a frame that spells none ends the stream
 pub split_bad : (M : ℕ) (s frame rest : List ℕ) (e : FormatFault) → beginning M s ≡ Whole frame rest → message_of frame ≡ Err e → split M s ≡ record { messages = []; rest = frame; fault = Some Format }
-split_bad M s frame rest e is bad = split_step M s ∙ ap (begun_then (split M) s) is ∙ ap (frame_then (split M) frame rest) bad
+split_bad M s frame rest e is bad = split_by M s (Whole frame rest) is ∙ ap (λ (r : Result Message FormatFault). frame_then frame r (split M rest)) bad
 
--- ---- the law of going on
+-- ---- going on
 
--- what the bytes t spell behind a stream that has no fault
-abbrev resumed : ℕ → Stream → List ℕ → Stream
-resumed M first t = record {
-  messages = first.messages ++ (split M (first.rest ++ t)).messages;
-  rest = (split M (first.rest ++ t)).rest;
-  fault = (split M (first.rest ++ t)).fault;
-}
-
-fault_of_faulty : (M : ℕ) (s : List ℕ) (fault : StreamFault) → beginning M s ≡ Faulty fault → (split M s).fault ≡ Some fault
+fault_of_faulty : (M : ℕ) (s : List ℕ) (fault : FrameFault) → beginning M s ≡ Faulty fault → (split M s).fault ≡ Some (OfFrame fault)
 fault_of_faulty M s fault e = ap (λ (stream : Stream). stream.fault) (split_faulty M s fault e)
 
 fault_of_bad : (M : ℕ) (s frame rest : List ℕ) (e : FormatFault) → beginning M s ≡ Whole frame rest → message_of frame ≡ Err e → (split M s).fault ≡ Some Format
@@ -562,35 +585,48 @@ fault_of_message M s frame rest m e is = ap (λ (stream : Stream). stream.fault)
 no_fault : (o : Option StreamFault) (fault : StreamFault) → o ≡ Some fault → o ≡ None → ⊥
 no_fault o fault e h = none_or_some fault (sym h ∙ e)
 
-more_step : (M : ℕ) (s t : List ℕ) (b : Beginning) → ((frame rest : List ℕ) → beginning M s ≡ Whole frame rest → (split M rest).fault ≡ None → split M (rest ++ t) ≡ resumed M (split M rest) t) → beginning M s ≡ b → (split M s).fault ≡ None → split M (s ++ t) ≡ resumed M (split M s) t
-more_step M s t Unfinished again e h = ap (λ (first : Stream). resumed M first t) (sym (split_unfinished M s e))
-more_step M s t (Faulty fault) again e h = absurd (no_fault (split M s).fault fault (fault_of_faulty M s fault e) h)
-more_step M s t (Whole frame rest) again e h =
+-- a message in front of a stream stands in front of the stream gone on
+message_on : (m : Message) (stream others : Stream) (fault : Option StreamFault) → gone_on (with_message m stream) fault others ≡ with_message m (gone_on stream fault others)
+message_on m stream others None = refl
+message_on m stream others (Some fault) = refl
+
+-- the stream of s goes on with t
+abbrev GoesOn : ℕ → List ℕ → List ℕ → Type 0
+GoesOn M t s = split M (s ++ t) ≡ split_on M (split M s) t
+
+on_step : (M : ℕ) (s t : List ℕ) (b : Beginning) → ((frame rest : List ℕ) → beginning M s ≡ Whole frame rest → GoesOn M t rest) → beginning M s ≡ b → GoesOn M t s
+on_step M s t Unfinished again e = sym (ap (λ (first : Stream). split_on M first t) (split_unfinished M s e))
+on_step M s t (Faulty fault) again e =
+    split_faulty M (s ++ t) fault (faulty_more M s t fault e)
+    ∙ ap (λ (r : List ℕ). record { messages = []; rest = r; fault = Some (OfFrame fault) }) (fault_bytes_more M s t fault e)
+    ∙ sym (ap (λ (first : Stream). split_on M first t) (split_faulty M s fault e))
+on_step M s t (Whole frame rest) again e =
     elim (result_cases (message_of frame)) [
       | inl good ↦
           split_message M (s ++ t) frame (rest ++ t) good.0 (whole_more M s t frame rest e) good.1
-          ∙ ap (with_message good.0) (again frame rest e (sym (fault_of_message M s frame rest good.0 e good.1) ∙ h))
-          ∙ ap (λ (first : Stream). resumed M first t) (sym (split_message M s frame rest good.0 e good.1))
-      | inr bad ↦ absurd (no_fault (split M s).fault Format (fault_of_bad M s frame rest bad.0 e bad.1) h)
+          ∙ ap (with_message good.0) (again frame rest e)
+          ∙ sym (message_on good.0 (split M rest) (split M ((split M rest).rest ++ t)) (split M rest).fault)
+          ∙ sym (ap (λ (first : Stream). split_on M first t) (split_message M s frame rest good.0 e good.1))
+      | inr bad ↦
+          split_bad M (s ++ t) frame (rest ++ t) bad.0 (whole_more M s t frame rest e) bad.1
+          ∙ sym (ap (λ (first : Stream). split_on M first t) (split_bad M s frame rest bad.0 e bad.1))
     ]
 
-more_within : (turns M : ℕ) (s t : List ℕ) → length s ≤ turns → (split M s).fault ≡ None → split M (s ++ t) ≡ resumed M (split M s) t
-more_within turns M [] t k h = more_step M [] t Unfinished (λ frame rest e. absurd (unfinished_not_whole M [] frame rest (unfinished_empty M) e)) (unfinished_empty M) h
-more_within zero M (b ∷ s) t k h = absurd (omega arith)
-more_within (suc turns) M (b ∷ s) t k h =
-    more_step M (b ∷ s) t (beginning M (b ∷ s))
-    (λ frame rest e.
-    let shorter : length rest < length (b ∷ s) = whole_shorter M (b ∷ s) frame rest e in
-    more_within turns M rest t (omega arith))
-    refl h
+-- Where bytes are cut does not matter.
+pub split_goes_on : (M : ℕ) (s more : List ℕ) → split M (s ++ more) ≡ split_on M (split M s) more
+split_goes_on M s more = by_frames M (GoesOn M more) (λ r again. on_step M r more (beginning M r) again refl) s
 
 -- What bytes spell goes on from the messages and the rest that the first of them spell, where these have no fault.
 pub split_more : (M : ℕ) (s t : List ℕ) → (split M s).fault ≡ None → split M (s ++ t) ≡ record { messages = (split M s).messages ++ (split M ((split M s).rest ++ t)).messages; rest = (split M ((split M s).rest ++ t)).rest; fault = (split M ((split M s).rest ++ t)).fault }
-split_more M s t h = more_within (length s) M s t (omega arith) h
+split_more M s t h = split_goes_on M s t ∙ ap (λ (fault : Option StreamFault). gone_on (split M s) fault (split M ((split M s).rest ++ t))) h
 
-rest_step : (M : ℕ) (s : List ℕ) (b : Beginning) → ((frame rest : List ℕ) → beginning M s ≡ Whole frame rest → (split M rest).fault ≡ None → beginning M (split M rest).rest ≡ Unfinished) → beginning M s ≡ b → (split M s).fault ≡ None → beginning M (split M s).rest ≡ Unfinished
+-- where s has no fault, what is left of it is not finished
+abbrev LeavesUnfinished : ℕ → List ℕ → Type 0
+LeavesUnfinished M s = (split M s).fault ≡ None → beginning M (split M s).rest ≡ Unfinished
+
+rest_step : (M : ℕ) (s : List ℕ) (b : Beginning) → ((frame rest : List ℕ) → beginning M s ≡ Whole frame rest → LeavesUnfinished M rest) → beginning M s ≡ b → LeavesUnfinished M s
 rest_step M s Unfinished again e h = ap (λ (stream : Stream). beginning M stream.rest) (split_unfinished M s e) ∙ e
-rest_step M s (Faulty fault) again e h = absurd (no_fault (split M s).fault fault (fault_of_faulty M s fault e) h)
+rest_step M s (Faulty fault) again e h = absurd (no_fault (split M s).fault (OfFrame fault) (fault_of_faulty M s fault e) h)
 rest_step M s (Whole frame rest) again e h =
     elim (result_cases (message_of frame)) [
       | inl good ↦
@@ -599,47 +635,6 @@ rest_step M s (Whole frame rest) again e h =
       | inr bad ↦ absurd (no_fault (split M s).fault Format (fault_of_bad M s frame rest bad.0 e bad.1) h)
     ]
 
-rest_within : (turns M : ℕ) (s : List ℕ) → length s ≤ turns → (split M s).fault ≡ None → beginning M (split M s).rest ≡ Unfinished
-rest_within turns M [] k h = rest_step M [] Unfinished (λ frame rest e. absurd (unfinished_not_whole M [] frame rest (unfinished_empty M) e)) (unfinished_empty M) h
-rest_within zero M (b ∷ s) k h = absurd (omega arith)
-rest_within (suc turns) M (b ∷ s) k h =
-    rest_step M (b ∷ s) (beginning M (b ∷ s))
-    (λ frame rest e.
-    let shorter : length rest < length (b ∷ s) = whole_shorter M (b ∷ s) frame rest e in
-    rest_within turns M rest (omega arith))
-    refl h
-
 -- Where there is no fault, what is left is not finished.
 pub split_rest : (M : ℕ) (s : List ℕ) → (split M s).fault ≡ None → beginning M (split M s).rest ≡ Unfinished
-split_rest M s h = rest_within (length s) M s (omega arith) h
-
-stops_step : (M : ℕ) (s t : List ℕ) (b : Beginning) (fault : StreamFault) → ((frame rest : List ℕ) → beginning M s ≡ Whole frame rest → (split M rest).fault ≡ Some fault → split M (rest ++ t) ≡ split M rest) → beginning M s ≡ b → (split M s).fault ≡ Some fault → split M (s ++ t) ≡ split M s
-stops_step M s t Unfinished fault again e h = absurd (no_fault (split M s).fault fault h (ap (λ (stream : Stream). stream.fault) (split_unfinished M s e)))
-stops_step M s t (Faulty first) fault again e h =
-    split_faulty M (s ++ t) first (faulty_more M s t first e)
-    ∙ ap (λ (r : List ℕ). record { messages = []; rest = r; fault = Some first }) (fault_bytes_more M s t first e)
-    ∙ sym (split_faulty M s first e)
-stops_step M s t (Whole frame rest) fault again e h =
-    elim (result_cases (message_of frame)) [
-      | inl good ↦
-          split_message M (s ++ t) frame (rest ++ t) good.0 (whole_more M s t frame rest e) good.1
-          ∙ ap (with_message good.0) (again frame rest e (sym (fault_of_message M s frame rest good.0 e good.1) ∙ h))
-          ∙ sym (split_message M s frame rest good.0 e good.1)
-      | inr bad ↦
-          split_bad M (s ++ t) frame (rest ++ t) bad.0 (whole_more M s t frame rest e) bad.1
-          ∙ sym (split_bad M s frame rest bad.0 e bad.1)
-    ]
-
-stops_within : (turns M : ℕ) (s t : List ℕ) (fault : StreamFault) → length s ≤ turns → (split M s).fault ≡ Some fault → split M (s ++ t) ≡ split M s
-stops_within turns M [] t fault k h = stops_step M [] t Unfinished fault (λ frame rest e. absurd (unfinished_not_whole M [] frame rest (unfinished_empty M) e)) (unfinished_empty M) h
-stops_within zero M (b ∷ s) t fault k h = absurd (omega arith)
-stops_within (suc turns) M (b ∷ s) t fault k h =
-    stops_step M (b ∷ s) t (beginning M (b ∷ s)) fault
-    (λ frame rest e.
-    let shorter : length rest < length (b ∷ s) = whole_shorter M (b ∷ s) frame rest e in
-    stops_within turns M rest t fault (omega arith))
-    refl h
-
--- Behind a fault nothing is judged.
-pub split_stops : (M : ℕ) (s t : List ℕ) (fault : StreamFault) → (split M s).fault ≡ Some fault → split M (s ++ t) ≡ split M s
-split_stops M s t fault h = stops_within (length s) M s t fault (omega arith) h
+split_rest M s = by_frames M (LeavesUnfinished M) (λ r again. rest_step M r (beginning M r) again refl) s

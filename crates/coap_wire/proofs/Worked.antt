@@ -2,6 +2,7 @@
 use Rattle.std.proofs.Common.{◌≡◌, [], ◌∷◌, refl, Ok, Err}
 use Rattle.coap_wire.specs.Forms.{length_form}
 use Rattle.coap_wire.specs.Spelling.{spelling, option_spelling}
+use Rattle.coap_wire.specs.Uint.{bytes_of_uint}
 use Rattle.coap_wire.specs.Reading.{declared_of, message_of, one_byte_at, two_bytes_at, four_bytes_at, length_at, option_number_at, head_at, option_head_at, option_at, body_within, body_at}
 use Rattle.coap_wire.specs.declared.frame.Declared.TheVariants.{Size}
 use Rattle.coap_wire.specs.declared.fault.FormatFault.TheVariants.{TokenLength, OptionDelta, OptionLength, OptionCut, OptionNumber, EmptyPayload, NotOneFrame}
@@ -22,6 +23,15 @@ option_23 = refl
 own_csm : spelling (record { code = 0xe1; token = []; options = record { number = 2; value = 1 ∷ 0 ∷ 0 ∷ [] } ∷ []; payload = [] }) ≡ 0x40 ∷ 0xe1 ∷ 0x23 ∷ 1 ∷ 0 ∷ 0 ∷ []
 unfolding spelling
 own_csm = refl
+
+-- the bytes of 65,536, and of 0
+uint_65536 : bytes_of_uint 65536 ≡ 1 ∷ 0 ∷ 0 ∷ []
+unfolding bytes_of_uint
+uint_65536 = refl
+
+uint_0 : bytes_of_uint 0 ≡ []
+unfolding bytes_of_uint
+uint_0 = refl
 
 -- the greatest size without a token
 size_greatest : declared_of (0xf0 ∷ 0xff ∷ 0xff ∷ 0xff ∷ 0xff ∷ []) ≡ Size 4295033106

@@ -1,7 +1,7 @@
 -- Why a frame spells no message: the first fault, in the order in which faults are looked for.
 use Rattle.std.specs.Prelude.{◌≡◌, ◌≢◌, ℕ, ◌+◌, ◌/◌, ◌%◌, ◌<◌, ◌≤◌, List, [], ◌∷◌, length, ◌⊎◌, if◌then◌else◌, nat_lt, ◌==◌}
 use Rattle.coap_wire.specs.Message.{CoapOption, last_number}
-use Rattle.coap_wire.specs.Spelling.{IsOptionHead, IsOptionText, IsHeadAndBody}
+use Rattle.coap_wire.specs.Spelling.{IsOptionHead, IsOptionBytes, IsHeadAndBody}
 use Rattle.coap_wire.specs.Size.{IsFrame, HasBadToken}
 use Rattle.coap_wire.specs.declared.fault.FormatFault.{FormatFault}
 use Rattle.coap_wire.specs.declared.fault.FormatFault.TheVariants.{TokenLength, OptionDelta, OptionLength, OptionCut, OptionNumber, EmptyPayload, NotOneFrame}
@@ -54,7 +54,7 @@ pub record HasOptionFault (s : List ℕ) (fault : FormatFault) : Type 0 where
   pub head : IsHeadAndBody s code token body
   pub options : List CoapOption
   pub rest : List ℕ
-  pub text : IsOptionText 0 options body rest
+  pub bytes : IsOptionBytes 0 options body rest
   pub wrong : IsOptionFault (last_number 0 options) rest fault
 
 -- The first fault of bytes that spell no message: a token length above 8, then bytes that are not one frame, then

@@ -44,6 +44,16 @@ option_form n =
     else (if nat_lt n 269 then (13, (n - 13) ∷ [])
     else (14, to_be_bytes w16 (n - 269)))
 
--- Nibble x means a token of n bytes; 9 to 15 mean none (RFC 8323 section 3.2).
-abbrev pub IsTokenForm : ℕ → ℕ → Type 0
-IsTokenForm x n = (x ≡ n) × (n ≤ 8)
+-- the greatest length of a token
+abbrev pub greatest_token : ℕ
+greatest_token = 8
+
+-- Nibble x with extension e means a token of n bytes; 9 to 15 mean none, and no bytes extend the others (RFC 8323 section
+-- 3.2).
+abbrev pub IsTokenForm : ℕ → List ℕ → ℕ → Type 0
+IsTokenForm x [] n = (x ≡ n) × (n ≤ greatest_token)
+IsTokenForm x (a ∷ es) n = ⊥
+
+-- the one form of a token's length: its nibble and its extension
+abbrev pub token_form : ℕ → ℕ × List ℕ
+token_form n = (n, [])

@@ -1,27 +1,35 @@
 -- The frames of a whole stream of bytes, before they are read (RFC 8323 sections 3.2, 5.3.1).
-use Rattle.std.specs.Prelude.{◌≡◌, ℕ, zero, suc, List, [], ◌∷◌, ◌++◌, length, Option, Some, None}
+use Rattle.std.specs.Prelude.{◌≡◌, ℕ, zero, suc, ◌≤◌, List, [], ◌∷◌, ◌++◌, length, Option, Some, None}
 use Rattle.std.specs.List.{concat}
 use Rattle.coap_wire.specs.Size.{IsFrame}
-use Rattle.coap_wire.specs.Reading.{message_of}
-use Rattle.coap_wire.specs.Stream.{StreamFault, TokenLength, TooLarge, Format, IsUnfinished, IsTokenLengthFault, IsTooLarge, StandsBehind, AreAtMost, Beginning, Unfinished, Whole, Faulty, beginning, fault_bytes, Stream, frame_then}
+use Rattle.coap_wire.specs.Beginning.{IsFrameFault, IsUnfinished, Beginning, Unfinished, Whole, Faulty, beginning, fault_bytes}
+use Rattle.coap_wire.specs.declared.fault.FrameFault.{FrameFault}
 
 -- frames, what is left, and the fault that ended them
 pub record Frames : Type 0 where
   pub frames : List (List ℕ)
   pub rest : List ℕ
-  pub fault : Option StreamFault
+  pub fault : Option FrameFault
 
 -- each is a frame
 abbrev pub AreFrames : List (List ℕ) → Type 0
 AreFrames [] = Unit {0}
 AreFrames (f ∷ fs) = IsFrame f × AreFrames fs
 
--- why frames end with rest: nothing is wrong yet, a token length above 8, or a size above M
-abbrev pub FramesEndWith : ℕ → List ℕ → Option StreamFault → Type 0
+-- each has at most M bytes
+abbrev pub AreAtMost : ℕ → List (List ℕ) → Type 0
+AreAtMost M [] = Unit {0}
+AreAtMost M (f ∷ fs) = (length f ≤ M) × AreAtMost M fs
+
+-- why frames end with rest: nothing is wrong yet, or this fault
+abbrev pub FramesEndWith : ℕ → List ℕ → Option FrameFault → Type 0
 FramesEndWith M rest None = IsUnfinished M rest
-FramesEndWith M rest (Some TokenLength) = IsTokenLengthFault rest
-FramesEndWith M rest (Some TooLarge) = IsTooLarge M rest
-FramesEndWith M rest (Some Format) = ⊥
+FramesEndWith M rest (Some fault) = IsFrameFault M fault rest
+
+-- what stands behind the rest: nothing, unless a fault ended the stream before
+abbrev pub StandsBehind : {F : Type 0} → List ℕ → Option F → Type 0
+StandsBehind more None = more ≡ []
+StandsBehind more (Some fault) = Unit {0}
 
 -- The bytes are these frames of at most M bytes, a rest, and behind a fault bytes that are not judged.
 pub record FramedAs (M : ℕ) (bytes : List ℕ) (found : Frames) : Type 0 where
@@ -53,13 +61,16 @@ frames_within (suc turns) M s = frames_then (frames_within turns M) s (beginning
 unfoldable pub frames_of : ℕ → List ℕ → Frames
 frames_of M s = frames_within (length s) M s
 
+-- ---- going on
+
 -- frames behind others
 abbrev pub frames_behind : List (List ℕ) → Frames → Frames
 frames_behind before found = record found { frames = before ++ found.frames }
 
--- ---- the messages of frames
+abbrev pub frames_gone_on : Frames → Option FrameFault → Frames → Frames
+frames_gone_on found None others = frames_behind found.frames others
+frames_gone_on found (Some fault) others = found
 
--- what frames spell, of which the first that spells no message ends the stream, with this rest and this fault behind them
-abbrev pub read_frames : List (List ℕ) → List ℕ → Option StreamFault → Stream
-read_frames [] rest fault = record { messages = []; rest = rest; fault = fault }
-read_frames (f ∷ fs) rest fault = frame_then (λ behind. read_frames fs rest fault) f [] (message_of f)
+-- frames gone on with more bytes, which stand behind the rest; behind a fault nothing is judged
+abbrev pub frames_on : ℕ → Frames → List ℕ → Frames
+frames_on M found more = frames_gone_on found found.fault (frames_of M (found.rest ++ more))

@@ -7,9 +7,10 @@ pub mod Reading
 pub mod Uint
 pub mod Refusal
 pub mod Views
-pub mod Built
-pub mod Stream
+pub mod BuilderViews
+pub mod Beginning
 pub mod Frames
+pub mod Stream
 pub mod Codes
 pub mod OptionNumbers
 pub mod Recognition

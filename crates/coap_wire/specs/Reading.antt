@@ -2,6 +2,7 @@
 use Rattle.std.specs.Prelude.{ℕ, zero, suc, ◌+◌, ◌-◌, ◌/◌, ◌%◌, List, [], ◌∷◌, length, take, drop, Option, Some, None, Result, Ok, Err, nat_lt, ◌==◌, if◌then◌else◌, slice_index}
 use Rattle.std.specs.Int.{w16, w32, from_be_bytes}
 use Rattle.coap_wire.specs.Message.{CoapOption, Message}
+use Rattle.coap_wire.specs.Forms.{greatest_token}
 use Rattle.coap_wire.specs.declared.frame.Declared.{Declared}
 use Rattle.coap_wire.specs.declared.frame.Declared.TheVariants as declared
 use Rattle.coap_wire.specs.declared.fault.FormatFault.{FormatFault}
@@ -49,7 +50,7 @@ size_from t s (Some x) = declared.Size (1 + (length s - length x.1) + 1 + t + x.
 
 unfoldable pub declared_of : List ℕ → Declared
 declared_of [] = declared.Unknown
-declared_of (b ∷ s) = if nat_lt 8 (b % 16) then declared.BadToken else size_from (b % 16) s (length_at (b / 16) s)
+declared_of (b ∷ s) = if nat_lt greatest_token (b % 16) then declared.BadToken else size_from (b % 16) s (length_at (b / 16) s)
 
 -- what a head says, and the body behind it
 pub record Head : Type 0 where
@@ -67,7 +68,7 @@ head_from t (Some x) =
 
 unfoldable pub head_at : List ℕ → Result Head FormatFault
 head_at [] = Err NotOneFrame
-head_at (b ∷ s) = if nat_lt 8 (b % 16) then Err TokenLength else head_from (b % 16) (length_at (b / 16) s)
+head_at (b ∷ s) = if nat_lt greatest_token (b % 16) then Err TokenLength else head_from (b % 16) (length_at (b / 16) s)
 
 -- an extension that is not all there is a cut option
 abbrev pub or_cut : Option (ℕ × List ℕ) → Result (ℕ × List ℕ) FormatFault

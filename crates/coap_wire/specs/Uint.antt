@@ -12,5 +12,5 @@ without_leading_zeros (zero ∷ bs) = without_leading_zeros bs
 without_leading_zeros (suc b ∷ bs) = suc b ∷ bs
 
 -- the fewest bytes that mean n, which is below 2 ^ 64; 0 is no byte
-unfoldable pub uint_text : ℕ → List ℕ
-uint_text n = without_leading_zeros (to_be_bytes w64 n)
+unfoldable pub bytes_of_uint : ℕ → List ℕ
+bytes_of_uint n = without_leading_zeros (to_be_bytes w64 n)

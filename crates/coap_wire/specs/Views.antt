@@ -3,7 +3,7 @@ use Rattle.std.specs.Prelude.{◌≡◌, ℕ, ◌≤◌, List, [], ◌∷◌, �
 use Rattle.std.specs.List.{AllByRecursion}
 use Rattle.std.specs.Borrow.{Bor}
 use Rattle.coap_wire.specs.Message.{CoapOption, Message, AreOrdered, last_number}
-use Rattle.coap_wire.specs.Forms.{greatest_option_form}
+use Rattle.coap_wire.specs.Forms.{greatest_token, greatest_option_form}
 use Rattle.coap_wire.specs.Spelling.{HasOptionForm}
 use Rattle.coap_wire.specs.Reading.{options_read}
 use Rattle.coap_wire.specs.declared.fault.FormatFault.{FormatFault}
@@ -38,7 +38,7 @@ most_options = 40
 
 -- what a builder can hold
 pub record CanBeBuilt (m : Message) : Type 0 where
-  pub token : length m.token ≤ 8
+  pub token : length m.token ≤ greatest_token
   pub ordered : AreOrdered 0 m.options
   pub each : AllByRecursion HasOptionForm m.options
   pub few : length m.options ≤ most_options

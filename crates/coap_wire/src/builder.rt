@@ -38,7 +38,7 @@ impl<'a> Model for Builder<'a> {
 
     ghost Value = { Message };
 
-    ghost use Rattle.coap_wire.specs.Built.{built_message, CanBuild};
+    ghost use Rattle.coap_wire.specs.BuilderViews.{built_message, CanBuild};
 
     ghost view = { built_message };
 

@@ -1,6 +1,7 @@
 //! The code of a message.
 
-ghost use Rattle.std.specs.Prelude.{◌≡◌, ℕ, ◌/◌, ◌%◌};
+ghost use Rattle.std.specs.Prelude.{◌≡◌, ℕ};
+ghost use Rattle.coap_wire.specs.Codes.{class_of, detail_of};
 
 use std::marker::Model;
 
@@ -114,14 +115,14 @@ impl Code {
 
     /// The class, 0 to 7: 0 requests and Empty, 2 to 5 responses, 7 signalling, 1 and 6 reserved.
     pub const fn class(self) -> u8
-        ensures { result ≡ self / 32 }
+        ensures { result ≡ class_of self }
     {
         self.byte / 32
     }
 
     /// The detail, 0 to 31.
     pub const fn detail(self) -> u8
-        ensures { result ≡ self % 32 }
+        ensures { result ≡ detail_of self }
     {
         self.byte % 32
     }

@@ -1,6 +1,17 @@
-//! Why bytes spell no message, and why a message cannot be built.
+//! What is wrong with a stream, why bytes spell no message, and why a message cannot be built.
 
 use thiserror::Error;
+
+/// What is wrong with a stream, before its frame is whole. The discriminants are the faults' numbers.
+#[derive(Clone, Copy, Debug, PartialEq, Eq, Error)]
+pub enum FrameFault {
+    /// A token length above 8, known at the frame's first byte (RFC 8323 section 3.2).
+    #[error("token length above 8")]
+    TokenLength = 1,
+    /// A frame of more bytes than are taken, known at the last byte of its length (RFC 8323 section 5.3.1).
+    #[error("frame too large")]
+    TooLarge = 2,
+}
 
 /// The first fault of bytes that spell no message. The discriminants are the faults' numbers.
 #[derive(Clone, Copy, Debug, PartialEq, Eq, Error)]
@@ -41,6 +52,10 @@ pub enum BuildFault {
     #[error("40 options are there")]
     Full = 3,
 }
+
+const _: () = prove!(FrameFault::TokenLength as u8 == 1);
+
+const _: () = prove!(FrameFault::TooLarge as u8 == 2);
 
 const _: () = prove!(FormatFault::TokenLength as u8 == 1);
 

@@ -3,6 +3,8 @@
 ghost use Rattle.std.specs.Prelude.{◌≡◌};
 ghost use Rattle.coap_wire.specs.Recognition.{kind_of, once, repeated};
 
+use crate::option_numbers;
+
 /// What is known of the options with one number.
 #[derive(Clone, Copy, Debug, PartialEq, Eq)]
 pub struct OptionKind {
@@ -43,22 +45,22 @@ pub fn kind(number: u16) -> Option<OptionKind>
     ensures { result ≡ kind_of number }
 {
     match number {
-        1 => several(0, 8), // If-Match
-        3 => single(1, 255), // Uri-Host
-        4 => several(1, 8), // ETag
-        5 => single(0, 0), // If-None-Match
-        6 => single(0, 3), // Observe
-        7 => single(0, 2), // Uri-Port
-        8 => several(0, 255), // Location-Path
-        11 => several(0, 255), // Uri-Path
-        12 => single(0, 2), // Content-Format
-        14 => single(0, 4), // Max-Age
-        15 => several(0, 255), // Uri-Query
-        17 => single(0, 2), // Accept
-        20 => several(0, 255), // Location-Query
-        35 => single(1, 1034), // Proxy-Uri
-        39 => single(1, 255), // Proxy-Scheme
-        60 => single(0, 4), // Size1
+        option_numbers::IF_MATCH => several(0, 8),
+        option_numbers::URI_HOST => single(1, 255),
+        option_numbers::ETAG => several(1, 8),
+        option_numbers::IF_NONE_MATCH => single(0, 0),
+        option_numbers::OBSERVE => single(0, 3),
+        option_numbers::URI_PORT => single(0, 2),
+        option_numbers::LOCATION_PATH => several(0, 255),
+        option_numbers::URI_PATH => several(0, 255),
+        option_numbers::CONTENT_FORMAT => single(0, 2),
+        option_numbers::MAX_AGE => single(0, 4),
+        option_numbers::URI_QUERY => several(0, 255),
+        option_numbers::ACCEPT => single(0, 2),
+        option_numbers::LOCATION_QUERY => several(0, 255),
+        option_numbers::PROXY_URI => single(1, 1034),
+        option_numbers::PROXY_SCHEME => single(1, 255),
+        option_numbers::SIZE1 => single(0, 4),
         _ => None,
     }
 }

@@ -1,15 +1,20 @@
-//! What holds of spellings, each as the contract of a function that does nothing.
+//! What holds of spellings, streams and options, each as the contract of a function that does nothing.
 
-ghost use Rattle.std.specs.Prelude.{◌≡◌, ◌≢◌, ◌↔◌, ℕ, ◌≤◌, List, [], ◌∷◌, ◌++◌, length, Some, None, IsTrue};
+ghost use Rattle.std.specs.Prelude.{◌≡◌, ◌≢◌, ◌↔◌, ℕ, ◌^◌, ◌<◌, ◌≤◌, List, [], ◌∷◌, ◌++◌, length, None, IsTrue};
 ghost use Rattle.coap_wire.specs.Message.{Message, CoapOption, AreBytes, AreOrdered};
-ghost use Rattle.coap_wire.specs.Forms.{IsLengthForm, length_form, greatest_length, IsOptionForm, option_form, greatest_option_form};
+ghost use Rattle.coap_wire.specs.Forms.{IsLengthForm, length_form, greatest_length, IsOptionForm, option_form, greatest_option_form, IsTokenForm, token_form, greatest_token};
 ghost use Rattle.coap_wire.specs.Spelling.{Spells, spelling, HasSpelling};
-ghost use Rattle.coap_wire.specs.Size.{IsDeclaredSize, IsFrame};
+ghost use Rattle.coap_wire.specs.Size.{IsDeclaredSize, IsFrame, Declares};
+ghost use Rattle.coap_wire.specs.Reading.{declared_of};
 ghost use Rattle.coap_wire.specs.Faults.{IsFirstFault};
-ghost use Rattle.coap_wire.specs.Stream.{Stream, StreamFault, SplitsAs, split, behind};
-ghost use Rattle.coap_wire.specs.Frames.{Frames, FramedAs, frames_of, frames_behind, read_frames};
+ghost use Rattle.coap_wire.specs.Beginning.{IsFrameFault, IsUnfinished, Unfinished, Whole, Faulty, beginning, fault_bytes};
+ghost use Rattle.coap_wire.specs.Frames.{Frames, FramedAs, frames_of, frames_on};
+ghost use Rattle.coap_wire.specs.Stream.{Stream, SplitsAs, split, stream_then, split_on};
+ghost use Rattle.coap_wire.specs.Uint.{uint_of, bytes_of_uint};
 ghost use Rattle.coap_wire.specs.Recognition.{IsFirstWithNumber, IsRecognised, is_recognised};
+ghost use Rattle.coap_wire.specs.declared.frame.Declared.{Declared};
 ghost use Rattle.coap_wire.specs.declared.fault.FormatFault.{FormatFault};
+ghost use Rattle.coap_wire.specs.declared.fault.FrameFault.{FrameFault};
 
 /// Each length up to 4,295,033,100 has exactly one form (RFC 8323 section 3.2).
 pub fn length_has_one_form()
@@ -21,6 +26,12 @@ pub fn length_has_one_form()
 pub fn option_number_has_one_form()
     ensures has { (n : ℕ) → n ≤ greatest_option_form → IsOptionForm (option_form n).0 (option_form n).1 n }
     ensures no_other { (n x : ℕ) (e : List ℕ) → IsOptionForm x e n → (x ≡ (option_form n).0) × (e ≡ (option_form n).1) }
+{}
+
+/// Each token length up to 8 has exactly one form (RFC 8323 section 3.2).
+pub fn token_length_has_one_form()
+    ensures has { (n : ℕ) → n ≤ greatest_token → IsTokenForm (token_form n).0 (token_form n).1 n }
+    ensures no_other { (n x : ℕ) (e : List ℕ) → IsTokenForm x e n → (x ≡ (token_form n).0) × (e ≡ (token_form n).1) }
 {}
 
 /// A message has at most one spelling.
@@ -44,8 +55,10 @@ pub fn what_is_in_range_has_a_spelling()
     ensures no_other { (m : Message) (s : List ℕ) → Spells s m → HasSpelling m }
 {}
 
-/// The first bytes declare one size at most, which stays whatever follows.
+/// What the first bytes declare is one thing, and `declared_of` computes it. A size stays declared, whatever follows.
 pub fn size_is_declared_once()
+    ensures has { (s : List ℕ) → AreBytes s → Declares s (declared_of s) }
+    ensures no_other { (s : List ℕ) (d : Declared) → AreBytes s → Declares s d → d ≡ declared_of s }
     ensures once { (s : List ℕ) (m n : ℕ) → IsDeclaredSize s m → IsDeclaredSize s n → m ≡ n }
     ensures stays { (s more : List ℕ) (n : ℕ) → IsDeclaredSize s n → IsDeclaredSize (s ++ more) n }
     ensures spelling { (s : List ℕ) (m : Message) → Spells s m → IsFrame s }
@@ -65,10 +78,10 @@ pub fn stream_is_split_once()
     ensures no_other { (M : ℕ) (s : List ℕ) (other : Stream) → AreBytes s → SplitsAs M s other → other ≡ split M s }
 {}
 
-/// Where bytes are cut does not matter: what follows is read behind the rest, unless a fault ended the stream before it.
+/// Where bytes are cut does not matter: what they spell is what the first of them spell, gone on with the others. These
+/// stand behind the rest, unless a fault ended the stream before them.
 pub fn cuts_do_not_matter()
-    ensures goes_on { (M : ℕ) (s more : List ℕ) → (split M s).fault ≡ None → split M (s ++ more) ≡ behind (split M s).messages (split M ((split M s).rest ++ more)) }
-    ensures stopped { (M : ℕ) (s more : List ℕ) (fault : StreamFault) → (split M s).fault ≡ Some fault → split M (s ++ more) ≡ split M s }
+    ensures { (M : ℕ) (s more : List ℕ) → split M (s ++ more) ≡ split_on M (split M s) more }
 {}
 
 /// Bytes have one list of frames, a rest and a fault, where frames of at most `M` bytes are taken, and `frames_of`
@@ -78,16 +91,59 @@ pub fn frames_are_found_once()
     ensures no_other { (M : ℕ) (s : List ℕ) (other : Frames) → AreBytes s → FramedAs M s other → other ≡ frames_of M s }
 {}
 
-/// Where bytes are cut does not matter to their frames: what follows is framed behind the rest, unless a fault ended the
-/// frames before it.
+/// Where bytes are cut does not matter to their frames: they are those of the first bytes, gone on with the others. These
+/// stand behind the rest, unless a fault ended the frames before them.
 pub fn cuts_do_not_matter_to_frames()
-    ensures goes_on { (M : ℕ) (s more : List ℕ) → (frames_of M s).fault ≡ None → frames_of M (s ++ more) ≡ frames_behind (frames_of M s).frames (frames_of M ((frames_of M s).rest ++ more)) }
-    ensures stopped { (M : ℕ) (s more : List ℕ) (fault : StreamFault) → (frames_of M s).fault ≡ Some fault → frames_of M (s ++ more) ≡ frames_of M s }
+    ensures { (M : ℕ) (s more : List ℕ) → frames_of M (s ++ more) ≡ frames_on M (frames_of M s) more }
 {}
 
-/// A stream is what its frames spell, up to the first that spells no message.
-pub fn stream_is_its_frames_read()
-    ensures { (M : ℕ) (s : List ℕ) → split M s ≡ read_frames (frames_of M s).frames (frames_of M s).rest (frames_of M s).fault }
+/// A stream can be read from its front: what bytes spell is what stands at their front, and then what the bytes behind it
+/// spell. What is left of them without a fault is unfinished.
+pub fn stream_is_read_from_its_front()
+    ensures front { (M : ℕ) (s : List ℕ) → split M s ≡ stream_then (split M) s (beginning M s) }
+    ensures rest { (M : ℕ) (s : List ℕ) → (split M s).fault ≡ None → beginning M (split M s).rest ≡ Unfinished }
+{}
+
+/// What `beginning` finds at the front is what stands there: a frame of at most `M` bytes, a fault at its byte, or neither
+/// yet.
+pub fn beginning_finds_what_stands_at_the_front()
+    ensures frame_found { (M : ℕ) (frame rest : List ℕ) → IsFrame frame → length frame ≤ M → beginning M (frame ++ rest) ≡ Whole frame rest }
+    ensures frame_stands { (M : ℕ) (s frame rest : List ℕ) → AreBytes s → beginning M s ≡ Whole frame rest → IsFrame frame }
+    ensures fault_found { (M : ℕ) (r more : List ℕ) (fault : FrameFault) → IsFrameFault M fault r → beginning M (r ++ more) ≡ Faulty fault }
+    ensures fault_stands { (M : ℕ) (s : List ℕ) (fault : FrameFault) → AreBytes s → beginning M s ≡ Faulty fault → IsFrameFault M fault (fault_bytes fault s) }
+    ensures neither_found { (M : ℕ) (s : List ℕ) → AreBytes s → IsUnfinished M s → beginning M s ≡ Unfinished }
+    ensures neither_stands { (M : ℕ) (s : List ℕ) → beginning M s ≡ Unfinished → IsUnfinished M s }
+{}
+
+/// A whole frame at the front is the first bytes, 2 to `M` of them, and is whole without what stands behind it.
+pub fn frame_at_the_front_is_the_first_bytes()
+    ensures bytes { (M : ℕ) (s frame rest : List ℕ) → beginning M s ≡ Whole frame rest → s ≡ frame ++ rest }
+    ensures at_least { (M : ℕ) (s frame rest : List ℕ) → beginning M s ≡ Whole frame rest → 2 ≤ length frame }
+    ensures at_most { (M : ℕ) (s frame rest : List ℕ) → beginning M s ≡ Whole frame rest → length frame ≤ M }
+    ensures alone { (M : ℕ) (s frame rest : List ℕ) → beginning M s ≡ Whole frame rest → beginning M frame ≡ Whole frame [] }
+{}
+
+/// What stands at the front stays there, whatever comes behind it.
+pub fn what_stands_at_the_front_stays()
+    ensures whole { (M : ℕ) (s more frame rest : List ℕ) → beginning M s ≡ Whole frame rest → beginning M (s ++ more) ≡ Whole frame (rest ++ more) }
+    ensures fault { (M : ℕ) (s more : List ℕ) (fault : FrameFault) → beginning M s ≡ Faulty fault → beginning M (s ++ more) ≡ Faulty fault }
+    ensures fault_bytes { (M : ℕ) (s more : List ℕ) (fault : FrameFault) → beginning M s ≡ Faulty fault → fault_bytes fault (s ++ more) ≡ fault_bytes fault s }
+{}
+
+/// An unfinished beginning is shorter than the greatest frame, and unfinished wherever greater frames are taken. What one
+/// byte more finishes ends with that byte.
+pub fn unfinished_beginning_needs_more_bytes()
+    ensures empty { (M : ℕ) → beginning M [] ≡ Unfinished }
+    ensures shorter { (M : ℕ) (s : List ℕ) → 5 ≤ M → beginning M s ≡ Unfinished → length s < M }
+    ensures larger { (M N : ℕ) (s : List ℕ) → M ≤ N → beginning M s ≡ Unfinished → beginning N s ≡ Unfinished }
+    ensures frame { (M : ℕ) (s : List ℕ) (b : ℕ) (frame rest : List ℕ) → beginning M s ≡ Unfinished → beginning M (s ++ b ∷ []) ≡ Whole frame rest → (rest ≡ []) × (frame ≡ s ++ b ∷ []) }
+    ensures fault { (M : ℕ) (s : List ℕ) (b : ℕ) (fault : FrameFault) → beginning M s ≡ Unfinished → beginning M (s ++ b ∷ []) ≡ Faulty fault → fault_bytes fault (s ++ b ∷ []) ≡ s ++ b ∷ [] }
+{}
+
+/// The bytes of a number mean that number, so numbers with equal bytes are equal (RFC 7252 section 3.2).
+pub fn bytes_of_a_number_mean_it()
+    ensures mean { (n : ℕ) → n < 2 ^ 64 → uint_of (bytes_of_uint n) ≡ n }
+    ensures distinct { (m n : ℕ) → m < 2 ^ 64 → n < 2 ^ 64 → bytes_of_uint m ≡ bytes_of_uint n → m ≡ n }
 {}
 
 /// Where options are ordered, one is the first with its number exactly where the one before it has another number.

@@ -22,7 +22,7 @@ mod writing;
 
 pub use builder::Builder;
 pub use code::Code;
-pub use fault::{BuildFault, FormatFault};
+pub use fault::{BuildFault, FormatFault, FrameFault};
 pub use frame::Declared;
 pub use kinds::{OptionKind, kind};
 pub use message::{MessageRef, parse};
@@ -31,4 +31,4 @@ pub use recognition::Known;
 pub use sink::{Sink, SliceSink};
 pub use size::declared;
 pub use token::Token;
-pub use uint::{uint_bytes, uint_value};
+pub use uint::{UintBytes, uint_bytes, uint_value};

@@ -70,8 +70,7 @@ impl<'a> MessageRef<'a> {
         Known::of_options(self.options())
     }
 
-    /// The number of the first option that is critical, its number being odd, and not recognised (RFC 7252 section
-    /// 5.4.1).
+    /// The number of the first critical option that is not recognised (RFC 7252 sections 5.4.1, 5.4.6).
     pub fn first_critical(&self) -> Option<u16>
         ensures { result ≡ first_critical self.now.options }
     {

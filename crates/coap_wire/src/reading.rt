@@ -2,16 +2,13 @@
 
 ghost use Rattle.std.specs.Prelude.{◌≡◌, ◌≤◌, length, option_map, IfSome, IfOk};
 ghost use Rattle.coap_wire.specs.Forms.{greatest_length, greatest_option_form};
-ghost use Rattle.coap_wire.specs.Reading.{Head, one_byte_at, two_bytes_at, four_bytes_at, length_at, option_number_at, head_at, option_head_at, option_at, body_at};
+ghost use Rattle.coap_wire.specs.Reading.{one_byte_at, two_bytes_at, four_bytes_at, length_at, option_number_at, head_at, option_head_at, option_at, body_at};
 ghost use Rattle.coap_wire.specs.Views.{Gives, GivesPayload, coap_option};
 
 use crate::code::Code;
 use crate::fault::FormatFault;
 use crate::options::{OptionRef, PAYLOAD_MARKER};
-use crate::token::{Token, token_of};
-
-/// The greatest token length (RFC 8323 section 3.2).
-pub(crate) const MAX_TOKEN: u8 = 8;
+use crate::token::{MAX_TOKEN, Token, token_of};
 
 #[tactic(auto, unfolding(crate::specs::Reading::two_bytes_at))]
 fn two_bytes(bytes: &[u8]) -> Option<(u16, &[u8])>
@@ -88,17 +85,17 @@ pub(crate) fn head_of(frame: &[u8]) -> Result<(Code, Token, &[u8]), FormatFault>
     let Some((first, rest)) = frame.split_first() else {
         return Err(FormatFault::NotOneFrame);
     };
-    let token_length = *first % 16;
+    let token_length = usize::from(*first % 16);
     if token_length > MAX_TOKEN {
         return Err(FormatFault::TokenLength);
     }
     let Some((length, rest)) = length_after(*first / 16, rest) else {
         return Err(FormatFault::NotOneFrame);
     };
-    if rest.len() as u64 != 1 + u64::from(token_length) + length {
+    if rest.len() as u64 != 1 + token_length as u64 + length {
         return Err(FormatFault::NotOneFrame);
     }
-    let token_end = 1 + usize::from(token_length);
+    let token_end = 1 + token_length;
     let token = token_of(&rest[1..token_end]);
     Ok((Code::new(rest[0]), token, &rest[token_end..]))
 }

@@ -5,7 +5,8 @@ ghost use Rattle.coap_wire.specs.Size.{Declares};
 ghost use Rattle.coap_wire.specs.Reading.{declared_of};
 
 use crate::frame::Declared;
-use crate::reading::{MAX_TOKEN, length_after};
+use crate::reading::length_after;
+use crate::token::MAX_TOKEN;
 
 /// What the first bytes of a frame declare of its size.
 ///
@@ -25,7 +26,7 @@ fn declared_by(head: &[u8]) -> Declared
     let Some((first, after)) = head.split_first() else {
         return Declared::Unknown;
     };
-    let token_length = *first % 16;
+    let token_length = usize::from(*first % 16);
     if token_length > MAX_TOKEN {
         return Declared::BadToken;
     }
@@ -33,7 +34,7 @@ fn declared_by(head: &[u8]) -> Declared
         None => Declared::Unknown,
         Some((length, rest)) => {
             let extension = (after.len() - rest.len()) as u64;
-            Declared::Size(1 + extension + 1 + u64::from(token_length) + length)
+            Declared::Size(1 + extension + 1 + token_length as u64 + length)
         }
     }
 }

@@ -1,9 +1,15 @@
 //! Option values of format uint (RFC 7252 section 3.2).
 
 ghost use Rattle.std.specs.Prelude.{◌≡◌, ◌≤◌, ◌<◌, length, Some, None};
-ghost use Rattle.coap_wire.specs.Uint.{uint_of, uint_text, without_leading_zeros};
+ghost use Rattle.coap_wire.specs.Uint.{uint_of, bytes_of_uint, without_leading_zeros};
 
 use arrayvec::ArrayVec;
+
+/// The most bytes that a number below 2^64 takes.
+const MAX_UINT_BYTES: usize = 8;
+
+/// The bytes of a number below 2^64: at most 8.
+pub type UintBytes = ArrayVec<u8, MAX_UINT_BYTES>;
 
 /// The number that the bytes mean, in network order with leading zero bytes accepted, or `None` above 4 bytes.
 pub fn uint_value(bytes: &[u8]) -> Option<u32>
@@ -39,13 +45,13 @@ fn significant(bytes: &[u8]) -> &[u8]
 }
 
 /// The fewest bytes that mean the number, in network order: none for 0, at most 8.
-#[tactic(auto, unfolding(crate::specs::Uint::uint_text))]
-pub fn uint_bytes(number: u64) -> ArrayVec<u8, 8>
-    ensures bytes { result.items ≡ uint_text number }
+#[tactic(auto, unfolding(crate::specs::Uint::bytes_of_uint))]
+pub fn uint_bytes(number: u64) -> UintBytes
+    ensures bytes { result.items ≡ bytes_of_uint number }
     ensures value { uint_of result.items ≡ number }
     ensures fewest { without_leading_zeros result.items ≡ result.items }
 {
-    let Ok(fewest) = ArrayVec::try_from(significant(&number.to_be_bytes())) else {
+    let Ok(fewest) = UintBytes::try_from(significant(&number.to_be_bytes())) else {
         unreachable!()
     };
     fewest

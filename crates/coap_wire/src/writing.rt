@@ -3,8 +3,8 @@
 ghost use Rattle.std.specs.Prelude.{◌≡◌, ◌+◌, ◌-◌, ◌≤◌, ◌<◌, ◌++◌, length};
 ghost use Rattle.std.specs.List.{AllByRecursion};
 ghost use Rattle.coap_wire.specs.Message.{AreOrdered};
-ghost use Rattle.coap_wire.specs.Forms.{option_form, greatest_length, greatest_option_form};
-ghost use Rattle.coap_wire.specs.Spelling.{HasOptionForm, option_spelling, options_spelling, payload_text, head_spelling};
+ghost use Rattle.coap_wire.specs.Forms.{option_form, greatest_token, greatest_length, greatest_option_form};
+ghost use Rattle.coap_wire.specs.Spelling.{HasOptionForm, option_spelling, options_spelling, payload_bytes, head_spelling};
 ghost use Rattle.coap_wire.specs.Views.{coap_option, coap_options, most_options};
 
 use crate::code::Code;
@@ -58,7 +58,7 @@ pub(crate) fn options_size(options: &[OptionRef]) -> u64
 
 /// Writes the first byte, the extension of the length, the code and the token.
 pub(crate) fn write_head<S: Sink>(out: &mut S, code: Code, token: &[u8], body: u64)
-    requires token { length token.now ≤ 8 }
+    requires token { length token.now ≤ greatest_token }
     requires body { body ≤ greatest_length }
     requires room { length (head_spelling code token.now body) ≤ S.space out.old }
     ensures appended { S.contents out.new ≡ S.contents out.old ++ head_spelling code token.now body }
@@ -104,9 +104,9 @@ pub(crate) fn write_options<S: Sink>(out: &mut S, options: &[OptionRef])
 
 /// Writes the marker and the payload, or nothing for an empty payload.
 pub(crate) fn write_payload<S: Sink>(out: &mut S, payload: &[u8])
-    requires { length (payload_text payload.now) ≤ S.space out.old }
-    ensures appended { S.contents out.new ≡ S.contents out.old ++ payload_text payload.now }
-    ensures less_room { S.space out.new + length (payload_text payload.now) ≡ S.space out.old }
+    requires { length (payload_bytes payload.now) ≤ S.space out.old }
+    ensures appended { S.contents out.new ≡ S.contents out.old ++ payload_bytes payload.now }
+    ensures less_room { S.space out.new + length (payload_bytes payload.now) ≡ S.space out.old }
 {
     if !payload.is_empty() {
         out.push(PAYLOAD_MARKER);

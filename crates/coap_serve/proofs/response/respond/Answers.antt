@@ -12,7 +12,7 @@ returns c =
     let r = c.args.plan.now.response in
     let token = c.args.token.now.items in
     let bare : Message = record { code = r.code; token = token; options = []; payload = [] } in
-    let begun = c.new-response.ensures ∙ ap (λ (k : ℕ). record bare { code = k }) c.code.ensures in
+    let fresh = c.new-response.ensures ∙ ap (λ (k : ℕ). record bare { code = k }) c.code.ensures in
     let tagged : Message = c.add_etag.new.response in
     let located : Message = c.add_location.new.response in
     let formatted : Message = c.add_number.new.response in
@@ -22,7 +22,7 @@ returns c =
     ∙ ap (link_after_reply c.args.link.now) (is_response token r tagged located formatted aged sized c.payload-2.new.self (record {
       etag =
           c.add_etag.ensures.added
-          ∙ ap (λ (m : Message). with_options m (option_at numbers.etag (option_map (λ e. e.now) c.etag.result))) begun
+          ∙ ap (λ (m : Message). with_options m (option_at numbers.etag (option_map (λ e. e.now) c.etag.result))) fresh
           ∙ ap (λ (e : Option (List ℕ)). with_options bare (option_at numbers.etag e)) c.etag.ensures.value;
       location = c.add_location.ensures.added ∙ ap (λ (p : Path). with_options tagged (each_at numbers.location_path p)) c.location.ensures;
       format =

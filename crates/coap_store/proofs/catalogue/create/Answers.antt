@@ -1,6 +1,6 @@
 use Rattle.std.proofs.Common.{◌≡◌, ap, ◌∙◌}
 use Rattle.indexmap.specs.IndexMap.{insert_entry}
-use Rattle.coap_store.proofs.CatalogueLemmas.{key_test, stored_list, stored_listed, text_of_created}
+use Rattle.coap_store.proofs.CatalogueLemmas.{key_test, stored_list, stored_listed, bytes_of_created}
 use Rattle.coap_store.proofs.catalogue.create.Goals as goal
 
 -- the entries are those at the start with the new one
@@ -16,5 +16,5 @@ returns-clause-all_listed c = stored_listed _ _ _ _ (inserted c) c.requires.all_
 
 pub returns-clause-ready : goal.returns-clause-ready
 returns-clause-ready c =
-    text_of_created _ _ _ _ (inserted c) _ _ _ c.requires.new c.requires.ready (c.as_bytes.ensures.value ∙ c.requires.listed)
+    bytes_of_created _ _ _ _ (inserted c) _ _ _ c.requires.new c.requires.ready (c.as_bytes.ensures.value ∙ c.requires.listed)
     c.in_ok-extend_from_slice.ensures.items

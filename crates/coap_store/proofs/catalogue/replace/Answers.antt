@@ -1,5 +1,5 @@
 use Rattle.std.proofs.Common.{length, arith, ap}
-use Rattle.coap_store.proofs.CatalogueLemmas.{stored_list, stored_listed, text_of_stored_fits, found_is_there}
+use Rattle.coap_store.proofs.CatalogueLemmas.{stored_list, stored_listed, bytes_of_stored_fit, found_is_there}
 use Rattle.coap_store.proofs.catalogue.replace.Goals as goal
 
 pub unreachable-requires : goal.unreachable-requires
@@ -11,7 +11,7 @@ write_listing-requires-clause-listed c =
 
 pub write_listing-requires-clause-room : goal.write_listing-requires-clause-room
 write_listing-requires-clause-room c =
-    omega (arith, text_of_stored_fits _ _ _ _ c.in-Ok.ensures.entries, c.in_ok-reserve.ensures.ok, c.in_ok-reserve.ensures.len, ap length c.requires.ready, ap length c.requires.listed)
+    omega (arith, bytes_of_stored_fit _ _ _ _ c.in-Ok.ensures.entries, c.in_ok-reserve.ensures.ok, c.in_ok-reserve.ensures.len, ap length c.requires.ready, ap length c.requires.listed)
 
 pub returns-clause-stored : goal.returns-clause-stored
 returns-clause-stored c = stored_list _ _ _ _ c.in-Ok.ensures.entries

@@ -1,8 +1,8 @@
 -- What is written, and what the segments that are left still write, is the whole text.
 use Rattle.std.proofs.Common.{◌≡◌, ◌++◌}
 use Rattle.std.specs.String.{string_bytes}
-use Rattle.coap_store.specs.Listing.{path_text}
+use Rattle.coap_store.specs.Listing.{path_bytes}
 use Rattle.coap_store.proofs.resource.push_path.Given as goal
 
 abbrev pub invariant-loop-segment : goal.invariant-loop-segment
-invariant-loop-segment l = string_bytes l.text ++ path_text l.segment-iterator ≡ string_bytes l.fn.text ++ path_text l.path
+invariant-loop-segment l = string_bytes l.text ++ path_bytes l.segment-iterator ≡ string_bytes l.fn.text ++ path_bytes l.path

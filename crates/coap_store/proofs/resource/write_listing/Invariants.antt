@@ -3,11 +3,11 @@ use Rattle.std.proofs.Common.{◌≡◌, ◌≤◌, ◌++◌, length}
 use Rattle.std.specs.Vec.{vec_capacity}
 use Rattle.coap_store.specs.Listing.{listing}
 use Rattle.coap_store.specs.StoreViews.{resources_in}
-use Rattle.coap_store.proofs.ListingLemmas.{listed_text}
+use Rattle.coap_store.proofs.ListingLemmas.{listed_bytes}
 use Rattle.coap_store.proofs.resource.write_listing.Given as goal
 
 abbrev pub invariant-loop-resource : goal.invariant-loop-resource
 invariant-loop-resource l = record {
-  text : l.listing.items ++ listed_text l.resource-iterator ≡ listing (resources_in l.resources.entries);
+  text : l.listing.items ++ listed_bytes l.resource-iterator ≡ listing (resources_in l.resources.entries);
   room : length (listing (resources_in l.resources.entries)) ≤ vec_capacity l.listing;
 }

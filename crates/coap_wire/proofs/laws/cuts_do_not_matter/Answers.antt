@@ -1,8 +1,5 @@
-use Rattle.coap_wire.proofs.StreamSteps.{split_more, split_stops}
+use Rattle.coap_wire.proofs.StreamSteps.{split_goes_on}
 use Rattle.coap_wire.proofs.laws.cuts_do_not_matter.Goals as goal
 
-pub returns-clause-goes_on : goal.returns-clause-goes_on
-returns-clause-goes_on c = split_more
-
-pub returns-clause-stopped : goal.returns-clause-stopped
-returns-clause-stopped c = split_stops
+pub returns : goal.returns
+returns c = split_goes_on

@@ -1,6 +1,6 @@
 use Rattle.std.proofs.Common.{sym, ap, subst, ◌∙◌}
 use Rattle.coap_conn.specs.Limits.{LimitValues, AreInRange}
-use Rattle.coap_wire.specs.Stream.{beginning}
+use Rattle.coap_wire.specs.Beginning.{beginning}
 use Rattle.coap_serve.proofs.connection.Connection.flush.Goals as goal
 
 pub invariant_of-self : goal.invariant_of-self

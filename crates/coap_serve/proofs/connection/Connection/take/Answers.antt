@@ -1,19 +1,19 @@
 use Rattle.std.proofs.Common.{sym, ap, subst, ◌∙◌}
 use Rattle.std.proofs.lemmas.Result.{err_from_is_err_and}
-use Rattle.coap_frame.specs.Lending.{finding_of}
+use Rattle.coap_frame.specs.FramedViews.{finding_of}
 use Rattle.coap_store.specs.Messages.{response_message}
 use Rattle.coap_conn.specs.declared.phase.Reject.TheVariants as reject
 use Rattle.coap_conn.specs.LinkValue.{LinkValue}
 use Rattle.coap_serve.specs.Connection.{ConnectionValue, answer_from, MayBeRefused, RefusesFirst}
 use Rattle.coap_serve.specs.declared.connection.Connection.TheInside.{Inside}
-use Rattle.coap_serve.proofs.StepLemmas.{framed_kept, refuses_found}
+use Rattle.coap_serve.proofs.AdvanceLemmas.{framed_kept, refuses_found}
 use Rattle.coap_serve.proofs.TalkLemmas.{reject_limits, message_limits, reply_limits}
 use Rattle.coap_serve.proofs.connection.Connection.take.Goals.{in-Request+in_ok-answer-in-Ok, in_default}
 use Rattle.coap_serve.proofs.connection.Connection.take.Goals as goal
 
 pub invariant_of-self-in-Fault : goal.invariant_of-self-in-Fault
 invariant_of-self-in-Fault c =
-    framed_kept c.self.inside.framer _ c.args.piece.now c.self.inside.link _ _ c.self.invariant.0.ranges c.self.invariant.1 c.next-framed.follows.holds-at-none (ap (λ (l : LinkValue). l.limits) c.reject.ensures.after ∙ reject_limits c.self.inside.link c.fault_for.result)
+    framed_kept c.self.inside.framer _ c.args.piece.now c.self.inside.link _ _ c.self.invariant.0.ranges c.self.invariant.1 c.next-framed.follows.holds-at-none (ap (λ (l : LinkValue). l.limits) c.reject.ensures.after ∙ reject_limits c.self.inside.link c.from.result)
 
 pub invariant_of-self-in-Err : goal.invariant_of-self-in-Err
 invariant_of-self-in-Err c =

@@ -1,6 +1,6 @@
 use Rattle.std.proofs.Common.{arith, length, ap, ◌∙◌}
 use Rattle.coap_store.specs.Store.{removed_at}
-use Rattle.coap_store.proofs.CatalogueLemmas.{removed_list, removed_are_listed, text_of_removed_fits}
+use Rattle.coap_store.proofs.CatalogueLemmas.{removed_list, removed_are_listed, bytes_of_removed_fit}
 use Rattle.coap_store.proofs.catalogue.Catalogue.remove.Goals as goal
 
 pub write_listing-requires-clause-listed : goal.write_listing-requires-clause-listed
@@ -8,7 +8,7 @@ write_listing-requires-clause-listed c = removed_are_listed _ _ _ c.shift_remove
 
 pub write_listing-requires-clause-room : goal.write_listing-requires-clause-room
 write_listing-requires-clause-room c =
-    omega (arith, text_of_removed_fits _ _ _ c.shift_remove.ensures.entries, ap length c.self.invariant.ready, c.self.inside.listing.ok)
+    omega (arith, bytes_of_removed_fit _ _ _ c.shift_remove.ensures.entries, ap length c.self.invariant.ready, c.self.inside.listing.ok)
 
 pub invariant_of-self : goal.invariant_of-self
 invariant_of-self c = record {

@@ -1,6 +1,19 @@
+use Rattle.std.proofs.Common.{subst, sym, ◌+◌}
+use Rattle.coap_store.specs.StoreInside.{store_value}
+use Rattle.coap_store.specs.Changes.{TakesPut}
+use Rattle.coap_store.specs.Invariant.{IsStore}
 use Rattle.coap_store.proofs.StoreLemmas.{store_put}
 use Rattle.coap_store.proofs.store.Store.store.Goals as goal
 
+after : (c : goal.After-self-1) → IsStore (record (store_value c.self.inside) { resources = c.put.new.self; versions = c.self.inside.versions + 1 })
+after c =
+    let s = store_value c.self.inside in
+    let takes = subst (λ v. TakesPut v c.args.path c.args.bytes.now) (sym c.self.view_is) c.requires in
+    subst (λ rs. IsStore (record s { resources = rs; versions = s.versions + 1 })) (sym c.in_ok-put.ensures.ok)
+    (store_put s c.args.path c.in_range.result c.args.bytes.now c.self.invariant takes c.in_range.ensures.small)
+
 pub invariant_of-self-2 : goal.invariant_of-self-2
-invariant_of-self-2 c =
-    store_put c.self.inside _ c.args.path _ c.put.new.self _ c.self.view_is c.in_ok-put.ensures.ok c.self.invariant c.requires c.in_range.ensures.small
+invariant_of-self-2 c = after c
+
+pub returns-clause-store : goal.returns-clause-store
+returns-clause-store c = after c

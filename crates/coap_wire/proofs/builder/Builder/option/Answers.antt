@@ -3,7 +3,7 @@ use Rattle.std.proofs.lemmas.Bool.{eqb-false}
 use Rattle.coap_wire.specs.declared.options.OptionRef.{OptionRef}
 use Rattle.coap_wire.specs.Message.{last_number}
 use Rattle.coap_wire.specs.Views.{coap_options}
-use Rattle.coap_wire.specs.Built.{built_message}
+use Rattle.coap_wire.specs.BuilderViews.{built_message}
 use Rattle.coap_wire.proofs.BuiltLemmas.{option_added}
 use Rattle.coap_wire.proofs.builder.Builder.option.Goals as goal
 

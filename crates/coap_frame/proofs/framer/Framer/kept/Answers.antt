@@ -1,0 +1,15 @@
+use Rattle.std.proofs.Common.{◌≡◌, length, ap, arith}
+use Rattle.coap_frame.specs.Framing.{FramerValue}
+use Rattle.coap_frame.specs.BufferViews.{kept_in}
+use Rattle.coap_frame.specs.FramerViews.{framer_value}
+use Rattle.coap_frame.specs.declared.framer.Held.{Held}
+use Rattle.coap_frame.proofs.FramingLemmas.{kept_below}
+use Rattle.coap_frame.proofs.framer.Framer.kept.Goals as goal
+
+pub returns-in-Beginning-clause-below : goal.returns-in-Beginning-clause-below
+returns-in-Beginning-clause-below c =
+    let inside = c.self.inside in
+    let below = kept_below (framer_value inside) c.self.invariant.0 in
+    let kept : length (kept_in inside.held inside.buffer.items) ≡ length inside.buffer.items = ap (λ (h : Held). length (kept_in h inside.buffer.items)) c.in-Beginning.is in
+    let max : inside.max ≡ c.args.self.now.max = ap (λ (v : FramerValue). v.max) c.self.view_is in
+    omega (arith, below, kept, max, c.len.ensures)

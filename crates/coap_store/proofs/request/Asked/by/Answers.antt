@@ -1,0 +1,7 @@
+use Rattle.std.proofs.Common.{sym, subst}
+use Rattle.coap_store.specs.Noting.{AreNotesOf}
+use Rattle.coap_store.proofs.NotingLemmas as noting
+use Rattle.coap_store.proofs.request.Asked.by.Goals as goal
+
+pub invariant_of-result : goal.invariant_of-result
+invariant_of-result c = subst (λ n. AreNotesOf c.args.request.now n) (sym c.notes_of.ensures) (noting.notes_of c.args.request.now)

@@ -1,0 +1,37 @@
+-- What holds of every store.
+use Rattle.std.specs.Prelude.{◌≡◌, ◌≢◌, ℕ, ◌<◌, ◌≤◌, ◌^◌, true, List, [], ◌∷◌, length, None, IfSome}
+use Rattle.std.specs.List.{AllByRecursion}
+use Rattle.coap_store.specs.Paths.{is_path}
+use Rattle.coap_store.specs.Store.{Resource, StoreValue, found_in}
+use Rattle.coap_store.specs.State.{place_of}
+use Rattle.coap_store.specs.declared.place.Place.TheVariants.{Dynamic}
+
+-- no path stands twice
+abbrev pub AreDistinct : List Resource → Type 0
+AreDistinct [] = Unit {0}
+AreDistinct (r ∷ rs) = (found_in rs r.path ≡ None) × AreDistinct rs
+
+-- no version stands twice
+abbrev pub HaveOwnVersions : List Resource → Type 0
+HaveOwnVersions [] = Unit {0}
+HaveOwnVersions (r ∷ rs) = AllByRecursion (λ other. r.now.version ≢ other.now.version) rs × HaveOwnVersions rs
+
+-- It is at the path of a resource that is not built in, with one of the versions that were given, a format of two bytes
+-- where it has one, and at most so many bytes.
+pub record IsKept (versions rep_max : ℕ) (r : Resource) : Type 0 where
+  pub path : is_path r.path ≡ true
+  pub place : place_of r.path ≡ Dynamic
+  pub numbered : 1 ≤ r.now.version
+  pub given : r.now.version ≤ versions
+  pub format : IfSome r.now.format (λ format. format < 65536)
+  pub small : length r.now.bytes ≤ rep_max
+
+-- the resources are a map from paths, no two have one version, and no limit is passed
+pub record IsStore (s : StoreValue) : Type 0 where
+  pub paths : AreDistinct s.resources
+  pub own_versions : HaveOwnVersions s.resources
+  pub kept : AllByRecursion (IsKept s.versions s.rep_max) s.resources
+  pub few : length s.resources ≤ s.dynamic_max
+  pub most : s.dynamic_max ≤ 1000
+  pub largest : s.rep_max ≤ 1048576
+  pub versions : s.versions < 2 ^ 64
