@@ -213,6 +213,10 @@ impl Link {
         ensures after { self.new ≡ link_after_reply self.old response.now }
         ensures shows { (h : History) → LinkShows self.old h → LinkShows self.new (after_reply h response.now) }
     {
+        if response.size() <= self.limit() as u64 {
+            self.queue.put(response);
+            return Reply::Whole;
+        }
         let bare = bare_of(response);
         self.send(response, &bare)
     }
