@@ -1,9 +1,3 @@
-pub mod DeviceLemmas
-pub mod TalkLemmas
-pub mod ProgressLemmas
-pub mod AdvanceLemmas
-pub mod FlushLemmas
-pub mod PieceLemmas
-pub mod OutcomeLemmas
-pub mod RunLemmas
-pub mod ResponseLemmas
+pub mod streams
+pub mod values
+pub mod histories

@@ -1,9 +1,5 @@
-pub mod Device
+pub mod streams
 pub mod Configs
-pub mod ConfigViews
-pub mod Serving
-pub mod StdioRun
-pub mod Connection
-pub mod ConnectionViews
-pub mod Turns
-pub mod Faults
+pub mod views
+pub mod histories
+pub mod values

@@ -51,7 +51,7 @@ impl Model for Config {
 
     ghost Value = { ConfigValues };
 
-    ghost use Rattle.coap_serve.specs.ConfigViews.{config_values, is_config, config_fields};
+    ghost use Rattle.coap_serve.specs.views.ConfigViews.{config_values, is_config, config_fields};
 
     ghost view = { config_values };
 
@@ -62,7 +62,7 @@ impl Model for Config {
 
 impl Config {
     ghost use Rattle.coap_serve.specs.Configs.{config_of, config_refusal};
-    ghost use Rattle.coap_serve.specs.ConfigViews.{start_values};
+    ghost use Rattle.coap_serve.specs.views.ConfigViews.{start_values};
 
     /// The configuration with these values: the limits of each connection, connections, dynamic resources, bytes of a
     /// representation, turns of a run, and where the counts begin.

@@ -20,11 +20,11 @@ pub(crate) struct Connection {
 }
 
 impl Model for Connection {
-    ghost use Rattle.coap_serve.specs.Connection.{ConnectionValue};
+    ghost use Rattle.coap_serve.specs.values.Connection.{ConnectionValue};
 
     ghost Value = { ConnectionValue };
 
-    ghost use Rattle.coap_serve.specs.ConnectionViews.{connection_value, is_connection};
+    ghost use Rattle.coap_serve.specs.views.ConnectionViews.{connection_value, is_connection};
 
     ghost view = { connection_value };
 
@@ -35,9 +35,9 @@ impl Connection {
     ghost use Rattle.std.specs.Prelude.{◌≡◌, ◌+◌, ◌≤◌, ◌<◌, ◌^◌, false, [], IfOk, OnOk, OnErr, is_err, length};
     ghost use Rattle.coap_conn.specs.Phases.{stop_of, IsLive};
     ghost use Rattle.coap_conn.specs.History.{end_reason};
-    ghost use Rattle.coap_serve.specs.Device.{AddsBytes, WritesPart};
-    ghost use Rattle.coap_serve.specs.Connection.{opened, advance, link_flushed, input_ended, IsKept, RefusesFirst};
-    ghost use Rattle.coap_serve.specs.Serving.{is_cut};
+    ghost use Rattle.coap_serve.specs.streams.Device.{AddsBytes, WritesPart};
+    ghost use Rattle.coap_serve.specs.values.Connection.{opened, advance, link_flushed, input_ended, IsKept, RefusesFirst};
+    ghost use Rattle.coap_serve.specs.histories.Serving.{is_cut};
 
     /// A new connection with these limits, whose own Capabilities and Settings wait. It reserves its room here.
     pub(crate) fn open(alloc: Global, limits: Limits) -> Result<Connection, AllocError>
@@ -57,7 +57,7 @@ impl Connection {
     /// # Errors
     ///
     /// Where memory is refused for a representation that the message stores. Nothing of it was handled then.
-    #[tactic(auto, unfolding(crate::specs::Connection::advance, coap_frame::specs::Framing::framing))]
+    #[tactic(auto, unfolding(crate::specs::values::Connection::advance, coap_frame::specs::Framing::framing))]
     pub(crate) fn take(&mut self, host: &mut Host, piece: &[u8]) -> Result<usize, AllocError>
         requires quiet { self.old.link.waiting ≡ [] }
         requires live { IsLive self.old.link.phase }

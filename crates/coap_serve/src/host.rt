@@ -23,8 +23,8 @@ impl Host {
     ghost use Rattle.coap_store.specs.Answer.{changed};
     ghost use Rattle.coap_store.specs.Changes.{IsPut};
     ghost use Rattle.coap_store.specs.Messages.{response_message};
-    ghost use Rattle.coap_serve.specs.Serving.{setup_of};
-    ghost use Rattle.coap_serve.specs.Connection.{answer_from, host_of};
+    ghost use Rattle.coap_serve.specs.histories.Serving.{setup_of};
+    ghost use Rattle.coap_serve.specs.values.Connection.{answer_from, host_of};
 
     /// The host of a new server: nothing is stored, and its counts begin where the configuration says.
     ///

@@ -1,8 +1,8 @@
 //! Writes what waits to an outlet.
 
 ghost use Rattle.std.specs.Prelude.{◌≡◌, ◌≢◌, ◌≤◌, false, List, [], ◌++◌, ℕ, length, OnOk, OnErr, is_err};
-ghost use Rattle.coap_serve.specs.Device.{AddsBytes, WritesPart};
-ghost use Rattle.coap_serve.specs.Connection.{link_flushed};
+ghost use Rattle.coap_serve.specs.streams.Device.{AddsBytes, WritesPart};
+ghost use Rattle.coap_serve.specs.values.Connection.{link_flushed};
 
 use crate::device::Outlet;
 use coap_conn::Link;

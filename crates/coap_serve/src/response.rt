@@ -54,7 +54,7 @@ fn number_bytes(number: Option<u32>) -> Option<Token>
 }
 
 /// Adds an option for which there is room.
-#[tactic(auto, using(crate::proofs::ResponseLemmas::last_added))]
+#[tactic(auto, using(crate::proofs::values::ResponseLemmas::last_added))]
 fn add<'a>(response: &mut Builder<'a>, number: u16, value: &'a [u8])
     requires order { last_number 0 response.old.options ≤ number }
     requires few { length response.old.options < 40 }

@@ -2,12 +2,12 @@
 
 ghost use Rattle.std.specs.Prelude.{◌≡◌, ◌+◌, ◌≤◌, ◌<◌, ◌^◌, ℕ, false, List, [], ◌++◌, length, OnOk};
 ghost use Rattle.coap_conn.specs.Phases.{IsLive};
-ghost use Rattle.coap_serve.specs.Device.{HasGiven, AddsBytes};
-ghost use Rattle.coap_serve.specs.Connection.{IsKept, fresh, own_announcement};
-ghost use Rattle.coap_serve.specs.Serving.{setup_of};
-ghost use Rattle.coap_serve.specs.Turns.{setup_with, IsServed, IsTurn};
-ghost use Rattle.coap_serve.specs.StdioRun.{IsStdioRun};
-ghost use Rattle.coap_serve.specs.Faults.{is_read_fault, is_write_fault};
+ghost use Rattle.coap_serve.specs.streams.Device.{HasGiven, AddsBytes};
+ghost use Rattle.coap_serve.specs.values.Connection.{IsKept, fresh, own_announcement};
+ghost use Rattle.coap_serve.specs.histories.Serving.{setup_of};
+ghost use Rattle.coap_serve.specs.values.Turns.{setup_with, IsServed, IsTurn};
+ghost use Rattle.coap_serve.specs.streams.StdioRun.{IsStdioRun};
+ghost use Rattle.coap_serve.specs.streams.Faults.{is_read_fault, is_write_fault};
 
 use crate::config::Config;
 use crate::connection::Connection;

@@ -11,7 +11,7 @@ use Rattle.indexmap.specs.IndexMap.{insert_entry, shift_remove_entry}
 use Rattle.coap_store.specs.Paths.{Path}
 use Rattle.coap_store.specs.Store.{Representation, found_in, put_at, removed_at}
 use Rattle.coap_store.specs.Listing.{entry_bytes, built_in_bytes, listing}
-use Rattle.coap_store.specs.StoreViews.{representation, resources_in, AreListed, IsListed}
+use Rattle.coap_store.specs.ResourceViews.{representation, resources_in, AreListed, IsListed}
 use Rattle.coap_store.specs.declared.resource.Resource.{Resource}
 use Rattle.coap_store.specs.contracts.path.PathKeyPartialEq.TheImpl as key_eq
 use Rattle.coap_store.proofs.PathLemmas.{key_equality, same_path_sound}

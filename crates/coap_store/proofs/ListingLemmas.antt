@@ -14,7 +14,7 @@ use Rattle.coap_store.specs.Paths.{Path, same_path, written_length, is_path, is_
 use Rattle.coap_store.specs.Store.{Representation, found_in, put_at, removed_at}
 use Rattle.coap_store.specs.Store as store
 use Rattle.coap_store.specs.Listing.{is_unreserved, hex_digit, encoded_byte, path_bytes, format_bytes, entry_bytes, built_in_bytes, listing}
-use Rattle.coap_store.specs.StoreViews.{representation, resource_at, resources_in, AreListed}
+use Rattle.coap_store.specs.ResourceViews.{representation, resource_at, resources_in, AreListed}
 use Rattle.coap_store.specs.declared.resource.Resource.{Resource}
 
 -- paths that compare equal are the same

@@ -8,7 +8,7 @@ use Rattle.std.proofs.lemmas.Bool.{ltb-true}
 use Rattle.coap_store.specs.Paths.{Path, same_path}
 use Rattle.coap_store.specs.Store.{Representation, Resource, StoreValue, found_in, put_at, removed_at, put_in, removed_in}
 use Rattle.coap_store.specs.Listing.{listing}
-use Rattle.coap_store.specs.StoreViews.{representation}
+use Rattle.coap_store.specs.ResourceViews.{representation}
 use Rattle.coap_store.specs.Answer.{Change, Nothing, Put, Delete, changed}
 use Rattle.coap_store.specs.Changes.{TakesPut, TakesChange, HasSmallFormat}
 use Rattle.coap_store.specs.Invariant.{HaveOwnVersions, IsKept, IsStore}

@@ -2,7 +2,7 @@ pub mod Paths
 pub mod PathViews
 pub mod Store
 pub mod Listing
-pub mod StoreViews
+pub mod ResourceViews
 pub mod State
 pub mod Requests
 pub mod Answer
@@ -11,9 +11,9 @@ pub mod Changes
 pub mod Messages
 pub mod Serving
 pub mod PlanViews
-pub mod PlanAnswer
-pub mod Targets
-pub mod CatalogueInside
-pub mod StoreInside
+pub mod PlanAnswerViews
+pub mod TargetViews
+pub mod CatalogueViews
+pub mod StoreViews
 pub mod Noting
-pub mod AskedInside
+pub mod AskedViews

@@ -1,26 +1,10 @@
--- How the resources are kept.
-use Rattle.std.specs.Prelude.{◌≡◌, List, map}
-use Rattle.std.specs.List.{AllByRecursion}
-use Rattle.std.specs.String.{string_bytes}
-use Rattle.coap_store.specs.Paths.{Path}
-use Rattle.coap_store.specs.Store.{Representation}
-use Rattle.coap_store.specs.Store as store
-use Rattle.coap_store.specs.Listing.{entry_bytes}
-use Rattle.coap_store.specs.declared.resource.Resource.{Resource}
+-- How a store is kept, and seen.
+use Rattle.coap_store.specs.Store.{StoreValue}
+use Rattle.coap_store.specs.Invariant.{IsStore}
+use Rattle.coap_store.specs.declared.store.Store.TheInside.{Inside}
 
--- what is stored, without its text in the listing
-abbrev pub representation : Resource → Representation
-representation r = record { version = r.version; format = r.format; bytes = r.bytes.items }
+abbrev pub store_value : Inside → StoreValue
+store_value s = record { dynamic_max = s.dynamic_max; rep_max = s.rep_max; resources = s.resources; versions = s.versions }
 
-abbrev pub resource_at : Path × Resource → store.Resource
-resource_at e = record { path = e.0; now = representation e.1 }
-
-unfoldable pub resources_in : List (Path × Resource) → List store.Resource
-resources_in entries = map resource_at entries
-
--- each keeps its text in the listing
-abbrev pub IsListed : Path × Resource → Type 0
-IsListed e = string_bytes e.1.listed ≡ entry_bytes e.0 e.1.format
-
-abbrev pub AreListed : List (Path × Resource) → Type 0
-AreListed entries = AllByRecursion IsListed entries
+abbrev pub is_store : Inside → Type 0
+is_store s = IsStore (store_value s)

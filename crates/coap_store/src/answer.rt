@@ -6,7 +6,7 @@ ghost use Rattle.coap_wire.specs.OptionNumbers as numbers;
 ghost use Rattle.coap_store.specs.Store.{Representation};
 ghost use Rattle.coap_store.specs.Requests.{values_of, is_method as is_known_method, preconditions_hold as hold};
 ghost use Rattle.coap_store.specs.Answer.{get_answer, read_answer, unheld, etag_at, max_age_at, is_accepted as accepts, is_among as is_one_of, watch_of, removes_watch as asks_removal, stored as stored_there, delete_answer};
-ghost use Rattle.coap_store.specs.Targets.{found_value, target_value};
+ghost use Rattle.coap_store.specs.TargetViews.{found_value, target_value};
 
 use crate::path::PathKey;
 use crate::place::Place;
@@ -25,7 +25,7 @@ impl Store {
     ghost use Rattle.coap_store.specs.Answer.{answer_at, resource_answer, store_answer, needs_resource as needs, unheld, prompt_answer};
     ghost use Rattle.coap_store.specs.Changes.{TakesChange, changes};
     ghost use Rattle.coap_store.specs.Invariant.{IsStore};
-    ghost use Rattle.coap_store.specs.Targets.{found_value, target_value};
+    ghost use Rattle.coap_store.specs.TargetViews.{found_value, target_value};
 
     /// The answer to a request at a moment in seconds. It allocates nothing, and changes nothing: `apply` makes the change.
     /// No answer is held yet: where one would be, it is 5.03.

@@ -4,7 +4,7 @@ ghost use Rattle.std.specs.Prelude.{◌≡◌, OnOk, OnErr, IfNone, IfSome, true
 ghost use Rattle.std.specs.Option.{is_some};
 ghost use Rattle.coap_store.specs.Store.{found_in, put_at};
 ghost use Rattle.coap_store.specs.Listing.{listing as listing_of};
-ghost use Rattle.coap_store.specs.StoreViews.{resources_in, AreListed, IsListed, representation};
+ghost use Rattle.coap_store.specs.ResourceViews.{resources_in, AreListed, IsListed, representation};
 
 use crate::path::PathKey;
 use crate::resource::{BUILT_IN_TEXT, Resource, Resources, entry_text, write_listing};
@@ -27,7 +27,7 @@ impl Model for Catalogue {
 
     ghost Value = { List Resource };
 
-    ghost use Rattle.coap_store.specs.CatalogueInside.{resources_of, IsCatalogue};
+    ghost use Rattle.coap_store.specs.CatalogueViews.{resources_of, IsCatalogue};
 
     ghost view = { resources_of };
 
@@ -38,7 +38,7 @@ impl Catalogue {
     ghost use Rattle.std.specs.Prelude.{◌≡◌, [], IfOk, OnOk, OnErr, length, option_map};
     ghost use Rattle.coap_store.specs.Listing.{listing as listing_of};
     ghost use Rattle.coap_store.specs.Store.{found_in, put_at, removed_at};
-    ghost use Rattle.coap_store.specs.StoreViews.{representation};
+    ghost use Rattle.coap_store.specs.ResourceViews.{representation};
 
     /// No resource but those that are built in.
     pub(crate) fn new(alloc: Global) -> Result<Catalogue, AllocError>

@@ -106,7 +106,7 @@ impl<'s, 'r> Model for Plan<'s, 'r> {
 
     ghost Value = { Answer };
 
-    ghost use Rattle.coap_store.specs.PlanAnswer.{plan_answer};
+    ghost use Rattle.coap_store.specs.PlanAnswerViews.{plan_answer};
 
     ghost view = { plan_answer };
 }

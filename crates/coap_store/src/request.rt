@@ -25,7 +25,7 @@ impl<'q, 'r> Model for Asked<'q, 'r> {
 
     ghost Value = { Message };
 
-    ghost use Rattle.coap_store.specs.AskedInside.{message_of, is_asked};
+    ghost use Rattle.coap_store.specs.AskedViews.{message_of, is_asked};
 
     ghost view = { message_of };
 

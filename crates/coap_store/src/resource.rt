@@ -5,7 +5,7 @@ ghost use Rattle.std.specs.List.{flat_map};
 ghost use Rattle.std.specs.Vec.{vec_capacity};
 ghost use Rattle.std.specs.String.{string_bytes};
 ghost use Rattle.coap_store.specs.Listing.{listing as listing_of, entry_bytes, slash, encoded_byte, path_bytes, format_bytes};
-ghost use Rattle.coap_store.specs.StoreViews.{resources_in, AreListed};
+ghost use Rattle.coap_store.specs.ResourceViews.{resources_in, AreListed};
 
 use crate::path::PathKey;
 use indexmap::IndexMap;

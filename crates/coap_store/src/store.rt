@@ -25,7 +25,7 @@ impl Model for Store {
 
     ghost Value = { StoreValue };
 
-    ghost use Rattle.coap_store.specs.StoreInside.{store_value, is_store};
+    ghost use Rattle.coap_store.specs.StoreViews.{store_value, is_store};
 
     ghost view = { store_value };
 
@@ -37,7 +37,7 @@ impl Store {
     ghost use Rattle.coap_store.specs.Answer.{changed, greatest_version};
     ghost use Rattle.coap_store.specs.Store.{found_in, put_in};
     ghost use Rattle.coap_store.specs.Listing.{listing as listing_of};
-    ghost use Rattle.coap_store.specs.StoreViews.{representation};
+    ghost use Rattle.coap_store.specs.ResourceViews.{representation};
     ghost use Rattle.coap_store.specs.Changes.{TakesChange, TakesPut, IsPut};
     ghost use Rattle.coap_store.specs.Invariant.{IsStore};
     ghost use Rattle.coap_store.specs.PlanViews.{change_value};

@@ -46,7 +46,7 @@ impl<'s> Found<'s> {
     ghost use Rattle.std.specs.Prelude.{◌≡◌, Some};
     ghost use Rattle.coap_store.specs.PlanViews.{bytes_in};
     ghost use Rattle.coap_store.specs.State.{built as built_in};
-    ghost use Rattle.coap_store.specs.Targets.{found_value};
+    ghost use Rattle.coap_store.specs.TargetViews.{found_value};
 
     /// The representation of a built-in resource.
     pub(crate) fn built(format: u16, bytes: Bytes<'s>) -> Found<'s>

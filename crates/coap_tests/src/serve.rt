@@ -1,8 +1,8 @@
 //! Runs of `serve_one`, as rows: what is set, and how the run goes then.
 
 ghost use Rattle.std.specs.Prelude.{◌≡◌, ◌+◌, ◌<◌, ◌^◌, false, [], map, vec_items};
-ghost use Rattle.coap_serve.specs.Serving.{setup_of};
-ghost use Rattle.coap_serve.specs.StdioRun.{IsStdioRun};
+ghost use Rattle.coap_serve.specs.histories.Serving.{setup_of};
+ghost use Rattle.coap_serve.specs.streams.StdioRun.{IsStdioRun};
 
 mod calls;
 mod messages;

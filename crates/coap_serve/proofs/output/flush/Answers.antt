@@ -1,7 +1,7 @@
 use Rattle.std.proofs.Common.{ℕ, take, subst, arith}
-use Rattle.coap_serve.specs.Device.{AddsBytes}
-use Rattle.coap_serve.proofs.DeviceLemmas.{not_failed_write}
-use Rattle.coap_serve.proofs.FlushLemmas.{begins, failed, further, fewer, all_written, all_flushed}
+use Rattle.coap_serve.specs.streams.Device.{AddsBytes}
+use Rattle.coap_serve.proofs.streams.DeviceLemmas.{not_failed_write}
+use Rattle.coap_serve.proofs.streams.FlushLemmas.{begins, failed, further, fewer, all_written, all_flushed}
 use Rattle.coap_serve.proofs.output.flush.Goals as goal
 
 pub loop-writer-init : goal.loop-writer-init

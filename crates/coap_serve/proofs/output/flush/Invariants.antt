@@ -1,5 +1,5 @@
 use Rattle.std.proofs.Common.{◌≡◌, false, length}
-use Rattle.coap_serve.proofs.FlushLemmas.{Flushes}
+use Rattle.coap_serve.proofs.streams.FlushLemmas.{Flushes}
 use Rattle.coap_serve.proofs.output.flush.Given as goal
 
 abbrev pub invariant-loop-writer : goal.invariant-loop-writer

@@ -2,7 +2,7 @@ use Rattle.std.proofs.Common.{ap, length, ◌∙◌, arith}
 use Rattle.coap_wire.specs.OptionNumbers as numbers
 use Rattle.coap_store.specs.Paths.{Path, written_length}
 use Rattle.coap_store.specs.Messages.{each_at}
-use Rattle.coap_serve.proofs.ResponseLemmas.{with_options, few_left, short_left, segment_added}
+use Rattle.coap_serve.proofs.values.ResponseLemmas.{with_options, few_left, short_left, segment_added}
 use Rattle.coap_serve.proofs.response.add_path.Goals as goal
 
 pub loop-segment-init : goal.loop-segment-init

@@ -4,7 +4,7 @@ use Rattle.coap_wire.specs.OptionNumbers as numbers
 use Rattle.coap_conn.specs.LinkValue.{link_after_reply}
 use Rattle.coap_store.specs.Paths.{Path}
 use Rattle.coap_store.specs.Messages.{option_at, number_at, each_at}
-use Rattle.coap_serve.proofs.ResponseLemmas.{with_options, is_response}
+use Rattle.coap_serve.proofs.values.ResponseLemmas.{with_options, is_response}
 use Rattle.coap_serve.proofs.response.respond.Goals as goal
 
 pub returns : goal.returns

@@ -1,7 +1,7 @@
 use Rattle.std.proofs.Common.{refl, arith}
 use Rattle.std.proofs.lemmas.Result.{err_from_is_err_and}
-use Rattle.coap_serve.specs.Turns.{setup_with}
-use Rattle.coap_serve.proofs.RunLemmas.{begins, quiet, live, out_of_turns, next_turn, ended_turn, stopped_turn, faulted}
+use Rattle.coap_serve.specs.values.Turns.{setup_with}
+use Rattle.coap_serve.proofs.streams.RunLemmas.{begins, quiet, live, out_of_turns, next_turn, ended_turn, stopped_turn, faulted}
 use Rattle.coap_serve.proofs.serve.run.Goals as goal
 
 pub loop-init : goal.loop-init

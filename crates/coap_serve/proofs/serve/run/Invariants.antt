@@ -1,6 +1,6 @@
 use Rattle.std.proofs.Common.{◌≡◌, ◌*◌, ◌≤◌, false, length}
-use Rattle.coap_serve.specs.Turns.{setup_with}
-use Rattle.coap_serve.proofs.RunLemmas.{RunsOn}
+use Rattle.coap_serve.specs.values.Turns.{setup_with}
+use Rattle.coap_serve.proofs.streams.RunLemmas.{RunsOn}
 use Rattle.coap_serve.proofs.serve.run.Given as goal
 
 abbrev pub invariant-loop : goal.invariant-loop

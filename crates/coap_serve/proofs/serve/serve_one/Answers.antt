@@ -1,7 +1,7 @@
 use Rattle.std.proofs.Common.{ap, ◌∙◌}
-use Rattle.coap_serve.specs.Serving.{Setup, setup_of}
-use Rattle.coap_serve.specs.Connection.{opened}
-use Rattle.coap_serve.proofs.RunLemmas.{not_fresh, not_greeted, greeted_limits, greeted}
+use Rattle.coap_serve.specs.histories.Serving.{Setup, setup_of}
+use Rattle.coap_serve.specs.values.Connection.{opened}
+use Rattle.coap_serve.proofs.streams.RunLemmas.{not_fresh, not_greeted, greeted_limits, greeted}
 use Rattle.coap_serve.proofs.serve.serve_one.Goals as goal
 
 pub returns-in_default-clause-run : goal.returns-in_default-clause-run

@@ -1,7 +1,7 @@
 use Rattle.std.proofs.Common.{refl, ap, ◌∙◌, sym, arith}
 use Rattle.coap_conn.specs.Phases.{stop_of}
-use Rattle.coap_serve.specs.Connection.{ConnectionValue}
-use Rattle.coap_serve.proofs.PieceLemmas.{begins, is_filled, is_used_up, took, handled_within, shorter, goes_further, served, stopped, refused, failed_write}
+use Rattle.coap_serve.specs.values.Connection.{ConnectionValue}
+use Rattle.coap_serve.proofs.values.PieceLemmas.{begins, is_filled, is_used_up, took, handled_within, shorter, goes_further, served, stopped, refused, failed_write}
 use Rattle.coap_serve.proofs.serve.serve_piece.Goals as goal
 
 pub loop-rest-init : goal.loop-rest-init

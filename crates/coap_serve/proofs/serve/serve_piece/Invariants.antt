@@ -1,5 +1,5 @@
 use Rattle.std.proofs.Common.{◌≡◌, false, length}
-use Rattle.coap_serve.proofs.PieceLemmas.{Serves}
+use Rattle.coap_serve.proofs.values.PieceLemmas.{Serves}
 use Rattle.coap_serve.proofs.serve.serve_piece.Given as goal
 
 abbrev pub invariant-loop-rest : goal.invariant-loop-rest

@@ -3,7 +3,7 @@ use Rattle.std.specs.Option.{option_map}
 use Rattle.coap_wire.specs.OptionNumbers as numbers
 use Rattle.coap_store.specs.Requests.{values_of}
 use Rattle.coap_store.specs.Answer.{is_accepted, is_among}
-use Rattle.coap_store.specs.Targets.{found_value}
+use Rattle.coap_store.specs.TargetViews.{found_value}
 use Rattle.coap_store.proofs.GetLemmas.{get_valid, get_content, etag_lent}
 use Rattle.coap_store.proofs.answer.get.Goals as goal
 

@@ -2,7 +2,7 @@
 use Rattle.std.proofs.Common.{◌≡◌, ◌≤◌, ◌++◌, length}
 use Rattle.std.specs.Vec.{vec_capacity}
 use Rattle.coap_store.specs.Listing.{listing}
-use Rattle.coap_store.specs.StoreViews.{resources_in}
+use Rattle.coap_store.specs.ResourceViews.{resources_in}
 use Rattle.coap_store.proofs.ListingLemmas.{listed_bytes}
 use Rattle.coap_store.proofs.resource.write_listing.Given as goal
 

@@ -4,10 +4,10 @@ use Rattle.coap_frame.specs.FramedViews.{finding_of}
 use Rattle.coap_store.specs.Messages.{response_message}
 use Rattle.coap_conn.specs.declared.phase.Reject.TheVariants as reject
 use Rattle.coap_conn.specs.LinkValue.{LinkValue}
-use Rattle.coap_serve.specs.Connection.{ConnectionValue, answer_from, MayBeRefused, RefusesFirst}
+use Rattle.coap_serve.specs.values.Connection.{ConnectionValue, answer_from, MayBeRefused, RefusesFirst}
 use Rattle.coap_serve.specs.declared.connection.Connection.TheInside.{Inside}
-use Rattle.coap_serve.proofs.AdvanceLemmas.{framed_kept, refuses_found}
-use Rattle.coap_serve.proofs.TalkLemmas.{reject_limits, message_limits, reply_limits}
+use Rattle.coap_serve.proofs.values.AdvanceLemmas.{framed_kept, refuses_found}
+use Rattle.coap_serve.proofs.values.TalkLemmas.{reject_limits, message_limits, reply_limits}
 use Rattle.coap_serve.proofs.connection.Connection.take.Goals.{in-Request+in_ok-answer-in-Ok, in_default}
 use Rattle.coap_serve.proofs.connection.Connection.take.Goals as goal
 

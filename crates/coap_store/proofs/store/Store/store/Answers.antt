@@ -1,5 +1,5 @@
 use Rattle.std.proofs.Common.{subst, sym, ◌+◌}
-use Rattle.coap_store.specs.StoreInside.{store_value}
+use Rattle.coap_store.specs.StoreViews.{store_value}
 use Rattle.coap_store.specs.Changes.{TakesPut}
 use Rattle.coap_store.specs.Invariant.{IsStore}
 use Rattle.coap_store.proofs.StoreLemmas.{store_put}

@@ -2,7 +2,7 @@
 use Rattle.std.proofs.Common.{◌≡◌, ◌≢◌, ℕ, ◌+◌, ◌<◌, ◌≤◌, List, [], ◌∷◌, ◌++◌, length, Option, Some, None, Result, Ok, Err, refl, sym, ap, subst, ◌∙◌, append_assoc, arith, inl, inr}
 use Rattle.std.specs.List.{concat}
 use Rattle.std.proofs.lemmas.List.{append-nil, length-append}
-use Rattle.coap_serve.specs.Device.{Told, HasGiven, AddsBytes, WritesPart}
+use Rattle.coap_serve.specs.streams.Device.{Told, HasGiven, AddsBytes, WritesPart}
 use Rattle.coap_conn.specs.declared.reason.Reason.{Reason}
 use Rattle.coap_conn.specs.Limits.{LimitValues}
 use Rattle.coap_conn.specs.Phases.{stop_of, IsLive}
@@ -13,13 +13,13 @@ use Rattle.coap_serve.specs.declared.serve.IoFault.TheVariants.{Read, Write, Mem
 use Rattle.coap_serve.specs.declared.serve.Turn.{Turn}
 use Rattle.coap_serve.specs.declared.serve.Turn.TheVariants.{More, Ended, Stopped}
 use Rattle.coap_serve.specs.declared.host.Host.{Host}
-use Rattle.coap_serve.specs.Serving.{Setup, Outcome, outcome, stdio_output, is_cut}
-use Rattle.coap_serve.specs.StdioRun.{AreNotEmpty, GoesOn, EndsRun, IsStdioRun}
-use Rattle.coap_serve.specs.Connection.{ConnectionValue, IsKept, host_of, link_flushed, opened, own_announcement, fresh, IsRefusedWith}
-use Rattle.coap_serve.specs.Turns.{Progress, progress_from, value_of, stop_in, RefusesIn, WritesPartOf, IsServed, setup_with, HasRead, IsTurn}
-use Rattle.coap_serve.proofs.DeviceLemmas.{bytes_none, bytes_then, given_none, given_then}
-use Rattle.coap_serve.proofs.ProgressLemmas.{after_text, progress_more, progress_quiet, value_kept, begun_idle}
-use Rattle.coap_serve.proofs.OutcomeLemmas.{came, outcome_is, is_last_byte}
+use Rattle.coap_serve.specs.histories.Serving.{Setup, Outcome, outcome, stdio_output, is_cut}
+use Rattle.coap_serve.specs.streams.StdioRun.{AreNotEmpty, GoesOn, EndsRun, IsStdioRun}
+use Rattle.coap_serve.specs.values.Connection.{ConnectionValue, IsKept, host_of, link_flushed, opened, own_announcement, fresh, IsRefusedWith}
+use Rattle.coap_serve.specs.values.Turns.{Progress, progress_from, value_of, stop_in, RefusesIn, WritesPartOf, IsServed, setup_with, HasRead, IsTurn}
+use Rattle.coap_serve.proofs.streams.DeviceLemmas.{bytes_none, bytes_then, given_none, given_then}
+use Rattle.coap_serve.proofs.values.ProgressLemmas.{after_text, progress_more, progress_quiet, value_kept, begun_idle}
+use Rattle.coap_serve.proofs.histories.OutcomeLemmas.{came, outcome_is, is_last_byte}
 
 -- ---- pieces
 

@@ -2,9 +2,9 @@
 use Rattle.std.proofs.Common.{◌≡◌, ◌≢◌, ℕ, ◌<◌, ◌≤◌, List, [], ◌∷◌, ◌++◌, length, take, drop, Option, refl, sym, ap, subst, ◌∙◌, append_assoc, arith}
 use Rattle.std.proofs.lemmas.List.{append-nil, take-append-drop, length-drop}
 use Rattle.coap_conn.specs.LinkValue.{LinkValue, link_after_written}
-use Rattle.coap_serve.specs.Device.{AddsBytes, WritesPart}
-use Rattle.coap_serve.specs.Connection.{link_flushed}
-use Rattle.coap_serve.proofs.DeviceLemmas.{bytes_none, bytes_then}
+use Rattle.coap_serve.specs.streams.Device.{AddsBytes, WritesPart}
+use Rattle.coap_serve.specs.values.Connection.{link_flushed}
+use Rattle.coap_serve.proofs.streams.DeviceLemmas.{bytes_none, bytes_then}
 
 -- Of what waited on the link l, a front was written, and the rest waits on the link now. The outlet told x, and tells y.
 pub record Flushes (l now : LinkValue) (x y : Option (List ℕ)) : Type 0 where

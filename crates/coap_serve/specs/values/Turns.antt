@@ -13,8 +13,8 @@ use Rattle.coap_serve.specs.declared.serve.Turn.{Turn}
 use Rattle.coap_serve.specs.declared.serve.Turn.TheVariants.{More, Ended, Stopped}
 use Rattle.coap_serve.specs.declared.serve.IoFault.{IoFault}
 use Rattle.coap_serve.specs.declared.serve.IoFault.TheVariants.{Read, Write, Memory, Turns}
-use Rattle.coap_serve.specs.Serving.{Setup, is_cut}
-use Rattle.coap_serve.specs.Connection.{ConnectionValue, greatest, link_flushed, input_ended, link_served, host_served, IsRefusedWith}
+use Rattle.coap_serve.specs.histories.Serving.{Setup, is_cut}
+use Rattle.coap_serve.specs.values.Connection.{ConnectionValue, greatest, link_flushed, input_ended, link_served, host_served, IsRefusedWith}
 
 -- ---- the whole piece
 

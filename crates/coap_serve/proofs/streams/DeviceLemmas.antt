@@ -3,7 +3,7 @@ use Rattle.std.proofs.Common.{◌≡◌, ◌≢◌, ℕ, zero, suc, Bool, false,
 use Rattle.std.proofs.lemmas.List.{append-nil}
 use Rattle.std.specs.List.{concat}
 use Rattle.std.specs.Io.KnownBytes.{Consumes}
-use Rattle.coap_serve.specs.Device.{AddsPieces, AddsBytes, Told, FoundEnd, EndsAt, HasGiven, is_failed_write}
+use Rattle.coap_serve.specs.streams.Device.{AddsPieces, AddsBytes, Told, FoundEnd, EndsAt, HasGiven, is_failed_write}
 
 pub bytes_none : (a : Option (List ℕ)) → AddsBytes a a []
 bytes_none None = tt

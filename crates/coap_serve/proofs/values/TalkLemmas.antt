@@ -13,8 +13,8 @@ use Rattle.coap_conn.specs.Rejects.{reject_of, reject_reason}
 use Rattle.coap_conn.specs.LinkValue.{LinkValue, standing_in, link_with, link_after_message, link_after_reply, link_after_reject}
 use Rattle.coap_store.specs.Messages.{response_message}
 use Rattle.coap_serve.specs.declared.host.Host.{Host}
-use Rattle.coap_serve.specs.Connection.{answer_from, link_flushed, link_answered, link_served, host_served, verdict_on}
-use Rattle.coap_serve.specs.Turns.{Talk, silence, talk_first, talk, talk_last, talk_end}
+use Rattle.coap_serve.specs.values.Connection.{answer_from, link_flushed, link_answered, link_served, host_served, verdict_on}
+use Rattle.coap_serve.specs.values.Turns.{Talk, silence, talk_first, talk, talk_last, talk_end}
 
 -- ---- phases
 

@@ -7,7 +7,7 @@ use Rattle.coap_conn.specs.History.{end_reason}
 use Rattle.coap_serve.specs.declared.serve.Report.{Report}
 use Rattle.coap_serve.specs.declared.serve.IoFault.{IoFault}
 use Rattle.coap_serve.specs.declared.serve.IoFault.TheVariants.{Read, Write, Memory, Turns}
-use Rattle.coap_serve.specs.Serving.{Setup, AsksToStore, stream_of, service_of, outcome, stdio_output, is_cut}
+use Rattle.coap_serve.specs.histories.Serving.{Setup, AsksToStore, stream_of, service_of, outcome, stdio_output, is_cut}
 
 -- no read found the end
 abbrev pub AreNotEmpty : List (List ℕ) → Type 0

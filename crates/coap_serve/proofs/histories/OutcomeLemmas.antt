@@ -22,12 +22,12 @@ use Rattle.coap_store.specs.Answer.{changed}
 use Rattle.coap_store.specs.Messages.{response_message}
 use Rattle.coap_store.specs.Changes.{IsPut}
 use Rattle.coap_serve.specs.declared.host.Host.{Host}
-use Rattle.coap_serve.specs.Serving.{Setup, Service, flushed, answer_in, service_answering, answered, told, served, AsksToStore, served_all, rejected, stopped_by, greeted, stream_of, service_with, service_of, Outcome, outcome_with, outcome}
-use Rattle.coap_serve.specs.Connection.{host_of, answer_from, link_flushed, link_answered, host_answered, link_served, host_served, own_announcement, fresh, IsRefusedWith}
-use Rattle.coap_serve.specs.Turns.{Talk, talk, talk_end, Progress, progress_from, value_of, stop_in}
-use Rattle.coap_serve.specs.StdioRun.{IsLastByte}
-use Rattle.coap_serve.proofs.TalkLemmas.{talk_later, talk_none, talk_taken, talk_stopped, end_taken, end_stopped}
-use Rattle.coap_serve.proofs.ProgressLemmas.{going_by, progress_limits, progress_rest}
+use Rattle.coap_serve.specs.histories.Serving.{Setup, Service, flushed, answer_in, service_answering, answered, told, served, AsksToStore, served_all, rejected, stopped_by, greeted, stream_of, service_with, service_of, Outcome, outcome_with, outcome}
+use Rattle.coap_serve.specs.values.Connection.{host_of, answer_from, link_flushed, link_answered, host_answered, link_served, host_served, own_announcement, fresh, IsRefusedWith}
+use Rattle.coap_serve.specs.values.Turns.{Talk, talk, talk_end, Progress, progress_from, value_of, stop_in}
+use Rattle.coap_serve.specs.streams.StdioRun.{IsLastByte}
+use Rattle.coap_serve.proofs.values.TalkLemmas.{talk_later, talk_none, talk_taken, talk_stopped, end_taken, end_stopped}
+use Rattle.coap_serve.proofs.values.ProgressLemmas.{going_by, progress_limits, progress_rest}
 
 -- the store and the moment of a world
 abbrev host_in : Service → Host

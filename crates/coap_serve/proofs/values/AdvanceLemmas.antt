@@ -19,11 +19,11 @@ use Rattle.coap_conn.specs.Limits.{LimitValues, AreInRange}
 use Rattle.coap_conn.specs.Phases.{stop_of, takes_messages, IsLive}
 use Rattle.coap_conn.specs.Rejects.{reject_of, reject_reason}
 use Rattle.coap_conn.specs.LinkValue.{LinkValue, link_after_reject}
-use Rattle.coap_serve.specs.Connection.{ConnectionValue, IsKept, greatest, connected, link_flushed, link_served, host_served, MayBeRefused, Advance, advance_read, advance_found, advance, RefusesFirst}
+use Rattle.coap_serve.specs.values.Connection.{ConnectionValue, IsKept, greatest, connected, link_flushed, link_served, host_served, MayBeRefused, Advance, advance_read, advance_found, advance, RefusesFirst}
 use Rattle.coap_serve.specs.declared.host.Host.{Host}
-use Rattle.coap_serve.specs.Turns.{Talk, silence, talk, talk_end, Progress, progress_behind, progress_with, progress_from, stop_in}
-use Rattle.coap_serve.proofs.TalkLemmas.{takes_where_live, takes_none, reject_stops, reject_limits, served_limits, talk_none, talk_taken, talk_stopped, first_end, end_taken, end_stopped}
-use Rattle.coap_serve.proofs.ProgressLemmas.{after_text, no_message, idle}
+use Rattle.coap_serve.specs.values.Turns.{Talk, silence, talk, talk_end, Progress, progress_behind, progress_with, progress_from, stop_in}
+use Rattle.coap_serve.proofs.values.TalkLemmas.{takes_where_live, takes_none, reject_stops, reject_limits, served_limits, talk_none, talk_taken, talk_stopped, first_end, end_taken, end_stopped}
+use Rattle.coap_serve.proofs.values.ProgressLemmas.{after_text, no_message, idle}
 
 -- ---- what a connection keeps
 

@@ -2,7 +2,7 @@
 use Rattle.std.specs.Prelude.{◌≡◌, List}
 use Rattle.coap_store.specs.Store.{Resource}
 use Rattle.coap_store.specs.Listing.{listing}
-use Rattle.coap_store.specs.StoreViews.{resources_in, AreListed}
+use Rattle.coap_store.specs.ResourceViews.{resources_in, AreListed}
 use Rattle.coap_store.specs.declared.catalogue.Catalogue.TheInside.{Inside}
 
 abbrev pub resources_of : Inside → List Resource

@@ -1,6 +1,6 @@
 -- How the code's connection is seen in contracts.
 use Rattle.std.specs.Prelude.{◌≡◌}
-use Rattle.coap_serve.specs.Connection.{ConnectionValue, IsKept, connected}
+use Rattle.coap_serve.specs.values.Connection.{ConnectionValue, IsKept, connected}
 use Rattle.coap_serve.specs.declared.connection.Connection.TheInside.{Inside}
 
 abbrev pub connection_value : Inside → ConnectionValue

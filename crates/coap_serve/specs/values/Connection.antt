@@ -18,7 +18,7 @@ use Rattle.coap_store.specs.Answer.{Answer, prompt_answer, changed}
 use Rattle.coap_store.specs.Messages.{response_message}
 use Rattle.coap_store.specs.Changes.{IsPut}
 use Rattle.coap_serve.specs.declared.host.Host.{Host}
-use Rattle.coap_serve.specs.Serving.{Setup, is_cut}
+use Rattle.coap_serve.specs.histories.Serving.{Setup, is_cut}
 
 -- the bytes of the unfinished frame, the link, and how many messages were handled
 pub record ConnectionValue : Type 0 where

@@ -6,9 +6,9 @@ use Rattle.coap_wire.specs.Beginning.{Unfinished, beginning}
 use Rattle.coap_wire.proofs.StreamSteps.{split_more, split_rest, split_unfinished, unfinished_empty}
 use Rattle.coap_conn.specs.Limits.{LimitValues, AreInRange}
 use Rattle.coap_serve.specs.declared.host.Host.{Host}
-use Rattle.coap_serve.specs.Connection.{ConnectionValue, IsKept, greatest, fresh}
-use Rattle.coap_serve.specs.Turns.{Talk, talk, talk_end, Progress, progress_behind, progress_with, progress_from, value_of, stop_in}
-use Rattle.coap_serve.proofs.TalkLemmas.{then_talk, talk_on, talk-append, talk_none, talk_limits, then_end, no_fault, all_quiet}
+use Rattle.coap_serve.specs.values.Connection.{ConnectionValue, IsKept, greatest, fresh}
+use Rattle.coap_serve.specs.values.Turns.{Talk, talk, talk_end, Progress, progress_behind, progress_with, progress_from, value_of, stop_in}
+use Rattle.coap_serve.proofs.values.TalkLemmas.{then_talk, talk_on, talk-append, talk_none, talk_limits, then_end, no_fault, all_quiet}
 
 -- text, and then the progress
 abbrev pub after_text : List ℕ → Progress → Progress

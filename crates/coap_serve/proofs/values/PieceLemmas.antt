@@ -4,14 +4,14 @@ use Rattle.std.proofs.lemmas.Bool.{ne_eqb}
 use Rattle.std.proofs.lemmas.List.{append-nil, length-drop, take-append-drop, take_rest}
 use Rattle.coap_conn.specs.declared.reason.Reason.{Reason}
 use Rattle.coap_conn.specs.Phases.{stop_of, IsLive}
-use Rattle.coap_serve.specs.Device.{AddsBytes, WritesPart}
+use Rattle.coap_serve.specs.streams.Device.{AddsBytes, WritesPart}
 use Rattle.coap_serve.specs.declared.host.Host.{Host}
 use Rattle.coap_serve.specs.declared.serve.IoFault.TheVariants.{Write, Memory}
-use Rattle.coap_serve.specs.Connection.{ConnectionValue, IsKept, Advance, advance, RefusesFirst, IsRefusedWith}
-use Rattle.coap_serve.specs.Turns.{Progress, progress_from, value_of, stop_in, IsServed}
-use Rattle.coap_serve.proofs.DeviceLemmas.{bytes_none, bytes_then}
-use Rattle.coap_serve.proofs.ProgressLemmas.{after_text, progress_more, idle, no_message}
-use Rattle.coap_serve.proofs.AdvanceLemmas.{value_flushed, IsAdvance, advances}
+use Rattle.coap_serve.specs.values.Connection.{ConnectionValue, IsKept, Advance, advance, RefusesFirst, IsRefusedWith}
+use Rattle.coap_serve.specs.values.Turns.{Progress, progress_from, value_of, stop_in, IsServed}
+use Rattle.coap_serve.proofs.streams.DeviceLemmas.{bytes_none, bytes_then}
+use Rattle.coap_serve.proofs.values.ProgressLemmas.{after_text, progress_more, idle, no_message}
+use Rattle.coap_serve.proofs.values.AdvanceLemmas.{value_flushed, IsAdvance, advances}
 
 -- A connection v with what is stored has come to w and now, with the bytes taken of the piece, and rest is left of it. The
 -- outlet told x before the piece, and tells y now.

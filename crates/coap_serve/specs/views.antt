@@ -1,0 +1,2 @@
+pub mod ConfigViews
+pub mod ConnectionViews
