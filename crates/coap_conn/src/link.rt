@@ -59,6 +59,7 @@ impl Link {
     ghost use Rattle.coap_conn.specs.Reaction.{react, stop, abort, send, told_of, csm_reaction, live_reaction, open_reaction, request_reaction};
     ghost use Rattle.coap_conn.specs.Verdicts as verdict;
     ghost use Rattle.coap_conn.specs.declared.phase.Phase.TheVariants as phase;
+    ghost use Rattle.coap_conn.specs.declared.phase.Role.TheVariants as role;
     ghost use Rattle.coap_conn.specs.History.{History, bytes_of, new_history, after_message, after_reject, after_end, after_reply, after_release, after_written};
     ghost use Rattle.coap_conn.specs.LinkValue.{LinkShows, IsLink, IsReady, free_in, limit_in, standing_in, is_finished, new_link, link_with, link_handled, link_after_message, link_after_csm, link_after_reply, link_after_reject, link_after_end, link_after_release, link_after_written};
     ghost use Rattle.coap_conn.specs.LinkViews.{verdict_value};
@@ -407,12 +408,19 @@ impl Link {
     {
         match self.role {
             Role::Server => Verdict::Request,
-            Role::Client => {
-                let response = Builder::new(Code::NOT_IMPLEMENTED, message.token());
-                let bare = bare_of(&response);
-                self.answer(&response, &bare)
-            }
+            Role::Client => self.refuse(message),
         }
+    }
+
+    /// Answers a request that is not implemented. (Apart from `on_request`, since a function clears all its locals.)
+    fn refuse(&mut self, message: &MessageRef) -> Verdict
+        requires { IsReady self.old }
+        ensures verdict { verdict_value result ≡ (request_reaction (standing_in self.old) message.now role.Client).verdict }
+        ensures after { self.new ≡ link_with self.old (request_reaction (standing_in self.old) message.now role.Client).effect }
+    {
+        let response = Builder::new(Code::NOT_IMPLEMENTED, message.token());
+        let bare = bare_of(&response);
+        self.answer(&response, &bare)
     }
 
     /// Sends the answer to a message.
