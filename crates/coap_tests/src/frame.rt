@@ -44,7 +44,7 @@ fn next_of_each(rt: &impl Abort, framer: &mut Framer, bytes: &[u8]) {
 
 /// Takes back the frame that was just given, with its last piece: a split one, or an empty Capabilities and Settings message
 /// that lay whole in its piece.
-#[tactic(auto, unfolding(coap_wire::specs::Stream::beginning, coap_wire::specs::Reading::declared_of, coap_wire::specs::Reading::length_at))]
+#[tactic(auto, unfolding(coap_wire::specs::Beginning::beginning, coap_wire::specs::Reading::declared_of, coap_wire::specs::Reading::length_at))]
 fn unread(rt: &impl Abort, framer: &mut Framer, piece: &[u8]) {
     if framer.spent() > 0 {
         framer.unread(piece);
