@@ -3,6 +3,9 @@
 import os
 import subprocess
 import sys
+import tempfile
+
+ROOT = os.path.dirname(os.path.dirname(os.path.abspath(__file__)))
 
 CSM = "40e123010000"
 
@@ -81,6 +84,78 @@ STREAMS = [
     ("20e12114" "20e12102" "0001" "010107" "0001", "00a0"),
 ]
 
+SCRIPTS = [
+    # a script, and what is written: the line of each event
+    ("", ""),
+    ("\n# open\n\n", ""),
+    ("open\ndrain 1\n", f"open 1\nout 1 {CSM}\n"),
+    ("open\n# é\n\nopen\ndrain 2 3\nstatus 1\nin 3 00\n", "open 1\nopen 2\nout 2 40e123\nstatus 1 waiting kept 0 waiting 6 pending 0 observers 0\nin 3 fault 1\n"),
+    # the program's settings: 16 connections, no dynamic resource, counts that begin at 0
+    ("open\n" * 17, "".join(f"open {it}\n" for it in range(1, 17)) + "open fault 1\n"),
+    ("put /a - 00\nremove /a\ntick 0\n", "put fault 3\nremove fault 1\ntick 0\n"),
+    # connections see the same moment
+    (
+        "open\ndrain 1\nopen\ndrain 2\nin 1 00e16101076054" "74696d65\nin 2 00e1510108b4" "74696d65\ntick 5\ndrain 1\ndrain 2\n",
+        f"open 1\nout 1 {CSM}\nopen 2\nout 2 {CSM}\nin 1 11\nin 2 10\ntick 5\nout 1 61450760602101ff3061450760602101ff35\nout 2 514508c02101ff30\n",
+    ),
+    # more than one read takes, and a line that is longer than one write
+    (
+        "open\ndrain 1\nin 1 00e1" + "01e205" * 20000 + "\ndrain 1\n" + "status 1\n" * 3000,
+        f"open 1\nout 1 {CSM}\nin 1 60002\nout 1 " + "01e305" * 20000 + "\n" + "status 1 open kept 0 waiting 0 pending 0 observers 0\n" * 3000,
+    ),
+]
+
+BAD_SCRIPTS = [
+    # a script, and the number of the first line that is no event
+    ("opens\n", 1),
+    ("open\n\n# in\nin 1\nopen\n", 4),
+    ("open\ndrain 1", 2),
+    ("open\r\n", 1),
+    ("open\n" * 1000 + "é\n", 1001),
+]
+
+# words that are not understood
+OTHER_WORDS = [
+    [], ["--stdio", "--stdio"], ["--script"], ["--stdio=1"], ["-"], ["stdio"], [""],
+    ["--script", "-", "-"], ["--script", "-", "--stdio"], ["--stdio", "--script", "-"], ["--script=-"], ["-", "--script"], ["--script", "-", ""],
+]
+
+
+def stored(name):
+    """A file beside the program's sources."""
+    with open(os.path.join(ROOT, "crates", "coap_server", name), "rb") as it:
+        return it.read()
+
+
+def replay(program, script):
+    """What comes of a script on standard input, and of the same script in a file."""
+    with tempfile.NamedTemporaryFile() as file:
+        file.write(script)
+        file.flush()
+        both = [run(program, ["--script", "-"], script), run(program, ["--script", file.name])]
+    return [(it.returncode, it.stdout, it.stderr) for it in both]
+
+
+def check_scripts(program, checks):
+    """Scripts that are run, and those that are not."""
+    checks.same("stored script", replay(program, stored("stdin")), [(0, stored("stdout"), b"")] * 2)
+    for script, lines in SCRIPTS:
+        checks.same("lines for %r" % script, replay(program, script.encode()), [(0, lines.encode(), b"")] * 2)
+    for script, number in BAD_SCRIPTS:
+        told = b"coap-server: bad script line %d\n" % number
+        checks.same("bad script %r" % script, replay(program, script.encode()), [(1, b"", told)] * 2)
+    for name in ["/nothing/here", "nothing", ""]:
+        done = run(program, ["--script", name])
+        told = b"coap-server: cannot open %s\n" % name.encode()
+        checks.same("no script %r" % name, (done.returncode, done.stdout, done.stderr), (3, b"", told))
+    done = run(program, ["--script", "/"])
+    checks.same("script that cannot be read", (done.returncode, done.stdout, done.stderr), (3, b"", b"coap-server: cannot read\n"))
+    reader, writer = os.pipe()
+    os.close(reader)
+    done = run(program, ["--script", "-"], b"open\n", stdout=writer)
+    os.close(writer)
+    checks.same("script with a closed pipe", (done.returncode, done.stderr), (3, b"coap-server: cannot write\n"))
+
 
 def main(words):
     program = os.path.abspath(words[0])
@@ -89,8 +164,9 @@ def main(words):
         done = run(program, ["--stdio"], bytes.fromhex(sent))
         checks.same("bytes for %r" % sent, done.stdout.hex(), CSM + answered)
         checks.same("status for %r" % sent, (done.returncode, done.stderr), (0, b""))
-    for other in [[], ["--stdio", "--stdio"], ["--script"], ["--stdio=1"], ["-"], ["stdio"], [""]]:
-        done = run(program, other)
+    check_scripts(program, checks)
+    for other in OTHER_WORDS:
+        done = run(program, other, b"open\n")
         checks.same("other words %r" % other, (done.returncode, done.stdout, done.stderr), (1, b"", b""))
     with open("/dev/full", "wb") as full:
         done = run(program, ["--stdio"], stdout=full)

@@ -1,4 +1,5 @@
-"""Shows the main job: recorded streams through `coap-server --stdio`, with what each message means.
+"""Shows the main jobs: recorded streams through `coap-server --stdio`, with what each message means, and a script of events on
+one server through `coap-server --script -`, with what each line means.
 
     tests/show.py bin/coap-server
     tests/show.py --try                 the first stream alone, by `rt try`, which runs the program before any proof
@@ -28,6 +29,36 @@ STREAMS = [
     ("A hostile one: a size of 4,295,033,106 bytes, and more behind it.", HOSTILE),
 ]
 
+SCRIPT_TITLE = "A script on one server: two connections observe /time, and the second one is not drained. Each event, its line, what that means."
+
+# Some more Pings than there is room for Pongs.
+PINGS = 22_000
+
+# Each event, and what its line means; of bytes that are written their messages are told.
+SCRIPT = [
+    ("open", "a connection, which gets the number 1"),
+    ("drain 1", ""),
+    ("in 1 00e1" "6101076054" "74696d65", "its Capabilities and Settings, and GET of /time with Observe: all 11 bytes are taken"),
+    ("drain 1", ""),
+    ("open", "a second connection"),
+    ("in 2 00e1" "6101086054" "74696d65", "it observes /time too"),
+    ("drain 2", ""),
+    ("put /a 0 31", "a put from inside is refused: this program has places for no resources but the built-in ones"),
+    ("tick 5", "the moment is 5 now, and each observer is to be told"),
+    ("drain 1", ""),
+    ("drain 2", ""),
+    ("in 2 " + "01e201" * PINGS, f"of {PINGS:,} Pings those are taken whose Pongs have room, as connection 2 is not drained"),
+    ("status 2", "so many bytes of Pongs wait, and there is no room for one more greatest message"),
+    ("tick 6", "the observer on connection 1 is told; the one on connection 2 has to wait"),
+    ("drain 1", ""),
+    ("tick 7", "and again"),
+    ("drain 1", ""),
+    (f"drain 2 {3 * PINGS}", "all Pongs that wait, and now there is room for what the observer is to be told"),
+    ("drain 2", ""),
+    ("drop 1", "connection 1 is forgotten"),
+    ("status 1", "so nothing is known of it"),
+]
+
 
 def show(title, stream):
     print(title, stream.hex())
@@ -52,6 +83,31 @@ def run(command, title, stream, folder=None):
     return done.returncode
 
 
+def shortened(line):
+    """A line without the middle of its bytes, where they are many."""
+    return line if len(line) <= 60 else line[:22] + ".." + line[-6:]
+
+
+def meaning(line, sentence):
+    """The sentence on a line or, where there is none, what the bytes of the line mean."""
+    if sentence:
+        return sentence
+    frames, rest = messages.split(bytes.fromhex(line.split()[2]))
+    return "; ".join([messages.tell(it) for it in frames] + ["(unfinished)"] * bool(rest))
+
+
+def run_script(command):
+    print(SCRIPT_TITLE, flush=True)
+    script = "".join(event + "\n" for event, _ in SCRIPT)
+    done = subprocess.run(command, input=script.encode(), capture_output=True)
+    for (event, sentence), line in zip(SCRIPT, done.stdout.decode().splitlines()):
+        print("    %-31s %-41s %s" % (shortened(event), shortened(line), meaning(line, sentence)))
+    sys.stdout.flush()
+    sys.stderr.buffer.write(done.stderr)
+    print("status: %d" % done.returncode)
+    return done.returncode
+
+
 def main(words):
     if words == ["--try"]:
         print("Running the program UNPROVED, by `rt try`: some 20 seconds.")
@@ -61,6 +117,8 @@ def main(words):
         if number:
             print()
         statuses.append(run([words[0], "--stdio"], title, stream))
+    print()
+    statuses.append(run_script([words[0], "--script", "-"]))
     return max(statuses)
 
 

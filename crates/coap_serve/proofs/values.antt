@@ -3,3 +3,9 @@ pub mod ProgressLemmas
 pub mod AdvanceLemmas
 pub mod PieceLemmas
 pub mod ResponseLemmas
+pub mod SettleLemmas
+pub mod EntryLemmas
+pub mod AnsweringLemmas
+pub mod SessionLemmas
+pub mod ServerLemmas
+pub mod TakenLemmas

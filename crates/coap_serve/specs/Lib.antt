@@ -3,3 +3,5 @@ pub mod Configs
 pub mod views
 pub mod histories
 pub mod values
+pub mod world
+pub mod script

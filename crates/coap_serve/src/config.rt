@@ -150,4 +150,11 @@ impl Config {
     {
         self.starts
     }
+
+    /// The moment at which it starts, in seconds.
+    pub fn moment(&self) -> u64
+        ensures { result ≡ self.now.starts.moment }
+    {
+        self.starts.moment
+    }
 }

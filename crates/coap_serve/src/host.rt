@@ -1,11 +1,40 @@
 //! What requests are answered from.
 
+ghost use Rattle.std.specs.Prelude.{◌≡◌, ◌≤◌, length, OnOk, OnErr};
+ghost use Rattle.coap_conn.specs.Phases.{IsAnswering};
+ghost use Rattle.coap_conn.specs.LinkValue.{IsReady, link_after_reply};
+ghost use Rattle.coap_store.specs.Answer.{changed};
+ghost use Rattle.coap_store.specs.Changes.{IsPut, TakesChange};
+ghost use Rattle.coap_store.specs.Messages.{response_message};
+ghost use Rattle.coap_serve.specs.values.Sessions.{mark_at as mark_in};
+
 use crate::config::Config;
 use crate::response::respond;
 use coap_conn::Link;
-use coap_store::{Change, Store};
-use coap_wire::MessageRef;
+use coap_store::{PathKey, Plan, Present, State, Store};
+use coap_wire::{MessageRef, Token};
 use std::alloc::{AllocError, Global};
+
+/// Makes the change of a plan, and then sends its response to the request with this token.
+///
+/// # Errors
+///
+/// Where memory is refused for the representation that is stored. The link and the store are then as before.
+fn change(store: &mut Store, link: &mut Link, token: &Token, plan: &Plan) -> Result<(), AllocError>
+    requires ready { IsReady link.old }
+    requires answering { IsAnswering link.old.phase }
+    requires short { length plan.now.response.payload ≤ 1048576 }
+    requires taken { TakesChange store.old plan.now.change }
+    ensures link { OnOk result (link.new ≡ link_after_reply link.old (response_message token.now.items plan.now.response)) }
+    ensures store { OnOk result (store.new ≡ changed store.old plan.now.change) }
+    ensures put { OnErr result (IsPut plan.now.change) }
+    ensures unchanged { OnErr result (store.new ≡ store.old) }
+    ensures silent { OnErr result (link.new ≡ link.old) }
+{
+    store.apply(plan.change())?;
+    respond(link, token, plan, false);
+    Ok(())
+}
 
 /// What a server answers requests from: its resources, and the moment.
 #[derive(Debug, Drop)]
@@ -17,7 +46,7 @@ pub(crate) struct Host {
 }
 
 impl Host {
-    ghost use Rattle.std.specs.Prelude.{◌≡◌, IfOk, OnOk, OnErr};
+    ghost use Rattle.std.specs.Prelude.{◌≡◌, ◌<◌, ◌^◌, IfOk, OnOk, OnErr};
     ghost use Rattle.coap_conn.specs.Phases.{IsAnswering};
     ghost use Rattle.coap_conn.specs.LinkValue.{IsReady, link_after_reply};
     ghost use Rattle.coap_store.specs.Answer.{changed};
@@ -25,6 +54,7 @@ impl Host {
     ghost use Rattle.coap_store.specs.Messages.{response_message};
     ghost use Rattle.coap_serve.specs.histories.Serving.{setup_of};
     ghost use Rattle.coap_serve.specs.values.Connection.{answer_from, host_of};
+    ghost use Rattle.coap_serve.specs.values.Sessions.{mark_of, is_marked as has_mark, state_on};
 
     /// The host of a new server: nothing is stored, and its counts begin where the configuration says.
     ///
@@ -32,8 +62,10 @@ impl Host {
     ///
     /// Where the store's memory is refused.
     pub(crate) fn open(alloc: Global, config: &Config) -> Result<Host, AllocError>
-        ensures { IfOk result (λ h. h ≡ host_of (setup_of config.now)) }
+        ensures value { IfOk result (λ h. h ≡ host_of (setup_of config.now)) }
+        ensures moment { config.now.starts.moment < 2 ^ 64 }
     {
+        let moment = config.moment();
         let starts = config.starts();
         let store = Store::new(
             alloc,
@@ -41,10 +73,7 @@ impl Host {
             config.rep_max(),
             starts.versions,
         )?;
-        Ok(Host {
-            store,
-            now: starts.moment,
-        })
+        Ok(Host { store, now: moment })
     }
 
     /// Answers a request. What it changes is changed before it is answered.
@@ -62,14 +91,39 @@ impl Host {
         ensures silent { OnErr result (link.new ≡ link.old) }
     {
         let plan = self.store.answer(request, self.now);
-        let change = plan.change();
-        if let Change::Nothing = change {
-            respond(link, request.token(), &plan);
-        } else {
+        if plan.changes() {
             let plan = plan.without_payload();
-            self.store.apply(change)?;
-            respond(link, request.token(), &plan);
+            return change(&mut self.store, link, request.token(), &plan);
         }
+        respond(link, request.token(), &plan, false);
         Ok(())
     }
+
+    /// The mark of the state of a path: what tells it from the others that the path has in time, 0 where the path is absent.
+    pub(crate) fn mark(&self, path: &PathKey) -> u64
+        ensures { result ≡ mark_of self.entry.now.now (state_on self.entry.now path.now) }
+    {
+        match self.store.state(path, self.now) {
+            State::Absent => 0,
+            State::Present(there) => mark_at(self.now, &there),
+        }
+    }
+
+    /// Whether the path is there, in the state that has this mark.
+    pub(crate) fn is_marked(&self, path: &PathKey, mark: u64) -> bool
+        ensures { result ≡ has_mark self.entry.now.now mark (state_on self.entry.now path.now) }
+    {
+        match self.store.state(path, self.now) {
+            State::Absent => false,
+            State::Present(there) => mark_at(self.now, &there) == mark,
+        }
+    }
+}
+
+/// The mark of a representation at a moment in seconds: its version where it is stored, and the moment where it is built in.
+pub(crate) fn mark_at(now: u64, there: &Present) -> u64
+    ensures { result ≡ mark_in now there.now }
+{
+    let version = there.version();
+    if version == 0 { now } else { version }
 }

@@ -1,15 +1,31 @@
 //! A CoAP server over reliable transports (RFC 8323).
 #![tactic(auto)]
 
+mod answering;
+mod calls;
 mod config;
 mod connection;
 mod device;
+mod event;
 mod host;
+pub mod laws;
+mod observers;
 mod output;
+mod replay;
 mod response;
+mod scripts;
 mod serve;
+mod server;
+mod session;
 
-pub use coap_conn::{LimitFault, Limits, Reason};
+pub use coap_conn::{LimitFault, Limits, Phase, Reason};
 pub use config::{Config, ConfigFault, Starts};
 pub use device::{Outlet, ReadSource, Source, WriteOutlet};
+pub use event::Event;
+pub use replay::ReplayFault;
+pub use scripts::{ScriptFault, script, scripts_go_on_behind_whole_lines};
 pub use serve::{IoFault, Report, serve_one};
+pub use server::{
+    Backwards, ConnId, Handled, NoSuch, OpenFault, ReleaseFault, Server, Status, TakeFault, Taken,
+    WrittenFault,
+};

@@ -31,3 +31,23 @@ pub(crate) fn flush<W: Outlet>(writer: &mut W, link: &mut Link) -> Result<(), Wr
     }
     Ok(())
 }
+
+/// Writes these bytes, until none is left.
+pub(crate) fn write_all<W: Outlet>(writer: &mut W, bytes: &[u8]) -> Result<(), WriteFailed>
+    requires { W.is_failed writer.old ≡ false }
+    ensures ok { OnOk result (AddsBytes (W.written writer.old) (W.written writer.new) bytes.now) }
+    ensures part { OnErr result (WritesPart (W.written writer.old) (W.written writer.new) bytes.now) }
+    ensures failure { W.is_failed writer.new ≡ is_err result }
+{
+    let mut left = bytes;
+    while !left.is_empty() {
+        let Some(count) = writer.write(left) else {
+            return Err(WriteFailed);
+        };
+        if count == 0 {
+            return Err(WriteFailed);
+        }
+        left = &left[count..];
+    }
+    Ok(())
+}

@@ -1,31 +1,36 @@
 //! Sends the answers to requests.
 
-ghost use Rattle.std.specs.Prelude.{◌≡◌, ◌≤◌, ◌<◌, ◌+◌, ◌++◌, [], ℕ, length, option_map, IfSome};
+ghost use Rattle.std.specs.Prelude.{◌≡◌, ◌≤◌, ◌<◌, ◌+◌, ◌++◌, true, [], ℕ, length, option_map, IfSome};
 ghost use Rattle.coap_wire.specs.Message.{last_number};
 ghost use Rattle.coap_wire.specs.Views.{with_option};
 ghost use Rattle.coap_wire.specs.OptionNumbers as numbers;
 ghost use Rattle.coap_conn.specs.Phases.{IsAnswering};
-ghost use Rattle.coap_conn.specs.LinkValue.{IsReady, link_after_reply};
+ghost use Rattle.coap_conn.specs.LinkValue.{IsReady, limit_in, link_after_reply};
+ghost use Rattle.coap_conn.specs.Fit.{fit, bare_response};
+ghost use Rattle.coap_store.specs.Paths.{is_path};
 ghost use Rattle.coap_store.specs.PlanViews.{path_or_root};
-ghost use Rattle.coap_store.specs.Messages.{response_message, option_at, number_at, each_at};
+ghost use Rattle.coap_store.specs.Messages.{response_with_observe, option_at, empty_at, number_at, each_at};
 
-use coap_conn::Link;
-use coap_store::{PathKey, Plan};
-use coap_wire::option_numbers::{CONTENT_FORMAT, ETAG, LOCATION_PATH, MAX_AGE, SIZE1};
+use coap_conn::{Link, Reply};
+use coap_store::{Plan, UriPath};
+use coap_wire::option_numbers::{CONTENT_FORMAT, ETAG, LOCATION_PATH, MAX_AGE, OBSERVE, SIZE1};
 use coap_wire::{Builder, Token, uint_bytes};
 
-/// Sends the response of a plan to the request with this token, as it fits the peer (RFC 7252 section 5.10).
-pub(crate) fn respond(link: &mut Link, token: &Token, plan: &Plan)
+/// Sends the response of a plan to the request with this token, as it fits the peer (RFC 7252 section 5.10), with Observe where
+/// it is a notification too (RFC 7641 section 4.2). Answers what was sent.
+pub(crate) fn respond(link: &mut Link, token: &Token, plan: &Plan, observes: bool) -> Reply
     requires ready { IsReady link.old }
     requires answering { IsAnswering link.old.phase }
     requires short { length plan.now.response.payload ≤ 1048576 }
-    ensures { link.new ≡ link_after_reply link.old (response_message token.now.items plan.now.response) }
+    ensures reply { let response = response_with_observe token.now.items observes plan.now.response in result ≡ fit (limit_in link.old) response (bare_response response) }
+    ensures after { link.new ≡ link_after_reply link.old (response_with_observe token.now.items observes plan.now.response) }
 {
     let format = number_bytes(wide(plan.format()));
     let max_age = number_bytes(plan.max_age());
     let size1 = number_bytes(plan.size1());
     let mut response = Builder::new(plan.code(), token);
     add_etag(&mut response, plan.etag());
+    add_observe(&mut response, observes);
     add_location(&mut response, plan.location());
     add_number(&mut response, CONTENT_FORMAT, &format);
     add_number(&mut response, MAX_AGE, &max_age);
@@ -33,7 +38,7 @@ pub(crate) fn respond(link: &mut Link, token: &Token, plan: &Plan)
     let Ok(()) = response.payload(plan.payload()) else {
         unreachable!()
     };
-    link.reply(&response);
+    link.reply(&response)
 }
 
 /// The same number in 32 bits.
@@ -81,13 +86,27 @@ fn add_etag<'a>(response: &mut Builder<'a>, etag: Option<&'a [u8]>)
     }
 }
 
-/// Adds the path of a resource that was made, where there is one (RFC 7252 section 5.10.7).
-fn add_location<'a>(response: &mut Builder<'a>, path: Option<&'a PathKey>)
-    requires order { last_number 0 response.old.options ≤ 8 }
+/// Adds an empty Observe, where the response is a notification (RFC 8323 section 7.1).
+fn add_observe(response: &mut Builder, observes: bool)
+    requires order { last_number 0 response.old.options ≤ 4 }
     requires few { length response.old.options ≤ 1 }
-    ensures added { response.new ≡ record response.old { options = response.old.options ++ each_at numbers.location_path (path_or_root (option_map (λ path. path.now) path.entry)) } }
+    ensures added { response.new ≡ record response.old { options = response.old.options ++ empty_at numbers.observe observes } }
+    ensures order { last_number 0 response.new.options ≤ 6 }
+    ensures few { length response.new.options ≤ 2 }
+{
+    if observes {
+        add(response, OBSERVE, &[]);
+    }
+}
+
+/// Adds the path of a resource that was made, where there is one (RFC 7252 section 5.10.7).
+fn add_location<'a>(response: &mut Builder<'a>, path: Option<UriPath<'a>>)
+    requires path { IfSome path (λ path. is_path path ≡ true) }
+    requires order { last_number 0 response.old.options ≤ 8 }
+    requires few { length response.old.options ≤ 2 }
+    ensures added { response.new ≡ record response.old { options = response.old.options ++ each_at numbers.location_path (path_or_root path.entry) } }
     ensures order { last_number 0 response.new.options ≤ 8 }
-    ensures few { length response.new.options ≤ 17 }
+    ensures few { length response.new.options ≤ 18 }
 {
     if let Some(path) = path {
         add_path(response, path);
@@ -108,14 +127,15 @@ fn add_number<'a>(response: &mut Builder<'a>, number: u16, bytes: &'a Option<Tok
 }
 
 /// Adds Location-Path, an option for each segment (RFC 7252 section 5.10.7).
-fn add_path<'a>(response: &mut Builder<'a>, path: &'a PathKey)
+fn add_path<'a>(response: &mut Builder<'a>, path: UriPath<'a>)
+    requires path { is_path path ≡ true }
     requires order { last_number 0 response.old.options ≤ 8 }
-    requires few { length response.old.options ≤ 1 }
-    ensures added { response.new ≡ record response.old { options = response.old.options ++ each_at numbers.location_path path.now } }
+    requires few { length response.old.options ≤ 2 }
+    ensures added { response.new ≡ record response.old { options = response.old.options ++ each_at numbers.location_path path.entry } }
     ensures order { last_number 0 response.new.options ≤ 8 }
-    ensures few { length response.new.options ≤ 17 }
+    ensures few { length response.new.options ≤ 18 }
 {
-    for segment in path.segments() {
+    for segment in path {
         add(response, LOCATION_PATH, segment);
     }
 }

@@ -1,26 +1,29 @@
 //! The program `coap-server`: CoAP over reliable transports (RFC 8323).
 //!
-//! So far it takes exactly the one word `--stdio`, and serves one connection over standard input and output. Other words
-//! end it with status 1 and print nothing.
+//! So far it takes exactly the one word `--stdio`, and serves one connection over standard input and output, or the two words
+//! `--script FILE`, and replays the script in that file, or in standard input where FILE is `-`, on a server, and writes the
+//! line of each event. Other words end it with status 1 and print nothing.
 #![tactic(auto)]
 
 ghost use Rattle.std.specs.Prelude.{◌≡◌};
+
+mod script;
 
 use coap_serve::{Config, IoFault, Limits, ReadSource, Starts, WriteOutlet, serve_one};
 use std::env::Args;
 use std::io::ErrorKind;
 use std::process::ExitCode;
-use std::rt::Env;
+use std::rt::{Env, Files};
 use std::{env, io};
 
 /// The status of a run that ended of itself.
-const ENDED: u8 = 0;
+pub(crate) const ENDED: u8 = 0;
 
 /// The status for words that are not understood.
-const USAGE: u8 = 1;
+pub(crate) const USAGE: u8 = 1;
 
 /// The status for a device, memory or turns.
-const FAULT: u8 = 3;
+pub(crate) const FAULT: u8 = 3;
 
 /// The limits and the configuration of a run without other words: messages of at most 65,536 bytes taken and sent, a
 /// queue of 131,072 bytes, 16 held answers, observers, outstanding requests and connections, no dynamic resource, and
@@ -42,15 +45,27 @@ fn defaults() -> Config
     config
 }
 
-/// Whether the words after the program's name are exactly `--stdio`.
-fn is_stdio(mut words: Args) -> bool {
-    let Some(_name) = words.next() else {
-        return false;
+/// What the program's words ask for.
+#[derive(Drop)]
+enum Plan {
+    /// One connection over standard input and output.
+    Stdio,
+    /// The script in the file with this name, or in standard input where it is `-`.
+    Script(String),
+}
+
+/// What the words after the program's name ask for, where they are understood.
+fn plan_of(mut words: Args) -> Option<Plan> {
+    let _name = words.next()?;
+    let first = words.next()?;
+    let plan = if first.as_str() == "--stdio" {
+        Plan::Stdio
+    } else if first.as_str() == "--script" {
+        Plan::Script(words.next()?)
+    } else {
+        return None;
     };
-    match words.next() {
-        Some(word) => word.as_str() == "--stdio" && words.next().is_none(),
-        None => false,
-    }
+    words.next().is_none().then_some(plan)
 }
 
 /// Writes the program's line for a fault to standard error, and answers the status.
@@ -70,9 +85,13 @@ fn serve(rt: &(impl Input + Print + Eprint + AllocGlobal)) -> u8 {
 }
 
 /// Does what the program's words say, and answers the status. Words that are not UTF-8 are not understood.
-fn run(rt: &(impl Input + Print + Eprint + Env + AllocGlobal)) -> u8 {
+fn run(rt: &(impl Input + Print + Eprint + Env + Files + AllocGlobal)) -> u8 {
     match env::args(rt) {
-        Ok(words) => { if is_stdio(words) { serve(rt) } else { USAGE } }
+        Ok(words) => match plan_of(words) {
+            Some(Plan::Stdio) => serve(rt),
+            Some(Plan::Script(name)) => script::run(rt, name.as_str(), &defaults()),
+            None => USAGE,
+        },
         Err(fault) if fault.kind() == ErrorKind::OutOfMemory => tell(rt, IoFault::Memory),
         Err(_) => USAGE,
     }

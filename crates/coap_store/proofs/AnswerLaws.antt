@@ -281,7 +281,7 @@ pub record AreShort (s : StoreValue) : Type 0 where
   pub listing : length (listing s.resources) ≤ 1048576
   pub stored : (path : Path) (r : Representation) → found_in s.resources path ≡ Some r → length r.bytes ≤ 1048576
 
-state_short : (s : StoreValue) (now : ℕ) (key : Option Path) (place : Place) (r : Representation) → AreShort s → now < 2 ^ 64 → state_at s now key place ≡ Some r → length r.bytes ≤ 1048576
+pub state_short : (s : StoreValue) (now : ℕ) (key : Option Path) (place : Place) (r : Representation) → AreShort s → now < 2 ^ 64 → state_at s now key place ≡ Some r → length r.bytes ≤ 1048576
 unfolding state_at
 state_short s now key Root r short small is = let bytes : codes "coap+tcp" ≡ r.bytes = cc in omega (arith, sym (ap length bytes))
 state_short s now key Time r short small is =

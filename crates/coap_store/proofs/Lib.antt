@@ -1,9 +1,11 @@
 mod Worked
 pub mod PathLemmas
 mod PlaceLemmas
+mod TrailLemmas
 mod TargetLemmas
 mod GetLemmas
 pub mod RequestLemmas
+pub mod UriPathLemmas
 pub mod NotingLemmas
 pub mod CatalogueLemmas
 pub mod EscapeLemmas
@@ -14,3 +16,8 @@ pub mod AnswerLaws
 mod AnswerLemmas
 pub mod ChangeLaws
 pub mod ServingLaws
+pub mod RefusalLemmas
+pub mod StateLemmas
+pub mod NotificationLaws
+pub mod RememberingLaws
+pub mod WatchLaws

@@ -1,14 +1,14 @@
 -- What is noted of all recognised options is what a request says.
-use Rattle.std.proofs.Common.{◌≡◌, ℕ, ◌<◌, ◌≤◌, Bool, true, false, ◌||◌, ◌==◌, cond, List, [], ◌∷◌, ◌++◌, length, map, filter, Option, Some, None, refl, sym, ap, ◌∙◌, arith, append_assoc, nat_lt}
-use Rattle.std.specs.Prelude.{nat_le, if◌then◌else◌}
-use Rattle.std.proofs.lemmas.Bool.{ltb-true, ltb-false, le-leb, lt-leb}
-use Rattle.std.proofs.lemmas.List.{append-nil, length-append}
+use Rattle.std.proofs.Common.{◌≡◌, ℕ, Bool, true, false, ◌||◌, ◌==◌, cond, List, [], ◌∷◌, map, filter, Option, Some, None, refl, ap, ◌∙◌}
 use Rattle.coap_wire.specs.Message.{CoapOption, Message}
 use Rattle.coap_wire.specs.OptionNumbers as numbers
 use Rattle.coap_wire.specs.Recognition.{known_options}
-use Rattle.coap_store.specs.Requests.{values_of, value_of, has_option, is_given, first_or_none}
-use Rattle.coap_store.specs.Noting.{Notes, nothing, first_given, segments_with, more_with, noted, all_noted, AreNotesOf}
+use Rattle.coap_store.specs.Requests.{values_of, value_of, has_option, path_of, is_given, first_or_none}
+use Rattle.coap_store.specs.Trails.{trail_behind, place_at}
+use Rattle.coap_store.specs.Noting.{Notes, nothing, first_given, led, noted, all_noted, AreNotesOf}
+use Rattle.coap_store.specs.declared.trail.Trail.{Trail}
 use Rattle.coap_store.proofs.RequestLemmas.{has_number, values_in, given_at}
+use Rattle.coap_store.proofs.TrailLemmas.{place_by_trail}
 
 or_false : (b : Bool) → b ≡ (b || false)
 or_false true = refl
@@ -50,73 +50,24 @@ module _ (field : Notes → Option (List ℕ)) (number : ℕ) (step : (n : Notes
       ∙ ap (λ (v : Option (List ℕ)). or_first v (first_or_none (values_in number os))) (step n o)
       ∙ first_moved (field n) (has_number number o) o (filter (has_number number) os)
 
--- the segments that there was room for, and whether there were more
-record Keeps (before : List (List ℕ)) (more : Bool) (segments : List (List ℕ)) (has_more : Bool) (left : List (List ℕ)) : Type 0 where
-  few : has_more ≡ false → segments ≡ before ++ left
-  many : has_more ≡ true → more ≡ false → 16 < length (before ++ left)
-  stays : more ≡ true → has_more ≡ true
+-- where the path leads
+trail_moved : (trail : Trail) (here : Bool) (o : CoapOption) (os : List CoapOption) → trail_behind (led trail here o.value) (map (λ (o : CoapOption). o.value) os) ≡ trail_behind trail (map (λ (o : CoapOption). o.value) (cond here (o ∷ os) os))
+trail_moved trail true o os = refl
+trail_moved trail false o os = refl
 
-abbrev KeepsAll : Notes → Notes → List CoapOption → Type 0
-KeepsAll n z os = Keeps n.segments n.has_more z.segments z.has_more (values_in numbers.uri_path os)
-
-or_nothing : (b : Bool) → b ≡ false → (b || false) ≡ false
-or_nothing true is = is
-or_nothing false is = refl
-
-or_right : (a b : Bool) → b ≡ true → (a || b) ≡ true
-or_right true b is = refl
-or_right false b is = is
-
-both_true : (b : Bool) → b ≡ true → b ≡ false → ⊥
-both_true true is none = absurd cc
-both_true false is none = absurd cc
-
-keeps_one : (before : List (List ℕ)) (more here : Bool) (o : CoapOption) (os : List CoapOption) (segments : List (List ℕ)) (has_more : Bool) → length before ≤ 16
-    → Keeps (segments_with before here o.value) (more_with more before here) segments has_more (map (λ (o : CoapOption). o.value) os)
-    → Keeps before more segments has_more (map (λ (o : CoapOption). o.value) (cond here (o ∷ os) os))
-keeps_one before more false o os segments has_more fit keeps = record {
-  few = keeps.few;
-  many = λ some none. keeps.many some (or_nothing more none);
-  stays = λ is. keeps.stays (ap (λ (b : Bool). b || false) is);
-}
-keeps_one before more true o os segments has_more fit keeps =
-    elim (nat_lt (length before) 16) as (λ b. nat_lt (length before) 16 ≡ b → Keeps (if b then before ++ o.value ∷ [] else before) (more || nat_le 16 (length before)) segments has_more (map (λ (o : CoapOption). o.value) os) → Keeps before more segments has_more (o.value ∷ map (λ (o : CoapOption). o.value) os)) [
-      | true ↦ λ room k. (let less = ltb-true (length before) 16 room in let none : nat_le 16 (length before) ≡ false = lt-leb 16 (length before) less in record {
-        few = λ h. k.few h ∙ append_assoc before (o.value ∷ []) (map (λ (o : CoapOption). o.value) os);
-        many = λ h m. omega (arith, k.many h (ap (λ (b : Bool). b || nat_le 16 (length before)) m ∙ none), length-append (before ++ o.value ∷ []) (map (λ (o : CoapOption). o.value) os), length-append before (o.value ∷ []), length-append before (o.value ∷ map (λ (o : CoapOption). o.value) os));
-        stays = λ is. k.stays (ap (λ (b : Bool). b || nat_le 16 (length before)) is);
-      })
-      | false ↦ λ room k. (let full = ltb-false (length before) 16 room in let is : has_more ≡ true = k.stays (or_right more (nat_le 16 (length before)) (le-leb 16 (length before) full)) in record {
-        few = λ h. absurd (both_true has_more is h);
-        many = λ h m. omega (arith, length-append before (o.value ∷ map (λ (o : CoapOption). o.value) os));
-        stays = λ m. is;
-      })
-    ] refl keeps
-
-segments_fit : (before : List (List ℕ)) (here : Bool) (value : List ℕ) → length before ≤ 16 → length (segments_with before here value) ≤ 16
-segments_fit before false value fit = fit
-segments_fit before true value fit =
-    elim (nat_lt (length before) 16) as (λ b. nat_lt (length before) 16 ≡ b → length (if b then before ++ value ∷ [] else before) ≤ 16) [
-      | true ↦ λ room. (let less = ltb-true (length before) 16 room in omega (arith, length-append before (value ∷ [])))
-      | false ↦ λ room. fit
-    ] refl
-
-keeps_all : (n : Notes) (os : List CoapOption) → length n.segments ≤ 16 → KeepsAll n (all_noted n os) os
+trail_noted : (n : Notes) (os : List CoapOption) → (all_noted n os).trail ≡ trail_behind n.trail (values_in numbers.uri_path os)
 unfolding noted
-keeps_all n [] fit = record { few = λ none. sym (append-nil n.segments); many = λ some none. absurd cc; stays = λ is. is }
-keeps_all n (o ∷ os) fit =
-    keeps_one n.segments n.has_more (has_number numbers.uri_path o) o (filter (has_number numbers.uri_path) os) _ _ fit
-    (keeps_all (noted n o) os (segments_fit n.segments (o.number == numbers.uri_path) o.value fit))
+trail_noted n [] = refl
+trail_noted n (o ∷ os) =
+    trail_noted (noted n o) os ∙ trail_moved n.trail (has_number numbers.uri_path o) o (filter (has_number numbers.uri_path) os)
 
 -- all recognised options of a request
 pub notes_of : (m : Message) → AreNotesOf m (all_noted nothing (known_options m.options))
 unfolding noted has_option value_of values_of
 notes_of m =
     let os = known_options m.options in
-    let keeps = keeps_all nothing os (omega arith) in
     record {
-      few = keeps.few;
-      many = λ is. keeps.many is refl;
+      place = ap place_at (trail_noted nothing os) ∙ place_by_trail (path_of m);
       if_match = flag_noted (λ n. n.if_match) numbers.if_match (λ n o. refl) nothing os;
       etag = flag_noted (λ n. n.etag) numbers.etag (λ n o. refl) nothing os;
       if_none_match = flag_noted (λ n. n.if_none_match) numbers.if_none_match (λ n o. refl) nothing os;

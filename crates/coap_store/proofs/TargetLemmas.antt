@@ -1,11 +1,13 @@
 -- Lemmas on what a request is about.
-use Rattle.std.proofs.Common.{◌≡◌, ◌<◌, true, false, length, Some, None, refl, sym, ap, ◌∙◌}
-use Rattle.std.proofs.lemmas.Bool.{cond-false, cond_both, false_from_ne_true, both_ways, lt-leb}
+use Rattle.std.proofs.Common.{◌≡◌, ℕ, ◌<◌, true, false, length, Option, Some, None, refl, sym, ap, ◌∙◌}
+use Rattle.std.proofs.lemmas.Bool.{cond-false, cond_both, false_from_ne_true, true_from_ne_false, both_ways, lt-leb}
 use Rattle.std.proofs.lemmas.Option.{none-some}
-use Rattle.std.specs.Prelude.{unwrap_or}
+use Rattle.std.specs.Prelude.{unwrap_or, if◌then◌else◌}
 use Rattle.coap_store.specs.Paths.{Path, same_path, is_path}
-use Rattle.coap_store.specs.State.{key_for, place_of, root_path, time_path, async_path, listing_path}
-use Rattle.coap_store.specs.declared.place.Place.TheVariants.{Dynamic}
+use Rattle.coap_store.specs.Store.{Representation, StoreValue, found_in}
+use Rattle.coap_store.specs.State.{key_for, place_of, root_path, time_path, async_path, listing_path, is_dynamic, state_at, state_of, Target, target_of}
+use Rattle.coap_store.specs.declared.place.Place.{Place}
+use Rattle.coap_store.specs.declared.place.Place.TheVariants.{Root, Time, Async, Listing, Dynamic}
 use Rattle.coap_store.proofs.PathLemmas.{same_path_sound}
 
 pub key_is_path : (path p : Path) → Some p ≡ key_for path → p ≡ path
@@ -46,3 +48,55 @@ no_key_elsewhere path e =
 pub too_many : (path : Path) → 16 < length path → None ≡ key_for path
 unfolding key_for is_path
 too_many path many = sym (cond-false (is_path path) (Some path) None (rw (lt-leb (length path) 16 many) refl))
+
+-- ---- whether there is a key
+
+pub has_key : (path : Path) → is_path path ≡ true → key_for path ≡ Some path
+unfolding key_for
+has_key path is = ap (λ b. if b then Some path else None) is
+
+pub is_path_by_key : (path p : Path) → Some p ≡ key_for path → is_path path ≡ true
+unfolding key_for
+is_path_by_key path p e = cond_both (is_path path) (Some path) None (λ k. Some p ≡ k → is_path path ≡ true) (λ yes same. yes) (λ none same. absurd (none-some p (sym same))) e
+
+without_key : (path : Path) → is_path path ≡ false → key_for path ≡ None
+unfolding key_for
+without_key path none = ap (λ b. if b then Some path else None) none
+
+pub is_path_by_place : (path : Path) → is_dynamic (place_of path) ≡ false → is_path path ≡ true
+is_path_by_place path built =
+    true_from_ne_false (is_path path) (λ none. both_ways (is_dynamic (place_of path)) built (sym (ap is_dynamic (no_key_elsewhere path (sym (without_key path none))))))
+
+-- ---- what a request is about
+
+abbrev pub target_with : Option Path → Place → Option Representation → Target
+target_with key place state = record { key = key; place = place; state = state }
+
+-- a resource that is built in has its state whatever the key
+built_state : (s : StoreValue) (now : ℕ) (place : Place) (key : Option Path) → is_dynamic place ≡ false → state_at s now None place ≡ state_at s now key place
+unfolding state_at
+built_state s now Root key built = refl
+built_state s now Time key built = refl
+built_state s now Async key built = refl
+built_state s now Listing key built = refl
+built_state s now Dynamic key built = absurd cc
+
+pub built_target : (s : StoreValue) (now : ℕ) (path : Path) (place : Place) (state : Option Representation) → place ≡ place_of path → is_dynamic place ≡ false → state ≡ state_at s now None place → target_with (Some path) place state ≡ target_of s now path
+built_target s now path place state is built found =
+    let key = has_key path (is_path_by_place path (sym (ap is_dynamic is) ∙ built)) in
+    ap (target_with (Some path) place) (found ∙ built_state s now place (key_for path) built)
+    ∙ ap (λ p. target_with (Some path) p (state_at s now (key_for path) p)) is
+    ∙ ap (λ k. target_with k (place_of path) (state_of s now path)) (sym key)
+
+pub stored_target : (s : StoreValue) (now : ℕ) (path p : Path) (state : Option Representation) → Some p ≡ key_for path → place_of path ≡ Dynamic → state ≡ found_in s.resources p → target_with (Some path) Dynamic state ≡ target_of s now path
+unfolding state_at
+stored_target s now path p state key place found =
+    let there : key_for path ≡ Some path = has_key path (is_path_by_key path p key) in
+    ap (target_with (Some path) Dynamic) (found ∙ ap (found_in s.resources) (key_is_path path p key))
+    ∙ ap (λ k. target_with k Dynamic (state_at s now k Dynamic)) (sym there)
+    ∙ ap (λ l. target_with (key_for path) l (state_at s now (key_for path) l)) (sym place)
+
+pub no_target : (s : StoreValue) (now : ℕ) (path : Path) → None ≡ key_for path → place_of path ≡ Dynamic → target_with None Dynamic None ≡ target_of s now path
+unfolding state_at
+no_target s now path none place =
+    ap (λ k. target_with k Dynamic (state_at s now k Dynamic)) none ∙ ap (λ l. target_with (key_for path) l (state_at s now (key_for path) l)) (sym place)

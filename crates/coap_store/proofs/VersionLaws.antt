@@ -1,5 +1,5 @@
 -- A version comes once, whatever is changed.
-use Rattle.std.proofs.Common.{◌≡◌, ◌≢◌, ◌⊎◌, inl, inr, ℕ, zero, suc, ◌+◌, ◌<◌, ◌≤◌, ◌^◌, true, false, List, [], ◌∷◌, Option, Some, refl, sym, ap, ◌∙◌, arith}
+use Rattle.std.proofs.Common.{◌≡◌, ◌≢◌, ◌⊎◌, inl, inr, ℕ, ◌+◌, ◌<◌, ◌≤◌, ◌^◌, true, false, List, [], ◌∷◌, Option, Some, refl, sym, ap, ◌∙◌, arith}
 use Rattle.coap_wire.proofs.UintLaws.{bytes_are_one}
 use Rattle.coap_store.specs.Paths.{Path, same_path}
 use Rattle.coap_store.specs.Store.{Representation, StoreValue, found_in}
@@ -45,7 +45,7 @@ at_once s is = record {
 }
 
 -- the path is that of the change, or another
-by_path : {A : Type 0} (q path : Path) → (q ≡ path → A) → (q ≢ path → A) → A
+pub by_path : {A : Type 0} (q path : Path) → (q ≡ path → A) → (q ≢ path → A) → A
 by_path {A = A} q path same other =
     elim (same_path q path) as (λ b. same_path q path ≡ b → A) [ true ↦ λ is. same (same_path_sound q path is) | false ↦ λ no. other (λ is. apart_from q path no (sym is)) ] refl
 

@@ -1,7 +1,7 @@
 -- How a plan is seen: as the answer that it holds.
 use Rattle.std.specs.Prelude.{None, option_map}
 use Rattle.coap_store.specs.Answer.{Answer}
-use Rattle.coap_store.specs.PlanViews.{bytes_in, change_value, location_in}
+use Rattle.coap_store.specs.PlanViews.{bytes_in, effect_value, IsAtPath, location_in}
 use Rattle.coap_store.specs.declared.plan.Plan.TheInside.{Inside}
 
 abbrev pub plan_answer : Inside → Answer
@@ -11,11 +11,15 @@ plan_answer p = record {
     etag = option_map (λ etag. etag.items) p.etag;
     format = p.format;
     max_age = p.max_age;
-    location = location_in p.tells_location (change_value p.change);
+    location = location_in p.tells_location (effect_value p.effect);
     size1 = p.size1;
     payload = bytes_in p.payload;
   };
-  change = change_value p.change;
+  change = effect_value p.effect;
   watch = p.watch;
   hold = None;
 }
+
+-- what a plan changes is at a path of a resource
+abbrev pub is_plan : Inside → Type 0
+is_plan p = IsAtPath p.effect

@@ -1,11 +1,14 @@
 -- How the code's values are seen in contracts.
-use Rattle.std.specs.Prelude.{ℕ, Bool, true, false, List, [], Option, Some, None}
-use Rattle.coap_store.specs.Paths.{Path}
+use Rattle.std.specs.Prelude.{◌≡◌, ℕ, Bool, true, false, List, [], Option, Some, None}
+use Rattle.coap_store.specs.Paths.{Path, is_path}
+use Rattle.coap_store.specs.Requests.{path_of}
 use Rattle.coap_store.specs.Answer as answer
 use Rattle.coap_store.specs.declared.plan.Bytes.{Bytes}
 use Rattle.coap_store.specs.declared.plan.Bytes.TheVariants.{Stored, Decimal}
 use Rattle.coap_store.specs.declared.plan.Change.{Change}
 use Rattle.coap_store.specs.declared.plan.Change.TheVariants as changes
+use Rattle.coap_store.specs.declared.plan.Effect.{Effect}
+use Rattle.coap_store.specs.declared.plan.Effect.TheVariants as effects
 
 -- the bytes, wherever they lie
 abbrev pub bytes_in : Bytes → List ℕ
@@ -16,6 +19,18 @@ abbrev pub change_value : Change → answer.Change
 change_value changes.Nothing = answer.Nothing
 change_value (changes.Put path format bytes) = answer.Put path format bytes.now
 change_value (changes.Delete path) = answer.Delete path
+
+-- what a request changes at its path
+abbrev pub effect_value : Effect → answer.Change
+effect_value effects.Nothing = answer.Nothing
+effect_value (effects.Put request format) = answer.Put (path_of request.now) format request.now.payload
+effect_value (effects.Delete request) = answer.Delete (path_of request.now)
+
+-- that path is one of a resource
+abbrev pub IsAtPath : Effect → Type 0
+IsAtPath effects.Nothing = Unit {0}
+IsAtPath (effects.Put request format) = is_path (path_of request.now) ≡ true
+IsAtPath (effects.Delete request) = is_path (path_of request.now) ≡ true
 
 -- no path stands for the root
 abbrev pub path_or_root : Option Path → Path

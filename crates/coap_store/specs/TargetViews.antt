@@ -1,5 +1,7 @@
 -- How the code sees what a request is about.
-use Rattle.std.specs.Prelude.{option_map}
+use Rattle.std.specs.Prelude.{Some, None, option_map, if◌then◌else◌}
+use Rattle.coap_wire.specs.Message.{Message}
+use Rattle.coap_store.specs.Requests.{path_of}
 use Rattle.coap_store.specs.Store.{Representation}
 use Rattle.coap_store.specs.State as state
 use Rattle.coap_store.specs.PlanViews.{bytes_in}
@@ -9,5 +11,6 @@ use Rattle.coap_store.specs.declared.target.Target.{Target}
 abbrev pub found_value : Found → Representation
 found_value f = record { version = f.version; format = f.format; bytes = bytes_in f.bytes }
 
-abbrev pub target_value : Target → state.Target
-target_value t = record { key = t.key; place = t.place; state = option_map found_value t.state }
+-- of a request, whose path it is
+abbrev pub target_value : Message → Target → state.Target
+target_value m t = record { key = if t.is_path then Some (path_of m) else None; place = t.place; state = option_map found_value t.state }

@@ -1,27 +1,31 @@
 //! The answers to requests.
 
-ghost use Rattle.std.specs.Prelude.{◌≡◌, Option, option_map, is_none};
+ghost use Rattle.std.specs.Prelude.{◌≡◌, true, Option, option_map, is_none};
 ghost use Rattle.coap_wire.specs.Message.{Message};
 ghost use Rattle.coap_wire.specs.OptionNumbers as numbers;
+ghost use Rattle.coap_store.specs.Paths.{is_path};
 ghost use Rattle.coap_store.specs.Store.{Representation};
-ghost use Rattle.coap_store.specs.Requests.{values_of, is_method as is_known_method, preconditions_hold as hold};
+ghost use Rattle.coap_store.specs.Requests.{path_of as path_asked, values_of, is_method as is_known_method, preconditions_hold as hold};
 ghost use Rattle.coap_store.specs.Answer.{get_answer, read_answer, unheld, etag_at, max_age_at, is_accepted as accepts, is_among as is_one_of, watch_of, removes_watch as asks_removal, stored as stored_there, delete_answer};
 ghost use Rattle.coap_store.specs.TargetViews.{found_value, target_value};
 
 use crate::path::PathKey;
 use crate::place::Place;
-use crate::plan::{Bytes, Change, Plan, Watch};
+use crate::plan::{Bytes, Effect, Plan, Watch};
 use crate::request::Asked;
 use crate::store::Store;
-use crate::target::{Found, LINK_FORMAT, TEXT_PLAIN, Target, decimal_digits, place_for};
+use crate::target::{Found, LINK_FORMAT, TEXT_PLAIN, Target, decimal_digits};
 use arrayvec::ArrayVec;
 use coap_wire::{Code, MessageRef, uint_bytes};
 
 impl Store {
-    ghost use Rattle.std.specs.Prelude.{◌≡◌, ◌≤◌, true, [], length, option_map};
+    ghost use Rattle.std.specs.Prelude.{◌≡◌, ◌≤◌, ℕ, true, [], length, option_map};
     ghost use Rattle.coap_wire.specs.Message.{Message};
     ghost use Rattle.coap_store.specs.Requests.{path_of};
-    ghost use Rattle.coap_store.specs.State.{target_of, state_at};
+    ghost use Rattle.coap_store.specs.Paths.{is_path};
+    ghost use Rattle.coap_store.specs.Store.{found_in};
+    ghost use Rattle.coap_store.specs.State.{place_of, target_of, state_at};
+    ghost use Rattle.coap_store.specs.declared.place.Place.TheVariants.{Dynamic};
     ghost use Rattle.coap_store.specs.Answer.{answer_at, resource_answer, store_answer, needs_resource as needs, unheld, prompt_answer};
     ghost use Rattle.coap_store.specs.Changes.{TakesChange, changes};
     ghost use Rattle.coap_store.specs.Invariant.{IsStore};
@@ -29,7 +33,7 @@ impl Store {
 
     /// The answer to a request at a moment in seconds. It allocates nothing, and changes nothing: `apply` makes the change.
     /// No answer is held yet: where one would be, it is 5.03.
-    pub fn answer<'s, 'r>(&'s self, request: &MessageRef<'r>, now: u64) -> Plan<'s, 'r>
+    pub fn answer<'s, 'r>(&'s self, request: &'r MessageRef<'r>, now: u64) -> Plan<'s, 'r>
         ensures answer { result ≡ prompt_answer self.now now request.now }
         ensures taken { TakesChange self.now result.change }
         ensures bare { changes result.change ≡ true → result.response.payload ≡ [] }
@@ -48,7 +52,7 @@ impl Store {
 
     /// The answer by the checks of the request alone, and then those of the resource.
     #[tactic(auto, unfolding(crate::specs::Answer::answer_at))]
-    fn checked<'s, 'r>(&'s self, asked: &Asked<'_, 'r>, now: u64) -> Plan<'s, 'r>
+    fn checked<'s, 'r>(&'s self, asked: &Asked<'r, 'r>, now: u64) -> Plan<'s, 'r>
         ensures { result ≡ unheld (answer_at self.now (target_of self.now now (path_of asked.now)) asked.now) }
     {
         if asked.has_bad_option() {
@@ -65,17 +69,48 @@ impl Store {
 
     /// What the request is about.
     fn target(&self, asked: &Asked, now: u64) -> Target<'_>
-        ensures { target_value result ≡ target_of self.now now (path_of asked.now) }
+        ensures value { target_value asked.now result ≡ target_of self.now now (path_of asked.now) }
+        ensures path { result.is_path ≡ is_path (path_of asked.now) }
     {
-        let key = asked.key();
-        let place = place_for(key.as_ref());
-        let state = self.state(key.as_ref(), place, now);
-        Target { key, place, state }
+        let place = asked.place();
+        if place.is_dynamic() {
+            return self.dynamic_target(asked);
+        }
+        Target {
+            is_path: true,
+            place,
+            state: self.found_at(None, place, now),
+        }
+    }
+
+    /// What a request of a place where no resource is built in is about.
+    fn dynamic_target(&self, asked: &Asked) -> Target<'_>
+        requires { place_of (path_of asked.now) ≡ Dynamic }
+        ensures value { (now : ℕ) → target_value asked.now result ≡ target_of self.now now (path_of asked.now) }
+        ensures path { result.is_path ≡ is_path (path_of asked.now) }
+    {
+        match asked.key() {
+            Some(path) => Target {
+                is_path: true,
+                place: Place::Dynamic,
+                state: self.stored_at(&path),
+            },
+            None => Target {
+                is_path: false,
+                place: Place::Dynamic,
+                state: None,
+            },
+        }
     }
 
     /// The representation that a path has at a moment.
     #[tactic(auto, unfolding(crate::specs::State::state_at))]
-    fn state(&self, key: Option<&PathKey>, place: Place, now: u64) -> Option<Found<'_>>
+    pub(crate) fn found_at(
+        &self,
+        key: Option<&PathKey>,
+        place: Place,
+        now: u64,
+    ) -> Option<Found<'_>>
         ensures { option_map found_value result ≡ state_at self.now now (option_map (λ k. k.now) key.entry) place }
     {
         match place {
@@ -83,21 +118,27 @@ impl Store {
             Place::Time => Some(Found::built(TEXT_PLAIN, Bytes::Decimal(decimal_digits(now)))),
             Place::Async => Some(Found::built(TEXT_PLAIN, Bytes::Stored(b"done"))),
             Place::Listing => Some(Found::built(LINK_FORMAT, Bytes::Stored(self.listing()))),
-            Place::Dynamic => {
-                let resource = self.find(key?)?;
-                Some(Found {
-                    version: resource.version,
-                    format: resource.format,
-                    bytes: Bytes::Stored(&resource.bytes),
-                })
-            }
+            Place::Dynamic => self.stored_at(key?),
         }
+    }
+
+    /// The representation that is stored at a path.
+    fn stored_at(&self, path: &PathKey) -> Option<Found<'_>>
+        ensures { option_map found_value result ≡ found_in self.now.resources path.now }
+    {
+        let resource = self.find(path)?;
+        Some(Found {
+            version: resource.version,
+            format: resource.format,
+            bytes: Bytes::Stored(&resource.bytes),
+        })
     }
 
     /// The answer by the checks of the resource, and then those of the method.
     #[tactic(auto, unfolding(crate::specs::Answer::resource_answer, crate::specs::Answer::method_answer))]
-    fn at_target<'s, 'r>(&'s self, asked: &Asked<'_, 'r>, target: Target<'s>) -> Plan<'s, 'r>
-        ensures { result ≡ unheld (resource_answer self.now (target_value target.entry) asked.now) }
+    fn at_target<'s, 'r>(&'s self, asked: &Asked<'r, 'r>, target: Target<'s>) -> Plan<'s, 'r>
+        requires { target.is_path ≡ is_path (path_of asked.now) }
+        ensures { result ≡ unheld (resource_answer self.now (target_value asked.now target.entry) asked.now) }
     {
         let code = asked.code();
         if target.state.is_none() && self.needs_resource(code) {
@@ -113,7 +154,7 @@ impl Store {
             return read(asked, target);
         }
         if code == Code::DELETE {
-            return delete(target);
+            return delete(asked, target);
         }
         self.put_or_post(asked, target)
     }
@@ -127,15 +168,16 @@ impl Store {
 
     /// The answer to PUT and POST (RFC 7252 sections 5.8.2, 5.8.3).
     #[tactic(auto, unfolding(crate::specs::Answer::store_answer))]
-    fn put_or_post<'s, 'r>(&'s self, asked: &Asked<'_, 'r>, target: Target<'s>) -> Plan<'s, 'r>
-        ensures { result ≡ unheld (store_answer self.now (target_value target.entry) asked.now) }
+    fn put_or_post<'s, 'r>(&'s self, asked: &Asked<'r, 'r>, target: Target<'s>) -> Plan<'s, 'r>
+        requires { target.is_path ≡ is_path (path_of asked.now) }
+        ensures { result ≡ unheld (store_answer self.now (target_value asked.now target.entry) asked.now) }
     {
         let is_new = target.state.is_none();
         let greatest = self.rep_max();
         if asked.payload().len() > greatest {
             return Plan::too_large(greatest as u32);
         }
-        if is_new && target.key.is_none() {
+        if is_new && !target.is_path {
             return Plan::only(Code::BAD_REQUEST);
         }
         if is_new && self.is_full() {
@@ -144,10 +186,10 @@ impl Store {
         if !self.has_version() {
             return Plan::only(Code::SERVICE_UNAVAILABLE);
         }
-        match target.key {
-            Some(path) => stored(asked, path, is_new),
-            None => Plan::only(Code::BAD_REQUEST),
+        if !target.is_path {
+            return Plan::only(Code::BAD_REQUEST);
         }
+        stored(asked, is_new)
     }
 }
 
@@ -171,7 +213,7 @@ fn read<'s, 'r>(asked: &Asked<'_, 'r>, target: Target<'s>) -> Plan<'s, 'r>
     ensures { result ≡ unheld (read_answer target.entry.place (option_map found_value target.entry.state) asked.now) }
 {
     let Target {
-        key: _,
+        is_path: _,
         place,
         state,
     } = target;
@@ -216,7 +258,7 @@ fn is_accepted(wanted: Option<u16>, format: Option<u16>) -> bool
 }
 
 /// The ETag of a representation with this version, where it is stored.
-fn etag_for(place: Place, version: u64) -> Option<ArrayVec<u8, 8>>
+pub(crate) fn etag_for(place: Place, version: u64) -> Option<ArrayVec<u8, 8>>
     ensures { (r : Representation) → r.version ≡ version → option_map (λ etag. etag.items) result ≡ etag_at place r }
 {
     if place.is_dynamic() {
@@ -255,44 +297,36 @@ fn removes_watch(asked: &Asked) -> bool
 }
 
 /// For how many seconds a representation holds, where that is said.
-fn max_age_of(place: Place) -> Option<u32>
+pub(crate) fn max_age_of(place: Place) -> Option<u32>
     ensures { result ≡ max_age_at place }
 {
     if place == Place::Time { Some(1) } else { None }
 }
 
-/// The answer to a request that stores its payload at a path.
-fn stored<'s, 'r>(asked: &Asked<'_, 'r>, path: PathKey, is_new: bool) -> Plan<'s, 'r>
-    ensures { (state : Option Representation) → is_none state ≡ is_new → result ≡ stored_there path state asked.now }
+/// The answer to a request that stores its payload at its path.
+fn stored<'s, 'r>(asked: &Asked<'r, 'r>, is_new: bool) -> Plan<'s, 'r>
+    requires { is_path (path_asked asked.now) ≡ true }
+    ensures { (state : Option Representation) → is_none state ≡ is_new → result ≡ stored_there (path_asked asked.now) state asked.now }
 {
     let tells_location = is_new && asked.code() == Code::POST;
     let code = if is_new { Code::CREATED } else { Code::CHANGED };
-    let change = Change::Put {
-        path,
+    let effect = Effect::Put {
+        request: asked.request(),
         format: asked.content_format(),
-        bytes: asked.payload(),
     };
-    Plan::changing(code, tells_location, change)
+    Plan::changing(code, tells_location, effect)
 }
 
 /// The answer to DELETE (RFC 7252 section 5.8.4).
-fn delete<'s, 'r>(target: Target) -> Plan<'s, 'r>
-    ensures { result ≡ delete_answer (target_value target.entry) }
+fn delete<'s, 'r>(asked: &Asked<'r, 'r>, target: Target) -> Plan<'s, 'r>
+    requires { target.is_path ≡ is_path (path_asked asked.now) }
+    ensures { result ≡ delete_answer (target_value asked.now target.entry) }
 {
-    let Target {
-        key,
-        place: _,
-        state,
-    } = target;
-    let change = match key {
-        Some(path) => {
-            if state.is_some() {
-                Change::Delete(path)
-            } else {
-                Change::Nothing
-            }
-        }
-        None => Change::Nothing,
+    if !target.is_path || target.state.is_none() {
+        return Plan::only(Code::DELETED);
+    }
+    let effect = Effect::Delete {
+        request: asked.request(),
     };
-    Plan::changing(Code::DELETED, false, change)
+    Plan::changing(Code::DELETED, false, effect)
 }

@@ -1,17 +1,22 @@
 //! What holds of every store and every answer, each as the contract of a function that does nothing.
 
-ghost use Rattle.std.specs.Prelude.{◌≡◌, ◌≢◌, ◌↔◌, ℕ, ◌+◌, ◌<◌, ◌≤◌, ◌^◌, List, [], Option, Some, None, IsTrue, IsFalse};
+ghost use Rattle.std.specs.Prelude.{◌≡◌, ◌≢◌, ◌↔◌, ℕ, ◌+◌, ◌<◌, ◌≤◌, ◌^◌, List, [], Option, Some, None, IsTrue, IsFalse, IfSome};
 ghost use Rattle.coap_wire.specs.Message.{Message};
 ghost use Rattle.coap_wire.specs.Codes as code;
 ghost use Rattle.coap_store.specs.Paths.{Path, is_path};
-ghost use Rattle.coap_store.specs.Store.{Representation, StoreValue, found_in};
+ghost use Rattle.coap_store.specs.Store.{Representation, StoreValue, found_in, put_in, removed_in};
 ghost use Rattle.coap_store.specs.State.{place_of, state_of};
 ghost use Rattle.coap_store.specs.Requests.{is_get, path_of, etag_of};
 ghost use Rattle.coap_store.specs.Answer.{Change, Nothing, Put, Delete, answer_of, prompt_answer, changed};
 ghost use Rattle.coap_store.specs.Changes.{says_change, TakesChange, HasSmallFormat, changed_by, TakesChanges};
 ghost use Rattle.coap_store.specs.Invariant.{AreDistinct, IsStore};
+ghost use Rattle.coap_store.specs.Refusals.{put_refusal};
+ghost use Rattle.coap_store.specs.Remembering.{WasStored};
+ghost use Rattle.coap_store.specs.Notifications.{notification_of};
+ghost use Rattle.coap_store.specs.Watching.{MayWatch};
 ghost use Rattle.coap_store.specs.Serving.{plain_get, IsStoredCode, TellsState, TellsEtag, IsElsewhere, content_of, put_by};
 ghost use Rattle.coap_store.specs.declared.place.Place.TheVariants.{Listing, Dynamic};
+ghost use Rattle.coap_store.specs.declared.plan.Watch.TheVariants.{Add};
 
 use crate::path::PathKey;
 
@@ -93,4 +98,42 @@ pub fn other_states_stay()
 /// Two keys are equal exactly where their lists of segments are.
 pub fn keys_are_equal_where_their_segments_are()
     ensures { (p q : Path) → (IsTrue (⟦<PathKey as PartialEq>⟧.eq p q) ↔ (p ≡ q)) }
+{}
+
+/// A store stays one over what is put from inside and not refused, and over what is removed.
+pub fn puts_and_removals_keep_stores()
+    ensures put { (s : StoreValue) (path : Path) (format : Option ℕ) (bytes : List ℕ) → IsStore s → IsTrue (is_path path) → put_refusal s path bytes ≡ None → IfSome format (λ number. number < 65536) → IsStore (put_in s path format bytes) }
+    ensures removed { (s : StoreValue) (path : Path) → IsStore s → IsStore (removed_in s path) }
+{}
+
+/// What is put from inside is the state of its path at every moment, with the next version, and what is removed is absent. All
+/// other paths keep their state, the listing's excepted.
+pub fn what_is_put_is_the_state()
+    ensures put { (s : StoreValue) (now : ℕ) (path : Path) (format : Option ℕ) (bytes : List ℕ) → IsTrue (is_path path) → place_of path ≡ Dynamic → state_of (put_in s path format bytes) now path ≡ Some (record { version = s.versions + 1; format = format; bytes = bytes }) }
+    ensures removed { (s : StoreValue) (now : ℕ) (path : Path) → IsStore s → IsTrue (is_path path) → place_of path ≡ Dynamic → state_of (removed_in s path) now path ≡ None }
+    ensures put_elsewhere { (s : StoreValue) (now : ℕ) (path other : Path) (format : Option ℕ) (bytes : List ℕ) → place_of other ≢ Listing → other ≢ path → state_of (put_in s path format bytes) now other ≡ state_of s now other }
+    ensures removed_elsewhere { (s : StoreValue) (now : ℕ) (path other : Path) → place_of other ≢ Listing → other ≢ path → state_of (removed_in s path) now other ≡ state_of s now other }
+{}
+
+/// A version tells a representation, so that who remembers versions need not keep what was told: what is stored was stored, over
+/// each change it stays what was stored, and what is stored with its version, at whatever path, is it.
+pub fn versions_tell_what_was_stored()
+    ensures stored { (s : StoreValue) (path : Path) (told : Representation) → IsStore s → found_in s.resources path ≡ Some told → WasStored s path told }
+    ensures changed { (s : StoreValue) (change : Change) (path : Path) (told : Representation) → IsStore s → WasStored s path told → WasStored (changed s change) path told }
+    ensures same { (s : StoreValue) (path other : Path) (told now : Representation) → WasStored s path told → found_in s.resources other ≡ Some now → now.version ≡ told.version → (other ≡ path) × (now ≡ told) }
+{}
+
+/// A notification with 2.05 tells the state of its path, in the format that was told before (RFC 7641 section 4.2). It is what a
+/// GET of a stored resource with no option but Uri-Path is answered.
+pub fn notifications_tell_the_state()
+    ensures content { (s : StoreValue) (now : ℕ) (path : Path) (format : Option ℕ) → (notification_of s now path format).code ≡ code.content → TellsState (place_of path) (state_of s now path) (notification_of s now path format) }
+    ensures format { (s : StoreValue) (now : ℕ) (path : Path) (format : Option ℕ) → (notification_of s now path format).code ≡ code.content → (notification_of s now path format).format ≡ format }
+    ensures get { (s : StoreValue) (now : ℕ) (token : List ℕ) (path : Path) (format : Option ℕ) → IsTrue (is_path path) → place_of path ≡ Dynamic → (notification_of s now path format).code ≡ code.content → (answer_of s now (plain_get token path)).response ≡ notification_of s now path format }
+{}
+
+/// Where a request asks that an observer is entered (RFC 7641 section 4.1), its path is one of a resource that is there and can be
+/// observed, and the answer changes nothing and is 2.05 or 2.03.
+pub fn what_is_watched_is_there()
+    ensures watched { (s : StoreValue) (now : ℕ) (m : Message) → (answer_of s now m).watch ≡ Add → MayWatch s now (path_of m) (answer_of s now m) }
+    ensures promptly { (s : StoreValue) (now : ℕ) (m : Message) → (prompt_answer s now m).watch ≡ Add → MayWatch s now (path_of m) (prompt_answer s now m) }
 {}

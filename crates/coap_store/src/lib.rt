@@ -3,18 +3,27 @@
 
 mod answer;
 mod catalogue;
+mod fault;
 pub mod laws;
 mod notes;
+mod notifications;
 mod path;
 mod place;
 mod plan;
+mod puts;
 mod request;
 mod resource;
+mod states;
 mod store;
 mod target;
+mod trail;
+mod uri_path;
 
+pub use fault::StoreFault;
 pub use path::{PathKey, Segments};
 pub use place::Place;
 pub use plan::{Bytes, Change, Plan, Watch};
+pub use states::{Present, State};
 pub use store::Store;
 pub use target::request_path;
+pub use uri_path::UriPath;

@@ -1,26 +1,20 @@
 //! What the recognised options of a request say, noted in one pass.
 
 ghost use Rattle.std.specs.Prelude.{◌≡◌, option_copied};
-ghost use Rattle.coap_store.specs.PathViews.{segment_list};
-ghost use Rattle.coap_store.specs.Noting.{first_given, segments_with, more_with};
+ghost use Rattle.coap_store.specs.Noting.{first_given, led};
 
-use arrayvec::ArrayVec;
+use crate::trail::Trail;
 use coap_wire::OptionRef;
 use coap_wire::option_numbers::{
     ACCEPT, CONTENT_FORMAT, ETAG, IF_MATCH, IF_NONE_MATCH, OBSERVE, PROXY_SCHEME, PROXY_URI,
     URI_PATH, URI_QUERY,
 };
 
-/// The most segments of a path.
-pub(crate) const MAX_SEGMENTS: usize = 16;
-
 /// Which options are there, and the first value of those that have one of interest.
 #[derive(Drop)]
 pub(crate) struct Notes<'r> {
-    /// The first segments of the path.
-    pub segments: ArrayVec<&'r [u8], MAX_SEGMENTS>,
-    /// Whether the path has more segments.
-    pub has_more: bool,
+    /// Where the path leads.
+    pub trail: Trail,
     pub has_if_match: bool,
     pub has_etag: bool,
     pub has_if_none_match: bool,
@@ -41,19 +35,11 @@ fn keep_first<'r>(first: &mut Option<&'r [u8]>, is_given: bool, value: &'r [u8])
     }
 }
 
-/// Adds a segment where it is one, for which there may be no room.
-fn push_segment<'r>(
-    segments: &mut ArrayVec<&'r [u8], MAX_SEGMENTS>,
-    has_more: &mut bool,
-    is_segment: bool,
-    value: &'r [u8],
-)
-    ensures segments { segment_list segments.new.items ≡ segments_with (segment_list segments.old.items) is_segment value.now }
-    ensures more { has_more.new ≡ more_with has_more.old (segment_list segments.old.items) is_segment }
+/// Where a segment leads, where it is one.
+fn lead(trail: Trail, is_segment: bool, value: &[u8]) -> Trail
+    ensures { result ≡ led trail is_segment value.now }
 {
-    if is_segment && segments.try_push(value).is_err() {
-        *has_more = true;
-    }
+    if is_segment { trail.with(value) } else { trail }
 }
 
 impl<'r> Notes<'r> {
@@ -66,8 +52,7 @@ impl<'r> Notes<'r> {
         ensures { notes_value result ≡ nothing }
     {
         Notes {
-            segments: ArrayVec::new(),
-            has_more: false,
+            trail: Trail::Root,
             has_if_match: false,
             has_etag: false,
             has_if_none_match: false,
@@ -86,12 +71,7 @@ impl<'r> Notes<'r> {
         ensures { notes_value self.new ≡ noted (notes_value self.old) (coap_option option.now) }
     {
         let number = option.number;
-        push_segment(
-            &mut self.segments,
-            &mut self.has_more,
-            number == URI_PATH,
-            option.value,
-        );
+        self.trail = lead(self.trail, number == URI_PATH, option.value);
         self.has_if_match = self.has_if_match || number == IF_MATCH;
         self.has_etag = self.has_etag || number == ETAG;
         self.has_if_none_match = self.has_if_none_match || number == IF_NONE_MATCH;

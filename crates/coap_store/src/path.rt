@@ -9,7 +9,7 @@ use arrayvec::ArrayVec;
 use std::marker::Model;
 
 /// The most segments of a path.
-const MAX_SEGMENTS: usize = 16;
+pub(crate) const MAX_SEGMENTS: usize = 16;
 
 /// The most bytes of a path, where each segment takes one more than it has.
 const MAX_BYTES: usize = 255;
@@ -121,6 +121,14 @@ impl PathKey {
             unreachable!()
         };
         PathKey { bytes }
+    }
+
+    /// Tells the proof of a caller that this is the path of a resource. It reads the key, which is what the proof needs to know
+    /// that its invariant holds, and does nothing.
+    pub(crate) fn is_kept(&self)
+        ensures { is_path self.now ≡ true }
+    {
+        let _read = self.bytes.as_slice();
     }
 
     /// Each segment behind a byte that has its length.

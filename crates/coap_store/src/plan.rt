@@ -1,9 +1,11 @@
 //! What is answered to a request.
 
 use crate::path::PathKey;
+use crate::request::path_in;
 use crate::target::Found;
+use crate::uri_path::UriPath;
 use arrayvec::ArrayVec;
-use coap_wire::Code;
+use coap_wire::{Code, MessageRef};
 use std::marker::Model;
 
 /// The bytes of a representation: they lie elsewhere, or are a decimal number.
@@ -72,6 +74,25 @@ impl<'r> Change<'r> {
     }
 }
 
+/// What a request changes, told by the request.
+#[derive(Clone, Copy, Debug)]
+pub(crate) enum Effect<'r> {
+    /// Nothing.
+    Nothing,
+    /// The payload is stored at the path.
+    Put {
+        /// The request.
+        request: &'r MessageRef<'r>,
+        /// Its Content-Format, where it has one.
+        format: Option<u16>,
+    },
+    /// The resource at the path goes.
+    Delete {
+        /// The request.
+        request: &'r MessageRef<'r>,
+    },
+}
+
 /// What a request asks of the observers of its path (RFC 7641 sections 2, 3.6, 4.1). Whoever keeps observers removes an entry
 /// with the request's token before that, whatever this says: a token names one request of its client.
 #[derive(Clone, Copy, Debug, PartialEq, Eq)]
@@ -97,7 +118,7 @@ pub struct Plan<'s, 'r> {
     tells_location: bool,
     size1: Option<u32>,
     payload: Bytes<'s>,
-    change: Change<'r>,
+    effect: Effect<'r>,
     watch: Watch,
 }
 
@@ -106,16 +127,20 @@ impl<'s, 'r> Model for Plan<'s, 'r> {
 
     ghost Value = { Answer };
 
-    ghost use Rattle.coap_store.specs.PlanAnswerViews.{plan_answer};
+    ghost use Rattle.coap_store.specs.PlanAnswerViews.{plan_answer, is_plan};
 
     ghost view = { plan_answer };
+
+    ghost invariant = { is_plan };
 }
 
 impl<'s, 'r> Plan<'s, 'r> {
-    ghost use Rattle.std.specs.Prelude.{◌≡◌, ◌≤◌, [], Some, IfSome, length, option_map};
+    ghost use Rattle.std.specs.Prelude.{◌≡◌, ◌≤◌, true, [], Some, IfSome, length, option_map};
     ghost use Rattle.coap_wire.specs.Codes as code;
     ghost use Rattle.coap_store.specs.Answer.{says, only};
-    ghost use Rattle.coap_store.specs.PlanViews.{bytes_in, change_value, path_or_root, location_in};
+    ghost use Rattle.coap_store.specs.Changes.{changes as is_change};
+    ghost use Rattle.coap_store.specs.Paths.{is_path};
+    ghost use Rattle.coap_store.specs.PlanViews.{bytes_in, change_value, effect_value, IsAtPath, path_or_root, location_in};
 
     /// A response with this code and nothing else, which changes nothing.
     pub(crate) fn only(code: Code) -> Plan<'s, 'r>
@@ -129,7 +154,7 @@ impl<'s, 'r> Plan<'s, 'r> {
             tells_location: false,
             size1: None,
             payload: Bytes::Stored(&[]),
-            change: Change::Nothing,
+            effect: Effect::Nothing,
             watch: Watch::Nothing,
         }
     }
@@ -175,12 +200,13 @@ impl<'s, 'r> Plan<'s, 'r> {
     }
 
     /// The response to a change, which tells the path of what is put or not.
-    pub(crate) fn changing(code: Code, tells_location: bool, change: Change<'r>) -> Plan<'s, 'r>
-        ensures { result ≡ record (says (record (only code) { location = location_in tells_location (change_value change.entry) })) { change = change_value change.entry } }
+    pub(crate) fn changing(code: Code, tells_location: bool, effect: Effect<'r>) -> Plan<'s, 'r>
+        requires { IsAtPath effect }
+        ensures { result ≡ record (says (record (only code) { location = location_in tells_location (effect_value effect.entry) })) { change = effect_value effect.entry } }
     {
         Plan {
             tells_location,
-            change,
+            effect,
             ..Plan::only(code)
         }
     }
@@ -223,13 +249,17 @@ impl<'s, 'r> Plan<'s, 'r> {
     }
 
     /// The path that its Location-Path options tell, one for each segment, where it has any (RFC 7252 section 5.10.7).
-    pub fn location(&self) -> Option<&PathKey>
-        ensures { path_or_root (option_map (λ path. path.now) result) ≡ self.now.response.location }
+    pub fn location(&self) -> Option<UriPath<'r>>
+        ensures value { path_or_root result ≡ self.now.response.location }
+        ensures path { IfSome result (λ path. is_path path ≡ true) }
     {
-        match &self.change {
-            Change::Put { path, .. } => self.tells_location.then_some(path),
-            Change::Nothing => None,
-            Change::Delete(_) => None,
+        if !self.tells_location {
+            return None;
+        }
+        match self.effect {
+            Effect::Put { request, .. } => Some(UriPath::of(request)),
+            Effect::Nothing => None,
+            Effect::Delete { .. } => None,
         }
     }
 
@@ -251,7 +281,26 @@ impl<'s, 'r> Plan<'s, 'r> {
     pub fn change(&self) -> Change<'r>
         ensures { change_value result ≡ self.now.change }
     {
-        self.change.duplicate()
+        match self.effect {
+            Effect::Nothing => Change::Nothing,
+            Effect::Put { request, format } => Change::Put {
+                path: path_in(request),
+                format,
+                bytes: request.payload(),
+            },
+            Effect::Delete { request } => Change::Delete(path_in(request)),
+        }
+    }
+
+    /// Whether the request changes anything.
+    pub fn changes(&self) -> bool
+        ensures { result ≡ is_change self.now.change }
+    {
+        match self.effect {
+            Effect::Nothing => false,
+            Effect::Put { .. } => true,
+            Effect::Delete { .. } => true,
+        }
     }
 
     /// What the request asks of the observers.
@@ -273,7 +322,7 @@ impl<'s, 'r> Plan<'s, 'r> {
             tells_location: self.tells_location,
             size1: self.size1,
             payload: Bytes::Stored(&[]),
-            change: self.change,
+            effect: self.effect,
             watch: self.watch,
         }
     }

@@ -1,14 +1,20 @@
 //! What a request asks for, by its recognised options (RFC 7252 sections 5.4, 5.10).
 
-ghost use Rattle.std.specs.Prelude.{◌≡◌, ◌≤◌, Option, length, is_some, IfSome};
+ghost use Rattle.std.specs.Prelude.{◌≡◌, ◌≤◌, ◌<◌, true, Option, length, is_some, IfNone, IfSome};
 ghost use Rattle.coap_wire.specs.Uint.{uint_of};
 ghost use Rattle.coap_wire.specs.Recognition.{known_options};
 ghost use Rattle.coap_store.specs.Requests as spec;
-ghost use Rattle.coap_store.specs.Requests.{digits_mean};
+ghost use Rattle.coap_store.specs.Paths.{is_path};
+ghost use Rattle.coap_store.specs.PathViews.{segment_list};
+ghost use Rattle.coap_store.specs.Requests.{digits_mean, path_of as path_asked};
+ghost use Rattle.coap_store.specs.State.{key_for as key_named};
 ghost use Rattle.coap_store.specs.Noting.{nothing, all_noted, notes_value};
 
 use crate::notes::Notes;
-use crate::path::PathKey;
+use crate::path::{MAX_SEGMENTS, PathKey};
+use crate::place::Place;
+use crate::uri_path::UriPath;
+use arrayvec::ArrayVec;
 use coap_wire::option_numbers::{ETAG, IF_MATCH};
 use coap_wire::{Code, MessageRef, uint_bytes, uint_value};
 use std::marker::Model;
@@ -43,6 +49,40 @@ fn notes_of<'r>(request: &MessageRef<'r>) -> Notes<'r>
     notes
 }
 
+/// The segments of the path that a request asks for, `None` where there are more than a path has.
+fn segments_of<'r>(request: &MessageRef<'r>) -> Option<ArrayVec<&'r [u8], MAX_SEGMENTS>>
+    ensures all { IfSome result (λ segments. segment_list segments.items ≡ path_asked request.now) }
+    ensures many { IfNone result (16 < length (path_asked request.now)) }
+{
+    let mut segments = ArrayVec::new();
+    for segment in UriPath::of(request) {
+        if segments.is_full() {
+            return None;
+        }
+        segments.push(segment);
+    }
+    Some(segments)
+}
+
+/// The path that a request asks for, where it is one of a resource (RFC 7252 section 5.10.1).
+pub(crate) fn key_of(request: &MessageRef) -> Option<PathKey>
+    ensures { result ≡ key_named (path_asked request.now) }
+{
+    let segments = segments_of(request)?;
+    PathKey::from_segments(segments.as_slice())
+}
+
+/// The path that a request asks for, which is one of a resource.
+pub(crate) fn path_in(request: &MessageRef) -> PathKey
+    requires { is_path (path_asked request.now) ≡ true }
+    ensures { result ≡ path_asked request.now }
+{
+    let Some(path) = key_of(request) else {
+        unreachable!()
+    };
+    path
+}
+
 /// The number that at most 2 bytes mean in network order (RFC 7252 section 3.2).
 fn small_value(bytes: &[u8]) -> u16
     requires { length bytes.now ≤ 2 }
@@ -63,7 +103,7 @@ impl<'q, 'r> Asked<'q, 'r> {
     ghost use Rattle.coap_wire.specs.OptionNumbers as numbers;
     ghost use Rattle.coap_store.specs.Paths.{same_bytes};
     ghost use Rattle.coap_store.specs.Store.{Representation};
-    ghost use Rattle.coap_store.specs.State.{key_for};
+    ghost use Rattle.coap_store.specs.State.{key_for, place_of};
     ghost use Rattle.coap_store.specs.Requests as spec;
 
     /// Reads the recognised options of a request.
@@ -74,6 +114,13 @@ impl<'q, 'r> Asked<'q, 'r> {
             request,
             notes: notes_of(request),
         }
+    }
+
+    /// The request.
+    pub(crate) fn request(&self) -> &'q MessageRef<'r>
+        ensures { result.now ≡ self.now }
+    {
+        self.request
     }
 
     /// The code.
@@ -108,10 +155,14 @@ impl<'q, 'r> Asked<'q, 'r> {
     pub(crate) fn key(&self) -> Option<PathKey>
         ensures { result ≡ key_for (spec.path_of self.now) }
     {
-        if self.notes.has_more {
-            return None;
-        }
-        PathKey::from_segments(self.notes.segments.as_slice())
+        key_of(self.request)
+    }
+
+    /// Which resource the path names.
+    pub(crate) fn place(&self) -> Place
+        ensures { result ≡ place_of (spec.path_of self.now) }
+    {
+        self.notes.trail.place()
     }
 
     /// The Content-Format of the payload (RFC 7252 section 5.10.3).

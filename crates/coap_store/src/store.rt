@@ -35,7 +35,7 @@ impl Model for Store {
 impl Store {
     ghost use Rattle.std.specs.Prelude.{◌≡◌, ◌≤◌, ◌<◌, [], IfOk, IfSome, OnOk, OnErr, length, not, nat_le, ◌==◌, option_map};
     ghost use Rattle.coap_store.specs.Answer.{changed, greatest_version};
-    ghost use Rattle.coap_store.specs.Store.{found_in, put_in};
+    ghost use Rattle.coap_store.specs.Store.{found_in, put_in, removed_in};
     ghost use Rattle.coap_store.specs.Listing.{listing as listing_of};
     ghost use Rattle.coap_store.specs.ResourceViews.{representation};
     ghost use Rattle.coap_store.specs.Changes.{TakesChange, TakesPut, IsPut};
@@ -86,7 +86,7 @@ impl Store {
                 format,
                 bytes,
             } => self.store(path, format, bytes)?,
-            Change::Delete(path) => self.resources.remove(&path),
+            Change::Delete(path) => self.delete(&path),
         }
         self.is_kept();
         Ok(())
@@ -145,8 +145,24 @@ impl Store {
         let _read = self.versions;
     }
 
+    /// How many representations were stored so far, which is the version of the last one.
+    pub(crate) fn versions(&self) -> u64
+        ensures { result ≡ self.now.versions }
+    {
+        self.versions
+    }
+
     /// Stores a representation.
-    fn store(&mut self, path: PathKey, format: Option<u16>, bytes: &[u8]) -> Result<(), AllocError>
+    ///
+    /// # Errors
+    ///
+    /// `AllocError` where memory was refused. The store is then as before.
+    pub(crate) fn store(
+        &mut self,
+        path: PathKey,
+        format: Option<u16>,
+        bytes: &[u8],
+    ) -> Result<(), AllocError>
         requires { TakesPut self.old path bytes.now }
         ensures ok { OnOk result (self.new ≡ put_in self.old path format bytes.now) }
         ensures err { OnErr result (self.new ≡ self.old) }
@@ -156,6 +172,14 @@ impl Store {
             .put(path, self.versions + 1, in_range(format), bytes)?;
         self.versions += 1;
         Ok(())
+    }
+
+    /// Takes the resource at a path away, where there is one.
+    pub(crate) fn delete(&mut self, path: &PathKey)
+        ensures removed { self.new ≡ removed_in self.old path.now }
+        ensures store { IsStore self.new }
+    {
+        self.resources.remove(path);
     }
 }
 

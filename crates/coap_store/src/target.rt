@@ -9,7 +9,7 @@ ghost use Rattle.coap_store.specs.State.{key_for, place_of as place_named};
 use crate::path::PathKey;
 use crate::place::{Place, place_of};
 use crate::plan::Bytes;
-use crate::request::Asked;
+use crate::request::key_of;
 use arrayvec::ArrayVec;
 use coap_wire::MessageRef;
 use itoa::Buffer;
@@ -31,11 +31,11 @@ pub(crate) struct Found<'s> {
     pub bytes: Bytes<'s>,
 }
 
-/// What a request is about.
+/// What a request is about. Its path is the request's.
 #[derive(Debug, Drop)]
 pub(crate) struct Target<'s> {
-    /// The path, where it is one of a resource.
-    pub key: Option<PathKey>,
+    /// Whether the path is one of a resource.
+    pub is_path: bool,
     /// Which resource the path names.
     pub place: Place,
     /// What is there.
@@ -75,7 +75,7 @@ pub(crate) fn decimal_digits(number: u64) -> ArrayVec<u8, 20>
 pub fn request_path(request: &MessageRef) -> Option<PathKey>
     ensures { result ≡ key_for (path_asked request.now) }
 {
-    Asked::by(request).key()
+    key_of(request)
 }
 
 /// Which resource the path names.

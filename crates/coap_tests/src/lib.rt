@@ -15,7 +15,11 @@ mod link;
 #[cfg(test)]
 mod queue;
 #[cfg(test)]
+mod replay;
+#[cfg(test)]
 mod rows;
+#[cfg(test)]
+mod script;
 #[cfg(test)]
 mod serve;
 #[cfg(test)]

@@ -8,10 +8,12 @@
 //! - `= 1 65000 0` opens a store for one resource of 65,000 bytes, after version 0.
 //! - `make 01 01 01 => ..` and `ask ..` have whole messages; `at 10 ..` asks at a moment. After `make` the change is made.
 //! - `GET /a => 2.05 etag=01 | 'x` has a request without a token. After `do PUT /a => ..` the change is made.
+//! - `put`, `remove`, `state` and `notify` are calls of the program that embeds the server (`changes`).
 //! - `listed => ..` has what the listing says behind the built-in resources (`listing::entries`).
 //! - `each 1000 ..` stands before a row that is played for each number below 1,000 (`row_of`).
 
 mod answers;
+mod changes;
 mod listing;
 mod memory;
 mod paths;
@@ -19,7 +21,7 @@ mod values;
 
 use self::listing::is_listed;
 use crate::rows::{bytes, digits, halves, number, same, words};
-use coap_store::{Change, PathKey, Plan, Store, Watch};
+use coap_store::{Change, Plan, Store, UriPath, Watch};
 use coap_wire::option_numbers::{
     ACCEPT, CONTENT_FORMAT, ETAG, IF_MATCH, IF_NONE_MATCH, LOCATION_PATH, MAX_AGE, OBSERVE,
     PROXY_SCHEME, PROXY_URI, SIZE1, URI_PATH, URI_QUERY,
@@ -169,7 +171,7 @@ fn responded<'a>(
     let mut response = Builder::new(plan.code(), token);
     add(&mut response, ETAG, plan.etag())?;
     if let Some(path) = plan.location() {
-        for segment in path.segments() {
+        for segment in path {
             response.option(LOCATION_PATH, segment)?;
         }
     }
@@ -225,12 +227,12 @@ fn push_number(
 }
 
 /// Appends the path that a response tells, where it tells one.
-fn push_location(alloc: Global, text: &mut String, path: Option<&PathKey>) -> Result<(), Fail> {
+fn push_location(alloc: Global, text: &mut String, path: Option<UriPath>) -> Result<(), Fail> {
     let Some(path) = path else {
         return Ok(());
     };
     text.push_str(" location=")?;
-    for segment in path.segments() {
+    for segment in path {
         let part = word_of(alloc, segment)?;
         text.push_str("/")?;
         text.push_str(part.as_str())?;
@@ -369,6 +371,7 @@ fn play(rt: &(impl Abort + AllocGlobal), store: &mut Store, row: &str) -> Result
     let (event, wanted) = halves(row);
     match words(rt.alloc(), event)?.first() {
         Some(&"listed") => is_listed(rt, store, wanted),
+        Some(&("put" | "remove" | "state" | "notify")) => changes::play(rt, store, row),
         Some(&("make" | "ask" | "at")) => play_message(rt, store, event, wanted),
         _ => play_request(rt, store, event, wanted),
     }

@@ -59,11 +59,11 @@ longer_than_kept M kept piece frame rest u e =
     ]
 
 -- what is left of the piece, and that some of it was taken
-record EndsIn (piece rest : List ℕ) : Type 0 where
-  left : drop (length piece - length rest) piece ≡ rest
-  some : 0 < length piece - length rest
+pub record EndsIn (piece rest : List ℕ) : Type 0 where
+  pub left : drop (length piece - length rest) piece ≡ rest
+  pub some : 0 < length piece - length rest
 
-ends_in : (M : ℕ) (kept piece frame rest : List ℕ) → beginning M kept ≡ Unfinished → beginning M (kept ++ piece) ≡ Whole frame rest → EndsIn piece rest
+pub ends_in : (M : ℕ) (kept piece frame rest : List ℕ) → beginning M kept ≡ Unfinished → beginning M (kept ++ piece) ≡ Whole frame rest → EndsIn piece rest
 ends_in M kept piece frame rest u e =
     let c = whole_parts M (kept ++ piece) frame rest e in
     let n = length piece - length rest in

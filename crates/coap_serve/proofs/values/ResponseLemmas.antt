@@ -1,12 +1,12 @@
 -- The options of a response, one after the other.
-use Rattle.std.proofs.Common.{◌≡◌, ℕ, ◌≤◌, true, List, [], ◌∷◌, ◌++◌, length, sym, ap, ◌∙◌, append_assoc, arith}
+use Rattle.std.proofs.Common.{◌≡◌, ℕ, ◌≤◌, Bool, true, List, [], ◌∷◌, ◌++◌, length, sym, ap, ◌∙◌, append_assoc, arith}
 use Rattle.coap_wire.specs.Message.{CoapOption, Message, last_number}
 use Rattle.coap_wire.specs.Views.{with_option}
 use Rattle.coap_wire.specs.OptionNumbers as numbers
 use Rattle.coap_wire.proofs.OptionLists.{last_number-push}
 use Rattle.coap_store.specs.Paths.{Path, is_path, written_length}
 use Rattle.coap_store.specs.Answer.{Response}
-use Rattle.coap_store.specs.Messages.{option_at, number_at, each_at, response_message}
+use Rattle.coap_store.specs.Messages.{option_at, empty_at, number_at, each_at, response_with_observe}
 use Rattle.coap_store.proofs.PathLemmas.{few_segments, path_fits}
 
 -- the option added last has its number
@@ -38,24 +38,42 @@ segment_added start old new path before left segment first is so_far =
 -- ---- the whole response
 
 -- a message to which the options of a response were added, one after the other, and its payload
-pub record IsBuilt (token : List ℕ) (r : Response) (tagged located formatted aged sized whole : Message) : Type 0 where
+pub record IsBuilt (token : List ℕ) (observes : Bool) (r : Response) (tagged observed located formatted aged sized whole : Message) : Type 0 where
   pub etag : tagged ≡ with_options (record { code = r.code; token = token; options = []; payload = [] }) (option_at numbers.etag r.etag)
-  pub location : located ≡ with_options tagged (each_at numbers.location_path r.location)
+  pub observe : observed ≡ with_options tagged (empty_at numbers.observe observes)
+  pub location : located ≡ with_options observed (each_at numbers.location_path r.location)
   pub format : formatted ≡ with_options located (number_at numbers.content_format r.format)
   pub max_age : aged ≡ with_options formatted (number_at numbers.max_age r.max_age)
   pub size1 : sized ≡ with_options aged (number_at numbers.size1 r.size1)
   pub payload : whole ≡ record sized { payload = r.payload }
 
-in_order : (a b c d e : List CoapOption) → (((a ++ b) ++ c) ++ d) ++ e ≡ a ++ (b ++ (c ++ (d ++ e)))
-in_order a b c d e = simp append_assoc
+in_order : (a b c d e f : List CoapOption) → ((((a ++ b) ++ c) ++ d) ++ e) ++ f ≡ a ++ (b ++ (c ++ (d ++ (e ++ f))))
+in_order a b c d e f = simp append_assoc
 
-pub is_response : (token : List ℕ) (r : Response) (tagged located formatted aged sized whole : Message) → IsBuilt token r tagged located formatted aged sized whole → whole ≡ response_message token r
-is_response token r tagged located formatted aged sized whole built =
-    let at_options : List CoapOption → Message = λ os. record { code = r.code; token = token; options = os; payload = r.payload } in
-    built.payload
-    ∙ ap (λ (m : Message). record m { payload = r.payload }) built.size1
-    ∙ ap (λ (m : Message). record (with_options m (number_at numbers.size1 r.size1)) { payload = r.payload }) built.max_age
-    ∙ ap (λ (m : Message). record (with_options (with_options m (number_at numbers.max_age r.max_age)) (number_at numbers.size1 r.size1)) { payload = r.payload }) built.format
-    ∙ ap (λ (m : Message). record (with_options (with_options (with_options m (number_at numbers.content_format r.format)) (number_at numbers.max_age r.max_age)) (number_at numbers.size1 r.size1)) { payload = r.payload }) built.location
-    ∙ ap (λ (m : Message). record (with_options (with_options (with_options (with_options m (each_at numbers.location_path r.location)) (number_at numbers.content_format r.format)) (number_at numbers.max_age r.max_age)) (number_at numbers.size1 r.size1)) { payload = r.payload }) built.etag
-    ∙ ap at_options (in_order (option_at numbers.etag r.etag) (each_at numbers.location_path r.location) (number_at numbers.content_format r.format) (number_at numbers.max_age r.max_age) (number_at numbers.size1 r.size1))
+module _ (token : List ℕ) (observes : Bool) (r : Response) (tagged observed located formatted aged sized whole : Message) (built : IsBuilt token observes r tagged observed located formatted aged sized whole) where
+  -- what is added behind each
+  abbrev behind_aged : Message → Message
+  behind_aged m = record (with_options m (number_at numbers.size1 r.size1)) { payload = r.payload }
+
+  abbrev behind_formatted : Message → Message
+  behind_formatted m = behind_aged (with_options m (number_at numbers.max_age r.max_age))
+
+  abbrev behind_located : Message → Message
+  behind_located m = behind_formatted (with_options m (number_at numbers.content_format r.format))
+
+  abbrev behind_observed : Message → Message
+  behind_observed m = behind_located (with_options m (each_at numbers.location_path r.location))
+
+  abbrev behind_tagged : Message → Message
+  behind_tagged m = behind_observed (with_options m (empty_at numbers.observe observes))
+
+  pub is_response : whole ≡ response_with_observe token observes r
+  is_response =
+      built.payload
+      ∙ ap (λ (m : Message). record m { payload = r.payload }) built.size1
+      ∙ ap behind_aged built.max_age
+      ∙ ap behind_formatted built.format
+      ∙ ap behind_located built.location
+      ∙ ap behind_observed built.observe
+      ∙ ap behind_tagged built.etag
+      ∙ ap (λ (os : List CoapOption). record { code = r.code; token = token; options = os; payload = r.payload }) (in_order (option_at numbers.etag r.etag) (empty_at numbers.observe observes) (each_at numbers.location_path r.location) (number_at numbers.content_format r.format) (number_at numbers.max_age r.max_age) (number_at numbers.size1 r.size1))

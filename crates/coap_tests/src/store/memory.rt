@@ -1,7 +1,7 @@
 //! Refused memory.
 
 use super::{GET_LISTING, behind_built_in, make, respond};
-use coap_store::Store;
+use coap_store::{PathKey, State, Store, StoreFault};
 use coap_wire::{SliceSink, parse};
 use std::alloc::AllocError;
 use std::process::Abort;
@@ -173,4 +173,96 @@ fn keeps_all_without_memory(rt: HostRuntime) -> Result<(), Fail> {
         answers(&rt, &store, *messages)?;
     }
     Ok(())
+}
+
+/// A path of one segment, a format, the bytes that are put there, and what the listing then says of the dynamic resources.
+type Put<'a> = (&'a [u8], Option<u16>, &'a [u8], &'a [u8]);
+
+/// New resources, and replacements with the same format and with others.
+static PUTS: [Put; 7] = [
+    (b"a", None, b"x", b",</a>;obs"),
+    (b"b", Some(0), b"x", b",</a>;obs,</b>;ct=0;obs"),
+    (b"a", None, b"xyzxyz", b",</a>;obs,</b>;ct=0;obs"),
+    (
+        b"a",
+        Some(65_535),
+        b"y",
+        b",</a>;ct=65535;obs,</b>;ct=0;obs",
+    ),
+    (
+        b"c",
+        None,
+        b"",
+        b",</a>;ct=65535;obs,</b>;ct=0;obs,</c>;obs",
+    ),
+    (
+        b"b",
+        Some(65_534),
+        b"yy",
+        b",</a>;ct=65535;obs,</b>;ct=65534;obs,</c>;obs",
+    ),
+    (b"a", None, b"z", b",</a>;obs,</b>;ct=65534;obs,</c>;obs"),
+];
+
+/// The path with this one segment.
+fn path_of(rt: &impl Abort, segment: &[u8]) -> PathKey {
+    PathKey::from_segments(&[segment]).expect(rt, "a path")
+}
+
+/// Asserts that a path has the representation that the last of these puts at it gave, whose version is its number.
+fn has_last(rt: &impl Abort, store: &Store, puts: &[Put], segment: &[u8]) {
+    let (mut number, mut version) = (0u64, 0);
+    let (mut format, mut bytes) = (None, b"".as_slice());
+    for put in puts {
+        number = number.wrapping_add(1);
+        if put.0 == segment {
+            (version, format, bytes) = (number, put.1, put.2);
+        }
+    }
+    match store.state(&path_of(rt, segment), 0) {
+        State::Present(present) => {
+            assert!(rt; present.version() == version, "{segment:?}");
+            assert!(rt; present.format() == format, "{segment:?}");
+            assert!(rt; present.bytes() == bytes, "{segment:?}");
+        }
+        State::Absent => assert!(rt; version == 0, "{segment:?}"),
+    }
+}
+
+/// Asserts that a store is as these puts leave it.
+fn is_after_puts(rt: &impl Abort, store: &Store, puts: &[Put]) -> Result<(), Fail> {
+    for segment in [b"a", b"b", b"c"] {
+        has_last(rt, store, puts, segment);
+    }
+    match puts.last() {
+        Some(put) => lists(rt, store, put.3),
+        None => lists(rt, store, b""),
+    }
+}
+
+/// Puts into a store that is as those before left it. Where memory is refused, all is as it was, and the put can be made then.
+fn put_again(rt: &impl Abort, store: &mut Store, before: &[Put], put: &Put) -> Result<(), Fail> {
+    let (path, version) = (path_of(rt, put.0), before.len() as u64);
+    let answer = store.put(&path, put.1, put.2);
+    if answer == Err(StoreFault::Memory) {
+        is_after_puts(rt, store, before)?;
+        assert!(rt; store.put(&path, put.1, put.2) == Ok(version.wrapping_add(1)));
+    } else {
+        assert!(rt; answer == Ok(version.wrapping_add(1)), "{:?}", put.0);
+    }
+    Ok(())
+}
+
+/// The same for what is put from inside. Nothing else allocates: what is removed goes, whatever memory there is.
+#[test]
+fn keeps_all_put_without_memory(rt: HostRuntime) -> Result<(), Fail> {
+    let mut store = made(&rt)?;
+    for (count, put) in PUTS.iter().enumerate() {
+        let before = PUTS.get(..count).unwrap_or_default();
+        put_again(&rt, &mut store, before, put)?;
+    }
+    is_after_puts(&rt, &store, &PUTS)?;
+    assert!(&rt; store.remove(&path_of(&rt, b"b")) == Ok(()));
+    assert!(&rt; store.remove(&path_of(&rt, b"b")) == Err(StoreFault::NoSuch));
+    lists(&rt, &store, b",</a>;obs,</c>;obs")
 }

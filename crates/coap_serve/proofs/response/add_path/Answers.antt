@@ -1,4 +1,4 @@
-use Rattle.std.proofs.Common.{ap, length, ◌∙◌, arith}
+use Rattle.std.proofs.Common.{ap, length, arith}
 use Rattle.coap_wire.specs.OptionNumbers as numbers
 use Rattle.coap_store.specs.Paths.{Path, written_length}
 use Rattle.coap_store.specs.Messages.{each_at}
@@ -7,14 +7,14 @@ use Rattle.coap_serve.proofs.response.add_path.Goals as goal
 
 pub loop-segment-init : goal.loop-segment-init
 loop-segment-init c =
-    let same = c.into_iter-segment-iterator.ensures.into_iter_gives ∙ c.segments-segment-items.ensures.value in
+    let same = c.into_iter-segment-iterator.ensures.into_iter_gives in
     record {
       goes = tt;
       ends = tt;
       added = ap (λ (p : Path). with_options c.args.response.now (each_at numbers.location_path p)) same;
       order = c.requires.order;
-      few = omega (arith, few_left _ _ same c.segments-segment-items.ensures.path, c.requires.few);
-      short = short_left _ _ same c.segments-segment-items.ensures.path;
+      few = omega (arith, few_left _ _ same c.requires.path, c.requires.few);
+      short = short_left _ _ same c.requires.path;
     }
 
 pub loop-segment-preserved : goal.loop-segment-preserved
@@ -24,7 +24,7 @@ loop-segment-preserved c =
     record {
       goes = tt;
       ends = tt;
-      added = segment_added c.args.response.now c.loop-segment.response c.add.new.response c.args.path.now c.loop-segment.segment-iterator c.next.new.self c.in-Some.segment.now steps c.add.ensures.added so_far.added;
+      added = segment_added c.args.response.now c.loop-segment.response c.add.new.response c.args.path c.loop-segment.segment-iterator c.next.new.self c.in-Some.segment.now steps c.add.ensures.added so_far.added;
       order = omega (arith, c.add.ensures.order);
       few = omega (arith, c.add.ensures.few, so_far.few, ap (λ (p : Path). length p) steps);
       short = omega (arith, so_far.short, ap written_length steps);

@@ -10,8 +10,8 @@ abbrev pub invariant-loop-segment : goal.invariant-loop-segment
 invariant-loop-segment l = record {
   goes : (goal.iterator-loop-segment).can_next l.segment-iterator;
   ends : (goal.iterator-loop-segment).is_finite l.segment-iterator;
-  added : record l.response { options = l.response.options ++ each_at numbers.location_path l.segment-iterator } ≡ record l.fn.response { options = l.fn.response.options ++ each_at numbers.location_path l.path };
+  added : record l.response { options = l.response.options ++ each_at numbers.location_path l.segment-iterator } ≡ record l.fn.response { options = l.fn.response.options ++ each_at numbers.location_path l.fn.path };
   order : last_number 0 l.response.options ≤ 8;
-  few : length l.response.options + length l.segment-iterator ≤ 17;
+  few : length l.response.options + length l.segment-iterator ≤ 18;
   short : written_length l.segment-iterator ≤ 255;
 }

@@ -19,4 +19,4 @@ returns-clause-run g c =
     let setup : Setup = setup_of c.args.config.now in
     let new = c.in-Ok.ensures.opened ∙ ap opened c.limits.ensures in
     let limits = greeted_limits setup c.in-Ok.connection c.flush.new.self new c.in-Ok-flush.ensures.after in
-    greeted setup c.args.config.now.turns c.turns.result c.in-Ok-open.host c.in-Ok.connection c.flush.new.self _ _ _ _ _ c.run.result new c.in-Ok-open.ensures limits c.turns.ensures.value c.in-Ok-flush.ensures.ok c.run.ensures.run
+    greeted setup c.args.config.now.turns c.turns.result c.in-Ok-open.host c.in-Ok.connection c.flush.new.self _ _ _ _ _ c.run.result new c.in-Ok-open.ensures.value limits c.turns.ensures.value c.in-Ok-flush.ensures.ok c.run.ensures.run

@@ -1,0 +1,6 @@
+pub mod WordLemmas
+pub mod ScriptLemmas
+pub mod ScriptLaws
+pub mod Worked
+pub mod LineLemmas
+pub mod ReplayLemmas

@@ -1,0 +1,293 @@
+-- What events come to, one by one and one after the other.
+use Rattle.std.proofs.Common.{◌≡◌, ◌≢◌, ℕ, zero, suc, ◌+◌, ◌-◌, ◌<◌, ◌≤◌, Bool, true, false, ◌&&◌, ◌==◌, nat_lt, List, [], ◌∷◌, ◌++◌, length, get_or, take, drop, map, Option, Some, None, option_map, is_some, if◌then◌else◌, refl, sym, ap, subst, ◌∙◌, append_assoc, arith, lt-ltb}
+use Rattle.std.proofs.lemmas.Bool.{le-ltb, ne_eqb}
+use Rattle.std.proofs.lemmas.List.{append-nil, take_all, take-append-drop, length-drop, length-take-le, length-map}
+use Rattle.std.proofs.Math.Seq.{take-suc, drop-cons}
+use Rattle.std.proofs.Math.ListN.{get_or-map}
+use Rattle.coap_serve.specs.script.Events.{EventValue}
+use Rattle.coap_serve.specs.script.EventViews.{event_value}
+use Rattle.coap_serve.specs.declared.event.Event.{Event}
+use Rattle.coap_serve.specs.script.Lines.{fault_line}
+use Rattle.coap_serve.specs.script.Replay.{Ran, comes_to, unless_refused, on_connection, Fed, fed_more, goes_on, fed_once, fed_turns, fed, event_ran, behind, replayed}
+use Rattle.coap_serve.specs.script.Replayed.{IsPartlyFed, IsUnrun, IsRefusedAt, IsCutAt}
+use Rattle.coap_serve.specs.streams.Device.{AddsBytes, WritesPart}
+use Rattle.coap_serve.specs.values.Sessions.{SessionValue}
+use Rattle.coap_serve.specs.values.Servers.{ServerValue, server_taken, server_taken_on, count_taken, count_on, is_there}
+use Rattle.coap_serve.specs.values.ServerAnswers.{IsNotTaken}
+use Rattle.coap_serve.specs.views.LineViews.{IsDrainable}
+use Rattle.coap_serve.specs.declared.server.TakeFault.TheVariants as taking
+use Rattle.coap_serve.specs.declared.replay.Drained.{Drained}
+use Rattle.coap_serve.proofs.streams.DeviceLemmas.{bytes_none, bytes_then}
+
+-- ---- one event
+
+-- this server and this line are what an event comes to
+abbrev pub IsWhat : Ran → ServerValue → List ℕ → Type 0
+IsWhat r after line = (after ≡ r.server) × (line ≡ r.text)
+
+pub allowed : (v : ServerValue) (word : List ℕ) (id : Option ℕ) (does : Ran) (refusal : Option ℕ) (after : ServerValue) (line : List ℕ) → refusal ≡ None → after ≡ does.server → line ≡ does.text → IsWhat (unless_refused v word id does refusal) after line
+allowed v word id does None after line none server_is line_is = (server_is, line_is)
+allowed v word id does (Some n) after line none server_is line_is = absurd cc
+
+pub denied : (v : ServerValue) (word : List ℕ) (id : Option ℕ) (does : Ran) (refusal : Option ℕ) (number : ℕ) (after : ServerValue) (line : List ℕ) → refusal ≡ Some number → after ≡ v → line ≡ fault_line word id number
+    → IsWhat (unless_refused v word id does refusal) after line
+denied v word id does None number after line some server_is line_is = absurd cc
+denied v word id does (Some n) number after line some server_is line_is =
+    let same : number ≡ n = cc in
+    (server_is, line_is ∙ ap (fault_line word id) same)
+
+pub on_it : (v : ServerValue) (word : List ℕ) (id : ℕ) (does : SessionValue → Ran) (o : Option SessionValue) (s : SessionValue) (after : ServerValue) (line : List ℕ) → o ≡ Some s → after ≡ (does s).server → line ≡ (does s).text
+    → IsWhat (on_connection v word id does o) after line
+on_it v word id does None s after line some server_is line_is = absurd cc
+on_it v word id does (Some t) s after line some server_is line_is =
+    let same : s ≡ t = cc in
+    (server_is ∙ ap (λ (k : SessionValue). (does k).server) same, line_is ∙ ap (λ (k : SessionValue). (does k).text) same)
+
+-- what it does is the same on each
+pub on_any : (v : ServerValue) (word : List ℕ) (id : ℕ) (does : Ran) (o : Option SessionValue) (after : ServerValue) (line : List ℕ) → is_there o ≡ true → after ≡ does.server → line ≡ does.text → IsWhat (on_connection v word id (λ s. does) o) after line
+on_any v word id does None after line there server_is line_is = absurd cc
+on_any v word id does (Some s) after line there server_is line_is = (server_is, line_is)
+
+pub on_none : (v : ServerValue) (word : List ℕ) (id : ℕ) (does : SessionValue → Ran) (o : Option SessionValue) (after : ServerValue) (line : List ℕ) → is_there o ≡ false → after ≡ v → line ≡ fault_line word (Some id) 1
+    → IsWhat (on_connection v word id does o) after line
+on_none v word id does None after line there server_is line_is = (server_is, line_is)
+on_none v word id does (Some s) after line there server_is line_is = absurd cc
+
+-- whether a tick is refused, by whether the moment is not before that of the server
+abbrev pub refusal_by : Bool → Option ℕ
+refusal_by b = if b then None else Some 1
+
+-- a connection is there exactly where something of it is told
+pub told_none : {A B : Type 0} (f : A → B) (o : Option A) → option_map f o ≡ None → is_there o ≡ false
+told_none f None none = refl
+told_none f (Some x) none = absurd cc
+
+pub told_some : {A B : Type 0} (f : A → B) (o : Option A) (y : B) → option_map f o ≡ Some y → is_there o ≡ true
+told_some f None y some = absurd cc
+told_some f (Some x) y some = refl
+
+pub is_told : {A B : Type 0} (f : A → B) (o : Option A) → is_some (option_map f o) ≡ is_there o
+is_told f None = refl
+is_told f (Some x) = refl
+
+-- what is told of a connection is told of the one that is there
+pub told_of : {A B : Type 0} (f : A → B) (o : Option A) (y : B) → option_map f o ≡ Some y → (x : A) × (o ≡ Some x) × (f x ≡ y)
+told_of f None y some = absurd cc
+told_of f (Some x) y some = (x, refl, cc)
+
+-- ---- `drain`
+
+-- what waits is enough
+pub enough : (id : ℕ) (most : Option ℕ) (d : Drained) (o : Option SessionValue) → IsDrainable id most (Some d) o → (s : SessionValue) × (o ≡ Some s) × IsDrainable id most (Some d) (Some s)
+enough id most d None is = absurd is
+enough id most d (Some s) is = (s, refl, is)
+
+pub none_drainable : (id : ℕ) (most : Option ℕ) (o : Option SessionValue) → IsDrainable id most None o → is_there o ≡ false
+none_drainable id most None is = refl
+none_drainable id most (Some s) is = absurd is
+
+-- ---- takes
+
+-- the bytes behind the first n
+pub rest_of : (n : ℕ) (bytes : List ℕ) → take (length bytes - n) (drop n bytes) ≡ drop n bytes
+rest_of n bytes = take_all (length bytes - n) (drop n bytes) (omega (arith, length-drop n bytes))
+
+-- some takes took bytes, and the server is now this one
+pub record Feeds (v : ServerValue) (id : ℕ) (bytes : List ℕ) (now : ServerValue) (taken : ℕ) : Type 0 where
+  pub turns : ℕ
+  pub few : turns ≤ taken
+  pub within : taken ≤ length bytes
+  pub so_far : fed_turns turns v id bytes ≡ record { server = now; count = taken; done = false }
+
+pub nothing_fed : (v : ServerValue) (id : ℕ) (bytes : List ℕ) → Feeds v id bytes v 0
+unfolding fed_turns
+nothing_fed v id bytes = record { turns = 0; few = omega arith; within = omega arith; so_far = refl }
+
+over : (id : ℕ) (bytes : List ℕ) (f : Fed) → goes_on bytes f ≡ false → fed_once id bytes f ≡ f
+over id bytes f is = ap (λ (b : Bool). if b then fed_more id (drop f.count bytes) f else f) is
+
+-- once no take follows, more turns do nothing
+stays_over : (v : ServerValue) (id : ℕ) (bytes : List ℕ) (n : ℕ) → goes_on bytes (fed_turns n v id bytes) ≡ false → (k : ℕ) → fed_turns (n + k) v id bytes ≡ fed_turns n v id bytes
+unfolding fed_turns
+stays_over v id bytes n is zero =
+    let same : n + 0 ≡ n = omega arith in
+    ap (λ (m : ℕ). fed_turns m v id bytes) same
+stays_over v id bytes n is (suc k) =
+    let same : n + suc k ≡ suc (n + k) = omega arith in
+    ap (λ (m : ℕ). fed_turns m v id bytes) same ∙ ap (fed_once id bytes) (stays_over v id bytes n is k) ∙ over id bytes (fed_turns n v id bytes) is
+
+all_turns : (v : ServerValue) (id : ℕ) (bytes : List ℕ) (n : ℕ) → goes_on bytes (fed_turns n v id bytes) ≡ false → n ≤ length bytes → fed v id bytes ≡ fed_turns n v id bytes
+all_turns v id bytes n is few =
+    let same : length bytes ≡ n + (length bytes - n) = omega arith in
+    ap (λ (m : ℕ). fed_turns m v id bytes) same ∙ stays_over v id bytes n is (length bytes - n)
+
+next_turn : (v : ServerValue) (id : ℕ) (bytes : List ℕ) (n : ℕ) → fed_turns (n + 1) v id bytes ≡ fed_once id bytes (fed_turns n v id bytes)
+unfolding fed_turns
+next_turn v id bytes n =
+    let same : n + 1 ≡ suc n = omega arith in
+    ap (λ (m : ℕ). fed_turns m v id bytes) same
+
+going_on : (bytes : List ℕ) (now : ServerValue) (taken : ℕ) → taken < length bytes → goes_on bytes (record { server = now; count = taken; done = false }) ≡ true
+going_on bytes now taken left = ap (λ (b : Bool). b && true) (lt-ltb taken (length bytes) left)
+
+plus_zero : (n : ℕ) → n + 0 ≡ n
+plus_zero n = omega arith
+
+never : (b : Bool) → (b && false) ≡ false
+never true = refl
+never false = refl
+
+module _ (v : ServerValue) (id : ℕ) (bytes : List ℕ) (now : ServerValue) (taken : ℕ) (feeds : Feeds v id bytes now taken) (left : taken < length bytes) where
+  one_more : fed_turns (feeds.turns + 1) v id bytes ≡ record { server = server_taken now id (drop taken bytes); count = taken + count_taken now id (drop taken bytes); done = count_taken now id (drop taken bytes) == 0 }
+  one_more =
+      let here : Fed = record { server = now; count = taken; done = false } in
+      next_turn v id bytes feeds.turns
+      ∙ ap (fed_once id bytes) feeds.so_far
+      ∙ ap (λ (b : Bool). if b then fed_more id (drop taken bytes) here else here) (going_on bytes now taken left)
+
+  -- a take took some bytes
+  pub further : (k : ℕ) (after : ServerValue) → k ≤ length (drop taken bytes) → k ≡ count_taken now id (drop taken bytes) → k ≢ 0 → after ≡ server_taken now id (drop taken bytes) → Feeds v id bytes after (taken + k)
+  further k after within counted some is = record {
+    turns = feeds.turns + 1;
+    few = let few = feeds.few in omega (arith, few, some);
+    within = omega (arith, within, left, length-drop taken bytes);
+    so_far =
+        one_more
+        ∙ ap (λ (n : ℕ). record { server = server_taken now id (drop taken bytes); count = taken + n; done = n == 0 }) (sym counted)
+        ∙ ap (λ (w : ServerValue). record { server = w; count = taken + k; done = k == 0 }) (sym is)
+        ∙ ap (λ (b : Bool). record { server = after; count = taken + k; done = b }) (ne_eqb k 0 some);
+  }
+
+  -- a take took none
+  pub stopped : (after : ServerValue) → count_taken now id (drop taken bytes) ≡ 0 → after ≡ server_taken now id (drop taken bytes) → fed v id bytes ≡ record { server = after; count = taken; done = true }
+  stopped after none is =
+      let last : fed_turns (feeds.turns + 1) v id bytes ≡ record { server = after; count = taken; done = true } =
+      one_more
+      ∙ ap (λ (n : ℕ). record { server = server_taken now id (drop taken bytes); count = taken + n; done = n == 0 }) none
+      ∙ ap (λ (n : ℕ). record { server = server_taken now id (drop taken bytes); count = n; done = true }) (plus_zero taken)
+      ∙ ap (λ (w : ServerValue). record { server = w; count = taken; done = true }) (sym is) in
+      all_turns v id bytes (feeds.turns + 1) (ap (goes_on bytes) last ∙ never (nat_lt taken (length bytes))) (let few = feeds.few in omega (arith, few, left)) ∙ last
+
+  -- memory was refused
+  pub short : (count : ℕ) (after : ServerValue) → IsNotTaken now id (drop taken bytes) (taking.Memory count) after → IsPartlyFed v id bytes after
+  short count after refused = record {
+    turns = feeds.turns;
+    count = count;
+    going = ap (goes_on bytes) feeds.so_far ∙ going_on bytes now taken left;
+    refused = subst (λ (f : Fed). IsNotTaken f.server id (drop f.count bytes) (taking.Memory count) after) (sym feeds.so_far) refused;
+  }
+
+-- the bytes are used up
+pub used_up : (v : ServerValue) (id : ℕ) (bytes : List ℕ) (now : ServerValue) (taken : ℕ) → Feeds v id bytes now taken → length bytes ≤ taken → fed v id bytes ≡ record { server = now; count = taken; done = false }
+used_up v id bytes now taken feeds none =
+    let over_now : nat_lt taken (length bytes) ≡ false = le-ltb taken (length bytes) none in
+    let few = feeds.few in
+    let within = feeds.within in
+    all_turns v id bytes feeds.turns (ap (goes_on bytes) feeds.so_far ∙ ap (λ (b : Bool). b && true) over_now) (omega (arith, few, within)) ∙ feeds.so_far
+
+-- no connection has the number: nothing is taken, and nothing changes
+pub none_there : (now : ServerValue) (id : ℕ) (piece : List ℕ) (after : ServerValue) → IsNotTaken now id piece taking.NoSuch after → (count_taken now id piece ≡ 0) × (after ≡ server_taken now id piece)
+unfolding server_taken count_taken
+none_there now id piece after none = (ap (count_on now piece) none.0, none.1 ∙ sym (ap (server_taken_on now id piece) none.0))
+
+-- ---- one event after the other
+
+-- what stands behind two texts
+behind_both : (s t : List ℕ) (r : Ran) → behind s (behind t r) ≡ behind (s ++ t) r
+behind_both s t r = ap (comes_to r.server) (sym (append_assoc s t r.text))
+
+-- events behind others are replayed on the server after these
+pub replayed_on : (v : ServerValue) (es fs : List EventValue) → replayed v (es ++ fs) ≡ behind (replayed v es).text (replayed (replayed v es).server fs)
+unfolding replayed
+replayed_on v [] fs = refl
+replayed_on v (e ∷ es) fs =
+    ap (behind (event_ran v e).text) (replayed_on (event_ran v e).server es fs)
+    ∙ behind_both (event_ran v e).text (replayed (event_ran v e).server es).text (replayed (replayed (event_ran v e).server es).server fs)
+
+replayed_one : (v : ServerValue) (e : EventValue) → replayed v (e ∷ []) ≡ event_ran v e
+unfolding replayed
+replayed_one v e = ap (comes_to (event_ran v e).server) (append-nil (event_ran v e).text)
+
+replayed_more : (v : ServerValue) (es : List EventValue) (e : EventValue) → replayed v (es ++ e ∷ []) ≡ behind (replayed v es).text (event_ran (replayed v es).server e)
+replayed_more v es e = replayed_on v es (e ∷ []) ∙ ap (behind (replayed v es).text) (replayed_one (replayed v es).server e)
+
+-- the first events were run, and their lines written
+pub record Replays (v : ServerValue) (all : List EventValue) (index : ℕ) (now : ServerValue) (x y : Option (List ℕ)) : Type 0 where
+  pub server_is : now ≡ (replayed v (take index all)).server
+  pub written : AddsBytes x y (replayed v (take index all)).text
+
+pub none_replayed : (v : ServerValue) (all : List EventValue) (x : Option (List ℕ)) → Replays v all 0 v x x
+unfolding replayed
+none_replayed v all x = record { server_is = refl; written = bytes_none x }
+
+-- an event among others
+pub record Stands (all : List EventValue) (index : ℕ) (e : EventValue) : Type 0 where
+  pub within : index < length all
+  pub all_is : all ≡ take index all ++ e ∷ drop (index + 1) all
+  pub more : take (index + 1) all ≡ take index all ++ e ∷ []
+
+pub stands : (events : List Event) (index : ℕ) (x : Event) → index < length events → x ≡ get_or events index x → Stands (map event_value events) index (event_value x)
+stands events index x lt is =
+    let all : List EventValue = map event_value events in
+    let within : index < length all = omega (arith, lt, length-map events event_value) in
+    let found : get_or all index (event_value x) ≡ event_value x = get_or-map event_value events index x ∙ ap event_value (sym is) in
+    let next : index + 1 ≡ suc index = omega arith in
+    record {
+      within = within;
+      all_is =
+          sym (take-append-drop index all)
+          ∙ ap (λ (es : List EventValue). take index all ++ es) (drop-cons all index (event_value x) within)
+          ∙ ap (λ (e : EventValue). take index all ++ e ∷ drop (suc index) all) found
+          ∙ ap (λ (n : ℕ). take index all ++ event_value x ∷ drop n all) (sym next);
+      more =
+          ap (λ (n : ℕ). take n all) next
+          ∙ take-suc all index (event_value x) within
+          ∙ ap (λ (e : EventValue). take index all ++ e ∷ []) found;
+    }
+
+module _ (v : ServerValue) (all : List EventValue) (index : ℕ) (now : ServerValue) (x y : Option (List ℕ)) (so_far : Replays v all index now x y) (e : EventValue) (stands : Stands all index e) where
+  -- memory was refused for the event
+  pub refused_at : (number : ℕ) (after : ServerValue) → number ≡ index + 1 → IsUnrun now e after → IsRefusedAt v all number after (AddsBytes x y)
+  refused_at number after counted unrun = record {
+    before = take index all;
+    event = e;
+    others = drop (index + 1) all;
+    all = stands.all_is;
+    counted = counted ∙ ap (λ (n : ℕ). n + 1) (sym (length-take-le index all (let within = stands.within in omega (arith, within))));
+    written = so_far.written;
+    unrun = subst (λ (w : ServerValue). IsUnrun w e after) so_far.server_is unrun;
+  }
+
+  -- the event was run, and its line not written whole
+  pub cut_at : (after : ServerValue) (line : List ℕ) (z : Option (List ℕ)) → IsWhat (event_ran now e) after line → WritesPart y z line → IsCutAt v all after (AddsBytes x z)
+  cut_at after line z ran wrote = record {
+    before = take index all;
+    event = e;
+    others = drop (index + 1) all;
+    all = stands.all_is;
+    ran = ran.0 ∙ ap (λ (w : ServerValue). (event_ran w e).server) so_far.server_is;
+    part = wrote.0;
+    missing = wrote.1;
+    some = wrote.2;
+    cut = ap (λ (w : ServerValue). (event_ran w e).text) (sym so_far.server_is) ∙ sym ran.1 ∙ wrote.3;
+    written = bytes_then x y z (replayed v (take index all)).text wrote.0 so_far.written wrote.4;
+  }
+
+  -- the event was run, and its line written
+  pub one_replayed : (after : ServerValue) (line : List ℕ) (z : Option (List ℕ)) → IsWhat (event_ran now e) after line → AddsBytes y z line → Replays v all (index + 1) after x z
+  one_replayed after line z ran wrote =
+      let next : replayed v (take (index + 1) all) ≡ behind (replayed v (take index all)).text (event_ran now e) = ap (replayed v) stands.more
+      ∙ replayed_more v (take index all) e
+      ∙ ap (λ (w : ServerValue). behind (replayed v (take index all)).text (event_ran w e)) (sym so_far.server_is) in
+      record {
+        server_is = ran.0 ∙ ap (λ (r : Ran). r.server) (sym next);
+        written =
+            subst (AddsBytes x z) (ap (λ (t : List ℕ). (replayed v (take index all)).text ++ t) ran.1 ∙ ap (λ (r : Ran). r.text) (sym next))
+            (bytes_then x y z (replayed v (take index all)).text line so_far.written wrote);
+      }
+
+-- all events were run
+pub all_replayed : (v : ServerValue) (all : List EventValue) (index : ℕ) (now : ServerValue) (x y : Option (List ℕ)) → Replays v all index now x y → length all ≤ index → (now ≡ (replayed v all).server) × AddsBytes x y (replayed v all).text
+all_replayed v all index now x y so_far none =
+    let whole = take_all index all none in
+    (so_far.server_is ∙ ap (λ (es : List EventValue). (replayed v es).server) whole, subst (λ (es : List EventValue). AddsBytes x y (replayed v es).text) whole so_far.written)

@@ -1,0 +1,19 @@
+use Rattle.std.proofs.Common.{◌≡◌, Option, subst, sym, ap, ◌∙◌, map, rules, tests}
+use Rattle.std.specs.Prelude.{nat_lt, IfOk, option_map}
+use Rattle.std.proofs.lemmas.Iterator.{YieldsList-from_slice}
+use Rattle.std.proofs.lemmas.Iterator.Search.{all_from_yields_List}
+use Rattle.coap_serve.specs.script.Events.{EventValue, event_of}
+use Rattle.coap_serve.specs.script.EventViews.{event_value}
+use Rattle.coap_serve.proofs.scripting.ScriptLemmas.{event_of_words, no_event_of_many}
+use Rattle.coap_serve.proofs.scripts.events.event_in.Goals as goal
+
+pub returns-in_default : goal.returns-in_default
+returns-in_default c =
+    let all = all_from_yields_List (λ b. nat_lt b 128) _ _ c.all.result c.all.ensures.ran (YieldsList-from_slice c.args.line.now cc) (λ x b q k. search (rules, tests)) in
+    no_event_of_many c.args.line.now (sym all ∙ c.if-not-all.false) c.in_default.ensures.many
+
+pub returns : goal.returns
+returns c =
+    let all = all_from_yields_List (λ b. nat_lt b 128) _ _ c.all.result c.all.ensures.ran (YieldsList-from_slice c.args.line.now cc) (λ x b q k. search (rules, tests)) in
+    let words = ap (map (λ w. w.now)) c.as_slice.ensures.value ∙ c.in-Some.ensures.few in
+    subst (λ (event : Option EventValue). IfOk c.event_of.result (λ found. option_map event_value found ≡ event)) (ap event_of words ∙ event_of_words c.args.line.now (sym all ∙ c.if-not-all.false)) c.event_of.ensures

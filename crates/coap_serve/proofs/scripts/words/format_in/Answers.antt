@@ -1,0 +1,20 @@
+use Rattle.std.proofs.Common.{sym, ◌∙◌, rules}
+use Rattle.coap_serve.specs.script.Words.{format_value}
+use Rattle.coap_serve.proofs.scripting.WordLemmas.{no_format, great_format, small_format}
+use Rattle.coap_serve.proofs.scripts.words.format_in.Goals as goal
+
+pub returns-then-is_hyphen : goal.returns-then-is_hyphen
+unfolding format_value
+returns-then-is_hyphen c = search rules
+
+pub returns-in_err-number : goal.returns-in_err-number
+returns-in_err-number c = rw c.from_residual.ensures (no_format c.args.word.now (sym c.if-is_hyphen.ensures) (sym c.number_in.ensures ∙ c.in_err-number.was))
+
+pub returns-in_err-format : goal.returns-in_err-format
+returns-in_err-format c =
+    rw c.from_residual-in_err-format.ensures
+    (great_format c.args.word.now c.in_ok-number.number c.try_from.result (sym c.if-is_hyphen.ensures) (sym c.number_in.ensures ∙ c.in_ok-number.was) c.try_from.ensures (sym c.ok.ensures.value ∙ c.in_err-format.was))
+
+pub returns : goal.returns
+returns c =
+    small_format c.args.word.now c.in_ok-number.number c.in_ok-format.format c.try_from.result (sym c.if-is_hyphen.ensures) (sym c.number_in.ensures ∙ c.in_ok-number.was) c.try_from.ensures (sym c.ok.ensures.value ∙ c.in_ok-format.was)

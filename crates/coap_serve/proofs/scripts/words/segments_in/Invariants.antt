@@ -1,0 +1,13 @@
+use Rattle.std.proofs.Common.{◌≡◌, ◌++◌, length, map}
+use Rattle.std.specs.Cow.{cow_slice_items}
+use Rattle.percent_encoding.specs.Percent.{percent_decode}
+use Rattle.coap_serve.specs.script.Words.{parts, slash, segments_of}
+use Rattle.coap_serve.proofs.scripts.words.segments_in.Given as goal
+
+-- the segments so far, and then those of what is left
+abbrev pub invariant-loop-segment : goal.invariant-loop-segment
+invariant-loop-segment l =
+    map cow_slice_items l.segments.items ++ map percent_decode (parts slash l.left) ≡ segments_of l.text
+
+abbrev pub decreases-loop-segment : goal.decreases-loop-segment
+decreases-loop-segment l = length l.left

@@ -1,0 +1,54 @@
+use Rattle.std.proofs.Common.{◌≡◌, sym, ap, subst, ◌∙◌, take}
+use Rattle.coap_conn.specs.Phases.{stop_of}
+use Rattle.coap_serve.specs.values.Sessions.{session_takes}
+use Rattle.coap_serve.specs.values.Servers.{ServerValue, session_of, count_taken, server_taken}
+use Rattle.coap_serve.specs.values.ServerAnswers.{handled_by, RefusesPieceOn}
+use Rattle.coap_serve.specs.views.ServerViews.{server_value}
+use Rattle.coap_serve.proofs.values.TakenLemmas.{count_is, taken_value, taken_server, taken_lies, taken_handled, refuses_on, refused_value, refused_server}
+use Rattle.coap_serve.proofs.server.Server.feed.Goals as goal
+
+pub invariant_of-self : goal.invariant_of-self
+invariant_of-self c =
+    let e = c.in-Err.ensures in
+    refused_server (server_value c.self.inside) c.args.id c.in-Some.at _ c.args.piece.now _ c.self.invariant c.in-Some.ensures.some c.index_mut.ensures.value e.refused _ _ e.kept e.unchanged
+
+pub returns-in-Err-clause-refused : goal.returns-in-Err-clause-refused
+returns-in-Err-clause-refused c =
+    let e = c.in-Err.ensures in
+    let v : ServerValue = server_value c.self.inside in (
+      subst (λ (w : ServerValue). RefusesPieceOn w c.args.piece.now c.in-Err.bytes (session_of c.args.id w.sessions)) c.self.view_is
+          (refuses_on v c.args.id c.in-Some.at _ c.args.piece.now _ c.self.invariant c.in-Some.ensures.some c.index_mut.ensures.value e.refused),
+      refused_value v c.args.id c.in-Some.at _ c.args.piece.now _ c.self.invariant c.in-Some.ensures.some c.index_mut.ensures.value e.refused _ _ e.kept e.unchanged
+          ∙ ap (λ w. server_taken w c.args.id (take c.in-Err.bytes c.args.piece.now)) c.self.view_is,
+    )
+
+pub index-requires-in-Ok : goal.index-requires-in-Ok
+index-requires-in-Ok c =
+    let e = c.in-Ok.ensures in
+    (taken_lies (server_value c.self.inside) c.args.id c.in-Some.at _ c.args.piece.now c.self.invariant c.in-Some.ensures.some c.index_mut.ensures.value _ _ _ _ e.after e.host e.changed c.settle_where.ensures).within
+
+pub invariant_of-self-in-Ok : goal.invariant_of-self-in-Ok
+invariant_of-self-in-Ok c =
+    let e = c.in-Ok.ensures in
+    taken_server (server_value c.self.inside) c.args.id c.in-Some.at _ c.args.piece.now c.self.invariant c.in-Some.ensures.some c.index_mut.ensures.value _ _ _ _ e.after e.host e.changed c.settle_where.ensures
+
+pub returns-in-Ok-clause-count : goal.returns-in-Ok-clause-count
+returns-in-Ok-clause-count c =
+    c.in-Ok.ensures.count
+    ∙ sym (count_is (server_value c.self.inside) c.args.id c.in-Some.at _ c.args.piece.now c.self.invariant c.in-Some.ensures.some c.index_mut.ensures.value)
+    ∙ ap (λ w. count_taken w c.args.id c.args.piece.now) c.self.view_is
+
+pub returns-in-Ok-clause-handled : goal.returns-in-Ok-clause-handled
+returns-in-Ok-clause-handled c =
+    let e = c.in-Ok.ensures in
+    let same : c.index.result.now ≡ c.index_mut.result.now = (let some = sym c.index.ensures ∙ c.index_mut.ensures.value in cc) in
+    c.what_was_handled.ensures
+    ∙ taken_handled (server_value c.self.inside) c.args.id c.in-Some.at _ c.args.piece.now c.self.invariant c.in-Some.ensures.some c.index_mut.ensures.value _ _ _ _ e.after e.host e.changed c.settle_where.ensures
+    _ _ _ _ (c.takes-takes.ensures ∙ ap session_takes same) e.handled c.index-in-Ok.ensures (c.stop-stop.ensures ∙ ap stop_of c.phase.ensures)
+    ∙ ap (λ w. handled_by w c.args.id c.args.piece.now) c.self.view_is
+
+pub returns-in-Ok-clause-ok : goal.returns-in-Ok-clause-ok
+returns-in-Ok-clause-ok c =
+    let e = c.in-Ok.ensures in
+    taken_value (server_value c.self.inside) c.args.id c.in-Some.at _ c.args.piece.now c.self.invariant c.in-Some.ensures.some c.index_mut.ensures.value _ _ _ _ e.after e.host e.changed c.settle_where.ensures
+    ∙ ap (λ w. server_taken w c.args.id c.args.piece.now) c.self.view_is

@@ -1,0 +1,16 @@
+use Rattle.std.proofs.Common.{length, ap, arith}
+use Rattle.coap_serve.proofs.values.ServerLemmas.{none_settled, length-settled_up_to, one_more_settled, all_settled}
+use Rattle.coap_serve.proofs.server.settle_all.Goals as goal
+
+pub loop-at-init : goal.loop-at-init
+loop-at-init c = none_settled c.args.host.now c.args.sessions.now.entries
+
+pub index_mut-requires : goal.index_mut-requires
+index_mut-requires c =
+    omega (arith, ap length c.loop-at.invariant, length-settled_up_to c.loop-at.at c.args.host.now c.args.sessions.now.entries, c.len-at-end.ensures.len)
+
+pub loop-at-preserved : goal.loop-at-preserved
+loop-at-preserved c = one_more_settled c.loop-at.at c.args.host.now c.args.sessions.now.entries _ _ _ c.loop-at.invariant c.index_mut.ensures.value c.settle.ensures.after
+
+pub returns : goal.returns
+returns c = all_settled c.loop-at.at c.args.host.now c.args.sessions.now.entries _ c.loop-at.invariant (omega (arith, c.len-at-end.ensures.len))

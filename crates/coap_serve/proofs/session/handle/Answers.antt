@@ -1,0 +1,33 @@
+use Rattle.std.proofs.Common.{[], refl, sym, ap, ◌∙◌}
+use Rattle.coap_conn.specs.Verdicts.{is_request}
+use Rattle.coap_conn.specs.LinkValue.{LinkValue}
+use Rattle.coap_store.specs.Changes.{changes}
+use Rattle.coap_serve.specs.values.Sessions.{SessionValue, host_changed}
+use Rattle.coap_serve.proofs.values.TalkLemmas.{message_limits}
+use Rattle.coap_serve.proofs.values.SessionLemmas.{on_request, no_request, message_handled, nothing_changes}
+use Rattle.coap_serve.proofs.session.handle.Goals as goal
+
+pub returns-in-Request-clause-after : goal.returns-in-Request-clause-after
+returns-in-Request-clause-after c =
+    let v : SessionValue = record { frame = []; link = c.args.link.now; observers = c.args.observers.now.entries } in
+    on_request c.answer.result c.args.host.now v c.args.message.now c.on.new.self c.answer.new.link c.args.observers.now c.answer.new.observers
+    (ap is_request (sym c.in-Request.ensures.verdict)) c.in-Request.ensures.after c.requires.room refl c.answer.ensures.link c.answer.ensures.entries
+
+pub returns-in_default : goal.returns-in_default
+returns-in_default c =
+    let host = c.args.host.now in
+    let link = c.args.link.now in
+    let m = c.args.message.now in
+    let other = ap is_request (sym c.on.ensures.verdict) ∙ no_request c.on.result c.in_default.not-Request in
+    let same = nothing_changes host link m other in
+    record {
+      after = λ frame. message_handled host (record { frame = frame; link = link; observers = c.args.observers.now.entries }) m c.on.new.self other c.on.ensures.after;
+      room = refl;
+      limits = ap (λ (l : LinkValue). l.limits) c.on.ensures.after ∙ message_limits link m;
+      changed = ap changes (sym same);
+      host = ap (host_changed host) (sym same);
+      put = tt;
+      unchanged = tt;
+      silent = tt;
+      kept = tt;
+    }

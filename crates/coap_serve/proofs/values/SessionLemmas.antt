@@ -1,0 +1,251 @@
+-- What holds of a session as the code holds it, and what its calls do.
+use Rattle.std.proofs.Common.{◌≡◌, ℕ, zero, suc, ◌-◌, ◌<◌, ◌≤◌, Bool, true, false, List, [], ◌∷◌, ◌++◌, length, take, Option, Some, None, Result, Ok, Err, refl, sym, ap, subst, ◌∙◌, arith, inl, inr}
+use Rattle.std.specs.Prelude.{◌⊎◌, find, slice_get, nat_le, is_some, OnOk, IsTrue, if◌then◌else◌}
+use Rattle.std.proofs.lemmas.Bool.{le-leb, leb-true, cond-true, cond-false}
+use Rattle.std.proofs.lemmas.List.{length-take-le, take-take}
+use Rattle.coap_wire.specs.Message.{Message}
+use Rattle.coap_wire.specs.Reading.{message_of}
+use Rattle.coap_wire.specs.Beginning.{Beginning, Unfinished, Whole, Faulty, beginning}
+use Rattle.coap_frame.specs.Framing.{FramerValue, IsFramer, Framing, Nothing, AFrame, MayUnread, framing_at, framing, framing_of, framer_after, without_last}
+use Rattle.coap_frame.specs.Given.{taken_of, unread_after}
+use Rattle.coap_frame.proofs.FramingLemmas.{empty_framer, framing_is_framer}
+use Rattle.coap_frame.proofs.GivenLaws.{taken_within, unread_allowed, unread_one_less, unread_nothing}
+use Rattle.coap_conn.specs.declared.phase.Verdict.{Verdict}
+use Rattle.coap_conn.specs.declared.phase.Verdict.TheVariants as told
+use Rattle.coap_conn.specs.Limits.{LimitValues, AreInRange}
+use Rattle.coap_conn.specs.LinkViews.{verdict_value}
+use Rattle.coap_conn.specs.LinkValue.{LinkValue, IsReady, free_in, standing_in, link_with, link_after_message, link_after_reply, link_after_end, link_after_release}
+use Rattle.coap_conn.specs.declared.reason.Reason.TheVariants.{ReleasedHere}
+use Rattle.coap_conn.specs.History.{end_reason, release}
+use Rattle.coap_conn.specs.Reaction.{stop}
+use Rattle.coap_conn.specs.Phases.{is_open, takes_messages}
+use Rattle.coap_conn.specs.Verdicts.{is_request}
+use Rattle.coap_store.specs.Answer as answer
+use Rattle.coap_store.specs.Changes.{IsPut}
+use Rattle.coap_serve.specs.declared.host.Host.{Host}
+use Rattle.coap_serve.specs.declared.session.Session.TheInside.{Inside}
+use Rattle.coap_serve.specs.values.Sessions.{ObserverValue, ObserversValue, SessionValue, is_stale, session_ready, session_takes, session_max, observers_on, frame_on, session_with, without_entry, session_answered, answer_on, asks_this, session_handled, change_by, Taking, taking_read, taking_found, taking, RefusesPiece, notification_on, session_notified, next_stale, session_settled_once}
+use Rattle.coap_serve.specs.values.Entries.{first_index, response_on, entries_asked, entries_notified, framer_on}
+use Rattle.coap_serve.specs.views.SessionViews.{IsSession, session_value}
+use Rattle.coap_serve.proofs.values.AdvanceLemmas.{ends_in}
+use Rattle.coap_serve.proofs.values.TalkLemmas.{message_limits, reply_limits}
+use Rattle.coap_serve.proofs.values.EntryLemmas.{is_first}
+
+-- ---- what a stop gives up
+
+framer_stays : (l : LinkValue) (f : FramerValue) → IsFramer f → IsFramer (framer_on l f)
+framer_stays l f is = elim (takes_messages l.phase) as (λ b. IsFramer (if b then f else record f { kept = []; spent = [] })) [ true ↦ is | false ↦ empty_framer f.max [] is.low is.high refl ]
+
+max_stays : (l : LinkValue) (f : FramerValue) → (framer_on l f).max ≡ f.max
+max_stays l f = elim (takes_messages l.phase) as (λ b. (if b then f else record f { kept = []; spent = [] }).max ≡ f.max) [ true ↦ refl | false ↦ refl ]
+
+open_or_none : (l : LinkValue) (os : List ObserverValue) → (is_open l.phase ≡ true) ⊎ (observers_on l os ≡ [])
+open_or_none l os = elim (is_open l.phase) as (λ b. (b ≡ true) ⊎ ((if b then os else []) ≡ [])) [ true ↦ inl refl | false ↦ inr refl ]
+
+-- a session whose fields were changed, and which then gave up what a stop gives up
+pub given_up : (s : Inside) (l : LinkValue) (f g : FramerValue) (o p : ObserversValue) → IsSession s → l.limits ≡ s.link.limits → f.max ≡ s.framer.max → IsFramer f → o.room ≡ s.observers.room → g ≡ framer_on l f → p ≡ record o { entries = observers_on l o.entries }
+    → IsSession (record { framer = g; link = l; observers = p })
+given_up s l f g o p is limits max framer room g_is p_is =
+    record {
+      ranges = subst AreInRange (sym limits) is.ranges;
+      greatest = ap (λ (k : FramerValue). k.max) g_is ∙ max_stays l f ∙ max ∙ is.greatest ∙ ap (λ (k : LimitValues). k.max_message) (sym limits);
+      framer = subst IsFramer (sym g_is) (framer_stays l f framer);
+      room = ap (λ (k : ObserversValue). k.room) p_is ∙ room ∙ is.room ∙ ap (λ (k : LimitValues). k.observers) (sym limits);
+      open_only = subst (λ (k : ObserversValue). (is_open l.phase ≡ true) ⊎ (k.entries ≡ [])) (sym p_is) (open_or_none l o.entries);
+    }
+
+pub end_limits : (l : LinkValue) (cut : Bool) → (link_after_end l cut).limits ≡ l.limits
+end_limits l cut = elim (takes_messages l.phase) as (λ b. (if b then link_with l (stop (standing_in l) (end_reason cut) []) else l).limits ≡ l.limits) [ true ↦ refl | false ↦ refl ]
+
+pub release_limits : (l : LinkValue) → (link_after_release l).limits ≡ l.limits
+release_limits l = elim (is_open l.phase) as (λ b. (if b then link_with l (stop (standing_in l) ReleasedHere (release ∷ [])) else l).limits ≡ l.limits) [ true ↦ refl | false ↦ refl ]
+
+-- ---- a message
+
+on_both : {T E : Type 0} {A B C : Type 0} (r : Result T E) → (A → B → C) → OnOk r A → OnOk r B → OnOk r C
+on_both (Ok x) both a b = both a b
+on_both (Err e) both a b = tt
+
+-- a request was answered, by the parts of the answer
+request_handled : (host : Host) (v : SessionValue) (m : Message) (l after : LinkValue) (room : ℕ) (o p : ObserversValue) → asks_this v.link m ≡ true → l ≡ link_after_message v.link m → room ≡ v.link.limits.observers
+    → after ≡ link_after_reply l (response_on host room (without_entry m.token v.observers) m) → p ≡ record o { entries = entries_asked host l room (without_entry m.token v.observers) m } → session_with [] after p.entries ≡ session_handled host v m
+unfolding session_handled
+request_handled host v m l after room o p asks is room_is after_is p_is =
+    let others : List ObserverValue = without_entry m.token v.observers in
+    let first : LinkValue = link_after_message v.link m in
+    let rooms : room ≡ first.limits.observers = room_is ∙ ap (λ (k : LimitValues). k.observers) (sym (message_limits v.link m)) in
+    ap (λ (k : LinkValue). session_with [] k p.entries) after_is
+    ∙ ap (λ (k : ObserversValue). session_with [] (link_after_reply l (response_on host room others m)) k.entries) p_is
+    ∙ ap (λ (k : LinkValue). session_with [] (link_after_reply k (response_on host room others m)) (entries_asked host k room others m)) is
+    ∙ ap (λ (n : ℕ). session_with [] (link_after_reply first (response_on host n others m)) (entries_asked host first n others m)) rooms
+    ∙ sym (cond-true (asks_this v.link m) (session_answered host first others m (answer_on host m)) (session_with [] first v.observers) asks)
+
+pub on_request : {E : Type 0} (r : Result Bool E) (host : Host) (v : SessionValue) (m : Message) (l after : LinkValue) (o p : ObserversValue) → asks_this v.link m ≡ true → l ≡ link_after_message v.link m → o.room ≡ v.link.limits.observers → o.entries ≡ v.observers
+    → OnOk r (after ≡ link_after_reply l (response_on host o.room (without_entry m.token o.entries) m)) → OnOk r (p ≡ record o { entries = entries_asked host l o.room (without_entry m.token o.entries) m })
+    → OnOk r ((frame : List ℕ) → session_with [] after p.entries ≡ session_handled host (record v { frame = frame }) m)
+on_request r host v m l after o p asks is room entries =
+    on_both r (λ link_is p_is frame. request_handled host (record v { frame = frame; observers = o.entries }) m l after o.room o p asks is room link_is p_is ∙ ap (λ (os : List ObserverValue). session_handled host (record v { frame = frame; observers = os }) m) entries)
+
+-- what is no request
+pub no_request : (what : Verdict) → (what ≡ told.Request → ⊥) → is_request (verdict_value what) ≡ false
+no_request told.Opened other = refl
+no_request told.Done other = refl
+no_request told.Request other = absurd (other refl)
+no_request (told.Answer token last) other = refl
+no_request (told.Pong token custody) other = refl
+no_request told.Stranger other = refl
+no_request (told.Stopped why) other = refl
+
+pub message_handled : (host : Host) (v : SessionValue) (m : Message) (l : LinkValue) → asks_this v.link m ≡ false → l ≡ link_after_message v.link m → session_with [] l v.observers ≡ session_handled host v m
+unfolding session_handled
+message_handled host v m l other is =
+    ap (λ (k : LinkValue). session_with [] k v.observers) is
+    ∙ sym (cond-false (asks_this v.link m) (session_answered host (link_after_message v.link m) (without_entry m.token v.observers) m (answer_on host m)) (session_with [] (link_after_message v.link m) v.observers) other)
+
+pub nothing_changes : (host : Host) (l : LinkValue) (m : Message) → asks_this l m ≡ false → change_by host l m ≡ answer.Nothing
+nothing_changes host l m other = cond-false (asks_this l m) (answer_on host m).change answer.Nothing other
+
+-- ---- a piece
+
+-- a frame takes a byte of its piece
+frame_takes : (max : ℕ) (kept piece frame : List ℕ) (b : Beginning) → beginning max kept ≡ Unfinished → beginning max (kept ++ piece) ≡ b → (framing_at kept piece b).finding ≡ AFrame frame → 1 ≤ (framing_at kept piece b).taken
+frame_takes max kept piece frame Unfinished u e found = absurd cc
+frame_takes max kept piece frame (Whole whole rest) u e found = (ends_in max kept piece whole rest u e).some
+frame_takes max kept piece frame (Faulty fault) u e found = absurd cc
+
+taking_open : (host : Host) (v : SessionValue) (piece : List ℕ) → session_takes v ≡ true → taking host v piece ≡ taking_found host v (framing (session_max v) v.frame piece) (framing (session_max v) v.frame piece).finding
+unfolding taking
+taking_open host v piece takes = cond-true (session_takes v) _ _ takes
+
+taking_message : (host : Host) (v : SessionValue) (piece frame : List ℕ) (m : Message) → session_takes v ≡ true → (framing (session_max v) v.frame piece).finding ≡ AFrame frame → message_of frame ≡ Ok m
+    → taking host v piece ≡ record { count = (framing (session_max v) v.frame piece).taken; handled = true; session = session_handled host v m; change = change_by host v.link m }
+taking_message host v piece frame m takes found read =
+    let f : Framing = framing (session_max v) v.frame piece in
+    taking_open host v piece takes
+    ∙ ap (taking_found host v f) found
+    ∙ ap (taking_read host v f.taken) read
+
+taking_nothing : (host : Host) (v : SessionValue) (piece : List ℕ) → session_takes v ≡ true → (framing (session_max v) v.frame piece).finding ≡ Nothing → (taking host v piece).session ≡ record v { frame = (framing (session_max v) v.frame piece).kept }
+taking_nothing host v piece takes found =
+    let f : Framing = framing (session_max v) v.frame piece in
+    ap (λ (t : Taking). t.session) (taking_open host v piece takes ∙ ap (taking_found host v f) found)
+
+-- a piece in which a frame was found
+module _ (s : Inside) (is : IsSession s) (piece frame : List ℕ) (found : (framing_of s.framer piece).finding ≡ AFrame frame) where
+  abbrev count : ℕ
+  count = (framing_of s.framer piece).taken
+
+  -- all that was taken but the last byte
+  abbrev cut : List ℕ
+  cut = without_last (taken_of s.framer piece)
+
+  pub some_taken : 1 ≤ count
+  unfolding framing
+  some_taken = frame_takes s.framer.max s.framer.kept piece frame (beginning s.framer.max (s.framer.kept ++ piece)) is.framer.unfinished refl found
+
+  cut_is : cut ≡ take (count - 1) piece
+  cut_is =
+      let within : count ≤ length piece = taken_within s.framer.max s.framer.kept piece is.framer.unfinished in
+      ap (λ (n : ℕ). take (n - 1) (take count piece)) (length-take-le count piece within)
+      ∙ take-take (count - 1) count piece (omega arith)
+
+  pub may_unread : MayUnread (framer_after s.framer piece) (taken_of s.framer piece)
+  may_unread = unread_allowed s.framer piece frame is.framer found
+
+  pub unread_framer : IsFramer (unread_after s.framer piece)
+  unread_framer = subst IsFramer (sym (unread_one_less s.framer piece frame is.framer found)) (framing_is_framer s.framer cut is.framer)
+
+  same_framing : (bytes : List ℕ) → framing_of s.framer bytes ≡ framing (session_max (session_value s)) s.framer.kept bytes
+  same_framing bytes = ap (λ (n : ℕ). framing n s.framer.kept bytes) is.greatest
+
+  pub refused : (host : Host) (m : Message) → session_takes (session_value s) ≡ true → message_of frame ≡ Ok m → IsPut (change_by host s.link m) → RefusesPiece host (session_value s) piece (count - 1)
+  refused host m takes read put =
+      let v : SessionValue = session_value s in
+      let whole = taking_message host v piece frame m takes (ap (λ (f : Framing). f.finding) (sym (same_framing piece)) ∙ found) read in
+      let taken : (taking host v piece).count ≡ count = ap (λ (t : Taking). t.count) whole ∙ ap (λ (f : Framing). f.taken) (sym (same_framing piece)) in
+      record {
+        takes = takes;
+        last = omega (arith, taken, some_taken);
+        stores = subst (λ (t : Taking). IsPut t.change) (sym whole) put;
+      }
+
+  pub kept_but_last : (host : Host) → session_takes (session_value s) ≡ true → record (session_value s) { frame = (unread_after s.framer piece).kept } ≡ (taking host (session_value s) (take (count - 1) piece)).session
+  kept_but_last host takes =
+      let v : SessionValue = session_value s in
+      let nothing : (framing (session_max v) v.frame cut).finding ≡ Nothing = ap (λ (f : Framing). f.finding) (sym (same_framing cut)) ∙ unread_nothing s.framer piece frame is.framer found in
+      ap (λ (f : FramerValue). record v { frame = f.kept }) (unread_one_less s.framer piece frame is.framer found)
+      ∙ ap (λ (f : Framing). record v { frame = f.kept }) (same_framing cut)
+      ∙ sym (taking_nothing host v cut takes nothing)
+      ∙ ap (λ (bytes : List ℕ). (taking host v bytes).session) cut_is
+
+-- a session whose framer alone was changed
+pub reframed : (s : Inside) (f : FramerValue) (l : LinkValue) (o : ObserversValue) → IsSession s → f.max ≡ s.framer.max → IsFramer f → l ≡ s.link → o ≡ s.observers → IsSession (record { framer = f; link = l; observers = o })
+reframed s f l o is max framer link_is o_is =
+    subst (λ (k : LinkValue). IsSession (record { framer = f; link = k; observers = o })) (sym link_is) (
+    subst (λ (k : ObserversValue). IsSession (record { framer = f; link = s.link; observers = k })) (sym o_is) (record {
+      ranges = is.ranges;
+      greatest = max ∙ is.greatest;
+      framer = framer;
+      room = is.room;
+      open_only = is.open_only;
+    }))
+
+-- ---- settling
+
+-- what the code finds is whether there is room
+pub ready_is : (l : LinkValue) (b : Bool) → (IsTrue b → IsReady l) × (IsReady l → IsTrue b) → nat_le l.limits.max_sent (free_in l) ≡ b
+ready_is l true same = le-leb l.limits.max_sent (free_in l) (same.0 refl)
+ready_is l false same =
+    elim (nat_le l.limits.max_sent (free_in l)) as (λ b. nat_le l.limits.max_sent (free_in l) ≡ b → b ≡ false) [
+      | true ↦ λ fits. sym (same.1 (leb-true l.limits.max_sent (free_in l) fits))
+      | false ↦ λ less. refl
+    ] refl
+
+pub next_unready : (host : Host) (v : SessionValue) → session_ready v ≡ false → next_stale host v ≡ None
+unfolding next_stale
+next_unready host v e = cond-false (session_ready v) (find (is_stale host) v.observers) None e
+
+pub next_ready : (host : Host) (v : SessionValue) → session_ready v ≡ true → next_stale host v ≡ find (is_stale host) v.observers
+unfolding next_stale
+next_ready host v e = cond-true (session_ready v) (find (is_stale host) v.observers) None e
+
+entry_there : (os : List ObserverValue) (i : ℕ) → i < length os → (o : ObserverValue) × (slice_get os i ≡ Some o)
+entry_there [] i within = absurd (omega arith)
+entry_there (o ∷ os) zero within = (o, refl)
+entry_there (o ∷ os) (suc i) within = entry_there os i (omega arith)
+
+kept_stays : (l : LinkValue) (f : FramerValue) → (framer_on l f).kept ≡ frame_on l f.kept
+kept_stays l f = elim (takes_messages l.phase) as (λ b. (if b then f else record f { kept = []; spent = [] }).kept ≡ (if b then f.kept else [])) [ true ↦ refl | false ↦ refl ]
+
+-- a session in which the first stale observer, at this index, was notified
+pub record IsNotified (host : Host) (s : Inside) (index : ℕ) (l : LinkValue) (o : ObserversValue) : Type 0 where
+  pub ready : session_ready (session_value s) ≡ true
+  pub first : Some index ≡ first_index (is_stale host) s.observers.entries
+  pub link : (e : ObserverValue) → slice_get s.observers.entries index ≡ Some e → l ≡ link_after_reply s.link (notification_on host e)
+  pub entries : (e : ObserverValue) → slice_get s.observers.entries index ≡ Some e → o ≡ record s.observers { entries = entries_notified host s.link s.observers.entries e }
+
+module _ (host : Host) (s : Inside) (index : ℕ) (l : LinkValue) (o : ObserversValue) (is : IsNotified host s index l o) where
+  abbrev there : (e : ObserverValue) × (slice_get s.observers.entries index ≡ Some e)
+  there = entry_there s.observers.entries index (is_first (is_stale host) s.observers.entries index (sym is.first)).within
+
+  next_is : next_stale host (session_value s) ≡ Some there.0
+  next_is = next_ready host (session_value s) is.ready ∙ (is_first (is_stale host) s.observers.entries index (sym is.first)).found ∙ there.1
+
+  pub next_found : true ≡ is_some (next_stale host (session_value s))
+  next_found = ap (λ (e : Option ObserverValue). is_some e) (sym next_is)
+
+  pub notified_limits : l.limits ≡ s.link.limits
+  notified_limits = ap (λ (k : LinkValue). k.limits) (is.link there.0 there.1) ∙ reply_limits s.link (notification_on host there.0)
+
+  pub notified_room : o.room ≡ s.observers.room
+  notified_room = ap (λ (k : ObserversValue). k.room) (is.entries there.0 there.1)
+
+  pub settled_once : (g : FramerValue) (p : ObserversValue) → g ≡ framer_on l s.framer → p ≡ record o { entries = observers_on l o.entries } → record { frame = g.kept; link = l; observers = p.entries } ≡ session_settled_once host (session_value s)
+  unfolding session_settled_once
+  settled_once g p g_is p_is =
+      ap (λ (f : FramerValue). record { frame = f.kept; link = l; observers = p.entries }) g_is
+      ∙ ap (λ (frame : List ℕ). record { frame = frame; link = l; observers = p.entries }) (kept_stays l s.framer)
+      ∙ ap (λ (k : ObserversValue). record { frame = frame_on l s.framer.kept; link = l; observers = k.entries }) p_is
+      ∙ ap (λ (k : ObserversValue). session_with s.framer.kept l k.entries) (is.entries there.0 there.1)
+      ∙ ap (λ (k : LinkValue). session_with s.framer.kept k (entries_notified host s.link s.observers.entries there.0)) (is.link there.0 there.1)
+      ∙ ap (session_notified host (session_value s)) (sym next_is)

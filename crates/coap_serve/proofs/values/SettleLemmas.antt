@@ -1,0 +1,159 @@
+-- What settling leaves: no observer is stale, or there is no room.
+use Rattle.std.proofs.Common.{◌≡◌, ℕ, zero, suc, ◌+◌, ◌≤◌, Bool, true, false, ◌&&◌, List, [], ◌∷◌, ◌++◌, length, Option, Some, None, refl, sym, ap, subst, ◌∙◌, arith}
+use Rattle.std.specs.Prelude.{find, is_some, not, if◌then◌else◌}
+use Rattle.std.proofs.lemmas.Bool.{eq-eqb, eqb-true, cond-false}
+use Rattle.coap_wire.specs.Message.{Message}
+use Rattle.coap_wire.specs.Codes as code
+use Rattle.coap_conn.specs.Phases.{is_open}
+use Rattle.coap_conn.specs.Fit.{fit, bare_response}
+use Rattle.coap_conn.specs.LinkValue.{LinkValue, limit_in, link_after_reply}
+use Rattle.coap_store.specs.Store.{Representation}
+use Rattle.coap_store.specs.Answer.{Response}
+use Rattle.coap_store.specs.Notifications.{notification_of}
+use Rattle.coap_store.proofs.NotificationLaws.{notification_tells}
+use Rattle.coap_serve.specs.declared.host.Host.{Host}
+use Rattle.coap_serve.specs.world.Observers.{goes_on, is_whole, first_becomes}
+use Rattle.coap_serve.specs.values.Sessions.{ObserverValue, SessionValue, mark_at, mark_of, is_marked, state_on, is_stale, session_ready, observers_on, entry_left, notification_on, session_notified, next_stale, session_settled_once, session_settled_within, session_settled, IsSettled}
+
+-- ---- how many observers are stale
+
+abbrev pub how_many : {O : Type 0} → (O → Bool) → List O → ℕ
+how_many due [] = 0
+how_many due (o ∷ os) = if due o then suc (how_many due os) else how_many due os
+
+how_many_within : {O : Type 0} (due : O → Bool) (os : List O) → how_many due os ≤ length os
+how_many_within due [] = omega arith
+how_many_within due (o ∷ os) =
+    let within = how_many_within due os in
+    elim (due o) as (λ b. (if b then suc (how_many due os) else how_many due os) ≤ length (o ∷ os)) [ true ↦ omega arith | false ↦ omega arith ]
+
+-- where none is due, none is the first
+none_due : {O : Type 0} (due : O → Bool) (os : List O) → how_many due os ≤ 0 → find due os ≡ None
+none_due due [] e = refl
+none_due due (o ∷ os) e =
+    elim (due o) as (λ b. (if b then suc (how_many due os) else how_many due os) ≤ 0 → (if b then Some o else find due os) ≡ None) [
+      | true ↦ λ many. absurd (omega arith)
+      | false ↦ λ few. none_due due os few
+    ] e
+
+many-append : {O : Type 0} (due : O → Bool) (os ps : List O) → how_many due (os ++ ps) ≡ how_many due os + how_many due ps
+many-append due [] ps = omega arith
+many-append due (o ∷ os) ps =
+    let rest = many-append due os ps in
+    elim (due o) as (λ b. (if b then suc (how_many due (os ++ ps)) else how_many due (os ++ ps)) ≡ (if b then suc (how_many due os) else how_many due os) + how_many due ps) [ true ↦ omega arith | false ↦ rest ]
+
+-- where the first one that is due becomes some that are not, fewer are
+fewer_due : {O : Type 0} (due : O → Bool) (after os : List O) (o : O) → how_many due after ≡ 0 → find due os ≡ Some o → suc (how_many due (first_becomes due after os)) ≤ how_many due os
+unfolding first_becomes
+fewer_due due after [] o none first = absurd cc
+fewer_due due after (p ∷ os) o none first =
+    elim (due p) as (λ b. due p ≡ b → (if b then Some p else find due os) ≡ Some o → suc (how_many due (if b then after ++ os else p ∷ first_becomes due after os)) ≤ (if b then suc (how_many due os) else how_many due os)) [
+      | true ↦ λ is e. omega (arith, many-append due after os, none)
+      | false ↦ λ is e. (
+          let rest = fewer_due due after os o none e in
+          let skipped : how_many due (p ∷ first_becomes due after os) ≡ how_many due (first_becomes due after os) = cond-false (due p) _ _ is in
+          omega (arith, rest, skipped))
+    ] refl first
+
+-- ---- one turn
+
+-- an observer that was told the state now is not stale
+told_now : (host : Host) (o : ObserverValue) (r : Representation) → state_on host o.path ≡ Some r → is_stale host (record o { mark = mark_of host.now (state_on host o.path) }) ≡ false
+unfolding is_stale
+told_now host o r there =
+    ap (λ (s : Option Representation). not (is_marked host.now (mark_of host.now s) s)) there
+    ∙ ap not (eq-eqb (mark_at host.now r) (mark_at host.now r) refl)
+
+-- what stays of an observer is not stale: a notification that goes on tells a state that is there
+left_is_told : (host : Host) (o : ObserverValue) (whole : Bool) → how_many (is_stale host) (entry_left host o (goes_on (notification_of host.store host.now o.path o.format) && whole)) ≡ 0
+left_is_told host o whole =
+    let told : Response = notification_of host.store host.now o.path o.format in
+    elim (goes_on told) as (λ b. goes_on told ≡ b → how_many (is_stale host) (entry_left host o (b && whole)) ≡ 0) [
+      | true ↦ λ goes. (
+          let tells = notification_tells host.store host.now o.path o.format (eqb-true told.code code.content goes) in
+          elim whole as (λ w. how_many (is_stale host) (entry_left host o w) ≡ 0) [
+            | true ↦ cond-false (is_stale host (record o { mark = mark_of host.now (state_on host o.path) })) _ _ (told_now host o tells.representation tells.there)
+            | false ↦ refl
+          ])
+      | false ↦ λ ends. refl
+    ] refl
+
+-- the observers of a connection that is open, or none
+fewer_open : (host : Host) (l : LinkValue) (os : List ObserverValue) (n : ℕ) → how_many (is_stale host) os ≤ n → how_many (is_stale host) (observers_on l os) ≤ n
+fewer_open host l os n few = elim (is_open l.phase) as (λ b. how_many (is_stale host) (if b then os else []) ≤ n) [ true ↦ few | false ↦ omega arith ]
+
+-- a turn that finds a stale observer leaves fewer
+fewer_stale : (host : Host) (v : SessionValue) (o : ObserverValue) (n : ℕ) → find (is_stale host) v.observers ≡ Some o → how_many (is_stale host) v.observers ≤ suc n → how_many (is_stale host) (session_notified host v (Some o)).observers ≤ n
+fewer_stale host v o n first many =
+    let m : Message = notification_on host o in
+    let whole : Bool = is_whole (fit (limit_in v.link) m (bare_response m)) in
+    let left = entry_left host o (goes_on (notification_of host.store host.now o.path o.format) && whole) in
+    let fewer = fewer_due (is_stale host) left v.observers o (left_is_told host o whole) first in
+    fewer_open host (link_after_reply v.link m) (first_becomes (is_stale host) left v.observers) n (omega (arith, fewer, many))
+
+-- ---- all turns
+
+-- where nothing is left to settle, a turn does nothing
+pub stays_once : (host : Host) (v : SessionValue) → IsSettled host v → session_settled_once host v ≡ v
+unfolding session_settled_once
+stays_once host v settled = ap (session_notified host v) settled
+
+pub stays_within : (host : Host) (v : SessionValue) (turns : ℕ) → IsSettled host v → session_settled_within turns host v ≡ v
+unfolding session_settled_within
+stays_within host v zero settled = refl
+stays_within host v (suc turns) settled = ap (session_settled_within turns host) (stays_once host v settled) ∙ stays_within host v turns settled
+
+-- settling what is settled changes nothing
+pub settled_stays : (host : Host) (v : SessionValue) → IsSettled host v → session_settled host v ≡ v
+unfolding session_settled
+settled_stays host v settled = stays_within host v (length v.observers) settled
+
+-- what is found where there is room is a stale observer
+found_stale : (host : Host) (v : SessionValue) (o : ObserverValue) → next_stale host v ≡ Some o → find (is_stale host) v.observers ≡ Some o
+unfolding next_stale
+found_stale host v o first =
+    elim (session_ready v) as (λ b. (if b then find (is_stale host) v.observers else None) ≡ Some o → find (is_stale host) v.observers ≡ Some o) [ true ↦ λ e. e | false ↦ λ e. absurd cc ] first
+
+nothing_due : (host : Host) (v : SessionValue) → how_many (is_stale host) v.observers ≤ 0 → IsSettled host v
+unfolding next_stale
+nothing_due host v none =
+    elim (session_ready v) as (λ b. (if b then find (is_stale host) v.observers else None) ≡ None) [ true ↦ none_due (is_stale host) v.observers none | false ↦ refl ]
+
+-- as many turns as observers are stale leave nothing to settle
+enough_turns : (host : Host) (turns : ℕ) (v : SessionValue) → how_many (is_stale host) v.observers ≤ turns → IsSettled host (session_settled_within turns host v)
+unfolding session_settled_within session_settled_once
+enough_turns host zero v many = nothing_due host v many
+enough_turns host (suc turns) v many =
+    elim (next_stale host v) as (λ next. next_stale host v ≡ next → IsSettled host (session_settled_within turns host (session_notified host v next))) [
+      | None ↦ λ settled. subst (IsSettled host) (sym (stays_within host v turns settled)) settled
+      | Some o ↦ λ found. enough_turns host turns (session_notified host v (Some o)) (fewer_stale host v o turns (found_stale host v o found) many)
+    ] refl
+
+-- settling leaves nothing to settle
+pub settled_is_settled : (host : Host) (v : SessionValue) → IsSettled host (session_settled host v)
+unfolding session_settled
+settled_is_settled host v = enough_turns host (length v.observers) v (how_many_within (is_stale host) v.observers)
+
+-- ---- a loop of turns
+
+pub turn_taken : (host : Host) (turns less : ℕ) (v : SessionValue) → turns ≡ suc less → session_settled_within turns host v ≡ session_settled_within less host (session_settled_once host v)
+unfolding session_settled_within
+turn_taken host turns less v e = ap (λ (n : ℕ). session_settled_within n host v) e
+
+pub all_turns : (host : Host) (v w : SessionValue) (turns : ℕ) → turns ≡ length v.observers → v ≡ w → session_settled_within turns host w ≡ session_settled host w
+unfolding session_settled
+all_turns host v w turns e same = ap (λ (n : ℕ). session_settled_within n host w) (e ∙ ap (λ (u : SessionValue). length u.observers) same)
+
+pub no_turns : (host : Host) (v : SessionValue) (turns : ℕ) → turns ≡ 0 → session_settled_within turns host v ≡ v
+unfolding session_settled_within
+no_turns host v turns e = ap (λ (n : ℕ). session_settled_within n host v) e
+
+none_is : (o : Option ObserverValue) → false ≡ is_some o → o ≡ None
+none_is None e = refl
+none_is (Some o) e = absurd cc
+
+-- where a turn finds nothing, all turns have done what they do
+pub last_turn : (host : Host) (v after : SessionValue) (turns : ℕ) → after ≡ session_settled_once host v → false ≡ is_some (next_stale host v) → after ≡ session_settled_within turns host v
+last_turn host v after turns is none =
+    let settled : IsSettled host v = none_is (next_stale host v) none in
+    is ∙ stays_once host v settled ∙ sym (stays_within host v turns settled)

@@ -1,0 +1,287 @@
+-- What a piece leaves of a server: no connection is left to settle where no resource changed.
+use Rattle.std.proofs.Common.{◌≡◌, ℕ, ◌+◌, ◌-◌, Bool, true, false, cond, ◌&&◌, List, [], ◌∷◌, ◌++◌, length, take, drop, Option, Some, None, refl, sym, ap, subst, ◌∙◌, arith, append_assoc}
+use Rattle.std.specs.Prelude.{map, filter, find, not, nat_eq, nat_lt, slice_get, if◌then◌else◌, Result, Ok, Err}
+use Rattle.std.specs.Map.{values_of}
+use Rattle.std.proofs.lemmas.Bool.{eq-eqb, and_parts}
+use Rattle.std.proofs.lemmas.List.{length-append, length-drop, take-append-drop}
+use Rattle.indexmap.specs.IndexMap.{set_value_at}
+use Rattle.coap_wire.specs.Message.{Message}
+use Rattle.coap_wire.specs.Beginning.{Beginning, Unfinished, Whole, Faulty, beginning}
+use Rattle.coap_wire.specs.declared.fault.FormatFault.{FormatFault}
+use Rattle.coap_wire.specs.Reading.{message_of}
+use Rattle.coap_wire.proofs.StreamSteps.{whole_more, faulty_more}
+use Rattle.coap_frame.specs.Framing.{Framing, Finding, Nothing, AFrame, AFault, framing_at, framing}
+use Rattle.coap_conn.specs.Phases.{is_open, takes_messages, stop_of}
+use Rattle.coap_wire.specs.Stream.{OfFrame}
+use Rattle.coap_conn.specs.declared.reason.Reason.{Reason}
+use Rattle.coap_conn.specs.declared.phase.Reject.TheVariants as reject
+use Rattle.coap_conn.specs.Rejects.{reject_of}
+use Rattle.coap_conn.specs.Fit.{fit, bare_response}
+use Rattle.coap_conn.specs.LinkValue.{LinkValue, limit_in, link_after_message, link_after_reply, link_after_reject}
+use Rattle.coap_store.specs.Messages.{response_with_observe}
+use Rattle.coap_store.specs.Paths.{same_bytes}
+use Rattle.coap_store.specs.Store.{Representation}
+use Rattle.coap_store.specs.Answer.{Answer, Change}
+use Rattle.coap_store.specs.Answer as answer
+use Rattle.coap_store.specs.Changes.{changes, IsPut}
+use Rattle.coap_store.specs.declared.plan.Watch.{Watch}
+use Rattle.coap_store.specs.declared.plan.Watch.TheVariants as watch
+use Rattle.coap_store.proofs.WatchLaws.{promptly_watched_is_there}
+use Rattle.coap_serve.specs.declared.host.Host.{Host}
+use Rattle.coap_serve.specs.world.Observers.{asks_entry, has_place, with_entry, is_whole}
+use Rattle.coap_serve.specs.values.Sessions.{ObserverValue, SessionValue, Taking, mark_at, mark_of, is_marked, is_stale, session_ready, session_takes, session_max, observers_on, without_entry, new_entry, session_with, session_responded, session_answered, answer_on, asks_this, session_handled, taking_read, taking_found, taking, host_changed, next_stale, IsSettled, RefusesPiece}
+use Rattle.coap_serve.specs.values.Servers.{ServerValue, LiesAt, session_of, session_becomes, settled_entry, AreSettled, server_taken_so, server_taken_on, server_taken, count_on, count_taken}
+use Rattle.coap_serve.specs.values.ServerAnswers.{stop_on, handled_so, handled_on, handled_by, RefusesPieceOn}
+use Rattle.coap_serve.specs.views.ServerViews.{IsServer}
+use Rattle.coap_serve.proofs.values.ServerLemmas.{Entries, written_at_index, changed_one, all_settled_stay, settled_at, taken_server_with, lies_where_taken}
+
+-- ---- no observer is stale
+
+abbrev NoneStale : Host → List ObserverValue → Type 0
+NoneStale host os = find (is_stale host) os ≡ None
+
+settled_where_none : (host : Host) (v : SessionValue) → NoneStale host v.observers → IsSettled host v
+unfolding next_stale
+settled_where_none host v none = elim (session_ready v) as (λ b. (if b then find (is_stale host) v.observers else None) ≡ None) [ true ↦ none | false ↦ refl ]
+
+none_where_settled : (host : Host) (v : SessionValue) → session_ready v ≡ true → IsSettled host v → NoneStale host v.observers
+unfolding next_stale
+none_where_settled host v ready settled = sym (rw ready refl) ∙ settled
+
+none_of_no_more : (host : Host) (l : LinkValue) (os : List ObserverValue) → NoneStale host os → NoneStale host (observers_on l os)
+none_of_no_more host l os none = elim (is_open l.phase) as (λ b. find (is_stale host) (if b then os else []) ≡ None) [ true ↦ none | false ↦ refl ]
+
+none_of_fewer : (due keep : ObserverValue → Bool) (os : List ObserverValue) → find due os ≡ None → find due (filter keep os) ≡ None
+none_of_fewer due keep [] none = refl
+none_of_fewer due keep (o ∷ os) none =
+    elim (due o) as (λ b. due o ≡ b → (if b then Some o else find due os) ≡ None → find due (filter keep (o ∷ os)) ≡ None) [
+      | true ↦ λ is e. absurd cc
+      | false ↦ λ is e. elim (keep o) as (λ k. find due (if k then (o ∷ filter keep os) else filter keep os) ≡ None) [ true ↦ rw is (none_of_fewer due keep os e) | false ↦ none_of_fewer due keep os e ]
+    ] refl none
+
+none_with_last : (due : ObserverValue → Bool) (os : List ObserverValue) (last : ObserverValue) → find due os ≡ None → due last ≡ false → find due (os ++ last ∷ []) ≡ None
+none_with_last due [] last none told = rw told refl
+none_with_last due (o ∷ os) last none told =
+    elim (due o) as (λ b. (if b then Some o else find due os) ≡ None → (if b then Some o else find due (os ++ last ∷ [])) ≡ None) [
+      | true ↦ λ e. absurd cc
+      | false ↦ λ e. none_with_last due os last e told
+    ] none
+
+-- ---- a message is handled
+
+-- an entry of a request is told a state that is there
+entry_is_told : (host : Host) (m : Message) → (answer_on host m).watch ≡ watch.Add → is_stale host (new_entry host m) ≡ false
+unfolding is_stale
+entry_is_told host m adds =
+    let may = promptly_watched_is_there host.store host.now m adds in
+    ap (λ (s : Option Representation). not (is_marked host.now (mark_of host.now s) s)) may.there ∙ ap not (eq-eqb (mark_at host.now may.representation) (mark_at host.now may.representation) refl)
+
+adds_where_asked : (w : Watch) → asks_entry w ≡ true → w ≡ watch.Add
+adds_where_asked watch.Nothing asks = absurd cc
+adds_where_asked watch.Add asks = refl
+adds_where_asked watch.Drop asks = absurd cc
+
+none_with_entry : (host : Host) (others : List ObserverValue) (entry : ObserverValue) (enters : Bool) → NoneStale host others → (enters ≡ true → is_stale host entry ≡ false) → NoneStale host (with_entry enters others entry)
+none_with_entry host others entry true none told = none_with_last (is_stale host) others entry none (told refl)
+none_with_entry host others entry false none told = none
+
+responded_none : (host : Host) (l : LinkValue) (others : List ObserverValue) (entry : ObserverValue) (observes : Bool) (response : Message) → NoneStale host others → (observes ≡ true → is_stale host entry ≡ false) → NoneStale host (session_responded l others entry observes response).observers
+responded_none host l others entry observes response none told =
+    let whole : Bool = is_whole (fit (limit_in l) response (bare_response response)) in
+    none_of_no_more host (link_after_reply l response) (with_entry (observes && whole) others entry)
+    (none_with_entry host others entry (observes && whole) none (λ e. told (and_parts observes whole e).0))
+
+answered_none : (host : Host) (l : LinkValue) (others : List ObserverValue) (m : Message) → NoneStale host others → NoneStale host (session_answered host l others m (answer_on host m)).observers
+answered_none host l others m none =
+    let a : Answer = answer_on host m in
+    let observes : Bool = has_place l.limits.observers others a.watch in
+    responded_none host l others (new_entry host m) observes (response_with_observe m.token observes a.response) none
+    (λ e. entry_is_told host m (adds_where_asked a.watch (and_parts (asks_entry a.watch) (nat_lt (length others) l.limits.observers) e).0))
+
+handled_none : (host : Host) (v : SessionValue) (m : Message) → NoneStale host v.observers → NoneStale host (session_handled host v m).observers
+unfolding session_handled without_entry
+handled_none host v m none =
+    let l : LinkValue = link_after_message v.link m in
+    elim (asks_this v.link m) as (λ b. NoneStale host (if b then session_answered host l (without_entry m.token v.observers) m (answer_on host m) else session_with [] l v.observers).observers) [
+      | true ↦ answered_none host l (without_entry m.token v.observers) m (none_of_fewer (is_stale host) (λ o. not (same_bytes o.token m.token)) v.observers none)
+      | false ↦ none_of_no_more host l v.observers none
+    ]
+
+-- ---- the front of a piece
+
+read_none : (host : Host) (v : SessionValue) (count : ℕ) (r : Result Message FormatFault) → NoneStale host v.observers → NoneStale host (taking_read host v count r).session.observers
+read_none host v count (Ok m) none = handled_none host v m none
+read_none host v count (Err e) none = none_of_no_more host (link_after_reject v.link reject.Format) v.observers none
+
+found_none : (host : Host) (v : SessionValue) (f : Framing) (what : Finding) → NoneStale host v.observers → NoneStale host (taking_found host v f what).session.observers
+found_none host v f Nothing none = none
+found_none host v f (AFrame frame) none = read_none host v f.taken (message_of frame) none
+found_none host v f (AFault fault) none = none_of_no_more host (link_after_reject v.link (reject_of (OfFrame fault))) v.observers none
+
+-- a connection that was settled is so where the host stays as it was
+pub taking_stays_settled : (host : Host) (v : SessionValue) (piece : List ℕ) → IsSettled host v → IsSettled host (taking host v piece).session
+unfolding taking
+taking_stays_settled host v piece settled =
+    let f : Framing = framing (session_max v) v.frame piece in
+    elim (session_takes v) as (λ b. session_takes v ≡ b → IsSettled host (if b then taking_found host v f f.finding else record { count = 0; handled = false; session = v; change = answer.Nothing }).session) [
+      | true ↦ λ takes. settled_where_none host _ (found_none host v f f.finding (none_where_settled host v (and_parts (takes_messages v.link.phase) (session_ready v) takes).1 settled))
+      | false ↦ λ _. settled
+    ] refl
+
+-- ---- memory was refused
+
+-- a front that lacks a byte of a frame is unfinished
+before_whole : (M : ℕ) (kept piece frame rest : List ℕ) (count : ℕ) → beginning M (kept ++ piece) ≡ Whole frame rest → length piece - length rest ≡ count + 1 → beginning M (kept ++ take count piece) ≡ Unfinished
+before_whole M kept piece frame rest count whole taken = by (beginning M (kept ++ take count piece)) refl
+  where
+    front : List ℕ
+    front = kept ++ take count piece
+
+    more : beginning M ((kept ++ take count piece) ++ drop count piece) ≡ Whole frame rest
+    more = ap (beginning M) (append_assoc kept (take count piece) (drop count piece) ∙ ap (λ (p : List ℕ). kept ++ p) (take-append-drop count piece)) ∙ whole
+
+    by : (b : Beginning) → beginning M (kept ++ take count piece) ≡ b → beginning M (kept ++ take count piece) ≡ Unfinished
+    by Unfinished is = is
+    by (Whole f r) is =
+        let both : Whole f (r ++ drop count piece) ≡ Whole frame rest = sym (whole_more M (kept ++ take count piece) (drop count piece) f r is) ∙ more in
+        let same : r ++ drop count piece ≡ rest = cc in
+        absurd (omega (arith, ap length same, length-append r (drop count piece), length-drop count piece))
+    by (Faulty fault) is =
+        let both : Faulty fault ≡ Whole frame rest = sym (faulty_more M (kept ++ take count piece) (drop count piece) fault is) ∙ more in
+        absurd cc
+
+-- what a whole frame took
+abbrev taking_begun : Host → SessionValue → List ℕ → Beginning → Taking
+taking_begun host v piece b = taking_found host v (framing_at v.frame piece b) (framing_at v.frame piece b).finding
+
+put_is_whole : (host : Host) (v : SessionValue) (piece : List ℕ) (b : Beginning) (count : ℕ) → (taking_begun host v piece b).count ≡ count + 1 → IsPut (taking_begun host v piece b).change
+    → (frame : List ℕ) × (rest : List ℕ) × (b ≡ Whole frame rest) × (length piece - length rest ≡ count + 1)
+put_is_whole host v piece Unfinished count last puts = absurd puts
+put_is_whole host v piece (Faulty fault) count last puts = absurd puts
+put_is_whole host v piece (Whole frame rest) count last puts = (frame, rest, refl, sym (counted (message_of frame)) ∙ last)
+  where
+    counted : (r : Result Message FormatFault) → (taking_read host v (length piece - length rest) r).count ≡ length piece - length rest
+    counted (Ok m) = refl
+    counted (Err e) = refl
+
+taking_where_takes : (host : Host) (v : SessionValue) (piece : List ℕ) → session_takes v ≡ true → taking host v piece ≡ taking_begun host v piece (beginning (session_max v) (v.frame ++ piece))
+unfolding taking framing
+taking_where_takes host v piece takes =
+    ap (λ (b : Bool). if b then taking_begun host v piece (beginning (session_max v) (v.frame ++ piece)) else record { count = 0; handled = false; session = v; change = answer.Nothing }) takes
+
+-- without its last byte, the message is not handled
+pub refused_changes_nothing : (host : Host) (v : SessionValue) (piece : List ℕ) (count : ℕ) → RefusesPiece host v piece count → (taking host v (take count piece)).change ≡ answer.Nothing
+refused_changes_nothing host v piece count refuses =
+    let M : ℕ = session_max v in
+    let all = taking_where_takes host v piece refuses.takes in
+    let whole = put_is_whole host v piece (beginning M (v.frame ++ piece)) count (sym (ap (λ (t : Taking). t.count) all) ∙ refuses.last) (subst (λ (t : Taking). IsPut t.change) all refuses.stores) in
+    ap (λ (t : Taking). t.change) (taking_where_takes host v (take count piece) refuses.takes)
+    ∙ ap (λ b. (taking_begun host v (take count piece) b).change) (before_whole M v.frame piece whole.0 whole.1 count whole.2 whole.3)
+
+-- ---- the host
+
+nothing_where_quiet : (c : Change) → changes c ≡ false → c ≡ answer.Nothing
+nothing_where_quiet answer.Nothing quiet = refl
+nothing_where_quiet (answer.Put path format bytes) quiet = absurd cc
+nothing_where_quiet (answer.Delete path) quiet = absurd cc
+
+pub host_stays : (host : Host) (c : Change) → changes c ≡ false → host_changed host c ≡ host
+host_stays host c quiet = ap (host_changed host) (nothing_where_quiet c quiet)
+
+-- ---- the server
+
+entry_becomes_settled : (host : Host) (after : SessionValue) (b : Bool) (e : ℕ × SessionValue) → IsSettled host after → IsSettled host e.1 → IsSettled host (cond b (e.0, after) e).1
+entry_becomes_settled host after true e now settled = now
+entry_becomes_settled host after false e now settled = settled
+
+settled_with : (host : Host) (id : ℕ) (after : SessionValue) (es : Entries) → IsSettled host after → AreSettled host es → AreSettled host (map (session_becomes id (λ _. after)) es)
+settled_with host id after [] now all = tt
+settled_with host id after (e ∷ es) now all = (entry_becomes_settled host after (nat_eq e.0 id) e now all.0, settled_with host id after es now all.1)
+
+module _ (v : ServerValue) (id i : ℕ) (s : SessionValue) (piece : List ℕ) (server : IsServer v) (lies : LiesAt id i v.sessions) (here : slice_get (values_of v.sessions) i ≡ Some s) where
+  abbrev taken_here : Taking
+  taken_here = taking v.host s piece
+
+  abbrev host_after : Host
+  host_after = host_changed v.host taken_here.change
+
+  abbrev with_it : Entries
+  with_it = map (session_becomes id (λ _. taken_here.session)) v.sessions
+
+  pub taken_is : server_taken v id piece ≡ server_taken_so v id taken_here
+  unfolding server_taken
+  taken_is = ap (server_taken_on v id piece) (lies.found ∙ here)
+
+  pub count_is : count_taken v id piece ≡ taken_here.count
+  unfolding count_taken
+  count_is = ap (count_on v piece) (lies.found ∙ here)
+
+  written_is : set_value_at v.sessions i taken_here.session ≡ with_it
+  written_is =
+      written_at_index (λ _. taken_here.session) v.sessions i s here ∙ changed_one id (λ _. taken_here.session) v.sessions i lies.distinct lies.index lies.within
+
+  -- where no resource changed, all are settled
+  quiet_settled : changes taken_here.change ≡ false → AreSettled host_after with_it
+  quiet_settled quiet =
+      subst (λ host. AreSettled host with_it) (sym (host_stays v.host taken_here.change quiet))
+      (settled_with v.host id taken_here.session v.sessions (taking_stays_settled v.host s piece (settled_at v.host i v.sessions s server.settled here)) server.settled)
+
+  -- all settle where a resource changed, and else none does
+  abbrev left_so : Host → SessionValue → Bool → Entries
+  left_so host after changed = cond changed (map (settled_entry host) (set_value_at v.sessions i after)) (set_value_at v.sessions i after)
+
+  left_is : left_so host_after taken_here.session (changes taken_here.change) ≡ map (settled_entry host_after) with_it
+  left_is =
+      elim (changes taken_here.change) as (λ b. changes taken_here.change ≡ b → left_so host_after taken_here.session b ≡ map (settled_entry host_after) with_it) [
+        | true ↦ λ _. ap (map (settled_entry host_after)) written_is
+        | false ↦ λ quiet. written_is ∙ sym (all_settled_stay host_after with_it (quiet_settled quiet))
+      ] refl
+
+  module _ (host : Host) (after : SessionValue) (changed : Bool) (entries : Entries) (after_is : after ≡ taken_here.session) (host_is : host ≡ host_after) (changed_is : changed ≡ changes taken_here.change) (entries_are : entries ≡ left_so host after changed) where
+    all_are : entries ≡ map (settled_entry host_after) with_it
+    all_are =
+        entries_are ∙ ap (λ (h : Host). left_so h after changed) host_is ∙ ap (λ (a : SessionValue). left_so host_after a changed) after_is
+        ∙ ap (left_so host_after taken_here.session) changed_is ∙ left_is
+
+    pub taken_value : record v { host = host; sessions = entries } ≡ server_taken v id piece
+    taken_value =
+        ap (λ (h : Host). record v { host = h; sessions = entries }) host_is
+        ∙ ap (λ (es : Entries). record v { host = host_after; sessions = es }) all_are
+        ∙ sym taken_is
+
+    pub taken_server : IsServer (record v { host = host; sessions = entries })
+    taken_server =
+        subst (λ (h : Host). IsServer (record v { host = h; sessions = entries })) (sym host_is)
+        (subst (λ (es : Entries). IsServer (record v { host = host_after; sessions = es })) (sym all_are)
+        (taken_server_with v id (λ _. taken_here.session) host_after server))
+
+    pub taken_lies : LiesAt id i entries
+    taken_lies = subst (LiesAt id i) (sym all_are) (lies_where_taken id i (λ _. taken_here.session) host_after v.sessions lies)
+
+    -- what was handled, where the connection stands so afterwards
+    pub taken_handled : (takes message : Bool) (stop : Option Reason) (now : SessionValue) → takes ≡ session_takes s → message ≡ taken_here.handled → slice_get (values_of entries) i ≡ Some now → stop ≡ stop_of now.link.phase → handled_so takes message stop ≡ handled_by v id piece
+    unfolding handled_by
+    taken_handled takes message stop now takes_is message_is there stop_is =
+        let stops = stop_is ∙ ap stop_on (sym (taken_lies.found ∙ there)) ∙ ap (λ (w : ServerValue). stop_on (session_of id w.sessions)) taken_value in
+        ap (λ b. handled_so b message stop) takes_is ∙ ap (λ b. handled_so (session_takes s) b stop) message_is
+        ∙ ap (handled_so (session_takes s) taken_here.handled) stops
+        ∙ ap (λ found. handled_on v piece found (stop_on (session_of id (server_taken v id piece).sessions))) (sym (lies.found ∙ here))
+
+-- ---- the server where memory was refused
+
+module _ (v : ServerValue) (id i : ℕ) (s : SessionValue) (piece : List ℕ) (count : ℕ) (server : IsServer v) (lies : LiesAt id i v.sessions) (here : slice_get (values_of v.sessions) i ≡ Some s) (refuses : RefusesPiece v.host s piece count) where
+  pub refuses_on : RefusesPieceOn v piece count (session_of id v.sessions)
+  refuses_on = subst (RefusesPieceOn v piece count) (sym (lies.found ∙ here)) refuses
+
+  nothing_changes : (taking v.host s (take count piece)).change ≡ answer.Nothing
+  nothing_changes = refused_changes_nothing v.host s piece count refuses
+
+  module _ (host : Host) (after : SessionValue) (after_is : after ≡ (taking v.host s (take count piece)).session) (host_is : host ≡ v.host) where
+    host_after_is : host ≡ host_changed v.host (taking v.host s (take count piece)).change
+    host_after_is = host_is ∙ sym (ap (host_changed v.host) nothing_changes)
+
+    pub refused_value : record v { host = host; sessions = set_value_at v.sessions i after } ≡ server_taken v id (take count piece)
+    refused_value = taken_value v id i s (take count piece) server lies here host after false _ after_is host_after_is (sym (ap changes nothing_changes)) refl
+
+    pub refused_server : IsServer (record v { host = host; sessions = set_value_at v.sessions i after })
+    refused_server = taken_server v id i s (take count piece) server lies here host after false _ after_is host_after_is (sym (ap changes nothing_changes)) refl

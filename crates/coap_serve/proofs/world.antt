@@ -1,0 +1,21 @@
+pub mod Rows
+mod Worked
+mod WorkedEvents
+mod WorkedMore
+pub mod StepLaws
+pub mod TookLaws
+pub mod PlaceLaws
+pub mod FollowLaws
+pub mod WorldLaws
+pub mod ReachedLaws
+pub mod KnownLaws
+pub mod EntryLemmas
+pub mod GoingOn
+pub mod SideLaws
+pub mod SettleLaws
+pub mod KeptLaws
+pub mod HearingLaws
+pub mod ShownLemmas
+pub mod ShowLaws
+pub mod CallLaws
+pub mod CutLaws

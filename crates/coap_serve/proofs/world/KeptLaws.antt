@@ -1,0 +1,136 @@
+-- What each thing that happens to a connection keeps of it.
+use Rattle.std.proofs.Common.{◌≡◌, ℕ, ◌≤◌, Bool, true, false, cond, List, length, refl, arith}
+use Rattle.std.specs.Prelude.{◌&&◌, not, is_none, nat_le, nat_lt}
+use Rattle.std.proofs.lemmas.Bool.{and_parts, leb-true}
+use Rattle.coap_wire.specs.Message.{Message}
+use Rattle.coap_wire.specs.Stream.{StreamFault}
+use Rattle.coap_conn.specs.Limits.{LimitValues}
+use Rattle.coap_conn.specs.Phases.{is_open}
+use Rattle.coap_conn.specs.Fit.{fit, bare_response}
+use Rattle.coap_conn.specs.Rejects.{reject_of}
+use Rattle.coap_conn.specs.Release.{release_refusal}
+use Rattle.coap_conn.specs.History.{History, IsHistory, limit_now, after_message, after_reply, after_reject, after_end, after_release, after_written}
+use Rattle.coap_conn.specs.LinkValue.{link_of}
+use Rattle.coap_store.specs.Paths.{same_bytes}
+use Rattle.coap_store.specs.Store.{StoreValue}
+use Rattle.coap_store.specs.Answer.{Change, prompt_answer, changed}
+use Rattle.coap_store.specs.Messages.{response_with_observe}
+use Rattle.coap_store.specs.declared.plan.Watch.TheVariants as watch
+use Rattle.coap_serve.specs.world.Observers.{Observer, without_token, asks_entry, has_place, entry_for, is_whole, with_entry}
+use Rattle.coap_serve.specs.world.Sides.{Side, new_side, handles, waiting_on, with_history, side_answered, asks_answer, side_handled, side_after, change_after, store_after, side_faulted, side_written, side_ended, side_released}
+use Rattle.coap_serve.proofs.world.KnownLaws.{IsKnown, IsVersioned, still_known, entry_known}
+use Rattle.coap_serve.proofs.world.EntryLemmas.{all_to, all_filter, all_if, all_entered}
+use Rattle.coap_serve.proofs.world.GoingOn.{GoesOn, as_before, further, message_goes_on, reply_goes_on, reject_goes_on, end_goes_on, release_goes_on, written_goes_on}
+use Rattle.coap_serve.proofs.world.SideLaws.{asks_to_enter, AreKnown, IsKnownSide}
+
+-- ---- histories go on
+
+-- something happened to a connection, or nothing
+abbrev SideGoesOn : Side → Side → Type 0
+SideGoesOn s t = GoesOn s.history t.history
+
+goes_on_if : (b : Bool) (s t : Side) → (b ≡ true → SideGoesOn s t) → SideGoesOn s (cond b t s)
+goes_on_if true s t goes = goes refl
+goes_on_if false s t goes = as_before s.history
+
+handled_by : (store : StoreValue) (now : ℕ) (s : Side) (m : Message) (asks : Bool)
+    → SideGoesOn s (cond asks (side_answered store now (after_message s.history m) (without_token m.token s.observers) m (prompt_answer store now m)) (with_history s (after_message s.history m)))
+handled_by store now s m true = further s.history (after_message s.history m) _ (message_goes_on s.history m) (reply_goes_on (after_message s.history m) _)
+handled_by store now s m false = message_goes_on s.history m
+
+pub after_goes_on : (store : StoreValue) (now : ℕ) (s : Side) (m : Message) → GoesOn s.history (side_after store now s m).history
+unfolding side_after
+after_goes_on store now s m = goes_on_if (handles s) s (side_handled store now s m) (λ e. handled_by store now s m (asks_answer s m))
+
+pub faulted_goes_on : (s : Side) (fault : StreamFault) → GoesOn s.history (side_faulted s fault).history
+unfolding side_faulted
+faulted_goes_on s fault = goes_on_if (handles s) s (with_history s (after_reject s.history (reject_of fault))) (λ e. reject_goes_on s.history (reject_of fault))
+
+pub side_written_goes_on : (s : Side) (n : ℕ) → GoesOn s.history (side_written s n).history
+unfolding side_written
+side_written_goes_on s n =
+    goes_on_if (nat_le n (length (waiting_on s))) s (record s { history = after_written s.history n }) (λ e. written_goes_on s.history n (leb-true n (length (waiting_on s)) e))
+
+pub ended_goes_on : (s : Side) (cut : Bool) → GoesOn s.history (side_ended s cut).history
+unfolding side_ended
+ended_goes_on s cut = end_goes_on s.history cut
+
+pub released_goes_on : (s : Side) → GoesOn s.history (side_released s).history
+unfolding side_released
+released_goes_on s = goes_on_if (is_none (release_refusal (link_of s.history))) s (with_history s (after_release s.history)) (λ e. release_goes_on s.history)
+
+-- ---- what is known stays known
+
+pub new_known : (store : StoreValue) (limits : LimitValues) → IsKnownSide store (new_side limits)
+new_known store limits = record { is_history = omega arith; told = tt }
+
+-- whatever changes in the store
+pub still_known_side : (store : StoreValue) (change : Change) (s : Side) → IsVersioned store → IsKnownSide store s → IsKnownSide (changed store change) s
+still_known_side store change s is known = record {
+  is_history = known.is_history;
+  told = all_to (IsKnown store) (IsKnown (changed store change)) (λ o. still_known store change o is) s.observers known.told;
+}
+
+known_if : (store : StoreValue) (b : Bool) (s t : Side) → IsKnownSide store s → (b ≡ true → IsKnownSide store t) → IsKnownSide store (cond b t s)
+known_if store true s t known new = new refl
+known_if store false s t known new = known
+
+known_with : (store : StoreValue) (s : Side) (h : History) → GoesOn s.history h → IsKnownSide store s → IsKnownSide store (with_history s h)
+known_with store s h goes known = record { is_history = goes.history known.is_history; told = all_if (IsKnown store) (is_open h.phase) s.observers known.told }
+
+pub faulted_known : (store : StoreValue) (s : Side) (fault : StreamFault) → IsKnownSide store s → IsKnownSide store (side_faulted s fault)
+unfolding side_faulted
+faulted_known store s fault known =
+    let h = after_reject s.history (reject_of fault) in
+    known_if store (handles s) s (with_history s h) known (λ e. known_with store s h (reject_goes_on s.history (reject_of fault)) known)
+
+pub written_known : (store : StoreValue) (s : Side) (n : ℕ) → IsKnownSide store s → IsKnownSide store (side_written s n)
+unfolding side_written
+written_known store s n known =
+    known_if store (nat_le n (length (waiting_on s))) s (record s { history = after_written s.history n }) known
+    (λ e. record { is_history = (written_goes_on s.history n (leb-true n (length (waiting_on s)) e)).history known.is_history; told = known.told })
+
+pub ended_known : (store : StoreValue) (s : Side) (cut : Bool) → IsKnownSide store s → IsKnownSide store (side_ended s cut)
+unfolding side_ended
+ended_known store s cut known = known_with store s (after_end s.history cut) (end_goes_on s.history cut) known
+
+pub released_known : (store : StoreValue) (s : Side) → IsKnownSide store s → IsKnownSide store (side_released s)
+unfolding side_released
+released_known store s known =
+    let h = after_release s.history in
+    known_if store (is_none (release_refusal (link_of s.history))) s (with_history s h) known (λ e. known_with store s h (release_goes_on s.history) known)
+
+-- the other entries
+others_known : (store : StoreValue) (token : List ℕ) (os : List Observer) → AreKnown store os → AreKnown store (without_token token os)
+unfolding without_token
+others_known store token os told = all_filter (IsKnown store) (λ o. not (same_bytes o.token token)) os told
+
+module _ (store : StoreValue) (now : ℕ) (small : now ≤ 18446744073709551615) (is : IsVersioned store) where
+  answered_known : (h : History) (os : List Observer) (m : Message) → IsHistory h → AreKnown store os → IsKnownSide store (side_answered store now h os m (prompt_answer store now m))
+  answered_known h os m history told =
+      let a = prompt_answer store now m in
+      let observes = has_place h.limits.observers os a.watch in
+      let response = response_with_observe m.token observes a.response in
+      let whole = is_whole (fit (limit_now h) response (bare_response response)) in
+      let entry = entry_for store now m in
+      let asked : (observes && whole) ≡ true → a.watch ≡ watch.Add = λ e. asks_to_enter a.watch (and_parts (asks_entry a.watch) (nat_lt (length os) h.limits.observers) (and_parts observes whole e).0).0 in
+      record {
+        is_history = (reply_goes_on h response).history history;
+        told = all_if (IsKnown store) (is_open (after_reply h response).phase) (with_entry (observes && whole) os entry)
+            (all_entered (IsKnown store) (observes && whole) os entry told (λ e. entry_known store now m small is (asked e)));
+      }
+
+  known_by : (s : Side) (m : Message) (asks : Bool) → IsKnownSide store s
+      → IsKnownSide store (cond asks (side_answered store now (after_message s.history m) (without_token m.token s.observers) m (prompt_answer store now m)) (with_history s (after_message s.history m)))
+  known_by s m true known =
+      answered_known (after_message s.history m) (without_token m.token s.observers) m ((message_goes_on s.history m).history known.is_history) (others_known store m.token s.observers known.told)
+  known_by s m false known = known_with store s (after_message s.history m) (message_goes_on s.history m) known
+
+  -- a message leaves what is known, before it changes the store
+  pub after_known : (s : Side) (m : Message) → IsKnownSide store s → IsKnownSide store (side_after store now s m)
+  unfolding side_after
+  after_known s m known = known_if store (handles s) s (side_handled store now s m) known (λ e. known_by s m (asks_answer s m) known)
+
+  -- and is known in the store that it leaves
+  pub after_known_then : (s : Side) (m : Message) → IsKnownSide store s → IsKnownSide (store_after store now s m) (side_after store now s m)
+  after_known_then s m known = still_known_side store (change_after store now s m) (side_after store now s m) is (after_known s m known)

@@ -1,0 +1,249 @@
+-- What holds of the world after any accepted events: each number is given once, and the stream of a connection that takes
+-- messages has no fault.
+use Rattle.std.proofs.Common.{◌≡◌, ℕ, ◌+◌, ◌<◌, ◌≤◌, Bool, true, false, cond, List, [], ◌∷◌, ◌++◌, length, take, Option, Some, None, Result, Ok, Err, refl, sym, ap, subst, ◌∙◌, inl, inr, arith}
+use Rattle.std.specs.List.{AllByRecursion}
+use Rattle.std.proofs.lemmas.Bool.{cases_eq, and_parts}
+use Rattle.std.proofs.lemmas.List.{nil_from_length}
+use Rattle.coap_wire.specs.Message.{Message}
+use Rattle.coap_wire.specs.Reading.{message_of}
+use Rattle.coap_wire.specs.declared.fault.FormatFault.{FormatFault}
+use Rattle.coap_wire.specs.Stream.{StreamFault, Stream, split}
+use Rattle.coap_wire.proofs.StreamSteps.{unfinished_empty, split_unfinished}
+use Rattle.coap_frame.specs.Framing.{Finding, Nothing, AFrame, AFault, framing, without_last}
+use Rattle.coap_conn.specs.Phases.{takes_messages}
+use Rattle.coap_serve.specs.Configs.{ConfigValues}
+use Rattle.coap_serve.specs.world.Sides.{Side, has_room, handles}
+use Rattle.coap_serve.specs.world.World.{World, Step, new_world, side_of}
+use Rattle.coap_serve.specs.world.World as world
+use Rattle.coap_serve.specs.world.Events.{Event, taken_in, taken_on, stream_on, steps_by, steps_of, world_after, front_of, takes_of, takes, IfSide, IsAccepted, AreAccepted}
+use Rattle.coap_serve.specs.world.Events as event
+use Rattle.coap_serve.proofs.world.StepLaws.{taken_then, world_first, world_same, world_step, by_events, stream_same, taken_elsewhere, stream_elsewhere}
+use Rattle.coap_serve.proofs.world.TookLaws.{Adds, adds_nothing, adds_message, adds_bad, adds_fault, no_bytes_stream, no_bytes_steps, piece_whole, but_last_whole}
+use Rattle.coap_serve.proofs.world.PlaceLaws.{of_each}
+use Rattle.coap_serve.proofs.world.WorldLaws.{IsWorld, new_world_is, steps_are, OpensNext, IsGivenNumber, IsNumbered, new_world_numbered, number_given, step_numbered, ids_grow, GoesOnFrom, step_from, faulted_is_stopped}
+
+-- the worlds of any events, accepted or not
+pub world_is : (c : ConfigValues) (es : List Event) → IsWorld c (world_after c es)
+unfolding world_after
+world_is c es = steps_are c (new_world c) (steps_of c.limits.max_message es) (new_world_is c)
+
+-- where a connection takes messages, its stream has no fault
+abbrev pub GoesOn : ConfigValues → List Event → World → Type 0
+GoesOn c es w = (id : ℕ) (s : Side) → side_of id w.sides ≡ Some s → takes_messages s.history.phase ≡ true → (stream_on c.limits.max_message id es).fault ≡ None
+
+-- no byte was taken on a connection that is still to come
+abbrev pub IsSilent : List Event → World → Type 0
+IsSilent es w = (id : ℕ) → w.ids < id → taken_on id es ≡ []
+
+-- accepted events lead to a world so
+pub record IsReached (c : ConfigValues) (es : List Event) : Type 0 where
+  pub world : IsWorld c (world_after c es)
+  pub numbered : IsNumbered c (world_after c es)
+  pub silent : IsSilent es (world_after c es)
+  pub goes_on : GoesOn c es (world_after c es)
+
+-- the same, where this is the world
+record LeadsTo (c : ConfigValues) (es : List Event) (w : World) : Type 0 where
+  numbered : IsNumbered c w
+  silent : IsSilent es w
+  goes_on : GoesOn c es w
+
+reached : (c : ConfigValues) (es : List Event) (w : World) → world_after c es ≡ w → LeadsTo c es w → IsReached c es
+reached c es w is leads =
+    let here : LeadsTo c es (world_after c es) = subst (LeadsTo c es) (sym is) leads in
+    record { world = world_is c es; numbered = here.numbered; silent = here.silent; goes_on = here.goes_on }
+
+-- ---- at first
+
+nothing_taken_yet : (id : ℕ) → taken_on id [] ≡ []
+unfolding taken_on
+nothing_taken_yet id = refl
+
+-- where no byte was taken, there is no fault
+silent_stream : (M id : ℕ) (es : List Event) → taken_on id es ≡ [] → (stream_on M id es).fault ≡ None
+silent_stream M id es none = ap (λ (s : List ℕ). (split M s).fault) none ∙ ap (λ (s : Stream). s.fault) (split_unfinished M [] (unfinished_empty M))
+
+first_reached : (c : ConfigValues) → IsReached c []
+first_reached c = reached c [] (new_world c) (world_first c) (record {
+  numbered = new_world_numbered c;
+  silent = λ id h. nothing_taken_yet id;
+  goes_on = λ id s e takes. silent_stream c.limits.max_message id [] (nothing_taken_yet id);
+})
+
+-- ---- an event that makes a step
+
+-- an event behind which nothing was taken on numbers that were not given is silent too
+silent_more : (c : ConfigValues) (es : List Event) (e : Event) (w : World) → IsReached c es → (world_after c es).ids ≤ w.ids → ((id : ℕ) → (world_after c es).ids < id → taken_in id e ≡ []) → IsSilent (es ++ e ∷ []) w
+silent_more c es e w before grow none id h =
+    taken_then id es e
+    ∙ ap (λ (t : List ℕ). t ++ taken_in id e) (before.silent id (omega (arith, h, grow)))
+    ∙ none id (omega (arith, h, grow))
+
+-- the stream of a connection that takes messages after a step had no fault before it
+from_live : (c : ConfigValues) (es : List Event) (s : Step) (id : ℕ) (t : Side) → IsReached c es → OpensNext c (world_after c es) s → GoesOnFrom c.limits (world_after c es) s id t → takes_messages t.history.phase ≡ true → (stream_on c.limits.max_message id es).fault ≡ None
+from_live c es s id t before next (inl old) takes = before.goes_on id old.0 old.1 (old.2.live takes)
+from_live c es s id t before next (inr new) takes =
+    let opened : (id ≡ (world_after c es).ids + 1) × (length (world_after c es).sides < c.connections) = subst (OpensNext c (world_after c es)) new.1 next in
+    silent_stream c.limits.max_message id es (before.silent id (omega (arith, opened.0)))
+
+step_live : (c : ConfigValues) (es : List Event) (s : Step) (id : ℕ) (t : Side) → IsReached c es → OpensNext c (world_after c es) s → side_of id (world.step c.limits (world_after c es) s).sides ≡ Some t → takes_messages t.history.phase ≡ true → (stream_on c.limits.max_message id es).fault ≡ None
+step_live c es s id t before next e takes = from_live c es s id t before next (step_from c.limits (world_after c es) s id t e) takes
+
+-- an event with no bytes that makes one step
+step_reached : (c : ConfigValues) (es : List Event) (e : Event) (s : Step) → IsReached c es → steps_by c.limits.max_message es e ≡ s ∷ [] → OpensNext c (world_after c es) s → ((id : ℕ) → taken_in id e ≡ []) → IsReached c (es ++ e ∷ [])
+step_reached c es e s before one next none =
+    let w : World = world_after c es in
+    reached c (es ++ e ∷ []) (world.step c.limits w s) (world_step c es e s one) (record {
+      numbered = step_numbered c w s before.numbered next;
+      silent = silent_more c es e (world.step c.limits w s) before (ids_grow c w s next) (λ id h. none id);
+      goes_on = λ id t there takes. ap (λ (u : Stream). u.fault) (stream_same c.limits.max_message id es e (none id)) ∙ step_live c es s id t before next there takes;
+    })
+
+-- ---- a take
+
+-- where messages are handled, the stream has no fault
+pub handling_goes_on : (c : ConfigValues) (es : List Event) (id : ℕ) (s : Side) → IsReached c es → side_of id (world_after c es).sides ≡ Some s → handles s ≡ true → (stream_on c.limits.max_message id es).fault ≡ None
+handling_goes_on c es id s is there does = is.goes_on id s there (and_parts (takes_messages s.history.phase) (has_room s) does).0
+
+module _ (c : ConfigValues) (es : List Event) (id : ℕ) (bytes : List ℕ) (s : Side) (before : IsReached c es) (there : side_of id (world_after c es).sides ≡ Some s) where
+  abbrev most : ℕ
+  most = c.limits.max_message
+
+  abbrev then_on : ℕ → Stream
+  then_on n = stream_on most n (es ++ event.Took id bytes ∷ [])
+
+  -- a take of which this is the world afterwards
+  take_reached : (w : World) → world_after c (es ++ event.Took id bytes ∷ []) ≡ w → IsNumbered c w → (world_after c es).ids ≤ w.ids
+      → ((t : Side) → side_of id w.sides ≡ Some t → takes_messages t.history.phase ≡ true → (then_on id).fault ≡ None)
+      → ((n : ℕ) (t : Side) → side_of n w.sides ≡ Some t → takes_messages t.history.phase ≡ true → (stream_on most n es).fault ≡ None)
+      → IsReached c (es ++ event.Took id bytes ∷ [])
+  take_reached w is numbered grow own others =
+      let given : IsGivenNumber c (world_after c es).ids id = number_given c (world_after c es) id s before.numbered there in
+      reached c (es ++ event.Took id bytes ∷ []) w is (record {
+        numbered = numbered;
+        silent = silent_more c es (event.Took id bytes) w before grow (λ n h. taken_elsewhere n id bytes (λ (same : id ≡ n). omega (arith, given.within, h, same)));
+        goes_on = λ n t at takes. elim (cases_eq id n) [
+          | inl same ↦ subst (λ (k : ℕ). (then_on k).fault ≡ None) same (own t (ap (λ (k : ℕ). side_of k w.sides) same ∙ at) takes)
+          | inr apart ↦ ap (λ (u : Stream). u.fault) (stream_elsewhere most n id es bytes apart) ∙ others n t at takes
+        ];
+      })
+
+  -- one that makes no step
+  quiet_reached : steps_by most es (event.Took id bytes) ≡ [] → (takes_messages s.history.phase ≡ true → (then_on id).fault ≡ None) → IsReached c (es ++ event.Took id bytes ∷ [])
+  quiet_reached none own =
+      take_reached (world_after c es) (world_same c es (event.Took id bytes) none) before.numbered (omega arith)
+      (λ t at takes. own (let same : Some t ≡ Some s = sym at ∙ there in let is : t ≡ s = cc in ap (λ (u : Side). takes_messages u.history.phase) (sym is) ∙ takes))
+      before.goes_on
+
+  -- one that makes a step
+  stepped_reached : (st : Step) → steps_by most es (event.Took id bytes) ≡ st ∷ [] → OpensNext c (world_after c es) st
+      → ((t : Side) → side_of id (world.step c.limits (world_after c es) st).sides ≡ Some t → takes_messages t.history.phase ≡ true → (then_on id).fault ≡ None)
+      → IsReached c (es ++ event.Took id bytes ∷ [])
+  stepped_reached st one next own =
+      take_reached (world.step c.limits (world_after c es) st) (world_step c es (event.Took id bytes) st one)
+      (step_numbered c (world_after c es) st before.numbered next) (ids_grow c (world_after c es) st next)
+      own (λ n t at takes. step_live c es st n t before next at takes)
+
+  fault_of : (added : Stream) → Adds most id es bytes added → (then_on id).fault ≡ added.fault
+  fault_of added adds = ap (λ (u : Stream). u.fault) adds.stream
+
+  nothing_reached : (rest : List ℕ) → Adds most id es bytes (record { messages = []; rest = rest; fault = None }) → IsReached c (es ++ event.Took id bytes ∷ [])
+  nothing_reached rest adds = quiet_reached adds.steps (λ takes. fault_of _ adds)
+
+  message_reached : (m : Message) → Adds most id es bytes (record { messages = m ∷ []; rest = []; fault = None }) → IsReached c (es ++ event.Took id bytes ∷ [])
+  message_reached m adds = stepped_reached (world.Handled id m) adds.steps tt (λ t at takes. fault_of _ adds)
+
+  fault_reached : (rest : List ℕ) (fault : StreamFault) → handles s ≡ true → Adds most id es bytes (record { messages = []; rest = rest; fault = Some fault }) → IsReached c (es ++ event.Took id bytes ∷ [])
+  fault_reached rest fault does adds =
+      stepped_reached (world.Faulted id fault) adds.steps tt
+      (λ t at takes. absurd (let bad : true ≡ false = sym takes ∙ faulted_is_stopped c.limits (world_after c es) id fault s t there does at in cc))
+
+  -- a frame with what it spells
+  frame_reached : (frame : List ℕ) (read : Result Message FormatFault) → handles s ≡ true → (stream_on most id es).fault ≡ None → (framing most (stream_on most id es).rest bytes).finding ≡ AFrame frame → (framing most (stream_on most id es).rest bytes).taken ≡ length bytes → message_of frame ≡ read
+      → IsReached c (es ++ event.Took id bytes ∷ [])
+  frame_reached frame (Ok m) does none e all is = message_reached m (adds_message most id es bytes none frame m e all is)
+  frame_reached frame (Err f) does none e all is = fault_reached frame _ does (adds_bad most id es bytes none frame f e all is)
+
+  found_reached : (found : Finding) → handles s ≡ true → (stream_on most id es).fault ≡ None → (framing most (stream_on most id es).rest bytes).finding ≡ found → (framing most (stream_on most id es).rest bytes).taken ≡ length bytes
+      → IsReached c (es ++ event.Took id bytes ∷ [])
+  found_reached Nothing does none e all = nothing_reached _ (adds_nothing most id es bytes none e)
+  found_reached (AFrame frame) does none e all = frame_reached frame (message_of frame) does none e all refl
+  found_reached (AFault fault) does none e all = fault_reached _ _ does (adds_fault most id es bytes none fault e)
+
+  -- one of no bytes
+  no_bytes_reached : bytes ≡ [] → IsReached c (es ++ event.Took id bytes ∷ [])
+  no_bytes_reached none =
+      quiet_reached (ap (λ (b : List ℕ). steps_by most es (event.Took id b)) none ∙ no_bytes_steps most id es)
+      (λ takes. ap (λ (b : List ℕ). (stream_on most id (es ++ event.Took id b ∷ [])).fault) none ∙ ap (λ (u : Stream). u.fault) (no_bytes_stream most id es) ∙ before.goes_on id s there takes)
+
+  -- all bytes of what the connection takes
+  whole_reached : (does : Bool) → handles s ≡ does → cond does (front_of most (stream_on most id es).rest bytes) 0 ≡ length bytes → IsReached c (es ++ event.Took id bytes ∷ [])
+  whole_reached true e all = found_reached (framing most (stream_on most id es).rest bytes).finding e (handling_goes_on c es id s before there e) refl all
+  whole_reached false e all = no_bytes_reached (nil_from_length bytes (sym all))
+
+-- what is taken of a piece, where this connection is there
+pub takes_there : (c : ConfigValues) (es : List Event) (id : ℕ) (piece : List ℕ) (s : Side) → side_of id (world_after c es).sides ≡ Some s → takes c es id piece ≡ cond (handles s) (front_of c.limits.max_message (stream_on c.limits.max_message id es).rest piece) 0
+unfolding takes
+takes_there c es id piece s there = ap (takes_of c.limits.max_message (stream_on c.limits.max_message id es).rest piece) there
+
+took_reached : (c : ConfigValues) (es : List Event) (id : ℕ) (bytes : List ℕ) (there : Option Side) → side_of id (world_after c es).sides ≡ there → IsReached c es → IfSide there (λ s. takes c es id bytes ≡ length bytes) → IsReached c (es ++ event.Took id bytes ∷ [])
+took_reached c es id bytes None e before all = absurd all
+took_reached c es id bytes (Some s) e before all = whole_reached c es id bytes s before e (handles s) refl (sym (takes_there c es id bytes s e) ∙ all)
+
+-- ---- any event
+
+event_reached : (c : ConfigValues) (es : List Event) (e : Event) → IsReached c es → IsAccepted c es e → IsReached c (es ++ e ∷ [])
+unfolding IsAccepted steps_by
+event_reached c es (event.Opened id) before is = step_reached c es (event.Opened id) (world.Opened id) before refl (is.0, is.2) (λ n. refl)
+event_reached c es (event.Took id bytes) before is = took_reached c es id bytes (side_of id (world_after c es).sides) refl before is
+event_reached c es (event.Wrote id n) before is = step_reached c es (event.Wrote id n) (world.Written id n) before refl tt (λ k. refl)
+event_reached c es (event.Ticked now) before is = step_reached c es (event.Ticked now) (world.Ticked now) before refl tt (λ k. refl)
+event_reached c es (event.Stored path format bytes) before is = step_reached c es (event.Stored path format bytes) (world.Stored path format bytes) before refl tt (λ k. refl)
+event_reached c es (event.Removed path) before is = step_reached c es (event.Removed path) (world.Removed path) before refl tt (λ k. refl)
+event_reached c es (event.Ended id) before is = step_reached c es (event.Ended id) _ before refl tt (λ k. refl)
+event_reached c es (event.Released id) before is = step_reached c es (event.Released id) (world.Released id) before refl tt (λ k. refl)
+event_reached c es (event.Dropped id) before is = step_reached c es (event.Dropped id) (world.Dropped id) before refl tt (λ k. refl)
+
+-- each list of accepted events leads to such a world
+pub accepted_is : (c : ConfigValues) (es : List Event) → AreAccepted c es → IsReached c es
+accepted_is c es all = by_events c (λ fs. IsReached c fs) (first_reached c) (λ fs e accepted is before. event_reached c fs e before is) es all
+
+-- the same of each connection
+pub each_goes_on : (c : ConfigValues) (es : List Event) → IsReached c es → AllByRecursion (λ p. takes_messages p.side.history.phase ≡ true → (stream_on c.limits.max_message p.id es).fault ≡ None) (world_after c es).sides
+each_goes_on c es is =
+    of_each (λ id s. takes_messages s.history.phase ≡ true → (stream_on c.limits.max_message id es).fault ≡ None) (world_after c es).sides is.world.distinct is.goes_on
+
+-- ---- which takes are accepted
+
+takes_accepted : (c : ConfigValues) (es : List Event) (id : ℕ) (bytes : List ℕ) (s : Side) → side_of id (world_after c es).sides ≡ Some s → takes c es id bytes ≡ length bytes → IsAccepted c es (event.Took id bytes)
+unfolding IsAccepted
+takes_accepted c es id bytes s there all = subst (λ (o : Option Side). IfSide o (λ t. takes c es id bytes ≡ length bytes)) (sym there) all
+
+module _ (c : ConfigValues) (es : List Event) (id : ℕ) (piece : List ℕ) (s : Side) (there : side_of id (world_after c es).sides ≡ Some s) (handling : handles s ≡ true) where
+  abbrev pub so_far : Stream
+  so_far = stream_on c.limits.max_message id es
+
+  takes_handling : (bytes : List ℕ) → takes c es id bytes ≡ front_of c.limits.max_message so_far.rest bytes
+  takes_handling bytes = takes_there c es id bytes s there ∙ ap (λ (does : Bool). cond does (front_of c.limits.max_message so_far.rest bytes) 0) handling
+
+  -- what a connection that handles messages takes of a piece
+  pub front_accepted : so_far.fault ≡ None → IsAccepted c es (event.Took id (take (front_of c.limits.max_message so_far.rest piece) piece))
+  front_accepted none = takes_accepted c es id _ s there (takes_handling _ ∙ piece_whole c.limits.max_message id es piece none)
+
+  -- and where that ends a frame, the bytes but the last
+  pub but_last_accepted : (frame : List ℕ) → so_far.fault ≡ None → (framing c.limits.max_message so_far.rest piece).finding ≡ AFrame frame → IsAccepted c es (event.Took id (without_last (take (front_of c.limits.max_message so_far.rest piece) piece)))
+  but_last_accepted frame none e = takes_accepted c es id _ s there (takes_handling _ ∙ but_last_whole c.limits.max_message id es piece none frame e)
+
+-- where none is taken, no byte is
+pub nothing_accepted : (c : ConfigValues) (es : List Event) (id : ℕ) (s : Side) → side_of id (world_after c es).sides ≡ Some s → handles s ≡ false → IsAccepted c es (event.Took id [])
+nothing_accepted c es id s there stopped =
+    takes_accepted c es id [] s there (takes_there c es id [] s there ∙ ap (λ (does : Bool). cond does (front_of c.limits.max_message (stream_on c.limits.max_message id es).rest []) 0) stopped)
+
+piece_by : (c : ConfigValues) (es : List Event) (id : ℕ) (piece : List ℕ) (s : Side) (does : Bool) → IsReached c es → side_of id (world_after c es).sides ≡ Some s → handles s ≡ does → IsAccepted c es (event.Took id (take (cond does (front_of c.limits.max_message (stream_on c.limits.max_message id es).rest piece) 0) piece))
+piece_by c es id piece s true is there e = front_accepted c es id piece s there e (handling_goes_on c es id s is there e)
+piece_by c es id piece s false is there e = nothing_accepted c es id s there e
+
+-- what a connection takes of any piece makes an accepted event
+pub piece_accepted : (c : ConfigValues) (es : List Event) (id : ℕ) (piece : List ℕ) (s : Side) → IsReached c es → side_of id (world_after c es).sides ≡ Some s → IsAccepted c es (event.Took id (take (takes c es id piece) piece))
+piece_accepted c es id piece s is there =
+    subst (λ (n : ℕ). IsAccepted c es (event.Took id (take n piece))) (sym (takes_there c es id piece s there)) (piece_by c es id piece s (handles s) is there refl)

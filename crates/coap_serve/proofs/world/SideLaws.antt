@@ -1,0 +1,183 @@
+-- A connection of the world and the code's value of it do the same.
+use Rattle.std.proofs.Common.{◌≡◌, ℕ, ◌≤◌, Bool, true, false, cond, List, [], length, map, Option, None, refl, sym, ap, ◌∙◌}
+use Rattle.std.specs.Prelude.{◌&&◌, is_none, nat_le, nat_lt}
+use Rattle.std.specs.List.{AllByRecursion}
+use Rattle.std.proofs.lemmas.Bool.{and_parts, cond-true, le-leb}
+use Rattle.std.proofs.lemmas.List.{length-map}
+use Rattle.coap_wire.specs.Message.{Message}
+use Rattle.coap_wire.specs.Stream.{StreamFault}
+use Rattle.coap_conn.specs.declared.phase.SendFault.{SendFault}
+use Rattle.coap_conn.specs.Phases.{takes_messages, is_open}
+use Rattle.coap_conn.specs.Fit.{fit, bare_response}
+use Rattle.coap_conn.specs.Rejects.{reject_of}
+use Rattle.coap_conn.specs.Release.{release_refusal}
+use Rattle.coap_conn.specs.History.{History, IsHistory, limit_now, after_message, after_reply, after_reject, after_end, after_release, after_written}
+use Rattle.coap_conn.specs.LinkValue.{LinkValue, link_of, link_after_message, link_after_reply, link_after_end}
+use Rattle.coap_store.specs.Store.{StoreValue}
+use Rattle.coap_store.specs.Requests.{path_of}
+use Rattle.coap_store.specs.Answer.{Answer, Nothing, prompt_answer}
+use Rattle.coap_store.specs.Messages.{response_with_observe}
+use Rattle.coap_store.specs.declared.plan.Watch.{Watch}
+use Rattle.coap_store.specs.declared.plan.Watch.TheVariants as watch
+use Rattle.coap_serve.specs.declared.host.Host.{Host}
+use Rattle.coap_serve.specs.histories.Serving.{is_cut}
+use Rattle.coap_serve.specs.values.Sessions.{ObserverValue, session_takes, session_with, new_entry, session_answered, session_answered_as, session_handled, change_by, session_rejected, session_written, session_ended, session_released, without_entry}
+use Rattle.coap_serve.specs.world.Observers.{Observer, without_token, asks_entry, has_place, entry_for, is_whole, with_entry}
+use Rattle.coap_serve.specs.world.Sides.{Side, handles, waiting_on, has_room, side_with, with_history, answered_among, side_answered, asks_answer, side_handled, side_after, change_after, side_faulted, side_written, side_ended, side_released}
+use Rattle.coap_serve.specs.world.Shows.{observer_shown, kept_on, session_shown}
+use Rattle.coap_serve.proofs.world.KnownLaws.{IsKnown, IsVersioned, IsWatchable, mark_now, entry_watchable}
+use Rattle.coap_serve.proofs.world.EntryLemmas.{without_shown, entered_shown}
+use Rattle.coap_serve.proofs.world.GoingOn.{end_goes_on, release_goes_on, message_goes_on, message_link, reply_link, reject_link, end_link, release_link, written_link, rejected_over}
+
+-- what a host holds
+abbrev pub host_of : StoreValue → ℕ → Host
+host_of store now = record { store = store; now = now }
+
+-- each observer was told a state of its path
+abbrev pub AreKnown : StoreValue → List Observer → Type 0
+AreKnown store observers = AllByRecursion (IsKnown store) observers
+
+-- what is known of a connection
+pub record IsKnownSide (store : StoreValue) (s : Side) : Type 0 where
+  pub is_history : IsHistory s.history
+  pub told : AreKnown store s.observers
+
+-- ---- what is kept where the connection is open, or takes messages
+
+shown_if : (b : Bool) (os : List Observer) → map observer_shown (cond b os []) ≡ cond b (map observer_shown os) []
+shown_if true os = refl
+shown_if false os = refl
+
+-- what is left of a connection after a call shows as what is left of its value
+pub shown_with : (rest : List ℕ) (h : History) (os : List Observer) → session_shown rest (side_with h os) ≡ session_with rest (link_of h) (map observer_shown os)
+shown_with rest h os = ap (λ vs. record { frame = cond (takes_messages h.phase) rest []; link = link_of h; observers = vs }) (shown_if (is_open h.phase) os)
+
+-- where no message is taken, no frame is kept
+pub any_frame : (f g : List ℕ) (l : LinkValue) (vs : List ObserverValue) → takes_messages l.phase ≡ false → session_with f l vs ≡ session_with g l vs
+any_frame f g l vs e = rw e refl
+
+pub kept_frame : (s : Side) (rest : List ℕ) (l : LinkValue) (vs : List ObserverValue) → (takes_messages s.history.phase ≡ false → takes_messages l.phase ≡ false) → session_with rest l vs ≡ session_with (kept_on s rest) l vs
+kept_frame s rest l vs over =
+    elim (takes_messages s.history.phase) as (λ b. takes_messages s.history.phase ≡ b → session_with rest l vs ≡ session_with (cond b rest []) l vs) [
+      | true ↦ λ e. refl
+      | false ↦ λ e. any_frame rest [] l vs (over e)
+    ] refl
+
+-- a side that is not open any more has no observers
+pub closed_is_empty : (h : History) (os : List Observer) → is_open h.phase ≡ false → (side_with h os).observers ≡ []
+closed_is_empty h os e = rw e refl
+
+-- ---- what is seen
+
+pub handles_shown : (rest : List ℕ) (s : Side) → handles s ≡ session_takes (session_shown rest s)
+handles_shown rest s = refl
+
+pub handles_parts : (s : Side) → handles s ≡ true → (takes_messages s.history.phase ≡ true) × (has_room s ≡ true)
+handles_parts s e = and_parts (takes_messages s.history.phase) (has_room s) e
+
+-- ---- what needs no resource
+
+pub faulted_shown : (rest left : List ℕ) (s : Side) (fault : StreamFault) → IsHistory s.history → handles s ≡ true → session_shown left (side_faulted s fault) ≡ session_rejected (session_shown rest s) (reject_of fault)
+unfolding side_faulted
+faulted_shown rest left s fault is e =
+    let h = after_reject s.history (reject_of fault) in
+    let vs = map observer_shown s.observers in
+    ap (session_shown left) (cond-true (handles s) (with_history s h) s e)
+    ∙ shown_with left h s.observers
+    ∙ any_frame left [] (link_of h) vs (rejected_over s.history (reject_of fault) (handles_parts s e).0)
+    ∙ ap (λ l. session_with [] l vs) (reject_link s.history (reject_of fault) is)
+
+-- it takes no message any more
+pub faulted_over : (s : Side) (fault : StreamFault) → handles s ≡ true → takes_messages (side_faulted s fault).history.phase ≡ false
+unfolding side_faulted
+faulted_over s fault e =
+    ap (λ (t : Side). takes_messages t.history.phase) (cond-true (handles s) (with_history s (after_reject s.history (reject_of fault))) s e)
+    ∙ rejected_over s.history (reject_of fault) (handles_parts s e).0
+
+pub written_shown : (rest : List ℕ) (s : Side) (n : ℕ) → IsHistory s.history → n ≤ length (waiting_on s) → session_shown rest (side_written s n) ≡ session_written (session_shown rest s) n
+unfolding side_written
+written_shown rest s n is within =
+    ap (session_shown rest) (cond-true (nat_le n (length (waiting_on s))) (record s { history = after_written s.history n }) s (le-leb n (length (waiting_on s)) within))
+    ∙ ap (λ l. record (session_shown rest s) { link = l }) (written_link s.history n within is)
+
+ended_by : (rest : List ℕ) (s : Side) (takes : Bool) → IsHistory s.history → takes_messages s.history.phase ≡ takes
+    → session_shown rest (with_history s (after_end s.history (is_cut rest))) ≡ session_with (cond takes rest []) (link_after_end (link_of s.history) (is_cut (cond takes rest []))) (map observer_shown s.observers)
+ended_by rest s true is e =
+    shown_with rest (after_end s.history (is_cut rest)) s.observers ∙ ap (λ l. session_with rest l (map observer_shown s.observers)) (end_link s.history (is_cut rest) is)
+ended_by rest s false is e =
+    let l = link_of s.history in
+    let vs = map observer_shown s.observers in
+    let h = after_end s.history (is_cut rest) in
+    shown_with rest h s.observers
+    ∙ any_frame rest [] (link_of h) vs ((end_goes_on s.history (is_cut rest)).over e)
+    ∙ ap (λ k. session_with [] k vs) (end_link s.history (is_cut rest) is)
+    ∙ ap (λ k. session_with [] k vs) (stays (is_cut rest) ∙ sym (stays (is_cut [])))
+  where
+    stays : (cut : Bool) → link_after_end (link_of s.history) cut ≡ link_of s.history
+    stays cut = rw e refl
+
+-- the input ends within a frame where bytes of one are left
+pub ended_shown : (rest : List ℕ) (s : Side) → IsHistory s.history → session_shown rest (side_ended s (is_cut rest)) ≡ session_ended (session_shown rest s)
+unfolding side_ended
+ended_shown rest s is = ended_by rest s (takes_messages s.history.phase) is refl
+
+pub released_shown : (rest : List ℕ) (s : Side) → IsHistory s.history → release_refusal (link_of s.history) ≡ None → session_shown rest (side_released s) ≡ session_released (session_shown rest s)
+unfolding side_released
+released_shown rest s is none =
+    let h = after_release s.history in
+    let vs = map observer_shown s.observers in
+    ap (session_shown rest) (cond-true (is_none (release_refusal (link_of s.history))) (with_history s h) s (ap (λ (o : Option SendFault). is_none o) none))
+    ∙ shown_with rest h s.observers
+    ∙ kept_frame s rest (link_of h) vs (release_goes_on s.history).over
+    ∙ ap (λ l. session_with (kept_on s rest) l vs) (release_link s.history is)
+
+-- ---- a message
+
+pub asks_to_enter : (asked : Watch) → asks_entry asked ≡ true → asked ≡ watch.Add
+asks_to_enter watch.Nothing e = absurd cc
+asks_to_enter watch.Add e = refl
+asks_to_enter watch.Drop e = absurd cc
+
+module _ (store : StoreValue) (now : ℕ) (small : now ≤ 18446744073709551615) (is : IsVersioned store) where
+  entry_shown : (m : Message) → IsWatchable store now (path_of m) → observer_shown (entry_for store now m) ≡ new_entry (host_of store now) m
+  entry_shown m can = ap (λ mark. record (new_entry (host_of store now) m) { mark = mark }) (mark_now store now (path_of m) small is can)
+
+  answered_among_shown : (h : History) (os : List Observer) (m : Message) (a : Answer) (observes : Bool) → IsHistory h → (observes ≡ true → IsWatchable store now (path_of m))
+      → session_shown [] (answered_among store now h os m a observes) ≡ session_answered_as (host_of store now) (link_of h) (map observer_shown os) m a observes
+  answered_among_shown h os m a observes history can =
+      let response = response_with_observe m.token observes a.response in
+      let enters = observes && is_whole (fit (limit_now h) response (bare_response response)) in
+      let entry = entry_for store now m in
+      shown_with [] (after_reply h response) (with_entry enters os entry)
+      ∙ ap (λ l. session_with [] l (map observer_shown (with_entry enters os entry))) (reply_link h response history)
+      ∙ ap (session_with [] (link_after_reply (link_of h) response))
+      (entered_shown enters os entry (new_entry (host_of store now) m) (λ e. entry_shown m (can (and_parts observes (is_whole (fit (limit_now h) response (bare_response response))) e).0)))
+
+  answered_shown : (h : History) (os : List Observer) (m : Message) (a : Answer) → IsHistory h → (a.watch ≡ watch.Add → IsWatchable store now (path_of m))
+      → session_shown [] (side_answered store now h os m a) ≡ session_answered (host_of store now) (link_of h) (map observer_shown os) m a
+  answered_shown h os m a history can =
+      answered_among_shown h os m a (has_place h.limits.observers os a.watch) history
+      (λ e. can (asks_to_enter a.watch (and_parts (asks_entry a.watch) (nat_lt (length os) h.limits.observers) e).0))
+      ∙ ap (λ n. session_answered_as (host_of store now) (link_of h) (map observer_shown os) m a (asks_entry a.watch && nat_lt n h.limits.observers)) (sym (length-map os observer_shown))
+
+  handled_by : (rest : List ℕ) (s : Side) (m : Message) (asks : Bool) → IsHistory s.history
+      → session_shown [] (cond asks (side_answered store now (after_message s.history m) (without_token m.token s.observers) m (prompt_answer store now m)) (with_history s (after_message s.history m)))
+      ≡ cond asks (session_answered (host_of store now) (link_after_message (link_of s.history) m) (without_entry m.token (map observer_shown s.observers)) m (prompt_answer store now m)) (session_with [] (link_after_message (link_of s.history) m) (map observer_shown s.observers))
+  handled_by rest s m true history =
+      let h = after_message s.history m in
+      let a = prompt_answer store now m in
+      answered_shown h (without_token m.token s.observers) m a ((message_goes_on s.history m).history history) (entry_watchable store now m)
+      ∙ ap (λ vs. session_answered (host_of store now) (link_of h) vs m a) (without_shown m.token s.observers)
+      ∙ ap (λ l. session_answered (host_of store now) l (without_entry m.token (map observer_shown s.observers)) m a) (message_link s.history m history)
+  handled_by rest s m false history =
+      shown_with [] (after_message s.history m) s.observers ∙ ap (λ l. session_with [] l (map observer_shown s.observers)) (message_link s.history m history)
+
+  -- a message that is handled
+  pub handled_shown : (rest : List ℕ) (s : Side) (m : Message) → IsHistory s.history → handles s ≡ true → session_shown [] (side_after store now s m) ≡ session_handled (host_of store now) (session_shown rest s) m
+  unfolding side_after session_handled
+  handled_shown rest s m history e =
+      ap (session_shown []) (cond-true (handles s) (side_handled store now s m) s e) ∙ handled_by rest s m (asks_answer s m) history
+
+pub change_shown : (store : StoreValue) (now : ℕ) (s : Side) (m : Message) → handles s ≡ true → change_after store now s m ≡ change_by (host_of store now) (link_of s.history) m
+unfolding change_after
+change_shown store now s m e = ap (λ b. cond (b && asks_answer s m) (prompt_answer store now m).change Nothing) e

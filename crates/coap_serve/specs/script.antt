@@ -1,0 +1,7 @@
+pub mod Words
+pub mod Events
+pub mod Script
+pub mod EventViews
+pub mod Lines
+pub mod Replay
+pub mod Replayed

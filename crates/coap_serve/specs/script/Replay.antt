@@ -1,0 +1,142 @@
+-- What the events of a script do to a server, and the lines that they write (own definition).
+use Rattle.std.specs.Prelude.{ℕ, zero, suc, ◌+◌, Bool, false, not, ◌&&◌, List, [], ◌∷◌, ◌++◌, length, take, drop, Option, Some, None, option_map, nat_le, nat_lt, ◌==◌, codes, if◌then◌else◌}
+use Rattle.coap_conn.specs.Phases.{stop_of}
+use Rattle.coap_conn.specs.Reasons.{reason_number}
+use Rattle.coap_store.specs.Refusals.{put_refusal, remove_refusal}
+use Rattle.coap_store.specs.declared.fault.StoreFault.{StoreFault}
+use Rattle.coap_store.specs.declared.fault.StoreFault.TheVariants as storing
+use Rattle.coap_serve.specs.script.Events.{EventValue, Open, In, Drain, Tick, Put, Remove, End, Release, Drop, Status}
+use Rattle.coap_serve.specs.script.Lines.{open_line, in_line, out_line, tick_line, put_line, remove_line, word_line, status_line, fault_line}
+use Rattle.coap_serve.specs.values.Sessions.{SessionValue}
+use Rattle.coap_serve.specs.values.Servers.{ServerValue, session_of, server_opened, server_taken, count_taken, server_written, server_ticked, server_put, server_removed, server_ended, server_released, server_dropped}
+use Rattle.coap_serve.specs.values.ServerAnswers.{open_refusal, released_refusal}
+use Rattle.coap_serve.specs.declared.server.OpenFault.{OpenFault}
+use Rattle.coap_serve.specs.declared.server.OpenFault.TheVariants as opening
+use Rattle.coap_serve.specs.declared.server.ReleaseFault.{ReleaseFault}
+use Rattle.coap_serve.specs.declared.server.ReleaseFault.TheVariants as releasing
+
+-- what events come to: the server after them, and what they write
+pub record Ran : Type 0 where
+  pub server : ServerValue
+  pub text : List ℕ
+
+abbrev pub comes_to : ServerValue → List ℕ → Ran
+comes_to v line = record { server = v; text = line }
+
+-- ---- the numbers of refusals
+
+abbrev pub open_number : OpenFault → ℕ
+open_number opening.Full = 1
+open_number opening.IdsSpent = 2
+open_number opening.Memory = 3
+
+abbrev pub store_number : StoreFault → ℕ
+store_number storing.NoSuch = 1
+store_number storing.TooLarge = 2
+store_number storing.Limit = 3
+store_number storing.BadPath = 4
+store_number storing.VersionsSpent = 5
+store_number storing.Memory = 6
+
+abbrev pub release_number : ReleaseFault → ℕ
+release_number releasing.NoSuch = 1
+release_number releasing.NotOpen = 2
+release_number releasing.NoRoom = 3
+release_number releasing.PeerTooSmall = 4
+
+-- the moment does not go back
+abbrev pub tick_refusal : ServerValue → ℕ → Option ℕ
+tick_refusal v now = if nat_le v.host.now now then None else Some 1
+
+-- ---- refusals
+
+-- a refusal changes nothing
+abbrev pub refused : ServerValue → List ℕ → Option ℕ → ℕ → Ran
+refused v word id number = comes_to v (fault_line word id number)
+
+-- what an event comes to, or its refusal with a number
+abbrev pub unless_refused : ServerValue → List ℕ → Option ℕ → Ran → Option ℕ → Ran
+unless_refused v word id does None = does
+unless_refused v word id does (Some number) = refused v word id number
+
+-- what an event comes to on a connection, which is refused with 1 where none has the number
+abbrev pub on_connection : ServerValue → List ℕ → ℕ → (SessionValue → Ran) → Option SessionValue → Ran
+on_connection v word id does None = refused v word (Some id) 1
+on_connection v word id does (Some s) = does s
+
+-- ---- `in`: takes, until the bytes are used up or one takes none
+
+-- the server after some takes, how many bytes they took, and whether the last one took none
+pub record Fed : Type 0 where
+  pub server : ServerValue
+  pub count : ℕ
+  pub done : Bool
+
+abbrev pub unfed : ServerValue → Fed
+unfed v = record { server = v; count = 0; done = false }
+
+-- one more take, of the bytes that are left
+abbrev pub fed_more : ℕ → List ℕ → Fed → Fed
+fed_more id left f = record { server = server_taken f.server id left; count = f.count + count_taken f.server id left; done = count_taken f.server id left == 0 }
+
+-- bytes are left, and the last take took some
+abbrev pub goes_on : List ℕ → Fed → Bool
+goes_on bytes f = nat_lt f.count (length bytes) && not f.done
+
+abbrev pub fed_once : ℕ → List ℕ → Fed → Fed
+fed_once id bytes f = if goes_on bytes f then fed_more id (drop f.count bytes) f else f
+
+unfoldable pub fed_turns : ℕ → ServerValue → ℕ → List ℕ → Fed
+fed_turns zero v id bytes = unfed v
+fed_turns (suc turns) v id bytes = fed_once id bytes (fed_turns turns v id bytes)
+
+-- Each take but the last takes a byte at least, so no more turns are needed than there are bytes.
+abbrev pub fed : ServerValue → ℕ → List ℕ → Fed
+fed v id bytes = fed_turns (length bytes) v id bytes
+
+-- the number of the reason for which a connection takes no message any more
+abbrev pub stop_number : Option SessionValue → Option ℕ
+stop_number None = None
+stop_number (Some s) = option_map reason_number (stop_of s.link.phase)
+
+abbrev pub in_ran : ℕ → Fed → Ran
+in_ran id f = comes_to f.server (in_line id f.count (stop_number (session_of id f.server.sessions)))
+
+-- ---- `drain` and `status`
+
+-- the bytes that are written of those that wait: all, or at most so many
+abbrev pub drained : Option ℕ → List ℕ → List ℕ
+drained None waiting = waiting
+drained (Some most) waiting = take most waiting
+
+abbrev pub drain_ran : ServerValue → ℕ → List ℕ → Ran
+drain_ran v id bytes = comes_to (server_written v id (length bytes)) (out_line id bytes)
+
+-- no request is pending yet
+abbrev pub status_ran : ServerValue → ℕ → SessionValue → Ran
+status_ran v id s = comes_to v (status_line id s.link.phase (length s.frame) (length s.link.waiting) 0 (length s.observers))
+
+-- ---- events
+
+-- what an event does to a server, and its line
+unfoldable pub event_ran : ServerValue → EventValue → Ran
+event_ran v Open = unless_refused v (codes "open") None (comes_to (server_opened v) (open_line (v.ids + 1))) (option_map open_number (open_refusal v))
+event_ran v (In id bytes) = on_connection v (codes "in") id (λ s. in_ran id (fed v id bytes)) (session_of id v.sessions)
+event_ran v (Drain id most) = on_connection v (codes "drain") id (λ s. drain_ran v id (drained most s.link.waiting)) (session_of id v.sessions)
+event_ran v (Tick now) = unless_refused v (codes "tick") None (comes_to (server_ticked v now) (tick_line now)) (tick_refusal v now)
+event_ran v (Put path format bytes) =
+    unless_refused v (codes "put") None (comes_to (server_put v path format bytes) (put_line (v.host.store.versions + 1))) (option_map store_number (put_refusal v.host.store path bytes))
+event_ran v (Remove path text) = unless_refused v (codes "remove") None (comes_to (server_removed v path) (remove_line text)) (option_map store_number (remove_refusal v.host.store path))
+event_ran v (End id) = on_connection v (codes "end") id (λ s. comes_to (server_ended v id) (word_line (codes "end") id)) (session_of id v.sessions)
+event_ran v (Release id) = unless_refused v (codes "release") (Some id) (comes_to (server_released v id) (word_line (codes "release") id)) (option_map release_number (released_refusal v id))
+event_ran v (Drop id) = on_connection v (codes "drop") id (λ s. comes_to (server_dropped v id) (word_line (codes "drop") id)) (session_of id v.sessions)
+event_ran v (Status id) = on_connection v (codes "status") id (status_ran v id) (session_of id v.sessions)
+
+-- what stands before what more events write
+abbrev pub behind : List ℕ → Ran → Ran
+behind before r = comes_to r.server (before ++ r.text)
+
+-- the server after all events, one after the other, and all their lines
+unfoldable pub replayed : ServerValue → List EventValue → Ran
+replayed v [] = comes_to v []
+replayed v (e ∷ es) = behind (event_ran v e).text (replayed (event_ran v e).server es)

@@ -1,0 +1,114 @@
+-- A server as the code holds it, and what its calls do to it.
+use Rattle.std.specs.Prelude.{◌≡◌, ℕ, zero, suc, ◌+◌, ◌<◌, Bool, true, false, not, List, [], ◌∷◌, ◌++◌, length, map, filter, Option, Some, None, slice_get, nat_eq, ◌==◌, if◌then◌else◌}
+use Rattle.std.specs.List.{AllByRecursion, IsDistinct, position_or_len}
+use Rattle.std.specs.Map.{keys_of, values_of}
+use Rattle.coap_store.specs.Paths.{Path}
+use Rattle.coap_store.specs.Store.{put_in, removed_in}
+use Rattle.coap_serve.specs.Configs.{ConfigValues}
+use Rattle.coap_serve.specs.declared.host.Host.{Host}
+use Rattle.coap_serve.specs.values.Sessions.{SessionValue, Taking, new_session, taking, host_changed, session_written, session_ended, session_released, session_settled, IsSettled}
+
+-- the configuration, the resources and the moment, the number given last, and the connections in order of their numbers
+pub record ServerValue : Type 0 where
+  pub config : ConfigValues
+  pub host : Host
+  pub ids : ℕ
+  pub sessions : List (ℕ × SessionValue)
+
+-- ---- connections
+
+unfoldable pub session_of : ℕ → List (ℕ × SessionValue) → Option SessionValue
+session_of id [] = None
+session_of id (e ∷ es) = if e.0 == id then Some e.1 else session_of id es
+
+abbrev pub session_becomes : ℕ → (SessionValue → SessionValue) → ℕ × SessionValue → ℕ × SessionValue
+session_becomes id f e = if e.0 == id then (e.0, f e.1) else e
+
+-- something happens to the connection at an index
+unfoldable pub changed_at : ℕ → (SessionValue → SessionValue) → List (ℕ × SessionValue) → List (ℕ × SessionValue)
+changed_at i f [] = []
+changed_at zero f (e ∷ es) = (e.0, f e.1) ∷ es
+changed_at (suc i) f (e ∷ es) = e ∷ changed_at i f es
+
+-- the connection with this number lies at this index, and each has a number of its own
+pub record LiesAt (id i : ℕ) (sessions : List (ℕ × SessionValue)) : Type 0 where
+  pub distinct : IsDistinct nat_eq (keys_of sessions)
+  pub index : position_or_len (nat_eq id) (keys_of sessions) ≡ i
+  pub within : i < length sessions
+  pub found : session_of id sessions ≡ slice_get (values_of sessions) i
+
+-- something happens to a connection
+abbrev pub on_session : ℕ → (SessionValue → SessionValue) → ServerValue → ServerValue
+on_session id f v = record v { sessions = map (session_becomes id f) v.sessions }
+
+abbrev pub settled_entry : Host → ℕ × SessionValue → ℕ × SessionValue
+settled_entry host e = (e.0, session_settled host e.1)
+
+-- every connection settles
+abbrev pub server_settled : ServerValue → ServerValue
+server_settled v = record v { sessions = map (settled_entry v.host) v.sessions }
+
+-- every connection is settled
+abbrev pub AreSettled : Host → List (ℕ × SessionValue) → Type 0
+AreSettled host sessions = AllByRecursion (λ e. IsSettled host e.1) sessions
+
+-- ---- what is seen
+
+-- whether a connection has this number
+abbrev pub is_there : {A : Type 0} → Option A → Bool
+is_there None = false
+is_there (Some x) = true
+
+-- ---- calls
+
+-- a new server has no connection, and stores nothing
+abbrev pub new_server : ConfigValues → ServerValue
+new_server c = record {
+  config = c;
+  host = record { store = record { dynamic_max = c.dynamic_max; rep_max = c.rep_max; resources = []; versions = c.starts.versions }; now = c.starts.moment };
+  ids = c.starts.ids;
+  sessions = [];
+}
+
+abbrev pub server_opened : ServerValue → ServerValue
+server_opened v = server_settled (record v { ids = v.ids + 1; sessions = v.sessions ++ (v.ids + 1, new_session v.config.limits) ∷ [] })
+
+abbrev pub server_taken_so : ServerValue → ℕ → Taking → ServerValue
+server_taken_so v id t = server_settled (record (on_session id (λ s. t.session) v) { host = host_changed v.host t.change })
+
+abbrev pub server_taken_on : ServerValue → ℕ → List ℕ → Option SessionValue → ServerValue
+server_taken_on v id piece None = v
+server_taken_on v id piece (Some s) = server_taken_so v id (taking v.host s piece)
+
+-- the server that took what it takes of a piece
+unfoldable pub server_taken : ServerValue → ℕ → List ℕ → ServerValue
+server_taken v id piece = server_taken_on v id piece (session_of id v.sessions)
+
+-- how many bytes it takes
+abbrev pub count_on : ServerValue → List ℕ → Option SessionValue → ℕ
+count_on v piece None = 0
+count_on v piece (Some s) = (taking v.host s piece).count
+
+unfoldable pub count_taken : ServerValue → ℕ → List ℕ → ℕ
+count_taken v id piece = count_on v piece (session_of id v.sessions)
+
+abbrev pub server_written : ServerValue → ℕ → ℕ → ServerValue
+server_written v id n = server_settled (on_session id (λ s. session_written s n) v)
+
+abbrev pub server_ticked : ServerValue → ℕ → ServerValue
+server_ticked v now = server_settled (record v { host = record v.host { now = now } })
+
+abbrev pub server_put : ServerValue → Path → Option ℕ → List ℕ → ServerValue
+server_put v path format bytes = server_settled (record v { host = record v.host { store = put_in v.host.store path format bytes } })
+
+abbrev pub server_removed : ServerValue → Path → ServerValue
+server_removed v path = server_settled (record v { host = record v.host { store = removed_in v.host.store path } })
+
+abbrev pub server_ended : ServerValue → ℕ → ServerValue
+server_ended v id = server_settled (on_session id session_ended v)
+
+abbrev pub server_released : ServerValue → ℕ → ServerValue
+server_released v id = server_settled (on_session id session_released v)
+
+abbrev pub server_dropped : ServerValue → ℕ → ServerValue
+server_dropped v id = server_settled (record v { sessions = filter (λ e. not (e.0 == id)) v.sessions })

@@ -1,0 +1,5 @@
+pub mod Observers
+pub mod Sides
+pub mod World
+pub mod Events
+pub mod Shows

@@ -1,0 +1,58 @@
+-- Which world a server shows: the server as the code holds it, computed from the events alone.
+use Rattle.std.specs.Prelude.{◌≡◌, ℕ, ◌≤◌, List, [], map, Option, Some, None, if◌then◌else◌, ◌==◌, ◌∷◌, ◌++◌, take}
+use Rattle.std.specs.Str.Parse.{digits_value}
+use Rattle.coap_conn.specs.LinkValue.{link_of}
+use Rattle.coap_conn.specs.Phases.{takes_messages}
+use Rattle.coap_store.specs.Store.{Representation}
+use Rattle.coap_serve.specs.Configs.{ConfigValues}
+use Rattle.coap_serve.specs.values.Sessions.{ObserverValue, SessionValue}
+use Rattle.coap_serve.specs.values.Servers.{ServerValue}
+use Rattle.coap_serve.specs.world.Observers.{Observer, format_of}
+use Rattle.coap_serve.specs.world.Sides.{Side}
+use Rattle.coap_serve.specs.world.World.{Place, World}
+use Rattle.coap_serve.specs.world.Events.{Event, Took, stream_on, world_after, AreAccepted}
+use Rattle.coap_serve.specs.declared.server.TakeFault.{TakeFault}
+use Rattle.coap_serve.specs.declared.server.TakeFault.TheVariants as fault
+
+-- what tells a state from the others of its path: its version, and for what is built in the number that it says
+abbrev pub mark_told : Option Representation → ℕ
+mark_told None = 0
+mark_told (Some r) = if r.version == 0 then digits_value 10 r.bytes else r.version
+
+abbrev pub observer_shown : Observer → ObserverValue
+observer_shown o = record { token = o.token; path = o.path; format = format_of o.told; mark = mark_told o.told }
+
+-- the bytes kept of an unfinished frame: what is left of the bytes so far, where messages are taken
+abbrev pub kept_on : Side → List ℕ → List ℕ
+kept_on s rest = if takes_messages s.history.phase then rest else []
+
+abbrev pub session_shown : List ℕ → Side → SessionValue
+session_shown rest s = record { frame = kept_on s rest; link = link_of s.history; observers = map observer_shown s.observers }
+
+abbrev pub place_shown : ℕ → List Event → Place → ℕ × SessionValue
+place_shown M events p = (p.id, session_shown (stream_on M p.id events).rest p.side)
+
+abbrev pub server_shown : ConfigValues → List Event → World → ServerValue
+server_shown c events w = record {
+  config = c;
+  host = record { store = w.store; now = w.now };
+  ids = w.ids;
+  sessions = map (place_shown c.limits.max_message events) w.sides;
+}
+
+-- the server after events
+unfoldable pub server_of : ConfigValues → List Event → ServerValue
+server_of c events = server_shown c events (world_after c events)
+
+-- a server shows the world after events: calls accepted them, and all that the server holds is what they leave
+pub record Shows (v : ServerValue) (events : List Event) : Type 0 where
+  pub accepted : AreAccepted v.config events
+  pub same : v ≡ server_of v.config events
+  -- the moment at which the server begins is a number of 64 bits
+  pub moment : v.config.starts.moment ≤ 18446744073709551615
+
+-- a piece was not taken: no connection has the number, and the server shows what it showed; or memory was refused, and it shows
+-- that so many bytes were taken
+abbrev pub ShowsRefused : List Event → ℕ → List ℕ → TakeFault → ServerValue → Type 0
+ShowsRefused events id piece fault.NoSuch v = Shows v events
+ShowsRefused events id piece (fault.Memory bytes) v = Shows v (events ++ Took id (take bytes piece) ∷ [])

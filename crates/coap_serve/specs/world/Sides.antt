@@ -1,0 +1,141 @@
+-- One connection of a server that may hold no answer: all that happened on it, and its observers; what a message does to it and
+-- to the store, and how it settles (RFC 8323 sections 3.3, 3.4, 5 and 7).
+use Rattle.std.specs.Prelude.{◌≡◌, ℕ, zero, suc, Bool, true, ◌&&◌, List, [], length, Option, Some, None, find, nat_le, is_none, if◌then◌else◌}
+use Rattle.std.specs.List.{AllByRecursion}
+use Rattle.coap_wire.specs.Message.{Message}
+use Rattle.coap_wire.specs.Stream.{StreamFault}
+use Rattle.coap_conn.specs.declared.phase.Role.TheVariants.{Server}
+use Rattle.coap_conn.specs.Limits.{LimitValues}
+use Rattle.coap_conn.specs.Phases.{takes_messages, is_open}
+use Rattle.coap_conn.specs.Verdicts.{is_request}
+use Rattle.coap_conn.specs.Reaction.{react}
+use Rattle.coap_conn.specs.Fit.{fit, bare_response}
+use Rattle.coap_conn.specs.Rejects.{reject_of}
+use Rattle.coap_conn.specs.Release.{release_refusal}
+use Rattle.coap_conn.specs.LinkValue.{link_of, free_in}
+use Rattle.coap_conn.specs.History.{History, new_history, limit_now, standing_now, after_message, after_reply, after_reject, after_end, after_release, after_written}
+use Rattle.coap_store.specs.Store.{StoreValue}
+use Rattle.coap_store.specs.State.{state_of}
+use Rattle.coap_store.specs.Answer.{Answer, Change, Nothing, prompt_answer, changed}
+use Rattle.coap_store.specs.Messages.{response_with_observe}
+use Rattle.coap_serve.specs.world.Observers.{Observer, is_due, without_token, has_place, entry_for, is_whole, with_entry, goes_on, notification, notification_message, left_of, first_becomes}
+
+pub record Side : Type 0 where
+  pub history : History
+  pub observers : List Observer
+
+abbrev pub new_side : LimitValues → Side
+new_side limits = record { history = new_history Server limits 0; observers = [] }
+
+-- ---- what is seen of it
+
+-- the bytes that wait, and the room behind them
+abbrev pub waiting_on : Side → List ℕ
+waiting_on s = (link_of s.history).waiting
+
+abbrev pub free_on : Side → ℕ
+free_on s = free_in (link_of s.history)
+
+-- there is room for the greatest message sent
+abbrev pub has_room : Side → Bool
+has_room s = nat_le s.history.limits.max_sent (free_on s)
+
+-- a message is handled, and a fault is judged, where there is room and nothing has ended the connection
+abbrev pub handles : Side → Bool
+handles s = takes_messages s.history.phase && has_room s
+
+-- the observers go where the connection is not open any more
+abbrev pub kept_open : History → List Observer → List Observer
+kept_open h observers = if is_open h.phase then observers else []
+
+abbrev pub side_with : History → List Observer → Side
+side_with h observers = record { history = h; observers = kept_open h observers }
+
+abbrev pub with_history : Side → History → Side
+with_history s h = side_with h s.observers
+
+-- ---- a message
+
+-- a response was sent to a request whose token no other entry has; an entry is made where it was sent whole with Observe
+abbrev pub responded : History → List Observer → Observer → Bool → Message → Side
+responded h others entry observes response =
+    side_with (after_reply h response) (with_entry (observes && is_whole (fit (limit_now h) response (bare_response response))) others entry)
+
+abbrev pub answered_among : StoreValue → ℕ → History → List Observer → Message → Answer → Bool → Side
+answered_among store now h others m a observes =
+    responded h others (entry_for store now m) observes (response_with_observe m.token observes a.response)
+
+-- a request was answered so
+abbrev pub side_answered : StoreValue → ℕ → History → List Observer → Message → Answer → Side
+side_answered store now h others m a =
+    answered_among store now h others m a (has_place h.limits.observers others a.watch)
+
+-- it is a request to this side
+abbrev pub asks_answer : Side → Message → Bool
+asks_answer s m = is_request (react (standing_now s.history) m).verdict
+
+-- the side after a message that is handled
+abbrev pub side_handled : StoreValue → ℕ → Side → Message → Side
+side_handled store now s m =
+    if asks_answer s m then side_answered store now (after_message s.history m) (without_token m.token s.observers) m (prompt_answer store now m)
+    else with_history s (after_message s.history m)
+
+-- the side after a message
+unfoldable pub side_after : StoreValue → ℕ → Side → Message → Side
+side_after store now s m = if handles s then side_handled store now s m else s
+
+-- what it changes in the store, whatever became of its answer
+unfoldable pub change_after : StoreValue → ℕ → Side → Message → Change
+change_after store now s m = if handles s && asks_answer s m then (prompt_answer store now m).change else Nothing
+
+-- the store after it
+abbrev pub store_after : StoreValue → ℕ → Side → Message → StoreValue
+store_after store now s m = changed store (change_after store now s m)
+
+-- ---- all else that happens to it
+
+-- the bytes behind the messages have a fault
+unfoldable pub side_faulted : Side → StreamFault → Side
+side_faulted s fault = if handles s then with_history s (after_reject s.history (reject_of fault)) else s
+
+-- so many bytes that wait were written
+unfoldable pub side_written : Side → ℕ → Side
+side_written s n = if nat_le n (length (waiting_on s)) then record s { history = after_written s.history n } else s
+
+-- the input ended, within a frame where it was cut
+unfoldable pub side_ended : Side → Bool → Side
+side_ended s cut = with_history s (after_end s.history cut)
+
+-- the own end released the connection
+unfoldable pub side_released : Side → Side
+side_released s = if is_none (release_refusal (link_of s.history)) then with_history s (after_release s.history) else s
+
+-- ---- settling
+
+-- the first observer that is due, where it can be notified
+abbrev pub next_due : StoreValue → ℕ → Side → Option Observer
+next_due store now s = if has_room s then find (is_due store now) s.observers else None
+
+-- a notification was sent to the first observer that is due
+abbrev pub notified_so : StoreValue → ℕ → Side → Observer → Message → Bool → Side
+notified_so store now s o m stays =
+    side_with (after_reply s.history m) (first_becomes (is_due store now) (left_of store now o (stays && is_whole (fit (limit_now s.history) m (bare_response m)))) s.observers)
+
+abbrev pub notified : StoreValue → ℕ → Side → Option Observer → Side
+notified store now s None = s
+notified store now s (Some o) = notified_so store now s o (notification_message o.token (notification store now o)) (goes_on (notification store now o))
+
+unfoldable pub settled_once : StoreValue → ℕ → Side → Side
+settled_once store now s = notified store now s (next_due store now s)
+
+unfoldable pub settled_within : ℕ → StoreValue → ℕ → Side → Side
+settled_within zero store now s = s
+settled_within (suc turns) store now s = settled_within turns store now (settled_once store now s)
+
+-- Each turn leaves fewer observers that are due, so no more turns are needed than there are observers.
+unfoldable pub settled : StoreValue → ℕ → Side → Side
+settled store now s = settled_within (length s.observers) store now s
+
+-- no change is lost: where there is room, each observer was told the state of its path
+abbrev pub HearsAll : StoreValue → ℕ → Side → Type 0
+HearsAll store now s = has_room s ≡ true → AllByRecursion (λ o. o.told ≡ state_of store now o.path) s.observers

@@ -1,0 +1,130 @@
+//! Answers requests and notifies observers.
+
+ghost use Rattle.std.specs.Prelude.{◌≡◌, Some, slice_get, IfOk, OnOk, OnErr};
+ghost use Rattle.coap_conn.specs.Phases.{IsAnswering};
+ghost use Rattle.coap_conn.specs.LinkValue.{IsReady, link_after_reply};
+ghost use Rattle.coap_store.specs.Requests.{path_of};
+ghost use Rattle.coap_store.specs.Changes.{IsPut, changes};
+ghost use Rattle.coap_store.specs.Watching.{MayWatch};
+ghost use Rattle.coap_serve.specs.world.Observers.{asks_entry as asks, is_whole as is_sent_whole};
+ghost use Rattle.coap_serve.specs.values.Sessions.{ObserverValue, answer_on, host_changed, is_stale, new_entry, notification_on, without_entry};
+ghost use Rattle.coap_serve.specs.values.Entries.{first_index, response_on, entries_asked, entries_notified};
+ghost use Rattle.coap_serve.specs.views.ObserverViews.{observer_value};
+
+use crate::host::{Host, mark_at};
+use crate::observers::{Observer, Observers};
+use crate::response::respond;
+use coap_conn::{Link, Reply};
+use coap_store::{Change, State, Watch, request_path};
+use coap_wire::{Code, MessageRef, Token};
+use std::alloc::AllocError;
+
+/// Answers a request, and answers whether that put or deleted a resource. What it changes is changed before it is answered. The
+/// entry with its token goes, and where it asks to be entered as an observer and there is room, it is, if its response is sent
+/// whole (RFC 7641 section 4.1).
+///
+/// # Errors
+///
+/// Where memory is refused for the representation that it stores. All is then as before.
+pub(crate) fn answer(
+    link: &mut Link,
+    observers: &mut Observers,
+    host: &mut Host,
+    request: &MessageRef,
+) -> Result<bool, AllocError>
+    requires ready { IsReady link.old }
+    requires answering { IsAnswering link.old.phase }
+    ensures changed { IfOk result (λ changed. changed ≡ changes (answer_on host.old request.now).change) }
+    ensures link { OnOk result (link.new ≡ link_after_reply link.old (response_on host.old observers.old.room (without_entry request.now.token observers.old.entries) request.now)) }
+    ensures entries { OnOk result (observers.new ≡ record observers.old { entries = entries_asked host.old link.old observers.old.room (without_entry request.now.token observers.old.entries) request.now }) }
+    ensures host { OnOk result (host.new ≡ host_changed host.old (answer_on host.old request.now).change) }
+    ensures put { OnErr result (IsPut (answer_on host.old request.now).change) }
+    ensures unchanged { OnErr result (host.new ≡ host.old) }
+    ensures silent { OnErr result (link.new ≡ link.old) }
+    ensures kept { OnErr result (observers.new ≡ observers.old) }
+{
+    let plan = host.store.answer(request, host.now);
+    let change = plan.change();
+    if let Change::Nothing = change {
+        observers.forget(request.token());
+        let observes = asks_entry(plan.watch()) && !observers.is_full();
+        let reply = respond(link, request.token(), &plan, observes);
+        if observes && is_whole(reply) {
+            observers.enter(entry_for(host, request));
+        }
+        Ok(false)
+    } else {
+        let plan = plan.without_payload();
+        host.store.apply(change)?;
+        observers.forget(request.token());
+        respond(link, request.token(), &plan, false);
+        Ok(true)
+    }
+}
+
+/// Whether a request asks that an observer is entered.
+fn asks_entry(watch: Watch) -> bool
+    ensures { result ≡ asks watch }
+{
+    match watch {
+        Watch::Nothing => false,
+        Watch::Add => true,
+        Watch::Drop => false,
+    }
+}
+
+/// Whether a message was sent as it is.
+fn is_whole(reply: Reply) -> bool
+    ensures { result ≡ is_sent_whole reply }
+{
+    match reply {
+        Reply::Whole => true,
+        Reply::Bare => false,
+        Reply::Stopped => false,
+    }
+}
+
+/// The entry of a request whose path is there: it is told the state of the path.
+fn entry_for(host: &Host, request: &MessageRef) -> Observer
+    requires { MayWatch host.now.store host.now.now (path_of request.now) (answer_on host.now request.now) }
+    ensures { observer_value result ≡ new_entry host.entry.now request.now }
+{
+    let Some(path) = request_path(request) else {
+        unreachable!()
+    };
+    let State::Present(there) = host.store.state(&path, host.now) else {
+        unreachable!()
+    };
+    let Ok(token) = Token::try_from(request.token().as_slice()) else {
+        unreachable!()
+    };
+    Observer {
+        token,
+        format: there.format(),
+        mark: mark_at(host.now, &there),
+        path,
+    }
+}
+
+/// Notifies the first observer that is stale, which is the one at this index (RFC 7641 section 4.2): it is told the state now and
+/// stays where that goes to it whole, and goes otherwise.
+pub(crate) fn notify(link: &mut Link, observers: &mut Observers, host: &Host, index: usize)
+    requires ready { IsReady link.old }
+    requires answering { IsAnswering link.old.phase }
+    requires first { first_index (is_stale host.now) observers.old.entries ≡ Some index }
+    ensures link { (o : ObserverValue) → slice_get observers.old.entries index ≡ Some o → link.new ≡ link_after_reply link.old (notification_on host.entry.now o) }
+    ensures entries { (o : ObserverValue) → slice_get observers.old.entries index ≡ Some o → observers.new ≡ record observers.old { entries = entries_notified host.entry.now link.old observers.old.entries o } }
+{
+    let observer = observers.get(index);
+    let plan = host
+        .store
+        .notification(&observer.path, observer.format, host.now);
+    let goes_on = plan.code() == Code::CONTENT;
+    let reply = respond(link, &observer.token, &plan, goes_on);
+    let mark = host.mark(&observer.path);
+    if goes_on && is_whole(reply) {
+        observers.tell(index, mark);
+    } else {
+        observers.remove(index);
+    }
+}

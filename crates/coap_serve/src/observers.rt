@@ -1,0 +1,172 @@
+//! The observers of a connection (RFC 7641).
+
+ghost use Rattle.std.specs.Prelude.{◌≡◌, ◌≤◌, length, map};
+ghost use Rattle.std.specs.Vec.{vec_capacity};
+ghost use Rattle.coap_serve.specs.values.Entries.{first_index};
+ghost use Rattle.coap_serve.specs.values.Sessions.{is_stale as stale, without_entry};
+ghost use Rattle.coap_serve.specs.views.ObserverViews.{observer_value};
+
+use crate::host::Host;
+use coap_store::PathKey;
+use coap_wire::Token;
+use std::alloc::{AllocError, Global};
+use std::marker::Model;
+
+/// An observer. Contracts see an `ObserverValue`.
+#[derive(Debug, Drop)]
+pub(crate) struct Observer {
+    /// The token of the request that entered it.
+    pub token: Token,
+    /// The path that it observes.
+    pub path: PathKey,
+    /// The Content-Format that it was told, where there was one.
+    pub format: Option<u16>,
+    /// The mark of the state that it was told.
+    pub mark: u64,
+}
+
+impl Observer {
+    ghost use Rattle.std.specs.Prelude.{◌≡◌};
+    ghost use Rattle.coap_serve.specs.values.Sessions.{is_stale as stale};
+    ghost use Rattle.coap_serve.specs.views.ObserverViews.{observer_value};
+
+    /// Whether it was told another state of its path than the one on this host.
+    #[tactic(auto, unfolding(crate::specs::values::Sessions::is_stale))]
+    fn is_stale(&self, host: &Host) -> bool
+        ensures { result ≡ stale host.entry.now (observer_value self.now) }
+    {
+        !host.is_marked(&self.path, self.mark)
+    }
+}
+
+/// At most so many observers, in room that was reserved once, in the order in which they came. Contracts see an
+/// `ObserversValue`.
+#[derive(Debug, Drop)]
+pub(crate) struct Observers {
+    room: usize,
+    entries: Vec<Observer>,
+}
+
+impl Model for Observers {
+    ghost use Rattle.coap_serve.specs.values.Sessions.{ObserversValue};
+
+    ghost Value = { ObserversValue };
+
+    ghost use Rattle.coap_serve.specs.views.ObserverViews.{observers_value, are_observers};
+
+    ghost view = { observers_value };
+
+    ghost invariant = { are_observers };
+}
+
+impl Observers {
+    ghost use Rattle.std.specs.Prelude.{◌≡◌, ◌≤◌, ◌<◌, ◌++◌, ◌∷◌, [], length, not, nat_lt, IfOk, IfSome, Some, slice_get, slice_set};
+    ghost use Rattle.std.specs.List.{remove};
+    ghost use Rattle.coap_serve.specs.values.Sessions.{ObserverValue, without_entry, is_stale};
+    ghost use Rattle.coap_serve.specs.values.Entries.{first_index};
+    ghost use Rattle.coap_serve.specs.views.ObserverViews.{observer_value};
+
+    /// No observer, and room for so many, at most 256.
+    ///
+    /// # Errors
+    ///
+    /// Where the room is refused.
+    pub(crate) fn new(alloc: Global, room: usize) -> Result<Observers, AllocError>
+        ensures { IfOk result (λ o. o ≡ record { room = room; entries = [] }) }
+    {
+        Ok(Observers {
+            room,
+            entries: Vec::with_capacity(alloc, room)?,
+        })
+    }
+
+    /// How many there are.
+    pub(crate) fn len(&self) -> usize
+        ensures count { result ≡ length self.now.entries }
+        ensures within { length self.now.entries ≤ self.now.room }
+    {
+        self.entries.len()
+    }
+
+    /// Whether there is no room for another one.
+    pub(crate) fn is_full(&self) -> bool
+        ensures { result ≡ not (nat_lt (length self.now.entries) self.now.room) }
+    {
+        self.entries.len() >= self.room
+    }
+
+    /// The index of the first one that was told another state of its path than the one on this host.
+    pub(crate) fn first_stale(&self, host: &Host) -> Option<usize>
+        ensures first { result ≡ first_index (is_stale host.entry.now) self.now.entries }
+        ensures within { IfSome result (λ i. i < length self.now.entries) }
+    {
+        first_stale(&self.entries, host)
+    }
+
+    /// The one at an index.
+    pub(crate) fn get(&self, index: usize) -> &Observer
+        requires { index < length self.now.entries }
+        ensures { slice_get self.now.entries index ≡ Some (observer_value result.now) }
+    {
+        &self.entries[index]
+    }
+
+    /// The one at an index was told the state with this mark.
+    pub(crate) fn tell(&mut self, index: usize, mark: u64)
+        requires { index < length self.old.entries }
+        ensures { (o : ObserverValue) → slice_get self.old.entries index ≡ Some o → self.new ≡ record self.old { entries = slice_set self.old.entries index (record o { mark = mark }) } }
+    {
+        self.entries[index].mark = mark;
+    }
+
+    /// The one at an index goes.
+    pub(crate) fn remove(&mut self, index: usize)
+        requires { index < length self.old.entries }
+        ensures { self.new ≡ record self.old { entries = remove self.old.entries index } }
+    {
+        self.entries.remove(index);
+    }
+
+    /// The entry with this token goes.
+    pub(crate) fn forget(&mut self, token: &Token)
+        ensures { self.new ≡ record self.old { entries = without_entry token.now.items self.old.entries } }
+    {
+        keep_others(&mut self.entries, token);
+    }
+
+    /// An entry goes last, for which there must be room.
+    pub(crate) fn enter(&mut self, observer: Observer)
+        requires { length self.old.entries < self.old.room }
+        ensures { self.new ≡ record self.old { entries = self.old.entries ++ observer_value observer ∷ [] } }
+    {
+        self.entries.push_reserved(observer);
+    }
+
+    /// All go.
+    pub(crate) fn clear(&mut self)
+        ensures { self.new ≡ record self.old { entries = [] } }
+    {
+        self.entries.clear();
+    }
+}
+
+/// The index of the first of these that was told another state of its path than the one on this host.
+fn first_stale(observers: &[Observer], host: &Host) -> Option<usize>
+    ensures { result ≡ first_index (stale host.entry.now) (map observer_value observers.now) }
+{
+    for (index, observer) in observers.iter().enumerate() {
+        if observer.is_stale(host) {
+            return Some(index);
+        }
+    }
+    None
+}
+
+/// All stay but those with this token.
+fn keep_others(observers: &mut Vec<Observer>, token: &Token)
+    ensures others { map observer_value observers.new.items ≡ without_entry token.now.items (map observer_value observers.old.items) }
+    ensures fewer { length observers.new.items ≤ length observers.old.items }
+    ensures capacity { vec_capacity observers.new ≡ vec_capacity observers.old }
+{
+    observers.retain(|observer| observer.token != *token);
+}

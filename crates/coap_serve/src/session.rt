@@ -1,0 +1,311 @@
+//! A connection of a server.
+
+ghost use Rattle.std.specs.Prelude.{◌≡◌, ℕ, List, [], IfOk, OnOk, OnErr};
+ghost use Rattle.coap_conn.specs.Phases.{IsLive};
+ghost use Rattle.coap_conn.specs.LinkValue.{IsReady};
+ghost use Rattle.coap_store.specs.Changes.{IsPut, changes};
+ghost use Rattle.coap_serve.specs.values.Sessions.{change_by, host_changed, observers_on, session_handled, session_with};
+ghost use Rattle.coap_serve.specs.values.Entries.{framer_on};
+
+use crate::answering::{answer, notify};
+use crate::host::Host;
+use crate::observers::Observers;
+use coap_conn::{Limits, Link, Phase, Reject, Role, SendFault, Verdict};
+use coap_frame::{Found, Framer};
+use coap_wire::{MessageRef, parse};
+use std::alloc::{AllocError, Global};
+use std::marker::Model;
+
+/// What was taken of a piece.
+#[derive(Clone, Copy, Debug)]
+pub(crate) struct Taking {
+    /// How many bytes.
+    pub count: usize,
+    /// Whether a message was handled.
+    pub handled: bool,
+    /// Whether a resource was put or deleted.
+    pub changed: bool,
+}
+
+impl Taking {
+    ghost use Rattle.std.specs.Prelude.{◌≡◌, false};
+
+    /// So many bytes without a message.
+    fn without_message(count: usize) -> Taking
+        ensures { result ≡ record { count = count; handled = false; changed = false } }
+    {
+        Taking {
+            count,
+            handled: false,
+            changed: false,
+        }
+    }
+}
+
+/// A connection: its framer, its link, and its observers. Contracts see a `SessionValue`.
+#[derive(Debug, Drop)]
+pub(crate) struct Session {
+    framer: Framer,
+    link: Link,
+    observers: Observers,
+}
+
+impl Model for Session {
+    ghost use Rattle.coap_serve.specs.values.Sessions.{SessionValue};
+
+    ghost Value = { SessionValue };
+
+    ghost use Rattle.coap_serve.specs.views.SessionViews.{session_value, is_session};
+
+    ghost view = { session_value };
+
+    ghost invariant = { is_session };
+}
+
+impl Session {
+    ghost use Rattle.std.specs.Prelude.{◌≡◌, ◌≤◌, ⊤, length, take, is_some, IfOk, IfErr, OnOk, OnErr};
+    ghost use Rattle.std.specs.Borrow.{sem, follows_so};
+    ghost use mathlib.Core.Option.{none};
+    ghost use Rattle.coap_wire.specs.Refusal.{RefusedBy};
+    ghost use Rattle.coap_conn.specs.LinkValue.{is_finished};
+    ghost use Rattle.coap_conn.specs.Release.{release_refusal};
+    ghost use Rattle.coap_store.specs.Changes.{changes};
+    ghost use Rattle.coap_serve.specs.values.Sessions.{new_session, session_takes, next_stale, session_settled_once, taking, host_changed, session_written, session_ended, session_released, session_settled, IsSettled, RefusesPiece};
+    ghost use Rattle.coap_serve.specs.contracts.session.Session.{the_row};
+
+    /// A new connection with these limits, whose own Capabilities and Settings wait. All its room is reserved here.
+    ///
+    /// # Errors
+    ///
+    /// Where the room is refused.
+    pub(crate) fn open(alloc: Global, limits: Limits) -> Result<Session, AllocError>
+        ensures { IfOk result (λ s. s ≡ new_session limits) }
+    {
+        Ok(Session {
+            framer: Framer::new(alloc, limits.max_message())?,
+            link: Link::open(alloc, Role::Server, limits, 0)?,
+            observers: Observers::new(alloc, limits.observers())?,
+        })
+    }
+
+    /// Whether it takes bytes: there is room for the greatest message sent, and nothing has ended the connection.
+    pub(crate) fn takes(&self) -> bool
+        ensures { result ≡ session_takes self.now }
+    {
+        self.link.phase().stop().is_none() && self.link.ready()
+    }
+
+    /// Takes bytes of a piece up to the end of its first message, to the byte that stops the connection, or all of them; none
+    /// where there is no room for the greatest message sent or no message is taken any more.
+    ///
+    /// # Errors
+    ///
+    /// How many bytes were taken, where memory is refused for a representation that the message stores: all up to the message's
+    /// last. Nothing of the message was handled then.
+    #[tactic(auto, unfolding(crate::specs::values::Sessions::taking, coap_frame::specs::Framing::framing))]
+    pub(crate) fn take(&mut self, host: &mut Host, piece: &[u8]) -> Result<Taking, usize>
+        ensures count { IfOk result (λ t. t.count ≡ (taking host.old self.old piece.now).count) }
+        ensures within { IfOk result (λ t. t.count ≤ length piece.now) }
+        ensures handled { IfOk result (λ t. t.handled ≡ (taking host.old self.old piece.now).handled) }
+        ensures changed { IfOk result (λ t. t.changed ≡ changes (taking host.old self.old piece.now).change) }
+        ensures after { OnOk result (self.new ≡ (taking host.old self.old piece.now).session) }
+        ensures host { OnOk result (host.new ≡ host_changed host.old (taking host.old self.old piece.now).change) }
+        ensures refused { IfErr result (λ count. RefusesPiece host.old self.old piece.now count) }
+        ensures kept { IfErr result (λ count. self.new ≡ (taking host.old self.old (take count piece.now)).session) }
+        ensures unchanged { OnErr result (host.new ≡ host.old) }
+    {
+        if !self.takes() {
+            return Ok(Taking::without_message(0));
+        }
+        let framed = self.framer.next(piece);
+        let count = framed.taken;
+        match framed.what {
+            Found::More => Ok(Taking::without_message(count)),
+            Found::Fault(fault) => {
+                self.link.reject(Reject::from(fault));
+                give_up(&mut self.framer, &self.link, &mut self.observers);
+                Ok(Taking::without_message(count))
+            }
+            Found::Frame(frame) => match parse(frame) {
+                Err(_) => {
+                    self.link.reject(Reject::Format);
+                    give_up(&mut self.framer, &self.link, &mut self.observers);
+                    Ok(Taking::without_message(count))
+                }
+                Ok(message) => match handle(&mut self.link, &mut self.observers, host, &message) {
+                    Ok(changed) => {
+                        give_up(&mut self.framer, &self.link, &mut self.observers);
+                        Ok(Taking {
+                            count,
+                            handled: true,
+                            changed,
+                        })
+                    }
+                    Err(_) => {
+                        self.framer.unread(&piece[..count]);
+                        Err(count - 1)
+                    }
+                },
+            },
+        }
+    }
+
+    /// Notifies the observers that are due, one after the other, as long as there is room for the greatest message sent
+    /// (RFC 7641 section 4.2).
+    pub(crate) fn settle(&mut self, host: &Host)
+        ensures after { self.new ≡ session_settled host.entry.now self.old }
+        ensures settled { IsSettled host.entry.now self.new }
+    {
+        for _ in 0..self.observers.len() {
+            if !self.settle_once(host) {
+                return;
+            }
+        }
+    }
+
+    /// Notifies the first observer that is due, where there is one and there is room, and answers whether there was.
+    fn settle_once(&mut self, host: &Host) -> bool
+        ensures after { self.new ≡ session_settled_once host.entry.now self.old }
+        ensures found { result ≡ is_some (next_stale host.entry.now self.old) }
+    {
+        if !self.link.ready() {
+            return false;
+        }
+        let Some(index) = self.observers.first_stale(host) else {
+            return false;
+        };
+        notify(&mut self.link, &mut self.observers, host, index);
+        give_up(&mut self.framer, &self.link, &mut self.observers);
+        true
+    }
+
+    /// All bytes that wait.
+    pub(crate) fn front<'a>(&'a mut self) -> &'a [u8]
+        ensures* unchanged { sem 𝓛 (follows_so the_row the_row self.entry.ghost_name none (λ _ _. ⊤) (λ s. s ≡ self.old)) }
+        ensures front { result.now ≡ self.old.link.waiting }
+    {
+        self.link.front()
+    }
+
+    /// The first so many bytes were written, and wait no more.
+    pub(crate) fn written(&mut self, count: usize)
+        requires { count ≤ length self.old.link.waiting }
+        ensures { self.new ≡ session_written self.old count }
+    {
+        self.link.written(count);
+    }
+
+    /// The input ended, within a frame where bytes of one are kept. Nothing changes where no message is taken any more.
+    pub(crate) fn end(&mut self)
+        ensures { self.new ≡ session_ended self.old }
+    {
+        self.link.end(self.framer.kept() > 0);
+        give_up(&mut self.framer, &self.link, &mut self.observers);
+    }
+
+    /// Sends Release and stops (RFC 8323 section 5.5).
+    ///
+    /// # Errors
+    ///
+    /// As `Link::release`. Nothing has changed then.
+    pub(crate) fn release(&mut self) -> Result<(), SendFault>
+        ensures answer { RefusedBy result (release_refusal self.old.link) }
+        ensures after { OnOk result (self.new ≡ session_released self.old) }
+        ensures err { OnErr result (self.new ≡ self.old) }
+    {
+        self.link.release()?;
+        give_up(&mut self.framer, &self.link, &mut self.observers);
+        Ok(())
+    }
+
+    /// How it stands.
+    pub(crate) fn phase(&self) -> Phase
+        ensures { result ≡ self.now.link.phase }
+    {
+        self.link.phase()
+    }
+
+    /// How many bytes of an unfinished frame are kept.
+    pub(crate) fn kept(&self) -> usize
+        ensures { result ≡ length self.now.frame }
+    {
+        self.framer.kept()
+    }
+
+    /// How many bytes wait.
+    pub(crate) fn waiting(&self) -> usize
+        ensures { result ≡ length self.now.link.waiting }
+    {
+        self.link.waiting()
+    }
+
+    /// How many observers there are.
+    pub(crate) fn observers(&self) -> usize
+        ensures { result ≡ length self.now.observers }
+    {
+        self.observers.len()
+    }
+
+    /// The greatest message that the peer takes.
+    pub(crate) fn peer_max(&self) -> u32
+        ensures { result ≡ self.now.link.peer_max }
+    {
+        self.link.peer_max()
+    }
+
+    /// Whether nothing more is to be written.
+    pub(crate) fn finished(&self) -> bool
+        ensures { result ≡ is_finished self.now.link }
+    {
+        self.link.finished()
+    }
+}
+
+/// Handles a message, and answers whether a resource was put or deleted.
+///
+/// # Errors
+///
+/// Where memory is refused for the representation that the message stores. All is then as before.
+fn handle(
+    link: &mut Link,
+    observers: &mut Observers,
+    host: &mut Host,
+    message: &MessageRef,
+) -> Result<bool, AllocError>
+    requires ready { IsReady link.old }
+    requires live { IsLive link.old.phase }
+    requires room { observers.old.room ≡ link.old.limits.observers }
+    ensures after { OnOk result ((frame : List ℕ) → session_with [] link.new observers.new.entries ≡ session_handled host.old (record { frame = frame; link = link.old; observers = observers.old.entries }) message.now) }
+    ensures room { OnOk result (observers.new.room ≡ observers.old.room) }
+    ensures limits { OnOk result (link.new.limits ≡ link.old.limits) }
+    ensures changed { IfOk result (λ changed. changed ≡ changes (change_by host.old link.old message.now)) }
+    ensures host { OnOk result (host.new ≡ host_changed host.old (change_by host.old link.old message.now)) }
+    ensures put { OnErr result (IsPut (change_by host.old link.old message.now)) }
+    ensures unchanged { OnErr result (host.new ≡ host.old) }
+    ensures silent { OnErr result (link.new ≡ link.old) }
+    ensures kept { OnErr result (observers.new ≡ observers.old) }
+{
+    match link.on(message) {
+        Verdict::Request => answer(link, observers, host, message),
+        _ => Ok(false),
+    }
+}
+
+/// Gives up the observers where the connection is not open any more, and the bytes of a frame where no message is taken any more.
+fn give_up(framer: &mut Framer, link: &Link, observers: &mut Observers)
+    ensures framer { framer.new ≡ framer_on link.now framer.old }
+    ensures observers { observers.new ≡ record observers.old { entries = observers_on link.now observers.old.entries } }
+{
+    match link.phase() {
+        Phase::Waiting => observers.clear(),
+        Phase::Open => {}
+        Phase::Releasing(_) => {
+            framer.clear();
+            observers.clear();
+        }
+        Phase::Stopped(_) => {
+            framer.clear();
+            observers.clear();
+        }
+    }
+}

@@ -1,0 +1,94 @@
+-- What observers are told.
+use Rattle.std.proofs.Common.{◌≡◌, ℕ, ◌<◌, ◌≤◌, ◌^◌, Bool, true, false, List, length, Option, Some, None, refl, sym, ap, ◌∙◌, arith}
+use Rattle.std.specs.Prelude.{nat_eq, not, if◌then◌else◌}
+use Rattle.std.specs.Option.{option_eq}
+use Rattle.std.proofs.lemmas.Bool.{cond-true, cond-false}
+use Rattle.coap_wire.specs.Codes as code
+use Rattle.coap_store.specs.Paths.{Path, is_path}
+use Rattle.coap_store.specs.Store.{Representation, StoreValue}
+use Rattle.coap_store.specs.State.{place_of, key_for, state_of}
+use Rattle.coap_store.specs.Answer.{Response, only, content, answer_of}
+use Rattle.coap_store.specs.Serving.{TellsState, plain_get, content_of}
+use Rattle.coap_store.specs.Invariant.{IsStore}
+use Rattle.coap_store.specs.Notifications.{notification_at, notification_of}
+use Rattle.coap_store.specs.declared.place.Place.{Place}
+use Rattle.coap_store.specs.declared.place.Place.TheVariants.{Dynamic}
+use Rattle.coap_store.proofs.CatalogueLemmas.{same_format}
+use Rattle.coap_store.proofs.AnswerLaws.{AreShort, state_short}
+use Rattle.coap_store.proofs.StoreLemmas.{listing_short, stored_small}
+use Rattle.coap_store.proofs.StateLemmas.{state_stored}
+use Rattle.coap_store.proofs.ServingLaws.{stored_is_served}
+
+-- ---- by the state of the path
+
+pub told_absent : (place : Place) (format : Option ℕ) (state : Option Representation) → None ≡ state → only code.not_found ≡ notification_at place state format
+unfolding notification_at
+told_absent place format state is = ap (λ state. notification_at place state format) is
+
+pub told_other : (place : Place) (format : Option ℕ) (r : Representation) (state : Option Representation) → Some r ≡ state → not (option_eq nat_eq r.format format) ≡ true → only code.not_acceptable ≡ notification_at place state format
+unfolding notification_at
+told_other place format r state is other =
+    sym (cond-false (option_eq nat_eq r.format format) (content place r) (only code.not_acceptable) (is_false (option_eq nat_eq r.format format) other)) ∙ ap (λ state. notification_at place state format) is
+  where
+    is_false : (b : Bool) → not b ≡ true → b ≡ false
+    is_false true e = absurd cc
+    is_false false e = refl
+
+pub told_content : (place : Place) (format : Option ℕ) (r : Representation) (state : Option Representation) → Some r ≡ state → not (option_eq nat_eq r.format format) ≡ false → content place r ≡ notification_at place state format
+unfolding notification_at
+told_content place format r state is same =
+    sym (cond-true (option_eq nat_eq r.format format) (content place r) (only code.not_acceptable) (is_true (option_eq nat_eq r.format format) same)) ∙ ap (λ state. notification_at place state format) is
+  where
+    is_true : (b : Bool) → not b ≡ false → b ≡ true
+    is_true true e = refl
+    is_true false e = absurd cc
+
+-- ---- what holds of all of them
+
+-- a 2.05 has the representation, and the format that was told before
+record Tells (place : Place) (now : Option Representation) (before : Option ℕ) (r : Response) : Type 0 where
+  state : TellsState place now r
+  format : r.format ≡ before
+
+tells_at : (place : Place) (state : Option Representation) (format : Option ℕ) → (notification_at place state format).code ≡ code.content → Tells place state format (notification_at place state format)
+unfolding notification_at
+tells_at place None format is = absurd (omega arith)
+tells_at place (Some r) format is =
+    elim (option_eq nat_eq r.format format) as (λ b. option_eq nat_eq r.format format ≡ b → (if b then content place r else only code.not_acceptable).code ≡ code.content → Tells place (Some r) format (if b then content place r else only code.not_acceptable)) [
+      | true ↦ λ same e. record { state = record { representation = r; there = refl; bytes = refl; format = refl; etag = refl }; format = same_format r.format format (ap not same) }
+      | false ↦ λ other e. absurd (omega arith)
+    ] refl is
+
+pub notification_tells : (s : StoreValue) (now : ℕ) (path : Path) (format : Option ℕ) → (notification_of s now path format).code ≡ code.content → TellsState (place_of path) (state_of s now path) (notification_of s now path format)
+notification_tells s now path format is = (tells_at (place_of path) (state_of s now path) format is).state
+
+pub notification_format : (s : StoreValue) (now : ℕ) (path : Path) (format : Option ℕ) → (notification_of s now path format).code ≡ code.content → (notification_of s now path format).format ≡ format
+notification_format s now path format is = (tells_at (place_of path) (state_of s now path) format is).format
+
+short_at : (place : Place) (state : Option Representation) (format : Option ℕ) → ((r : Representation) → state ≡ Some r → length r.bytes ≤ 1048576) → length (notification_at place state format).payload ≤ 1048576
+unfolding notification_at
+short_at place None format short = omega arith
+short_at place (Some r) format short =
+    elim (option_eq nat_eq r.format format) as (λ b. length (if b then content place r else only code.not_acceptable).payload ≤ 1048576) [ true ↦ short r refl | false ↦ omega arith ]
+
+pub notification_short : (s : StoreValue) (now : ℕ) (path : Path) (format : Option ℕ) → IsStore s → now < 2 ^ 64 → length (notification_of s now path format).payload ≤ 1048576
+notification_short s now path format is small =
+    let are : AreShort s = record { listing = listing_short s is; stored = stored_small s is } in
+    short_at (place_of path) (state_of s now path) format (λ r there. state_short s now (key_for path) (place_of path) r are small there)
+
+-- ---- a GET is answered the same
+
+content_at : (state : Option Representation) (format : Option ℕ) → (notification_at Dynamic state format).code ≡ code.content → (r : Representation) × (state ≡ Some r) × (content_of r ≡ notification_at Dynamic state format)
+unfolding notification_at
+content_at None format is = absurd (omega arith)
+content_at (Some r) format is =
+    elim (option_eq nat_eq r.format format) as (λ b. (if b then content Dynamic r else only code.not_acceptable).code ≡ code.content → (o : Representation) × (Some r ≡ Some o) × (content_of o ≡ (if b then content Dynamic r else only code.not_acceptable))) [
+      | true ↦ λ e. (r, refl, refl)
+      | false ↦ λ e. absurd (omega arith)
+    ] is
+
+pub notification_get : (s : StoreValue) (now : ℕ) (token : List ℕ) (path : Path) (format : Option ℕ) → is_path path ≡ true → place_of path ≡ Dynamic → (notification_of s now path format).code ≡ code.content → (answer_of s now (plain_get token path)).response ≡ notification_of s now path format
+notification_get s now token path format is place said =
+    let by : notification_of s now path format ≡ notification_at Dynamic (state_of s now path) format = ap (λ place. notification_at place (state_of s now path) format) place in
+    let told = content_at (state_of s now path) format (sym (ap (λ (r : Response). r.code) by) ∙ said) in
+    stored_is_served s now token path told.0 is place (sym (state_stored s now path is place) ∙ told.1) ∙ told.2 ∙ sym by

@@ -1,0 +1,99 @@
+-- What is refused from inside, and what is not.
+use Rattle.std.proofs.Common.{◌≡◌, ℕ, ◌+◌, ◌<◌, ◌^◌, Bool, true, false, ◌&&◌, ◌||◌, List, [], ◌∷◌, length, Option, Some, None, refl, sym, ap, subst, ◌∙◌, arith}
+use Rattle.std.specs.Prelude.{is_some, is_none, nat_le, nat_lt, ◌==◌, not, option_map, IfSome, if◌then◌else◌}
+use Rattle.std.specs.Borrow.{Bor}
+use Rattle.std.specs.List.{AllByRecursion}
+use Rattle.std.proofs.lemmas.Bool.{leb-false, ltb-false, eqb-false, lt-ltb}
+use Rattle.coap_store.specs.Paths.{Path, is_path}
+use Rattle.coap_store.specs.Store.{Representation, StoreValue, found_in, put_in}
+use Rattle.coap_store.specs.State.{place_of, is_dynamic}
+use Rattle.coap_store.specs.Answer.{greatest_version}
+use Rattle.coap_store.specs.ResourceViews.{representation}
+use Rattle.coap_store.specs.Changes.{TakesPut}
+use Rattle.coap_store.specs.Invariant.{IsStore}
+use Rattle.coap_store.specs.Refusals.{first_fault, refusal_in, put_refusal, remove_refusal}
+use Rattle.coap_store.specs.declared.resource.Resource as lent
+use Rattle.coap_store.specs.declared.fault.StoreFault.{StoreFault}
+use Rattle.coap_store.specs.declared.fault.StoreFault.TheVariants.{NoSuch, TooLarge, Limit, BadPath, VersionsSpent}
+use Rattle.coap_store.proofs.AnswerLaws.{place_dynamic}
+use Rattle.coap_store.proofs.StoreLemmas.{store_put, found_kept}
+
+-- ---- checks
+
+-- where nothing is refused, a check does not hold, and nothing behind it is refused
+passed : (holds : Bool) (fault : StoreFault) (rest : Option StoreFault) → (if holds then Some fault else rest) ≡ None → (holds ≡ false) × (rest ≡ None)
+passed true fault rest none = absurd cc
+passed false fault rest none = (refl, none)
+
+-- no check is of memory, so nothing is refused for it
+told : (checks : List (Bool × StoreFault)) (fault : StoreFault) → AllByRecursion (λ check. refusal_in check.1 ≡ Some check.1) checks → first_fault checks ≡ Some fault → refusal_in fault ≡ Some fault
+told [] fault all is = absurd cc
+told (check ∷ checks) fault all is =
+    elim check.0 as (λ b. (if b then Some check.1 else first_fault checks) ≡ Some fault → refusal_in fault ≡ Some fault) [
+      | true ↦ λ here. (let same : check.1 ≡ fault = cc in subst (λ (f : StoreFault). refusal_in f ≡ Some f) same all.0)
+      | false ↦ λ behind. told checks fault all.1 behind
+    ] is
+
+-- ---- put
+
+pub put_told : (s : StoreValue) (path : Path) (bytes : List ℕ) (fault : StoreFault) → put_refusal s path bytes ≡ Some fault → put_refusal s path bytes ≡ refusal_in fault
+unfolding put_refusal
+put_told s path bytes fault is =
+    is ∙ sym (told ((nat_lt s.rep_max (length bytes), TooLarge) ∷ (not (is_dynamic (place_of path)), BadPath) ∷ (is_none (found_in s.resources path) && nat_le s.dynamic_max (length s.resources), Limit) ∷ (s.versions == greatest_version, VersionsSpent) ∷ []) fault (refl, (refl, (refl, (refl, tt)))) is)
+
+is_dynamic_place : (dynamic : Bool) → not dynamic ≡ false → dynamic ≡ true
+is_dynamic_place true is = refl
+is_dynamic_place false is = absurd cc
+
+-- a version is left
+version_fits : (n : ℕ) → (n == greatest_version) ≡ false → n < 2 ^ 64 → n + 1 < 2 ^ 64
+version_fits n other small =
+    let apart : n ≡ greatest_version → ⊥ = eqb-false n greatest_version other in
+    omega arith
+
+-- what is there may be replaced, and what is not may be made while there is room
+has_room : (state : Option Representation) (most n : ℕ) → (is_none state && nat_le most n) ≡ false → (is_some state || nat_lt n most) ≡ true
+has_room None most n is = lt-ltb n most (leb-false most n is)
+has_room (Some r) most n is = refl
+
+-- what is not refused is taken
+pub takes_put : (s : StoreValue) (path : Path) (bytes : List ℕ) → is_path path ≡ true → s.versions < 2 ^ 64 → put_refusal s path bytes ≡ None → TakesPut s path bytes
+unfolding put_refusal
+takes_put s path bytes is fits none =
+    let small = passed (nat_lt s.rep_max (length bytes)) TooLarge _ none in
+    let dynamic = passed (not (is_dynamic (place_of path))) BadPath _ small.1 in
+    let room = passed (is_none (found_in s.resources path) && nat_le s.dynamic_max (length s.resources)) Limit _ dynamic.1 in
+    let left = passed (s.versions == greatest_version) VersionsSpent _ room.1 in
+    record {
+      path_ok = is;
+      place = place_dynamic (place_of path) (is_dynamic_place (is_dynamic (place_of path)) dynamic.0);
+      small = ltb-false s.rep_max (length bytes) small.0;
+      room = has_room (found_in s.resources path) s.dynamic_max (length s.resources) room.0;
+      version_left = version_fits s.versions left.0 fits;
+    }
+
+pub put_keeps : (s : StoreValue) (path : Path) (format : Option ℕ) (bytes : List ℕ) → IsStore s → is_path path ≡ true → put_refusal s path bytes ≡ None → IfSome format (λ number. number < 65536) → IsStore (put_in s path format bytes)
+put_keeps s path format bytes is path_ok none short = store_put s path format bytes is (takes_put s path bytes path_ok is.versions none) short
+
+-- ---- remove
+
+-- what is lent is there where something is found
+lent_alike : (lent : Option (Bor lent.Resource)) (found : Option Representation) → option_map (λ r. representation r.now) lent ≡ found → is_none lent ≡ is_none found
+lent_alike None found same = ap is_none same
+lent_alike (Some r) found same = ap is_none same
+
+pub remove_absent : (s : StoreValue) (path : Path) (lent : Option (Bor lent.Resource)) → option_map (λ r. representation r.now) lent ≡ found_in s.resources path → is_none lent ≡ true → remove_refusal s path ≡ Some NoSuch
+unfolding remove_refusal
+remove_absent s path lent same none =
+    rw (sym (lent_alike lent (found_in s.resources path) same) ∙ none)
+    (elim (not (is_dynamic (place_of path))) as (λ b. (if b then Some NoSuch else Some NoSuch) ≡ Some NoSuch) [ true ↦ refl | false ↦ refl ])
+
+found_dynamic : (s : StoreValue) (path : Path) (found : Option Representation) → IsStore s → found_in s.resources path ≡ found → is_none found ≡ false → not (is_dynamic (place_of path)) ≡ false
+found_dynamic s path None is same some = absurd cc
+found_dynamic s path (Some r) is same some = ap (λ place. not (is_dynamic place)) (found_kept s path r is same).place
+
+pub remove_present : (s : StoreValue) (path : Path) (lent : Option (Bor lent.Resource)) → IsStore s → option_map (λ r. representation r.now) lent ≡ found_in s.resources path → is_none lent ≡ false → remove_refusal s path ≡ None
+unfolding remove_refusal
+remove_present s path lent is same some =
+    let there : is_none (found_in s.resources path) ≡ false = sym (lent_alike lent (found_in s.resources path) same) ∙ some in
+    rw (found_dynamic s path (found_in s.resources path) is refl there, there) refl

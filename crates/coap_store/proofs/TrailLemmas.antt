@@ -1,0 +1,87 @@
+-- Where all segments of a path lead is the place that it names.
+use Rattle.std.proofs.Common.{◌≡◌, ℕ, Bool, true, false, ◌&&◌, List, [], ◌∷◌, refl, ap, ◌∙◌}
+use Rattle.std.specs.Prelude.{codes, if◌then◌else◌}
+use lib.Pointwise.{bytes_decides}
+use Rattle.coap_store.specs.Paths.{Path, same_bytes}
+use Rattle.coap_store.specs.State.{place_of}
+use Rattle.coap_store.specs.Trails.{trail_with, trail_behind, place_at}
+use Rattle.coap_store.specs.declared.place.Place.{Place}
+use Rattle.coap_store.specs.declared.place.Place.TheVariants as place
+use Rattle.coap_store.specs.declared.trail.Trail.{Trail}
+use Rattle.coap_store.specs.declared.trail.Trail.TheVariants.{Root, Time, Async, WellKnown, Listing, Elsewhere}
+
+-- nothing built in lies behind this
+elsewhere_stays : (path : Path) → trail_behind Elsewhere path ≡ Elsewhere
+elsewhere_stays [] = refl
+elsewhere_stays (s ∷ ss) = elsewhere_stays ss
+
+-- the answers of the tests of a path's first segments, as the place is chosen by them
+abbrev chosen : Bool → Bool → Bool → Place
+chosen time async listing = if time then place.Time else (if async then place.Async else (if listing then place.Listing else place.Dynamic))
+
+-- a first segment is one of three at most
+record IsOne (time async well_known : Bool) : Type 0 where
+  time_alone : time ≡ true → well_known ≡ false
+  async_alone : async ≡ true → well_known ≡ false
+
+is_one : (s : List ℕ) → IsOne (same_bytes s (codes "time")) (same_bytes s (codes "async")) (same_bytes s (codes ".well-known"))
+is_one s = record {
+  time_alone = λ is. ap (λ (b : List ℕ). same_bytes b (codes ".well-known")) ((bytes_decides s (codes "time")).0 is);
+  async_alone = λ is. ap (λ (b : List ℕ). same_bytes b (codes ".well-known")) ((bytes_decides s (codes "async")).0 is);
+}
+
+and_false : (b : Bool) → (b && false) ≡ false
+and_false true = refl
+and_false false = refl
+
+and_true : (b : Bool) → (b && true) ≡ b
+and_true true = refl
+and_true false = refl
+
+-- the trail of a first segment, by the answers of its tests
+abbrev begun : Bool → Bool → Bool → Trail
+begun time async well_known = if time then Time else (if async then Async else (if well_known then WellKnown else Elsewhere))
+
+one_segment : (time async well_known : Bool) → place_at (begun time async well_known) ≡ chosen (time && true) (async && true) (well_known && false)
+one_segment true async well_known = refl
+one_segment false true well_known = refl
+one_segment false false true = refl
+one_segment false false false = refl
+
+two_segments : (time async well_known core : Bool) (t : List ℕ) → same_bytes t (codes "core") ≡ core → IsOne time async well_known → place_at (trail_with (begun time async well_known) t) ≡ chosen (time && false) (async && false) (well_known && (core && true))
+two_segments true async well_known core t is one = rw (one.time_alone refl, and_false async) refl
+two_segments false true well_known core t is one = rw (one.async_alone refl) refl
+two_segments false false true true t is one = rw is refl
+two_segments false false true false t is one = rw is refl
+two_segments false false false core t is one = refl
+
+-- behind the second segment nothing is built in
+abbrev IsLast : Trail → Type 0
+IsLast trail = (s : List ℕ) → trail_with trail s ≡ Elsewhere
+
+core_last : (core : Bool) → IsLast (if core then Listing else Elsewhere)
+core_last true s = refl
+core_last false s = refl
+
+second_last : (time async well_known : Bool) (t : List ℕ) → IsLast (trail_with (begun time async well_known) t)
+second_last true async well_known t s = refl
+second_last false true well_known t s = refl
+second_last false false true t s = core_last (same_bytes t (codes "core")) s
+second_last false false false t s = refl
+
+more_segments : (time async well_known core : Bool) → place.Dynamic ≡ chosen (time && false) (async && false) (well_known && (core && false))
+more_segments time async well_known core = rw (and_false time, and_false async, and_false core, and_false well_known) refl
+
+pub place_by_trail : (path : Path) → place_at (trail_behind Root path) ≡ place_of path
+unfolding place_of
+place_by_trail [] = refl
+place_by_trail (s ∷ []) = one_segment (same_bytes s (codes "time")) (same_bytes s (codes "async")) (same_bytes s (codes ".well-known"))
+place_by_trail (s ∷ t ∷ []) =
+    two_segments (same_bytes s (codes "time")) (same_bytes s (codes "async")) (same_bytes s (codes ".well-known")) (same_bytes t (codes "core")) t refl (is_one s)
+place_by_trail (s ∷ t ∷ u ∷ ss) =
+    let time = same_bytes s (codes "time") in
+    let async = same_bytes s (codes "async") in
+    let well_known = same_bytes s (codes ".well-known") in
+    ap (λ (l : Trail). place_at (trail_behind l ss)) (second_last time async well_known t u)
+    ∙ ap place_at (elsewhere_stays ss)
+    ∙ more_segments time async well_known (same_bytes t (codes "core"))

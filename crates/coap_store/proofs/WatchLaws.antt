@@ -1,0 +1,133 @@
+-- What holds where a request asks that an observer is entered.
+use Rattle.std.proofs.Common.{◌≡◌, ℕ, Bool, true, false, ◌&&◌, Option, Some, None, refl, sym, ap, ◌∙◌, inl, inr}
+use Rattle.std.specs.Prelude.{◌⊎◌, if◌then◌else◌}
+use Rattle.std.proofs.lemmas.Bool.{cond-true}
+use Rattle.coap_wire.specs.Message.{Message}
+use Rattle.coap_wire.specs.Codes as code
+use Rattle.coap_wire.specs.OptionNumbers as numbers
+use Rattle.coap_store.specs.Paths.{Path, same_path, is_path}
+use Rattle.coap_store.specs.Store.{Representation, StoreValue}
+use Rattle.coap_store.specs.State.{time_path, is_observable, place_of, key_for, stored_at, state_at, state_of, target_of}
+use Rattle.coap_store.specs.Requests.{path_of, number_of}
+use Rattle.coap_store.specs.Answer.{Answer, Response, is_number, watch_of, watched, stored_under, answer_at, removes_watch, finally, answer_of, unheld_by, prompt_answer}
+use Rattle.coap_store.specs.Watching.{MayWatch}
+use Rattle.coap_store.specs.declared.plan.Watch.TheVariants as watch
+use Rattle.coap_store.specs.declared.place.Place.{Place}
+use Rattle.coap_store.specs.declared.place.Place.TheVariants.{Root, Time, Async, Listing, Dynamic}
+use Rattle.coap_store.proofs.PathLemmas.{same_path_sound}
+use Rattle.coap_store.proofs.AnswerLaws.{answer_cases, get_cases, store_cases, key_is}
+
+-- ---- which places are watched
+
+observed : (b : Bool) → (if b then watch.Add else watch.Nothing) ≡ watch.Add → b ≡ true
+observed true e = refl
+observed false e = absurd cc
+
+left_true : (a b : Bool) → (a && b) ≡ true → a ≡ true
+left_true true b e = refl
+left_true false b e = absurd cc
+
+watched_place : (place : Place) (m : Message) → watch_of place m ≡ watch.Add → is_observable place ≡ true
+watched_place place m e = left_true (is_observable place) (is_number (number_of numbers.observe m) 0) (observed _ e)
+
+-- ---- their paths are paths of resources
+
+time_test : (a b c d : Bool) → (if a then Root else (if b then Time else (if c then Async else (if d then Listing else Dynamic)))) ≡ Time → b ≡ true
+time_test true b c d e = absurd cc
+time_test false true c d e = refl
+time_test false false true d e = absurd cc
+time_test false false false true e = absurd cc
+time_test false false false false e = absurd cc
+
+time_only : (path : Path) → place_of path ≡ Time → path ≡ time_path
+unfolding place_of
+time_only path e = same_path_sound path time_path (time_test _ (same_path path time_path) _ _ e)
+
+time_is_path : is_path time_path ≡ true
+unfolding is_path
+time_is_path = refl
+
+time_key : (path : Path) → place_of path ≡ Time → key_for path ≡ Some path
+unfolding key_for
+time_key path e = cond-true (is_path path) (Some path) None (ap is_path (time_only path e) ∙ time_is_path)
+
+stored_key : (s : StoreValue) (path : Path) (key : Option Path) (r : Representation) → key_for path ≡ key → stored_at s key ≡ Some r → key_for path ≡ Some path
+stored_key s path None r is e = absurd cc
+stored_key s path (Some q) r is e = is ∙ ap (λ (p : Path). Some p) (sym (key_is path q is).1)
+
+-- a resource that can be observed has a key where it is there
+observed_key : (s : StoreValue) (now : ℕ) (path : Path) (place : Place) (r : Representation) → place_of path ≡ place → is_observable place ≡ true → state_at s now (key_for path) place ≡ Some r → key_for path ≡ Some path
+unfolding state_at
+observed_key s now path Root r is e there = absurd cc
+observed_key s now path Time r is e there = time_key path is
+observed_key s now path Async r is e there = absurd cc
+observed_key s now path Listing r is e there = absurd cc
+observed_key s now path Dynamic r is e there = stored_key s path (key_for path) r refl there
+
+-- ---- every answer
+
+-- it is not held either
+record IsWatched (s : StoreValue) (now : ℕ) (path : Path) (a : Answer) : Type 0 where
+  at_once : a.hold ≡ None
+  may : MayWatch s now path a
+
+abbrev WatchesWell : StoreValue → ℕ → Path → Answer → Type 0
+WatchesWell s now path a = a.watch ≡ watch.Add → IsWatched s now path a
+
+-- the answers that tell the state of the path
+watches : (s : StoreValue) (now : ℕ) (path : Path) (m : Message) (representation : Representation) (r : Response) → state_of s now path ≡ Some representation → (r.code ≡ code.content) ⊎ (r.code ≡ code.valid) → WatchesWell s now path (watched (place_of path) m r)
+watches s now path m representation r there is e =
+    let seen = watched_place (place_of path) m e in
+    record {
+      at_once = refl;
+      may = record {
+        representation = representation;
+        there = there;
+        key = observed_key s now path (place_of path) representation refl seen there;
+        observable = seen;
+        quiet = refl;
+        code = is;
+      };
+    }
+
+stored_unwatched : (key : Option Path) (state : Option Representation) (m : Message) → (stored_under key state m).watch ≡ watch.Nothing
+stored_unwatched None state m = refl
+stored_unwatched (Some path) None m = refl
+stored_unwatched (Some path) (Some r) m = refl
+
+unwatched : (s : StoreValue) (now : ℕ) (path : Path) (a : Answer) → a.watch ≡ watch.Nothing → WatchesWell s now path a
+unwatched s now path a nothing e = absurd cc
+
+watched_at : (s : StoreValue) (now : ℕ) (path : Path) (m : Message) → WatchesWell s now path (answer_at s (target_of s now path) m)
+watched_at s now path m =
+    let t = target_of s now path in
+    let P : Answer → Type 0 = WatchesWell s now path in
+    let nothing : (a : Answer) → a.watch ≡ watch.Nothing → P a = unwatched s now path in
+    answer_cases P s t m (λ c e. nothing _ refl) (record {
+      read = λ r is. get_cases P t.place r m (λ c e. nothing _ refl) (record {
+        valid = λ among. watches s now path m r _ is (inr refl);
+        late = nothing _ refl;
+        content = watches s now path m r _ is (inl refl);
+      });
+      deleted = λ dynamic other. nothing _ refl;
+      stored = λ dynamic other. store_cases P s t m (λ c e. nothing _ refl) (nothing _ refl) (λ can. nothing _ (stored_unwatched t.key t.state m));
+    })
+
+watched_finally : (s : StoreValue) (now : ℕ) (path : Path) (removes : Bool) (a : Answer) → WatchesWell s now path a → WatchesWell s now path (finally removes a)
+watched_finally s now path true a is e = absurd cc
+watched_finally s now path false a is e = is e
+
+watched_unheld : (s : StoreValue) (now : ℕ) (path : Path) (hold : Option ℕ) (a : Answer) → a.hold ≡ hold → WatchesWell s now path a → WatchesWell s now path (unheld_by hold a)
+watched_unheld s now path None a held is e = is e
+watched_unheld s now path (Some seconds) a held is e = let at_once = (is e).at_once in absurd cc
+
+watched_of : (s : StoreValue) (now : ℕ) (m : Message) → WatchesWell s now (path_of m) (answer_of s now m)
+unfolding answer_of
+watched_of s now m = watched_finally s now (path_of m) (removes_watch m) (answer_at s (target_of s now (path_of m)) m) (watched_at s now (path_of m) m)
+
+pub watched_is_there : (s : StoreValue) (now : ℕ) (m : Message) → (answer_of s now m).watch ≡ watch.Add → MayWatch s now (path_of m) (answer_of s now m)
+watched_is_there s now m e = (watched_of s now m e).may
+
+pub promptly_watched_is_there : (s : StoreValue) (now : ℕ) (m : Message) → (prompt_answer s now m).watch ≡ watch.Add → MayWatch s now (path_of m) (prompt_answer s now m)
+unfolding prompt_answer
+promptly_watched_is_there s now m e = (watched_unheld s now (path_of m) (answer_of s now m).hold (answer_of s now m) refl (watched_of s now m) e).may

@@ -1,0 +1,9 @@
+use Rattle.std.proofs.Common.{◌∙◌}
+use Rattle.coap_store.proofs.TargetLemmas.{has_key, key_is_path}
+use Rattle.coap_store.proofs.request.path_in.Goals as goal
+
+pub unreachable-requires : goal.unreachable-requires
+unreachable-requires c = c.in_default.not-Some _ (c.key_of.ensures ∙ has_key _ c.requires)
+
+pub returns : goal.returns
+returns c = key_is_path _ _ c.in-Some.ensures

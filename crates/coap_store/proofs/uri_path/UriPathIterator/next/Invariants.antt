@@ -1,0 +1,10 @@
+use Rattle.std.proofs.Common.{◌≡◌, length}
+use Rattle.coap_store.specs.UriPaths.{segments_told}
+use Rattle.coap_store.proofs.uri_path.UriPathIterator.next.Given as goal
+
+-- only options that are no segments were passed over
+abbrev pub invariant-loop-option : goal.invariant-loop-option
+invariant-loop-option l = segments_told l.self-inside.options ≡ l.fn.self
+
+abbrev pub decreases-loop-option : goal.decreases-loop-option
+decreases-loop-option l = length l.self-inside.options

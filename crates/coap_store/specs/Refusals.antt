@@ -1,0 +1,41 @@
+-- Why a change from inside is refused.
+use Rattle.std.specs.Prelude.{◌≡◌, ℕ, Bool, not, ◌&&◌, List, [], ◌∷◌, length, Option, Some, None, Result, Ok, Err, is_none, nat_le, nat_lt, ◌==◌, if◌then◌else◌}
+use Rattle.coap_store.specs.Paths.{Path}
+use Rattle.coap_store.specs.Store.{StoreValue, found_in}
+use Rattle.coap_store.specs.State.{place_of, is_dynamic}
+use Rattle.coap_store.specs.Answer.{greatest_version}
+use Rattle.coap_store.specs.declared.fault.StoreFault.{StoreFault}
+use Rattle.coap_store.specs.declared.fault.StoreFault.TheVariants.{NoSuch, TooLarge, Limit, BadPath, VersionsSpent, Memory}
+
+-- the first fault whose condition holds
+abbrev pub first_fault : List (Bool × StoreFault) → Option StoreFault
+first_fault [] = None
+first_fault (f ∷ fs) = if f.0 then Some f.1 else first_fault fs
+
+-- too many bytes, a built-in path, no place for a new resource, no version left
+unfoldable pub put_refusal : StoreValue → Path → List ℕ → Option StoreFault
+put_refusal s path bytes =
+    first_fault (
+    (nat_lt s.rep_max (length bytes), TooLarge)
+    ∷ (not (is_dynamic (place_of path)), BadPath)
+    ∷ (is_none (found_in s.resources path) && nat_le s.dynamic_max (length s.resources), Limit)
+    ∷ (s.versions == greatest_version, VersionsSpent)
+    ∷ [])
+
+-- a built-in path, or an absent one
+unfoldable pub remove_refusal : StoreValue → Path → Option StoreFault
+remove_refusal s path = first_fault ((not (is_dynamic (place_of path)), NoSuch) ∷ (is_none (found_in s.resources path), NoSuch) ∷ [])
+
+-- the refusal that a fault tells: refused memory is none
+abbrev pub refusal_in : StoreFault → Option StoreFault
+refusal_in NoSuch = Some NoSuch
+refusal_in TooLarge = Some TooLarge
+refusal_in Limit = Some Limit
+refusal_in BadPath = Some BadPath
+refusal_in VersionsSpent = Some VersionsSpent
+refusal_in Memory = None
+
+-- Ok only where there is no refusal, a fault other than Memory only where it is the refusal, and Memory only where there is none
+abbrev pub RefusedOrMemory : {T : Type 0} → Result T StoreFault → Option StoreFault → Type 0
+RefusedOrMemory (Ok x) refusal = refusal ≡ None
+RefusedOrMemory (Err fault) refusal = refusal ≡ refusal_in fault

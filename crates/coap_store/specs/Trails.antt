@@ -1,0 +1,38 @@
+-- Where the segments of a path lead, one after the other (RFC 7252 section 5.10.1).
+use Rattle.std.specs.Prelude.{ℕ, List, [], ◌∷◌, codes, if◌then◌else◌}
+use Rattle.coap_store.specs.Paths.{Path, same_bytes}
+use Rattle.coap_store.specs.declared.place.Place.{Place}
+use Rattle.coap_store.specs.declared.place.Place.TheVariants as place
+use Rattle.coap_store.specs.declared.trail.Trail.{Trail}
+use Rattle.coap_store.specs.declared.trail.Trail.TheVariants.{Root, Time, Async, WellKnown, Listing, Elsewhere}
+
+-- the first segment
+abbrev pub first_trail : List ℕ → Trail
+first_trail segment =
+    if same_bytes segment (codes "time") then Time
+    else (if same_bytes segment (codes "async") then Async
+    else (if same_bytes segment (codes ".well-known") then WellKnown
+    else Elsewhere))
+
+-- one segment more
+abbrev pub trail_with : Trail → List ℕ → Trail
+trail_with Root segment = first_trail segment
+trail_with WellKnown segment = if same_bytes segment (codes "core") then Listing else Elsewhere
+trail_with Time segment = Elsewhere
+trail_with Async segment = Elsewhere
+trail_with Listing segment = Elsewhere
+trail_with Elsewhere segment = Elsewhere
+
+-- all segments, one after the other
+abbrev pub trail_behind : Trail → Path → Trail
+trail_behind trail [] = trail
+trail_behind trail (s ∷ ss) = trail_behind (trail_with trail s) ss
+
+-- which resource a path names that leads there
+abbrev pub place_at : Trail → Place
+place_at Root = place.Root
+place_at Time = place.Time
+place_at Async = place.Async
+place_at WellKnown = place.Dynamic
+place_at Listing = place.Listing
+place_at Elsewhere = place.Dynamic

@@ -1,0 +1,16 @@
+-- Which answers may enter an observer (RFC 7641 section 4.1).
+use Rattle.std.specs.Prelude.{◌≡◌, ◌⊎◌, ℕ, true, Some}
+use Rattle.coap_wire.specs.Codes as code
+use Rattle.coap_store.specs.Paths.{Path}
+use Rattle.coap_store.specs.Store.{Representation, StoreValue}
+use Rattle.coap_store.specs.State.{key_for, place_of, state_of, is_observable}
+use Rattle.coap_store.specs.Answer.{Answer, Nothing}
+
+-- a path of a resource that is there and can be observed, and an answer that changes nothing and is 2.05 or 2.03
+pub record MayWatch (s : StoreValue) (now : ℕ) (path : Path) (a : Answer) : Type 0 where
+  pub representation : Representation
+  pub there : state_of s now path ≡ Some representation
+  pub key : key_for path ≡ Some path
+  pub observable : is_observable (place_of path) ≡ true
+  pub quiet : a.change ≡ Nothing
+  pub code : (a.response.code ≡ code.content) ⊎ (a.response.code ≡ code.valid)

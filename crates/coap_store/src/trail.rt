@@ -1,0 +1,78 @@
+//! Where the segments of a path lead.
+
+ghost use Rattle.std.specs.Prelude.{◌≡◌};
+ghost use Rattle.coap_store.specs.Trails.{first_trail};
+
+use crate::place::Place;
+
+/// Where the segments of a path so far lead: to a place, or on the way to one.
+#[derive(Clone, Copy, Debug, PartialEq, Eq)]
+pub(crate) enum Trail {
+    /// No segment yet: the root.
+    Root,
+    /// The moment.
+    Time,
+    /// The resource that answers late.
+    Async,
+    /// The first segment of the path of the listing.
+    WellKnown,
+    /// The listing.
+    Listing,
+    /// To no built-in resource, whatever follows.
+    Elsewhere,
+}
+
+/// Where a path with this first segment leads so far.
+fn first(segment: &[u8]) -> Trail
+    ensures { result ≡ first_trail segment.now }
+{
+    if segment == b"time".as_slice() {
+        return Trail::Time;
+    }
+    if segment == b"async".as_slice() {
+        return Trail::Async;
+    }
+    if segment == b".well-known".as_slice() {
+        return Trail::WellKnown;
+    }
+    Trail::Elsewhere
+}
+
+impl Trail {
+    ghost use Rattle.std.specs.Prelude.{◌≡◌};
+    ghost use Rattle.coap_store.specs.Trails.{trail_with, place_at};
+
+    /// Where one segment more leads.
+    pub(crate) fn with(self, segment: &[u8]) -> Trail
+        ensures { result ≡ trail_with self segment.now }
+    {
+        match self {
+            Trail::Root => first(segment),
+            Trail::WellKnown => {
+                if segment == b"core".as_slice() {
+                    Trail::Listing
+                } else {
+                    Trail::Elsewhere
+                }
+            }
+            Trail::Time => Trail::Elsewhere,
+            Trail::Async => Trail::Elsewhere,
+            Trail::Listing => Trail::Elsewhere,
+            Trail::Elsewhere => Trail::Elsewhere,
+        }
+    }
+
+    /// Which resource a path names that leads here.
+    pub(crate) fn place(self) -> Place
+        ensures { result ≡ place_at self }
+    {
+        match self {
+            Trail::Root => Place::Root,
+            Trail::Time => Place::Time,
+            Trail::Async => Place::Async,
+            Trail::Listing => Place::Listing,
+            Trail::WellKnown => Place::Dynamic,
+            Trail::Elsewhere => Place::Dynamic,
+        }
+    }
+}

@@ -1,0 +1,56 @@
+//! The path that a request asks for, segment by segment.
+
+use coap_wire::option_numbers::URI_PATH;
+use coap_wire::{Known, MessageRef};
+use std::marker::Model;
+
+/// The segments of the path that a request asks for, in order: the values of its Uri-Path options (RFC 7252 section 5.10.1).
+/// Contracts see the list of those that are left.
+#[derive(Debug, Drop)]
+pub struct UriPath<'r> {
+    /// The recognised options that are left.
+    options: Known<'r>,
+}
+
+impl<'r> Model for UriPath<'r> {
+    ghost use Rattle.coap_store.specs.Paths.{Path};
+    ghost use Rattle.coap_store.specs.UriPaths.{segments_told};
+
+    ghost Value = { Path };
+
+    ghost view = { λ p. segments_told p.options };
+}
+
+impl<'r> UriPath<'r> {
+    ghost use Rattle.std.specs.Prelude.{◌≡◌};
+    ghost use Rattle.coap_store.specs.Requests.{path_of};
+
+    /// All segments of a request's path.
+    #[tactic(auto, unfolding(crate::specs::Requests::values_of))]
+    pub(crate) fn of(request: &MessageRef<'r>) -> UriPath<'r>
+        ensures { result ≡ path_of request.now }
+    {
+        UriPath {
+            options: request.known(),
+        }
+    }
+}
+
+impl<'r> Iterator for UriPath<'r> {
+    ghost use Rattle.std.specs.Iterator.{YieldsFirstBy, item_count};
+
+    type Item = &'r [u8];
+
+    ghost next_gives = { YieldsFirstBy (λ segment. segment.now) (λ segments. segments) };
+
+    ghost remaining = { item_count (λ segments. segments) };
+
+    fn next(&mut self) -> Option<&'r [u8]> {
+        while let Some(option) = self.options.next() {
+            if option.number == URI_PATH {
+                return Some(option.value);
+            }
+        }
+        None
+    }
+}
