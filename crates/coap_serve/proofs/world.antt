@@ -2,6 +2,7 @@ pub mod Rows
 mod Worked
 mod WorkedEvents
 mod WorkedMore
+mod WorkedViews
 pub mod StepLaws
 pub mod TookLaws
 pub mod PlaceLaws
@@ -19,3 +20,4 @@ pub mod ShownLemmas
 pub mod ShowLaws
 pub mod CallLaws
 pub mod CutLaws
+pub mod ViewLaws

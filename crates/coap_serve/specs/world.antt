@@ -3,3 +3,4 @@ pub mod Sides
 pub mod World
 pub mod Events
 pub mod Shows
+pub mod View

@@ -1,12 +1,14 @@
 //! What holds of every server, each as the contract of a function that does nothing.
 
 ghost use Rattle.std.specs.Prelude.{◌≡◌, ℕ, List, ◌∷◌, ◌++◌, Some};
+ghost use Rattle.coap_conn.specs.Limits.{LimitValues};
 ghost use Rattle.coap_serve.specs.Configs.{ConfigValues};
 ghost use Rattle.coap_serve.specs.values.Servers.{ServerValue};
 ghost use Rattle.coap_serve.specs.world.Sides.{Side, HearsAll};
-ghost use Rattle.coap_serve.specs.world.World.{side_of};
+ghost use Rattle.coap_serve.specs.world.World.{World, Step, new_world, side_of, after_steps};
 ghost use Rattle.coap_serve.specs.world.Events.{Event, Took, steps_of, world_after};
 ghost use Rattle.coap_serve.specs.world.Shows.{Shows};
+ghost use Rattle.coap_serve.specs.world.View.{view_of, after_view, AreSeen};
 
 /// No change is lost: after every call, on each connection less than the greatest message sent is free in the queue, or every
 /// observer was told the state that its path has now.
@@ -20,4 +22,18 @@ pub fn cuts_do_not_matter()
     ensures steps { (max : ℕ) (before behind : List Event) (id : ℕ) (xs ys : List ℕ) → steps_of max (before ++ Took id (xs ++ ys) ∷ behind) ≡ steps_of max (before ++ Took id xs ∷ Took id ys ∷ behind) }
     ensures worlds { (c : ConfigValues) (before behind : List Event) (id : ℕ) (xs ys : List ℕ) → world_after c (before ++ Took id (xs ++ ys) ∷ behind) ≡ world_after c (before ++ Took id xs ∷ Took id ys ∷ behind) }
     ensures same_steps { (c : ConfigValues) (events others : List Event) → steps_of c.limits.max_message events ≡ steps_of c.limits.max_message others → world_after c events ≡ world_after c others }
+{}
+
+/// A connection sees the others through the store alone. What it sees of any steps is its own steps, the moments and the changes
+/// of the store, with nothing of who made them; after what it sees, the connection, the store and the moment are what they are
+/// after all the steps. The same holds of events, and events that look the same to a connection leave it the same.
+pub fn a_connection_sees_others_through_the_store_alone()
+    ensures seen { (limits : LimitValues) (id : ℕ) (w : World) (ss : List Step) → AreSeen id (view_of limits id w ss) }
+    ensures side { (c : ConfigValues) (id : ℕ) (ss : List Step) → side_of id (after_steps c.limits (new_world c) ss).sides ≡ side_of id (after_view c id ss).sides }
+    ensures store { (c : ConfigValues) (id : ℕ) (ss : List Step) → (after_steps c.limits (new_world c) ss).store ≡ (after_view c id ss).store }
+    ensures now { (c : ConfigValues) (id : ℕ) (ss : List Step) → (after_steps c.limits (new_world c) ss).now ≡ (after_view c id ss).now }
+    ensures events_side { (c : ConfigValues) (id : ℕ) (events : List Event) → side_of id (world_after c events).sides ≡ side_of id (after_view c id (steps_of c.limits.max_message events)).sides }
+    ensures events_store { (c : ConfigValues) (id : ℕ) (events : List Event) → (world_after c events).store ≡ (after_view c id (steps_of c.limits.max_message events)).store }
+    ensures events_now { (c : ConfigValues) (id : ℕ) (events : List Event) → (world_after c events).now ≡ (after_view c id (steps_of c.limits.max_message events)).now }
+    ensures alike { (c : ConfigValues) (id : ℕ) (events others : List Event) → view_of c.limits id (new_world c) (steps_of c.limits.max_message events) ≡ view_of c.limits id (new_world c) (steps_of c.limits.max_message others) → side_of id (world_after c events).sides ≡ side_of id (world_after c others).sides }
 {}

@@ -169,7 +169,8 @@ notified_less store now s o e =
     let os = first_becomes (is_due store now) left s.observers in
     omega (arith, count_if (is_due store now) (is_open h.phase) os, count_less (is_due store now) s.observers o left (left_quiet store now o (goes_on (notification store now o) && is_whole (fit (limit_now s.history) m (bare_response m)))) e)
 
-at_rest : (turns : ℕ) (store : StoreValue) (now : ℕ) (s : Side) → next_due store now s ≡ None → settled_within turns store now s ≡ s
+-- turns change nothing where none is due
+pub at_rest : (turns : ℕ) (store : StoreValue) (now : ℕ) (s : Side) → next_due store now s ≡ None → settled_within turns store now s ≡ s
 unfolding settled_within settled_once
 at_rest zero store now s none = refl
 at_rest (suc turns) store now s none = ap (λ found. settled_within turns store now (notified store now s found)) none ∙ at_rest turns store now s none
