@@ -21,3 +21,4 @@ pub mod ShowLaws
 pub mod CallLaws
 pub mod CutLaws
 pub mod ViewLaws
+pub mod LimitLaws

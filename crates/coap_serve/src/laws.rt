@@ -1,13 +1,13 @@
 //! What holds of every server, each as the contract of a function that does nothing.
 
-ghost use Rattle.std.specs.Prelude.{◌≡◌, ℕ, List, ◌∷◌, ◌++◌, Some};
-ghost use Rattle.coap_conn.specs.Limits.{LimitValues};
+ghost use Rattle.std.specs.Prelude.{◌≡◌, ℕ, ◌≤◌, List, ◌∷◌, ◌++◌, length, Some};
+ghost use Rattle.coap_conn.specs.Limits.{LimitValues, AreInRange};
 ghost use Rattle.coap_serve.specs.Configs.{ConfigValues};
 ghost use Rattle.coap_serve.specs.values.Servers.{ServerValue};
-ghost use Rattle.coap_serve.specs.world.Sides.{Side, HearsAll};
+ghost use Rattle.coap_serve.specs.world.Sides.{Side, waiting_on, HearsAll};
 ghost use Rattle.coap_serve.specs.world.World.{World, Step, new_world, side_of, after_steps};
-ghost use Rattle.coap_serve.specs.world.Events.{Event, Took, steps_of, world_after};
-ghost use Rattle.coap_serve.specs.world.Shows.{Shows};
+ghost use Rattle.coap_serve.specs.world.Events.{Event, Took, stream_on, steps_of, world_after, AreAccepted};
+ghost use Rattle.coap_serve.specs.world.Shows.{Shows, kept_on};
 ghost use Rattle.coap_serve.specs.world.View.{view_of, after_view, AreSeen};
 
 /// No change is lost: after every call, on each connection less than the greatest message sent is free in the queue, or every
@@ -36,4 +36,13 @@ pub fn a_connection_sees_others_through_the_store_alone()
     ensures events_store { (c : ConfigValues) (id : ℕ) (events : List Event) → (world_after c events).store ≡ (after_view c id (steps_of c.limits.max_message events)).store }
     ensures events_now { (c : ConfigValues) (id : ℕ) (events : List Event) → (world_after c events).now ≡ (after_view c id (steps_of c.limits.max_message events)).now }
     ensures alike { (c : ConfigValues) (id : ℕ) (events others : List Event) → view_of c.limits id (new_world c) (steps_of c.limits.max_message events) ≡ view_of c.limits id (new_world c) (steps_of c.limits.max_message others) → side_of id (world_after c events).sides ≡ side_of id (world_after c others).sides }
+{}
+
+/// The limits are kept, after any events: on each connection no more bytes wait than the queue holds, and there are no more
+/// observers than the limits allow; and after events that were accepted, no more bytes are kept of an unfinished message than
+/// the greatest one has.
+pub fn limits_are_kept()
+    ensures waiting { (c : ConfigValues) (events : List Event) (id : ℕ) (s : Side) → AreInRange c.limits → side_of id (world_after c events).sides ≡ Some s → length (waiting_on s) ≤ c.limits.queue }
+    ensures observers { (c : ConfigValues) (events : List Event) (id : ℕ) (s : Side) → side_of id (world_after c events).sides ≡ Some s → length s.observers ≤ c.limits.observers }
+    ensures kept { (c : ConfigValues) (events : List Event) (id : ℕ) (s : Side) → AreInRange c.limits → AreAccepted c events → side_of id (world_after c events).sides ≡ Some s → length (kept_on s (stream_on c.limits.max_message id events).rest) ≤ c.limits.max_message }
 {}

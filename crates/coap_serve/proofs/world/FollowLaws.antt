@@ -160,7 +160,7 @@ notified_follows : (store : StoreValue) (now : ℕ) (s : Side) (due : Option Obs
 notified_follows store now s None = follows_self s.history
 notified_follows store now s (Some o) = reply_follows s.history (notification_message o.token (notification store now o))
 
-once_follows : (store : StoreValue) (now : ℕ) (s : Side) → SideFollows s (settled_once store now s)
+pub once_follows : (store : StoreValue) (now : ℕ) (s : Side) → SideFollows s (settled_once store now s)
 unfolding settled_once
 once_follows store now s = notified_follows store now s (next_due store now s)
 
