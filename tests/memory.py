@@ -2,8 +2,12 @@
 
     tests/memory.py bin/coap-server bin/coap-probe
 
-`coap-probe` serves standard streams as `coap-server --stdio` does, and stores up to 1,000 resources. No message but one that
-stores a representation allocates anything; a replacing PUT allocates the room of its bytes alone; nothing is lost.
+`coap-probe` serves standard streams as `coap-server --stdio` does, replays scripts as `coap-server --script -` does, and stores
+up to 1,000 resources. No message but one that stores a representation allocates anything; a replacing PUT allocates the room of
+its bytes alone; nothing is lost.
+
+Of a script, its events and the lines that need memory are allocated too. So two scripts are compared that are read alike and
+write as many lines of each kind: in one of them the events are of a connection that is not there.
 """
 
 import re
@@ -49,18 +53,23 @@ STORED_KINDS = [
 REPLACING = ("410302b161ff79" "510302b161ff7978", "014402" "014402")
 
 
-def counted(checks, name, command, sent, answered):
-    """How often the program allocates over what the peer sends."""
+def watched(checks, name, command, stream, written):
+    """How often the program allocates over its input."""
     with tempfile.NamedTemporaryFile("r") as log:
         line = ["valgrind", "--leak-check=full", "--show-leak-kinds=all", "--log-file=" + log.name] + command
-        ran = subprocess.run(line, input=bytes.fromhex(sent), stdout=subprocess.PIPE, timeout=300)
+        ran = subprocess.run(line, input=stream, stdout=subprocess.PIPE, timeout=300)
         said = log.read()
-    checks.same("answers to %s" % name, (ran.returncode, ran.stdout.hex() == CSM + answered), (0, True))
+    checks.same("output of %s" % name, (ran.returncode, ran.stdout == written), (0, True))
     checks.same("nothing lost by %s" % name, [it in said for it in ("no leaks are possible", "ERROR SUMMARY: 0 errors")], [True] * 2)
     usage = re.search(r"total heap usage: ([\d,]+) allocs, ([\d,]+) frees", said)
     allocated, freed = (int(it.replace(",", "")) for it in usage.groups())
     checks.same("frees of %s" % name, freed, allocated)
     return allocated
+
+
+def counted(checks, name, command, sent, answered):
+    """How often the program allocates over what the peer sends."""
+    return watched(checks, name, command, bytes.fromhex(sent), bytes.fromhex(CSM + answered))
 
 
 def flat(checks, command, before, kind):
@@ -84,6 +93,85 @@ def replacing(checks, probe):
     checks.same("one allocation for each PUT, its bytes", first, 1000)
 
 
+# a script that opens a connection, where this is stored, and its lines
+OPENED = ("open\ndrain 1\nin 1 00e1\n", "open 1\nout 1 %s\nin 1 2\n" % CSM)
+STORED_BEFORE = ("put /a - 78\n", "put 1\n")
+
+# all answers to a script must wait in the queue: it has 131,072 bytes, and takes messages while 65,536 of these are free
+WAITING = 65_536
+
+
+def replayed(checks, name, command, *parts):
+    """How often the program allocates over a script, whose parts are texts with the lines that they write."""
+    script, lines = ("".join(texts) for texts in zip(*parts))
+    return watched(checks, name, command, script.encode(), lines.encode())
+
+
+def arriving(connection, sent, times):
+    """So many messages on a connection, each an event, and their lines. Connection 7 is not there."""
+    line = "in 1 %d" % (len(sent) // 2) if connection == 1 else "in 7 fault 1"
+    return "in %d %s\n" % (connection, sent) * times, (line + "\n") * times
+
+
+def scripted(checks, command, before, kind):
+    """A script of 1,000 messages of a kind allocates as much as one whose messages are on no connection, and so does one of 3,000,
+    where all answers fit into the queue."""
+    name, sent, answered = kind
+    for times in (1000, 3000):
+        if times * len(answered) // 2 <= WAITING:
+            handled, refused = (
+                replayed(checks, "a script of %s on %d, %d times" % (name, on, times), command, before, OPENED, arriving(on, sent, times)) for on in (1, 7)
+            )
+            checks.same("allocations of a script of %s, %d times" % (name, times), handled, refused)
+
+
+def drained(checks, command):
+    """What a line with bytes allocates it allocates for each such line, whatever was drained before."""
+    sent, line = "01e201", "out 1 01e301\n"
+
+    def more(times):
+        told = ("in 1 %s\ndrain 1\n" % sent * times, ("in 1 3\n" + line) * times)
+        untold = ("in 1 %s\ndrain 7\n" % sent * times, "in 1 3\ndrain 7 fault 1\n" * times)
+        return [replayed(checks, "a script with %d %s" % (times, name), command, OPENED, part) for name, part in (("lines of bytes", told), ("refused drains", untold))]
+
+    (first, without), (second, without_second) = more(1000), more(3000)
+    checks.same("allocations of 3,000 lines of bytes and of 1,000", second - without_second, 3 * (first - without))
+
+
+# what changes a resource, and the GET that registers an observer of it
+OBSERVING = ("put", "310104605161"), ("tick", "61010460" "5474696d65")
+
+
+def changes(word, times):
+    """So many changes of what is observed, and their lines."""
+    if word == "tick":
+        text = "".join("tick %d\n" % it for it in range(1, times + 1))
+        return text, text
+    return "put /a - 79\n" * times, "".join("put %d\n" % it for it in range(2, times + 2))
+
+
+def telling(checks, probe, word, request):
+    """What changes is told an observer without any allocation."""
+    for times in (1000, 3000):
+        told, untold = (
+            replayed(checks, "%d times %s, observed on %d" % (times, word, on), [probe, "--script"], STORED_BEFORE, OPENED, arriving(on, request, 1), changes(word, times))
+            for on in (1, 7)
+        )
+        checks.same("allocations of telling %d times %s" % (times, word), told, untold)
+
+
+def putting(checks, server, probe):
+    """What the program itself puts allocates once, its bytes: the server refuses the same script, since nothing may be stored."""
+
+    def more(times):
+        text, lines = changes("put", times)
+        put = replayed(checks, "%d puts" % times, [probe, "--script"], STORED_BEFORE, (text, lines))
+        refused = replayed(checks, "%d refused puts" % times, [server, "--script", "-"], ("put /a - 78\n", "put fault 3\n"), (text, "put fault 3\n" * times))
+        return put - refused
+
+    checks.same("allocations of 2,000 more puts", more(3000) - more(1000), 2000)
+
+
 def main(programs):
     server, probe = programs
     checks = Checks()
@@ -95,6 +183,14 @@ def main(programs):
     for kind in STORED_KINDS:
         flat(checks, [probe], STORED, kind)
     replacing(checks, probe)
+    for kind in KINDS:
+        scripted(checks, [server, "--script", "-"], ("", ""), kind)
+    for kind in STORED_KINDS:
+        scripted(checks, [probe, "--script"], STORED_BEFORE, kind)
+    drained(checks, [server, "--script", "-"])
+    for word, request in OBSERVING:
+        telling(checks, probe, word, request)
+    putting(checks, server, probe)
     print("memory: %d passed, %d failed" % (checks.passed, checks.failed))
     return 1 if checks.failed else 0
 

@@ -54,9 +54,9 @@ impl Link {
     ghost use Rattle.coap_wire.specs.Spelling.{spelling};
     ghost use Rattle.coap_wire.specs.Refusal.{RefusedBy};
     ghost use Rattle.coap_conn.specs.Announced.{bad_csm_option};
-    ghost use Rattle.coap_conn.specs.Fit.{fit, fitted, bare_response};
+    ghost use Rattle.coap_conn.specs.Fit.{fit, fitted, bare_response, without_options};
     ghost use Rattle.coap_conn.specs.Phases.{IsLive, IsAnswering};
-    ghost use Rattle.coap_conn.specs.Reaction.{react, stop, abort, send, told_of, csm_reaction, live_reaction, open_reaction, request_reaction};
+    ghost use Rattle.coap_conn.specs.Reaction.{react, stop, abort, send, told_of, csm_reaction, live_reaction, open_reaction, pong_of, sends, request_reaction};
     ghost use Rattle.coap_conn.specs.Verdicts as verdict;
     ghost use Rattle.coap_conn.specs.declared.phase.Phase.TheVariants as phase;
     ghost use Rattle.coap_conn.specs.declared.phase.Role.TheVariants as role;
@@ -218,8 +218,7 @@ impl Link {
             self.queue.put(response);
             return Reply::Whole;
         }
-        let bare = bare_of(response);
-        self.send(response, &bare)
+        self.reply_bare(response)
     }
 
     /// Sends Release and stops (RFC 8323 section 5.5).
@@ -316,6 +315,16 @@ impl Link {
         reply
     }
 
+    /// Sends a response as it fits the peer, or a bare one in its place. (Apart from `reply`, since a function clears all its locals.)
+    fn reply_bare(&mut self, response: &Builder) -> Reply
+        requires { IsReady self.old }
+        ensures reply { result ≡ fit (limit_in self.old) response.now (bare_response response.now) }
+        ensures after { self.new ≡ link_with self.old (send (standing_in self.old) response.now (bare_response response.now)) }
+    {
+        let bare = bare_of(response);
+        self.send(response, &bare)
+    }
+
     /// The one way to stop, behind what was queued for it. Whatever else a link comes to hold is given up here.
     fn stop(&mut self, reason: Reason) -> Verdict
         ensures verdict { verdict_value result ≡ verdict.Stopped reason }
@@ -383,8 +392,7 @@ impl Link {
             return self.abort(Reason::BadSignalOption);
         }
         if code == Code::PING {
-            let pong = pong_to(message);
-            return self.answer(&pong, &Builder::new(Code::PONG, message.token()));
+            return self.on_ping(message);
         }
         if code == Code::RELEASE {
             self.phase = Phase::Releasing(Reason::PeerRelease);
@@ -398,6 +406,16 @@ impl Link {
             0 => self.on_request(message),
             _ => Verdict::Stranger,
         }
+    }
+
+    /// Answers a Ping. (Apart from `on_open`, since a function clears all its locals.)
+    fn on_ping(&mut self, message: &MessageRef) -> Verdict
+        requires { IsReady self.old }
+        ensures verdict { verdict_value result ≡ (sends (standing_in self.old) (pong_of message.now) (without_options (pong_of message.now))).verdict }
+        ensures after { self.new ≡ link_with self.old (sends (standing_in self.old) (pong_of message.now) (without_options (pong_of message.now))).effect }
+    {
+        let pong = pong_to(message);
+        self.answer(&pong, &Builder::new(Code::PONG, message.token()))
     }
 
     /// Handles a request: the caller answers it at the server, and at the client it is not implemented.

@@ -1,5 +1,4 @@
 pub mod streams
 pub mod values
-pub mod histories
 pub mod world
 pub mod scripting

@@ -3,4 +3,6 @@ pub mod ScriptLemmas
 pub mod ScriptLaws
 pub mod Worked
 pub mod LineLemmas
+pub mod ShownLemmas
 pub mod ReplayLemmas
+pub mod ReplayShown

@@ -1,3 +1,13 @@
 pub mod DeviceLemmas
-pub mod FlushLemmas
+pub mod WriteLemmas
+pub mod FlushLaws
+pub mod QueueLaws
+pub mod StoppedLaws
+pub mod OutputLaws
+pub mod FlushShown
+pub mod TakeLemmas
+pub mod PieceLemmas
+pub mod TurnLemmas
 pub mod RunLemmas
+pub mod EndLemmas
+pub mod StartLemmas

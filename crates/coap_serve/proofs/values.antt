@@ -1,7 +1,4 @@
-pub mod TalkLemmas
-pub mod ProgressLemmas
-pub mod AdvanceLemmas
-pub mod PieceLemmas
+pub mod LinkLemmas
 pub mod ResponseLemmas
 pub mod SettleLemmas
 pub mod EntryLemmas
@@ -9,3 +6,5 @@ pub mod AnsweringLemmas
 pub mod SessionLemmas
 pub mod ServerLemmas
 pub mod TakenLemmas
+pub mod FlushLemmas
+pub mod TurnLemmas

@@ -22,3 +22,12 @@ pub mod CallLaws
 pub mod CutLaws
 pub mod ViewLaws
 pub mod LimitLaws
+pub mod AcrossLaws
+pub mod GrowLaws
+pub mod HandlingLaws
+pub mod HandledLaws
+pub mod FitLaws
+pub mod RefusedLaws
+pub mod ToldMessages
+pub mod ToldAnswers
+pub mod ToldLaws

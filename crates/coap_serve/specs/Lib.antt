@@ -1,7 +1,6 @@
 pub mod streams
 pub mod Configs
 pub mod views
-pub mod histories
 pub mod values
 pub mod world
 pub mod script

@@ -1,3 +1,5 @@
 pub mod Device
+pub mod Output
 pub mod StdioRun
+pub mod Standing
 pub mod Faults

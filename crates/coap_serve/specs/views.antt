@@ -1,5 +1,4 @@
 pub mod ConfigViews
-pub mod ConnectionViews
 pub mod ObserverViews
 pub mod SessionViews
 pub mod ServerViews

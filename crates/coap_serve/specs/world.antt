@@ -4,3 +4,5 @@ pub mod World
 pub mod Events
 pub mod Shows
 pub mod View
+pub mod Handling
+pub mod Told

@@ -1,6 +1,6 @@
 //! Answers requests and notifies observers.
 
-ghost use Rattle.std.specs.Prelude.{◌≡◌, Some, slice_get, IfOk, OnOk, OnErr};
+ghost use Rattle.std.specs.Prelude.{◌≡◌, ◌<◌, ◌++◌, ◌∷◌, [], Some, length, slice_get, IfOk, OnOk, OnErr};
 ghost use Rattle.coap_conn.specs.Phases.{IsAnswering};
 ghost use Rattle.coap_conn.specs.LinkValue.{IsReady, link_after_reply};
 ghost use Rattle.coap_store.specs.Requests.{path_of};
@@ -50,7 +50,7 @@ pub(crate) fn answer(
         let observes = asks_entry(plan.watch()) && !observers.is_full();
         let reply = respond(link, request.token(), &plan, observes);
         if observes && is_whole(reply) {
-            observers.enter(entry_for(host, request));
+            enter(observers, host, request);
         }
         Ok(false)
     } else {
@@ -82,6 +82,15 @@ fn is_whole(reply: Reply) -> bool
         Reply::Bare => false,
         Reply::Stopped => false,
     }
+}
+
+/// Enters a request as an observer, for which there is room. (Apart from `answer`, since a function clears all its locals.)
+fn enter(observers: &mut Observers, host: &Host, request: &MessageRef)
+    requires room { length observers.old.entries < observers.old.room }
+    requires watched { MayWatch host.now.store host.now.now (path_of request.now) (answer_on host.now request.now) }
+    ensures { observers.new ≡ record observers.old { entries = observers.old.entries ++ new_entry host.entry.now request.now ∷ [] } }
+{
+    observers.enter(entry_for(host, request));
 }
 
 /// The entry of a request whose path is there: it is told the state of the path.

@@ -10,11 +10,13 @@ use std::alloc::{AllocError, Global};
 impl Server {
     ghost use Rattle.std.specs.Prelude.{◌≡◌, ◌+◌, ◌≤◌, ◌++◌, ◌∷◌, List, [], length, take, true, is_ok, nat_le, IfOk, IfErr, OnOk, OnErr};
     ghost use Rattle.coap_wire.specs.Refusal.{RefusedBy};
+    ghost use Rattle.coap_conn.specs.Limits.{AreInRange};
     ghost use Rattle.coap_store.specs.Refusals.{RefusedOrMemory, put_refusal, remove_refusal};
     ghost use Rattle.coap_serve.specs.values.Servers.{new_server, session_of, is_there, server_opened, count_taken, server_taken, server_written, server_ticked, server_put, server_removed, server_ended, server_released, server_dropped};
     ghost use Rattle.coap_serve.specs.values.ServerAnswers.{OpenedOrMemory, open_refusal, handled_by, IsNotTaken, written_refusal, released_refusal};
     ghost use Rattle.coap_serve.specs.world.Events.{Event, Opened, Took, Wrote, Ticked, Stored, Removed, Ended, Released, Dropped, takes};
     ghost use Rattle.coap_serve.specs.world.Shows.{Shows, ShowsRefused};
+    ghost use Rattle.coap_serve.specs.world.Handling.{handled_in};
 
     /// A server with no connection, that stores nothing, whose counts begin where the configuration says.
     ///
@@ -38,6 +40,7 @@ impl Server {
         ensures answer { OpenedOrMemory result (open_refusal self.old) }
         ensures id { IfOk result (λ id. id ≡ self.old.ids + 1) }
         ensures ok { OnOk result (self.new ≡ server_opened self.old) }
+        ensures ranges { OnOk result (AreInRange self.old.config.limits) }
         ensures shows { IfOk result (λ id. (events : List Event) → Shows self.old events → Shows self.new (events ++ Opened id ∷ [])) }
         ensures err { OnErr result (self.new ≡ self.old) }
     {
@@ -57,6 +60,7 @@ impl Server {
         ensures count { IfOk result (λ t. t.bytes ≡ count_taken self.old id piece.now) }
         ensures takes { IfOk result (λ t. (events : List Event) → Shows self.old events → t.bytes ≡ takes self.old.config events id piece.now) }
         ensures handled { IfOk result (λ t. t.handled ≡ handled_by self.old id piece.now) }
+        ensures says { IfOk result (λ t. (events : List Event) → Shows self.old events → t.handled ≡ handled_in self.old.config events (Took id (take t.bytes piece.now)) id) }
         ensures there { OnOk result (is_there (session_of id self.old.sessions) ≡ true) }
         ensures ok { OnOk result (self.new ≡ server_taken self.old id piece.now) }
         ensures shows { IfOk result (λ t. (events : List Event) → Shows self.old events → Shows self.new (events ++ Took id (take t.bytes piece.now) ∷ [])) }

@@ -1,40 +1,11 @@
 //! What requests are answered from.
 
-ghost use Rattle.std.specs.Prelude.{◌≡◌, ◌≤◌, length, OnOk, OnErr};
-ghost use Rattle.coap_conn.specs.Phases.{IsAnswering};
-ghost use Rattle.coap_conn.specs.LinkValue.{IsReady, link_after_reply};
-ghost use Rattle.coap_store.specs.Answer.{changed};
-ghost use Rattle.coap_store.specs.Changes.{IsPut, TakesChange};
-ghost use Rattle.coap_store.specs.Messages.{response_message};
+ghost use Rattle.std.specs.Prelude.{◌≡◌};
 ghost use Rattle.coap_serve.specs.values.Sessions.{mark_at as mark_in};
 
 use crate::config::Config;
-use crate::response::respond;
-use coap_conn::Link;
-use coap_store::{PathKey, Plan, Present, State, Store};
-use coap_wire::{MessageRef, Token};
+use coap_store::{PathKey, Present, State, Store};
 use std::alloc::{AllocError, Global};
-
-/// Makes the change of a plan, and then sends its response to the request with this token.
-///
-/// # Errors
-///
-/// Where memory is refused for the representation that is stored. The link and the store are then as before.
-fn change(store: &mut Store, link: &mut Link, token: &Token, plan: &Plan) -> Result<(), AllocError>
-    requires ready { IsReady link.old }
-    requires answering { IsAnswering link.old.phase }
-    requires short { length plan.now.response.payload ≤ 1048576 }
-    requires taken { TakesChange store.old plan.now.change }
-    ensures link { OnOk result (link.new ≡ link_after_reply link.old (response_message token.now.items plan.now.response)) }
-    ensures store { OnOk result (store.new ≡ changed store.old plan.now.change) }
-    ensures put { OnErr result (IsPut plan.now.change) }
-    ensures unchanged { OnErr result (store.new ≡ store.old) }
-    ensures silent { OnErr result (link.new ≡ link.old) }
-{
-    store.apply(plan.change())?;
-    respond(link, token, plan, false);
-    Ok(())
-}
 
 /// What a server answers requests from: its resources, and the moment.
 #[derive(Debug, Drop)]
@@ -46,14 +17,8 @@ pub(crate) struct Host {
 }
 
 impl Host {
-    ghost use Rattle.std.specs.Prelude.{◌≡◌, ◌<◌, ◌^◌, IfOk, OnOk, OnErr};
-    ghost use Rattle.coap_conn.specs.Phases.{IsAnswering};
-    ghost use Rattle.coap_conn.specs.LinkValue.{IsReady, link_after_reply};
-    ghost use Rattle.coap_store.specs.Answer.{changed};
-    ghost use Rattle.coap_store.specs.Changes.{IsPut};
-    ghost use Rattle.coap_store.specs.Messages.{response_message};
-    ghost use Rattle.coap_serve.specs.histories.Serving.{setup_of};
-    ghost use Rattle.coap_serve.specs.values.Connection.{answer_from, host_of};
+    ghost use Rattle.std.specs.Prelude.{◌≡◌, ◌<◌, ◌^◌, IfOk};
+    ghost use Rattle.coap_serve.specs.values.Servers.{new_host};
     ghost use Rattle.coap_serve.specs.values.Sessions.{mark_of, is_marked as has_mark, state_on};
 
     /// The host of a new server: nothing is stored, and its counts begin where the configuration says.
@@ -62,7 +27,7 @@ impl Host {
     ///
     /// Where the store's memory is refused.
     pub(crate) fn open(alloc: Global, config: &Config) -> Result<Host, AllocError>
-        ensures value { IfOk result (λ h. h ≡ host_of (setup_of config.now)) }
+        ensures value { IfOk result (λ h. h ≡ new_host config.now) }
         ensures moment { config.now.starts.moment < 2 ^ 64 }
     {
         let moment = config.moment();
@@ -74,29 +39,6 @@ impl Host {
             starts.versions,
         )?;
         Ok(Host { store, now: moment })
-    }
-
-    /// Answers a request. What it changes is changed before it is answered.
-    ///
-    /// # Errors
-    ///
-    /// Where memory is refused for the representation that it stores. The link and the store are then as before.
-    pub(crate) fn answer(&mut self, link: &mut Link, request: &MessageRef) -> Result<(), AllocError>
-        requires ready { IsReady link.old }
-        requires answering { IsAnswering link.old.phase }
-        ensures link { OnOk result (link.new ≡ link_after_reply link.old (response_message request.now.token (answer_from self.old request.now).response)) }
-        ensures host { OnOk result (self.new ≡ record self.old { store = changed self.old.store (answer_from self.old request.now).change }) }
-        ensures put { OnErr result (IsPut (answer_from self.old request.now).change) }
-        ensures unchanged { OnErr result (self.new ≡ self.old) }
-        ensures silent { OnErr result (link.new ≡ link.old) }
-    {
-        let plan = self.store.answer(request, self.now);
-        if plan.changes() {
-            let plan = plan.without_payload();
-            return change(&mut self.store, link, request.token(), &plan);
-        }
-        respond(link, request.token(), &plan, false);
-        Ok(())
     }
 
     /// The mark of the state of a path: what tells it from the others that the path has in time, 0 where the path is absent.

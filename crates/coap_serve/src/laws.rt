@@ -1,14 +1,22 @@
 //! What holds of every server, each as the contract of a function that does nothing.
 
-ghost use Rattle.std.specs.Prelude.{◌≡◌, ℕ, ◌≤◌, List, ◌∷◌, ◌++◌, length, Some};
+ghost use Rattle.std.specs.Prelude.{◌≡◌, ℕ, ◌≤◌, List, ◌∷◌, ◌++◌, length, Some, None};
+ghost use Rattle.std.specs.List.{AllByRecursion};
+ghost use Rattle.coap_wire.specs.Message.{Message};
+ghost use Rattle.coap_wire.specs.Stream.{StreamFault};
+ghost use Rattle.coap_conn.specs.declared.phase.Phase.TheVariants.{Stopped};
 ghost use Rattle.coap_conn.specs.Limits.{LimitValues, AreInRange};
+ghost use Rattle.coap_conn.specs.Fit.{AllFit};
+ghost use Rattle.coap_conn.specs.Rejects.{reject_of, reject_reason};
+ghost use Rattle.coap_conn.specs.History.{limit_now};
 ghost use Rattle.coap_serve.specs.Configs.{ConfigValues};
 ghost use Rattle.coap_serve.specs.values.Servers.{ServerValue};
 ghost use Rattle.coap_serve.specs.world.Sides.{Side, waiting_on, HearsAll};
-ghost use Rattle.coap_serve.specs.world.World.{World, Step, new_world, side_of, after_steps};
+ghost use Rattle.coap_serve.specs.world.World.{World, Step, Opened, new_world, side_of, step, after_steps};
 ghost use Rattle.coap_serve.specs.world.Events.{Event, Took, stream_on, steps_of, world_after, AreAccepted};
 ghost use Rattle.coap_serve.specs.world.Shows.{Shows, kept_on};
 ghost use Rattle.coap_serve.specs.world.View.{view_of, after_view, AreSeen};
+ghost use Rattle.coap_serve.specs.world.Told.{WasToldLast, HaveOwnTokens};
 
 /// No change is lost: after every call, on each connection less than the greatest message sent is free in the queue, or every
 /// observer was told the state that its path has now.
@@ -22,6 +30,21 @@ pub fn cuts_do_not_matter()
     ensures steps { (max : ℕ) (before behind : List Event) (id : ℕ) (xs ys : List ℕ) → steps_of max (before ++ Took id (xs ++ ys) ∷ behind) ≡ steps_of max (before ++ Took id xs ∷ Took id ys ∷ behind) }
     ensures worlds { (c : ConfigValues) (before behind : List Event) (id : ℕ) (xs ys : List ℕ) → world_after c (before ++ Took id (xs ++ ys) ∷ behind) ≡ world_after c (before ++ Took id xs ∷ Took id ys ∷ behind) }
     ensures same_steps { (c : ConfigValues) (events others : List Event) → steps_of c.limits.max_message events ≡ steps_of c.limits.max_message others → world_after c events ≡ world_after c others }
+{}
+
+/// What is taken is handled: after events that were accepted, the messages that a connection has handled are those that the bytes
+/// taken on it spell up to the first fault, each of them once and in order; and where there is a fault, it is why the connection
+/// stopped.
+pub fn each_message_taken_is_handled_once()
+    ensures messages { (c : ConfigValues) (events : List Event) (id : ℕ) (s : Side) → AreAccepted c events → side_of id (world_after c events).sides ≡ Some s → s.history.handled ≡ (stream_on c.limits.max_message id events).messages }
+    ensures fault { (c : ConfigValues) (events : List Event) (id : ℕ) (s : Side) (fault : StreamFault) → AreAccepted c events → side_of id (world_after c events).sides ≡ Some s → (stream_on c.limits.max_message id events).fault ≡ Some fault → s.history.phase ≡ Stopped (reject_reason (reject_of fault)) }
+{}
+
+/// What is queued fits: a step only adds to what a connection has queued, and each message that it adds is at most as great as may
+/// be sent on the connection after the step; so is all that is queued where the step opened it.
+pub fn what_is_queued_fits()
+    ensures more { (limits : LimitValues) (w : World) (st : Step) (id : ℕ) (s t : Side) → side_of id w.sides ≡ Some s → side_of id (step limits w st).sides ≡ Some t → (more : List Message) × (t.history.queued ≡ s.history.queued ++ more) × AllFit (limit_now t.history) more }
+    ensures opened { (limits : LimitValues) (w : World) (id : ℕ) (t : Side) → AreInRange limits → side_of id w.sides ≡ None → side_of id (step limits w (Opened id)).sides ≡ Some t → AllFit (limit_now t.history) t.history.queued }
 {}
 
 /// A connection sees the others through the store alone. What it sees of any steps is its own steps, the moments and the changes
@@ -45,4 +68,12 @@ pub fn limits_are_kept()
     ensures waiting { (c : ConfigValues) (events : List Event) (id : ℕ) (s : Side) → AreInRange c.limits → side_of id (world_after c events).sides ≡ Some s → length (waiting_on s) ≤ c.limits.queue }
     ensures observers { (c : ConfigValues) (events : List Event) (id : ℕ) (s : Side) → side_of id (world_after c events).sides ≡ Some s → length s.observers ≤ c.limits.observers }
     ensures kept { (c : ConfigValues) (events : List Event) (id : ℕ) (s : Side) → AreInRange c.limits → AreAccepted c events → side_of id (world_after c events).sides ≡ Some s → length (kept_on s (stream_on c.limits.max_message id events).rest) ≤ c.limits.max_message }
+{}
+
+/// Each observer was told what it holds, after any events: of all responses ever queued on the connection with its token, the last
+/// one has Observe and is the 2.05 with the state that the observer was told last, or the 2.03 with that state's ETag. No two
+/// observers of a connection have one token.
+pub fn observers_were_told_last()
+    ensures told { (c : ConfigValues) (events : List Event) (id : ℕ) (s : Side) → side_of id (world_after c events).sides ≡ Some s → AllByRecursion (WasToldLast s.history.queued) s.observers }
+    ensures tokens { (c : ConfigValues) (events : List Event) (id : ℕ) (s : Side) → side_of id (world_after c events).sides ≡ Some s → HaveOwnTokens s.observers }
 {}

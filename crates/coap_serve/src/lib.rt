@@ -4,7 +4,6 @@
 mod answering;
 mod calls;
 mod config;
-mod connection;
 mod device;
 mod event;
 mod host;

@@ -1,35 +1,41 @@
 //! Writes what waits to an outlet.
 
-ghost use Rattle.std.specs.Prelude.{◌≡◌, ◌≢◌, ◌≤◌, false, List, [], ◌++◌, ℕ, length, OnOk, OnErr, is_err};
+ghost use Rattle.std.specs.Prelude.{◌≡◌, false, IfOk, OnOk, OnErr, is_err};
 ghost use Rattle.coap_serve.specs.streams.Device.{AddsBytes, WritesPart};
-ghost use Rattle.coap_serve.specs.values.Connection.{link_flushed};
+ghost use Rattle.coap_serve.specs.values.Flushes.{IsFlushed, IsPartFlushed};
+ghost use Rattle.coap_serve.specs.values.Servers.{session_of};
+ghost use Rattle.coap_serve.specs.values.ServerAnswers.{stop_on};
 
 use crate::device::Outlet;
-use coap_conn::Link;
+use crate::server::{ConnId, Server};
+use coap_conn::Reason;
 
 /// That a write failed.
 #[derive(Clone, Copy, Debug)]
 pub(crate) struct WriteFailed;
 
-/// Writes until nothing waits.
-pub(crate) fn flush<W: Outlet>(writer: &mut W, link: &mut Link) -> Result<(), WriteFailed>
+/// Writes all that waits on a connection, until nothing waits: what is written makes room, and what there is room for then comes
+/// to wait. Answers why the connection takes no message any more.
+pub(crate) fn flush<W: Outlet>(
+    writer: &mut W,
+    server: &mut Server,
+    id: ConnId,
+) -> Result<Option<Reason>, WriteFailed>
     requires { W.is_failed writer.old ≡ false }
-    ensures ok { OnOk result (AddsBytes (W.written writer.old) (W.written writer.new) link.old.waiting) }
-    ensures after { OnOk result (link.new ≡ link_flushed link.old) }
-    ensures part { OnErr result (WritesPart (W.written writer.old) (W.written writer.new) link.old.waiting) }
-    ensures limits { link.new.limits ≡ link.old.limits }
+    ensures ok { OnOk result (IsFlushed id server.old server.new (AddsBytes (W.written writer.old) (W.written writer.new))) }
+    ensures stop { IfOk result (λ stop. stop ≡ stop_on (session_of id server.new.sessions)) }
+    ensures part { OnErr result (IsPartFlushed id server.old (WritesPart (W.written writer.old) (W.written writer.new))) }
     ensures failure { W.is_failed writer.new ≡ is_err result }
 {
-    while link.waiting() > 0 {
-        let Some(count) = writer.write(link.front()) else {
-            return Err(WriteFailed);
-        };
-        if count == 0 {
-            return Err(WriteFailed);
+    let first = server.flush_once(id, writer)?;
+    let mut last = first;
+    for _ in 0..first.observers {
+        if !last.waited {
+            return Ok(last.stop);
         }
-        link.written(count);
+        last = server.flush_once(id, writer)?;
     }
-    Ok(())
+    Ok(last.stop)
 }
 
 /// Writes these bytes, until none is left.

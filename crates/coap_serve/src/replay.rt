@@ -112,15 +112,19 @@ fn store_number(fault: StoreFault) -> u8
 }
 
 impl Server {
-    ghost use Rattle.std.specs.Prelude.{◌≡◌, true, false, map, IfOk, OnOk, OnErr};
+    ghost use Rattle.std.specs.Prelude.{◌≡◌, true, false, List, map, IfOk, OnOk, OnErr};
     ghost use Rattle.coap_serve.specs.script.EventViews.{event_value};
     ghost use Rattle.coap_serve.specs.script.Events as event;
     ghost use Rattle.coap_serve.specs.script.Lines as lines;
     ghost use Rattle.coap_serve.specs.script.Replay.{event_ran, fed, stop_number, drained};
-    ghost use Rattle.coap_serve.specs.script.Replayed.{IsUnrun, IsPartlyFed, IsReplayed, fails_write};
+    ghost use Rattle.coap_serve.specs.script.PartlyFed.{IsPartlyFed};
+    ghost use Rattle.coap_serve.specs.script.Replayed.{IsUnrun, IsReplayed, fails_write};
+    ghost use Rattle.coap_serve.specs.script.Shown.{took, events_made, ShowsMore, ShowsPart, ShowsRun, IsShownReplay};
     ghost use Rattle.coap_serve.specs.streams.Device.{AddsBytes};
     ghost use Rattle.coap_serve.specs.values.Servers.{session_of, is_there};
     ghost use Rattle.coap_serve.specs.views.LineViews.{line_bytes, IsRun, IsDrainable};
+    ghost use Rattle.coap_serve.specs.world.Events as world;
+    ghost use Rattle.coap_serve.specs.world.Shows.{Shows};
 
     /// Runs events, one after the other, and writes what comes of each before the next one is run.
     ///
@@ -133,6 +137,7 @@ impl Server {
         requires { W.is_failed out.old ≡ false }
         ensures replayed { IsReplayed self.old (map event_value events.now) self.new (AddsBytes (W.written out.old) (W.written out.new)) result }
         ensures failure { W.is_failed out.new ≡ fails_write result }
+        ensures shows { (before : List world.Event) → Shows self.old before → IsShownReplay before self.old (map event_value events.now) self.new result }
     {
         for (index, event) in events.iter().enumerate() {
             let Ok(line) = self.run_event(event) else {
@@ -151,7 +156,8 @@ impl Server {
     ///
     /// Where memory is refused for it.
     fn run_event(&mut self, event: &Event) -> Result<Line, AllocError>
-        ensures { IsRun self.old (event_value event.now) self.new result }
+        ensures run { IsRun self.old (event_value event.now) self.new result }
+        ensures shows { ShowsRun self.old (event_value event.now) self.new result }
     {
         match event {
             Event::Open => self.run_open(),
@@ -173,7 +179,8 @@ impl Server {
 
     /// `open`.
     fn run_open(&mut self) -> Result<Line, AllocError>
-        ensures { IsRun self.old event.Open self.new result }
+        ensures run { IsRun self.old event.Open self.new result }
+        ensures shows { ShowsRun self.old event.Open self.new result }
     {
         match self.open() {
             Ok(id) => Ok(Line::Short(open_line(id))),
@@ -186,7 +193,8 @@ impl Server {
 
     /// `in`.
     fn run_in(&mut self, id: ConnId, bytes: &[u8]) -> Result<Line, AllocError>
-        ensures { IsRun self.old (event.In id bytes.now) self.new result }
+        ensures run { IsRun self.old (event.In id bytes.now) self.new result }
+        ensures shows { ShowsRun self.old (event.In id bytes.now) self.new result }
     {
         if self.status(id).is_none() {
             return Ok(Line::Short(fault_line("in", Some(id), 1)));
@@ -204,7 +212,9 @@ impl Server {
     fn take_all(&mut self, id: ConnId, bytes: &[u8]) -> Result<usize, AllocError>
         ensures count { IfOk result (λ n. n ≡ (fed self.old id bytes.now).count) }
         ensures after { OnOk result (self.new ≡ (fed self.old id bytes.now).server) }
+        ensures shows { OnOk result (ShowsMore self.old self.new (took self.old id bytes.now)) }
         ensures err { OnErr result (IsPartlyFed self.old id bytes.now self.new) }
+        ensures shows_refused { OnErr result (ShowsPart self.old (event.In id bytes.now) self.new) }
     {
         let mut taken = 0;
         while taken < bytes.len() {
@@ -233,7 +243,8 @@ impl Server {
 
     /// `drain`.
     fn run_drain(&mut self, id: ConnId, most: Option<u64>) -> Result<Line, AllocError>
-        ensures { IsRun self.old (event.Drain id most) self.new result }
+        ensures run { IsRun self.old (event.Drain id most) self.new result }
+        ensures shows { ShowsRun self.old (event.Drain id most) self.new result }
     {
         let Some(drained) = self.drain(id, most)? else {
             return Ok(Line::Short(fault_line("drain", Some(id), 1)));
@@ -268,6 +279,7 @@ impl Server {
     fn run_tick(&mut self, moment: u64) -> Line
         ensures server { self.new ≡ (event_ran self.old (event.Tick moment)).server }
         ensures line { line_bytes result ≡ (event_ran self.old (event.Tick moment)).text }
+        ensures shows { ShowsMore self.old self.new (events_made self.old (event.Tick moment)) }
     {
         match self.tick(moment) {
             Ok(()) => Line::Short(tick_line(moment)),
@@ -282,7 +294,8 @@ impl Server {
         format: Option<u16>,
         payload: &[u8],
     ) -> Result<Line, AllocError>
-        ensures { IsRun self.old (event.Put path.now format payload.now) self.new result }
+        ensures run { IsRun self.old (event.Put path.now format payload.now) self.new result }
+        ensures shows { ShowsRun self.old (event.Put path.now format payload.now) self.new result }
     {
         match self.put(path, format, payload) {
             Ok(version) => Ok(Line::Short(put_line(version))),
@@ -295,19 +308,25 @@ impl Server {
 
     /// `remove`.
     fn run_remove(&mut self, path: &PathKey, text: &[u8]) -> Result<Line, AllocError>
-        ensures { IsRun self.old (event.Remove path.now text.now) self.new result }
+        ensures run { IsRun self.old (event.Remove path.now text.now) self.new result }
+        ensures shows { ShowsRun self.old (event.Remove path.now text.now) self.new result }
     {
-        let line = remove_line(self.alloc(), text)?;
-        match self.remove(path) {
-            Ok(()) => Ok(Line::Long(line)),
-            Err(fault) => Ok(Line::Short(fault_line("remove", None, store_number(fault)))),
+        if !self.can_remove(path) {
+            let number = store_number(StoreFault::NoSuch);
+            return Ok(Line::Short(fault_line("remove", None, number)));
         }
+        let line = remove_line(self.alloc(), text)?;
+        let Ok(()) = self.remove(path) else {
+            unreachable!()
+        };
+        Ok(Line::Long(line))
     }
 
     /// `end`.
     fn run_end(&mut self, id: ConnId) -> Line
         ensures server { self.new ≡ (event_ran self.old (event.End id)).server }
         ensures line { line_bytes result ≡ (event_ran self.old (event.End id)).text }
+        ensures shows { ShowsMore self.old self.new (events_made self.old (event.End id)) }
     {
         match self.ended(id) {
             Ok(()) => Line::Short(word_line("end", id)),
@@ -319,6 +338,7 @@ impl Server {
     fn run_release(&mut self, id: ConnId) -> Line
         ensures server { self.new ≡ (event_ran self.old (event.Release id)).server }
         ensures line { line_bytes result ≡ (event_ran self.old (event.Release id)).text }
+        ensures shows { ShowsMore self.old self.new (events_made self.old (event.Release id)) }
     {
         match self.release(id) {
             Ok(()) => Line::Short(word_line("release", id)),
@@ -330,6 +350,7 @@ impl Server {
     fn run_drop(&mut self, id: ConnId) -> Line
         ensures server { self.new ≡ (event_ran self.old (event.Drop id)).server }
         ensures line { line_bytes result ≡ (event_ran self.old (event.Drop id)).text }
+        ensures shows { ShowsMore self.old self.new (events_made self.old (event.Drop id)) }
     {
         match self.drop_conn(id) {
             Ok(()) => Line::Short(word_line("drop", id)),
@@ -339,7 +360,8 @@ impl Server {
 
     /// `status`.
     fn run_status(&mut self, id: ConnId) -> Result<Line, AllocError>
-        ensures { IsRun self.old (event.Status id) self.new result }
+        ensures run { IsRun self.old (event.Status id) self.new result }
+        ensures shows { ShowsRun self.old (event.Status id) self.new result }
     {
         let Some(status) = self.status(id) else {
             return Ok(Line::Short(fault_line("status", Some(id), 1)));

@@ -1,22 +1,27 @@
 //! Serves one connection over one input and one output.
 
-ghost use Rattle.std.specs.Prelude.{◌≡◌, ◌+◌, ◌≤◌, ◌<◌, ◌^◌, ℕ, false, List, [], ◌++◌, length, OnOk};
-ghost use Rattle.coap_conn.specs.Phases.{IsLive};
+ghost use Rattle.std.specs.Prelude.{◌≡◌, ◌+◌, ◌<◌, ◌≤◌, ◌^◌, ℕ, false, List, [], ◌++◌, length, Some, IfOk};
+ghost use Rattle.std.specs.List.{AllByRecursion};
+ghost use Rattle.coap_conn.specs.History.{end_reason};
+ghost use Rattle.coap_conn.specs.Limits.{AreInRange};
+ghost use Rattle.coap_serve.specs.Configs.{ConfigValues};
+ghost use Rattle.coap_serve.specs.values.Servers.{session_of};
+ghost use Rattle.coap_serve.specs.values.ServerAnswers.{stop_on};
+ghost use Rattle.coap_serve.specs.world.Handling.{count_of};
+ghost use Rattle.coap_serve.specs.world.Sides.{is_cut};
 ghost use Rattle.coap_serve.specs.streams.Device.{HasGiven, AddsBytes};
-ghost use Rattle.coap_serve.specs.values.Connection.{IsKept, fresh, own_announcement};
-ghost use Rattle.coap_serve.specs.histories.Serving.{setup_of};
-ghost use Rattle.coap_serve.specs.values.Turns.{setup_with, IsServed, IsTurn};
+ghost use Rattle.coap_serve.specs.streams.Output.{only_id, stream_of, stdio_output};
+ghost use Rattle.coap_serve.specs.streams.Standing.{Stands, IsGoing, IsServed, IsTurn};
 ghost use Rattle.coap_serve.specs.streams.StdioRun.{IsStdioRun};
 ghost use Rattle.coap_serve.specs.streams.Faults.{is_read_fault, is_write_fault};
 
 use crate::config::Config;
-use crate::connection::Connection;
 use crate::device::{Outlet, Source};
-use crate::host::Host;
+use crate::output::flush;
+use crate::server::{ConnId, Handled, Server};
 use coap_conn::Reason;
 use std::alloc::Global;
 use thiserror::Error;
-
 /// What a run over one input and one output did.
 #[derive(Clone, Copy, Debug, PartialEq, Eq)]
 pub struct Report {
@@ -50,27 +55,29 @@ const PIECE: usize = 4_096;
 
 /// How a turn went.
 #[derive(Clone, Copy, Debug)]
-enum Turn {
-    /// So many bytes were read, and the connection goes on.
-    More(usize),
-    /// The input ended, within a frame where it was cut.
-    Ended(Reason),
-    /// So many bytes were read, and the connection stopped.
-    Stopped(usize, Reason),
+struct Turn {
+    /// The bytes that were read.
+    read: usize,
+    /// The messages that were handled.
+    messages: u64,
+    /// Why the run ends, where it does.
+    stop: Option<Reason>,
 }
 
 /// Serves one connection: writes the own Capabilities and Settings, then reads pieces of at most 4,096 bytes and writes
-/// the answer to each message before it looks at the next one (RFC 8323 sections 3.3, 5.3, 5.4). Requests are answered from
-/// a store in which nothing is stored at first, at the moment at which the configuration starts (RFC 7252 section 5.8).
+/// the answer to each message before it looks at the next one (RFC 8323 sections 3.3, 5.3, 5.4). It runs one `Server`, which has
+/// this connection alone: requests are answered from a store in which nothing is stored at first, at the moment at which the
+/// configuration starts (RFC 7252 section 5.8), and observers are notified (RFC 7641).
 ///
 /// It ends at the end of input or with the first message or fault that stops the connection. Every read is a turn, the
 /// one that finds the end too.
 ///
 /// # Errors
 ///
-/// `Memory` where the room of the greatest message, of the output queue or of the store was refused: then nothing was read or
+/// `Memory` where the room of the connection or of the store was refused: then nothing was read or
 /// written. `Memory` too where the room of a representation that a request stores was refused: then all that is defined for
-/// the bytes before the last one of that request was written, and nothing of the request was handled. `Write` where a write failed, with a part of the output written. `Read` where a read failed, and `Turns` where one more
+/// the bytes before the last one of that request was written, and nothing of the request was handled. `Write` where a write
+/// failed, with a part of the output written. `Read` where a read failed, and `Turns` where one more
 /// turn would be needed: then all that is defined for the bytes so far was written.
 pub fn serve_one<R: Source, W: Outlet>(
     alloc: Global,
@@ -81,66 +88,61 @@ pub fn serve_one<R: Source, W: Outlet>(
     requires reader_works { R.is_failed reader.old ≡ false }
     requires writer_works { W.is_failed writer.old ≡ false }
     requires id_left { config.now.starts.ids + 1 < 2 ^ 64 }
-    // The standard-stream law, whatever the cuts: over what was read and written, where the devices tell it.
+    // The standard-stream law, whatever the cuts: over what was read and written, where the devices tell it. No read gives more
+    // than 4,096 bytes.
     ensures run { (pieces : List (List ℕ)) × (output : List ℕ)
         × HasGiven (R.told reader.old) (R.told reader.new) pieces
+        × AllByRecursion (λ p. length p ≤ 4096) pieces
         × AddsBytes (W.written writer.old) (W.written writer.new) output
-        × IsStdioRun (setup_of config.now) config.now.turns pieces output result }
+        × IsStdioRun config.now pieces output result }
     // A device fault comes exactly where that device failed.
     ensures read { R.is_failed reader.new ≡ is_read_fault result }
     ensures write { W.is_failed writer.new ≡ is_write_fault result }
 {
-    let Ok(mut connection) = Connection::open(alloc, config.limits()) else {
+    let Ok(mut server) = Server::new(alloc, *config) else {
         return Err(IoFault::Memory);
     };
-    let Ok(mut host) = Host::open(alloc, config) else {
+    let Ok(id) = server.open() else {
         return Err(IoFault::Memory);
     };
-    let Ok(()) = connection.flush(writer) else {
+    let Ok(_) = flush(writer, &mut server, id) else {
         return Err(IoFault::Write);
     };
-    run(reader, writer, &mut connection, &mut host, config.turns())
+    run(reader, writer, &mut server, id, config)
 }
 
-/// Turns until the run ends, at most so many.
+/// Turns until the run ends, at most as many as the configuration allows.
 fn run<R: Source, W: Outlet>(
     reader: &mut R,
     writer: &mut W,
-    connection: &mut Connection,
-    host: &mut Host,
-    turns: u64,
+    server: &mut Server,
+    id: ConnId,
+    config: &Config,
 ) -> Result<Report, IoFault>
     requires reader_works { R.is_failed reader.old ≡ false }
     requires writer_works { W.is_failed writer.old ≡ false }
-    requires new { connection.old ≡ fresh connection.old.link.limits }
-    requires kept { IsKept connection.old }
-    requires few { turns ≤ 1000000000000 }
+    requires stands { IsGoing config.now server.old id [] }
     ensures run { (pieces : List (List ℕ)) × (output : List ℕ)
         × HasGiven (R.told reader.old) (R.told reader.new) pieces
+        × AllByRecursion (λ p. length p ≤ 4096) pieces
         × AddsBytes (W.written writer.old) (W.written writer.new) output
-        × IsStdioRun (setup_with connection.old.link.limits host.old) turns pieces (own_announcement connection.old.link.limits ++ output) result }
+        × IsStdioRun config.now pieces (stdio_output config.now [] ++ output) result }
     ensures read { R.is_failed reader.new ≡ is_read_fault result }
     ensures write { W.is_failed writer.new ≡ is_write_fault result }
 {
     let mut buffer = [0; PIECE];
     let mut read = 0;
-    for _ in 0..turns {
-        match take_turn(reader, writer, connection, host, &mut buffer)? {
-            Turn::More(count) => read += count as u64,
-            Turn::Ended(reason) => {
-                return Ok(Report {
-                    read,
-                    messages: connection.handled(),
-                    reason,
-                });
-            }
-            Turn::Stopped(count, reason) => {
-                return Ok(Report {
-                    read: read + count as u64,
-                    messages: connection.handled(),
-                    reason,
-                });
-            }
+    let mut messages = 0;
+    for _ in 0..config.turns() {
+        let turn = take_turn(reader, writer, server, id, &mut buffer)?;
+        read += turn.read as u64;
+        messages += turn.messages;
+        if let Some(reason) = turn.stop {
+            return Ok(Report {
+                read,
+                messages,
+                reason,
+            });
         }
     }
     Err(IoFault::Turns)
@@ -150,20 +152,19 @@ fn run<R: Source, W: Outlet>(
 fn take_turn<R: Source, W: Outlet>(
     reader: &mut R,
     writer: &mut W,
-    connection: &mut Connection,
-    host: &mut Host,
+    server: &mut Server,
+    id: ConnId,
     buffer: &mut [u8],
 ) -> Result<Turn, IoFault>
     requires reader_works { R.is_failed reader.old ≡ false }
     requires writer_works { W.is_failed writer.old ≡ false }
-    requires kept { IsKept connection.old }
-    requires quiet { connection.old.link.waiting ≡ [] }
-    requires live { IsLive connection.old.link.phase }
-    requires fits { connection.old.handled + 4096 < 2 ^ 64 }
+    requires stands { (c : ConfigValues) × (bytes : List ℕ) × IsGoing c server.old id bytes }
     requires room { length buffer.old ≡ 4096 }
-    ensures turn { IsTurn host.old connection.old host.new connection.new
+    ensures turn { (c : ConfigValues) (bytes : List ℕ) → IsGoing c server.old id bytes → IsTurn c bytes server.new
         (HasGiven (R.told reader.old) (R.told reader.new))
         (AddsBytes (W.written writer.old) (W.written writer.new)) result }
+    ensures few { IfOk result (λ t. t.read ≤ 4096) }
+    ensures few_messages { IfOk result (λ t. t.messages ≤ t.read) }
     ensures read { R.is_failed reader.new ≡ is_read_fault result }
     ensures write { W.is_failed writer.new ≡ is_write_fault result }
 {
@@ -171,49 +172,84 @@ fn take_turn<R: Source, W: Outlet>(
         return Err(IoFault::Read);
     };
     if count == 0 {
-        return Ok(Turn::Ended(connection.end()));
+        return Ok(Turn {
+            read: 0,
+            messages: 0,
+            stop: end(server, id),
+        });
     }
-    match serve_piece(writer, connection, host, &buffer[..count]) {
-        Ok(None) => Ok(Turn::More(count)),
-        Ok(Some(reason)) => Ok(Turn::Stopped(count, reason)),
-        Err(fault) => Err(fault),
-    }
+    let messages = serve_piece(writer, server, id, &buffer[..count])?;
+    Ok(Turn {
+        read: count,
+        messages,
+        stop: stop(server, id),
+    })
 }
 
-/// Handles the messages of a piece, and writes what each queues before the next one is looked at. Where the connection takes
-/// no message any more, the bytes behind that are not looked at, and the reason is answered.
+/// Handles the messages of a piece, and writes what each queues before the next one is looked at, and answers how many were handled.
+/// Where the connection takes no message any more, the bytes behind that are not looked at.
 ///
 /// # Errors
 ///
 /// `Write` where a write failed, and `Memory` where memory was refused for a representation that a message stores.
 fn serve_piece<W: Outlet>(
     writer: &mut W,
-    connection: &mut Connection,
-    host: &mut Host,
+    server: &mut Server,
+    id: ConnId,
     piece: &[u8],
-) -> Result<Option<Reason>, IoFault>
+) -> Result<u64, IoFault>
     requires works { W.is_failed writer.old ≡ false }
-    requires kept { IsKept connection.old }
-    requires quiet { connection.old.link.waiting ≡ [] }
-    requires live { IsLive connection.old.link.phase }
-    requires fits { connection.old.handled + length piece.now < 2 ^ 64 }
-    ensures served { IsServed host.old connection.old piece.now host.new connection.new
+    requires stands { (c : ConfigValues) × (bytes : List ℕ) × IsGoing c server.old id bytes }
+    ensures served { (c : ConfigValues) (bytes : List ℕ) → IsGoing c server.old id bytes → IsServed c bytes piece.now server.new
         (AddsBytes (W.written writer.old) (W.written writer.new)) result }
-    ensures handled { OnOk result (connection.new.handled ≤ connection.old.handled + length piece.now) }
+    ensures few { IfOk result (λ messages. messages ≤ length piece.now) }
     ensures failure { W.is_failed writer.new ≡ is_write_fault result }
 {
+    let mut messages = 0;
     let mut rest = piece;
     while !rest.is_empty() {
-        let Ok(count) = connection.take(host, rest) else {
+        let Ok(taken) = server.take(id, rest) else {
             return Err(IoFault::Memory);
         };
-        let Ok(()) = connection.flush(writer) else {
+        let Ok(stop) = flush(writer, server, id) else {
             return Err(IoFault::Write);
         };
-        if let Some(reason) = connection.stop() {
-            return Ok(Some(reason));
+        messages += handled(taken.handled);
+        if stop.is_some() {
+            return Ok(messages);
         }
-        rest = &rest[count..];
+        rest = &rest[taken.bytes..];
     }
-    Ok(None)
+    Ok(messages)
+}
+
+/// How many messages a take handled: faults of the bytes are the only stops without one.
+fn handled(what: Handled) -> u64
+    ensures { result ≡ count_of what }
+{
+    match what {
+        Handled::Nothing => 0,
+        Handled::Message => 1,
+        Handled::Stopped(Reason::Format | Reason::TooLarge | Reason::TokenLength) => 0,
+        Handled::Stopped(_) => 1,
+    }
+}
+
+/// Why a connection takes no message any more, if it does not.
+fn stop(server: &Server, id: ConnId) -> Option<Reason>
+    ensures { result ≡ stop_on (session_of id server.now.sessions) }
+{
+    let status = server.status(id)?;
+    status.phase.stop()
+}
+
+/// The input of a connection ended: why it takes no message any more.
+fn end(server: &mut Server, id: ConnId) -> Option<Reason>
+    requires stands { (c : ConfigValues) × (bytes : List ℕ) × IsGoing c server.old id bytes }
+    ensures { (c : ConfigValues) (bytes : List ℕ) → IsGoing c server.old id bytes → result ≡ Some (end_reason (is_cut (stream_of c bytes).rest)) }
+{
+    let Ok(()) = server.ended(id) else {
+        unreachable!()
+    };
+    stop(server, id)
 }

@@ -1,14 +1,18 @@
 //! A server over several connections.
 
-ghost use Rattle.std.specs.Prelude.{◌≡◌, ◌<◌, ◌≤◌, None, length, map, slice_get, if◌then◌else◌, IfNone, IfSome, OnOk, OnErr};
+ghost use Rattle.std.specs.Prelude.{◌≡◌, ◌<◌, ◌≤◌, false, None, Some, length, map, slice_get, if◌then◌else◌, is_err, IfNone, IfSome, IfOk, OnOk, OnErr};
 ghost use Rattle.indexmap.specs.IndexMap.{values};
 ghost use Rattle.coap_wire.specs.Refusal.{RefusedBy};
-ghost use Rattle.coap_serve.specs.values.Sessions.{session_written, session_ended, session_released, session_settled};
+ghost use Rattle.coap_serve.specs.streams.Device.{AddsBytes, WritesPart};
+ghost use Rattle.coap_serve.specs.values.Flushes.{IsFlushedAt};
+ghost use Rattle.coap_serve.specs.values.Sessions.{SessionValue, session_written, session_ended, session_released, session_settled};
 ghost use Rattle.coap_serve.specs.values.Servers.{LiesAt, session_of, changed_at, settled_entry};
 ghost use Rattle.coap_serve.specs.values.ServerAnswers.{released_refusal_on, handled_so};
 
 use crate::config::Config;
+use crate::device::Outlet;
 use crate::host::Host;
+use crate::output::{WriteFailed, write_all};
 use crate::session::{Session, Taking};
 use coap_conn::{Phase, Reason, SendFault};
 use coap_store::{PathKey, StoreFault};
@@ -140,6 +144,17 @@ pub struct Status {
     pub finished: bool,
 }
 
+/// What was done to write what waits on a connection.
+#[derive(Clone, Copy, Debug)]
+pub(crate) struct Flushed {
+    /// Whether anything waited.
+    pub waited: bool,
+    /// How many observers there were before.
+    pub observers: usize,
+    /// Why the connection takes no message any more.
+    pub stop: Option<Reason>,
+}
+
 /// The connections by their numbers, in order.
 type Sessions = IndexMap<u64, Session>;
 
@@ -166,14 +181,17 @@ impl Model for Server {
 }
 
 impl Server {
-    ghost use Rattle.std.specs.Prelude.{◌≡◌, ◌+◌, ◌<◌, ◌^◌, ◌≤◌, ⊤, length, true, is_ok, nat_le, IfOk, IfErr, OnOk, OnErr};
+    ghost use Rattle.std.specs.Prelude.{◌≡◌, ◌+◌, ◌<◌, ◌^◌, ◌≤◌, ⊤, length, true, false, is_ok, is_err, is_none, nat_le, IfOk, IfErr, OnOk, OnErr};
     ghost use Rattle.std.specs.Borrow.{sem, follows_so};
     ghost use Rattle.std.specs.Option.{option_copied};
     ghost use mathlib.Core.Option.{none};
     ghost use Rattle.coap_wire.specs.Refusal.{RefusedBy};
+    ghost use Rattle.coap_conn.specs.Limits.{AreInRange};
     ghost use Rattle.coap_store.specs.Refusals.{RefusedOrMemory, put_refusal, remove_refusal};
     ghost use Rattle.coap_serve.specs.values.Servers.{new_server, session_of, is_there, server_opened, count_taken, server_taken, server_written, server_ticked, server_put, server_removed, server_ended, server_released, server_dropped};
-    ghost use Rattle.coap_serve.specs.values.ServerAnswers.{OpenedOrMemory, open_refusal, handled_by, IsNotTaken, written_refusal, released_refusal, front_of, status_of};
+    ghost use Rattle.coap_serve.specs.values.ServerAnswers.{OpenedOrMemory, open_refusal, handled_by, IsNotTaken, written_refusal, released_refusal, front_of, status_of, stop_on};
+    ghost use Rattle.coap_serve.specs.streams.Device.{AddsBytes, WritesPart};
+    ghost use Rattle.coap_serve.specs.values.Flushes.{waiting_at, observers_at, IsFlushedOnce};
     ghost use Rattle.coap_serve.specs.contracts.server.Server.{the_row};
 
     /// A server with no connection, that stores nothing, whose counts begin where the configuration says.
@@ -205,6 +223,7 @@ impl Server {
         ensures id { IfOk result (λ id. id ≡ self.old.ids + 1) }
         ensures fits { IfOk result (λ id. id < 2 ^ 64) }
         ensures ok { OnOk result (self.new ≡ server_opened self.old) }
+        ensures ranges { OnOk result (AreInRange self.old.config.limits) }
         ensures err { OnErr result (self.new ≡ self.old) }
     {
         if self.sessions.len() >= self.config.connections() {
@@ -291,6 +310,41 @@ impl Server {
         Ok(())
     }
 
+    /// Writes all that waits on a connection, where anything does, and settles then. Answers whether anything waited, how many
+    /// observers there were, and why the connection takes no message any more.
+    ///
+    /// # Errors
+    ///
+    /// Where a write failed.
+    pub(crate) fn flush_once<W: Outlet>(
+        &mut self,
+        id: ConnId,
+        writer: &mut W,
+    ) -> Result<Flushed, WriteFailed>
+        requires { W.is_failed writer.old ≡ false }
+        ensures ok { IfOk result (λ f. IsFlushedOnce id self.old self.new (AddsBytes (W.written writer.old) (W.written writer.new)) f.waited) }
+        ensures observers { IfOk result (λ f. f.observers ≡ observers_at id self.old) }
+        ensures stop { IfOk result (λ f. f.stop ≡ stop_on (session_of id self.new.sessions)) }
+        ensures part { OnErr result (WritesPart (W.written writer.old) (W.written writer.new) (waiting_at id self.old)) }
+        ensures failure { W.is_failed writer.new ≡ is_err result }
+    {
+        let Some(at) = find(&self.sessions, id) else {
+            return Ok(Flushed {
+                waited: false,
+                observers: 0,
+                stop: None,
+            });
+        };
+        let observers = self.sessions[at].observers();
+        let waited = flush_at(&mut self.sessions, at, &self.host, writer)?;
+        let stop = self.sessions[at].phase().stop();
+        Ok(Flushed {
+            waited,
+            observers,
+            stop,
+        })
+    }
+
     /// The moment is now this one, in seconds.
     ///
     /// # Errors
@@ -345,6 +399,13 @@ impl Server {
         self.host.store.remove(path)?;
         settle_all(&mut self.sessions, &self.host);
         Ok(())
+    }
+
+    /// Whether `remove` would take a resource away at a path. It changes nothing, and takes no memory.
+    pub(crate) fn can_remove(&self, path: &PathKey) -> bool
+        ensures { result ≡ is_none (remove_refusal self.now.host.store path.now) }
+    {
+        self.host.store.can_remove(path)
     }
 
     /// The input of a connection ended.
@@ -496,4 +557,34 @@ fn release_at(sessions: &mut Sessions, at: usize, host: &Host) -> Result<(), Rel
     session.release()?;
     session.settle(host);
     Ok(())
+}
+
+/// Writes all that waits on the connection at an index, where anything does, and answers whether it did. It settles then.
+///
+/// # Errors
+///
+/// Where a write failed. The connection is then as before.
+fn flush_at<W: Outlet>(
+    sessions: &mut Sessions,
+    at: usize,
+    host: &Host,
+    writer: &mut W,
+) -> Result<bool, WriteFailed>
+    requires within { at < length sessions.old.entries }
+    requires works { W.is_failed writer.old ≡ false }
+    ensures ok { IfOk result (λ waited. (s : SessionValue) → slice_get (values sessions.old) at ≡ Some s → IsFlushedAt at host.entry.now s sessions.old.entries sessions.new.entries (AddsBytes (W.written writer.old) (W.written writer.new)) waited) }
+    ensures part { OnErr result ((s : SessionValue) → slice_get (values sessions.old) at ≡ Some s → WritesPart (W.written writer.old) (W.written writer.new) s.link.waiting) }
+    ensures err { OnErr result (sessions.new.entries ≡ sessions.old.entries) }
+    ensures failure { W.is_failed writer.new ≡ is_err result }
+{
+    let session = &mut sessions[at];
+    let waiting = session.front();
+    let count = waiting.len();
+    if count == 0 {
+        return Ok(false);
+    }
+    write_all(writer, waiting)?;
+    session.written(count);
+    session.settle(host);
+    Ok(true)
 }

@@ -67,6 +67,7 @@ impl Session {
     ghost use Rattle.std.specs.Borrow.{sem, follows_so};
     ghost use mathlib.Core.Option.{none};
     ghost use Rattle.coap_wire.specs.Refusal.{RefusedBy};
+    ghost use Rattle.coap_conn.specs.Limits.{AreInRange};
     ghost use Rattle.coap_conn.specs.LinkValue.{is_finished};
     ghost use Rattle.coap_conn.specs.Release.{release_refusal};
     ghost use Rattle.coap_store.specs.Changes.{changes};
@@ -79,7 +80,8 @@ impl Session {
     ///
     /// Where the room is refused.
     pub(crate) fn open(alloc: Global, limits: Limits) -> Result<Session, AllocError>
-        ensures { IfOk result (λ s. s ≡ new_session limits) }
+        ensures value { IfOk result (λ s. s ≡ new_session limits) }
+        ensures ranges { OnOk result (AreInRange limits) }
     {
         Ok(Session {
             framer: Framer::new(alloc, limits.max_message())?,

@@ -11,7 +11,7 @@ use Rattle.indexmap.specs.IndexMap.{insert_entry, shift_remove_entry}
 use Rattle.coap_store.specs.Paths.{Path}
 use Rattle.coap_store.specs.Store.{Representation, found_in, put_at, removed_at}
 use Rattle.coap_store.specs.Listing.{entry_bytes, built_in_bytes, listing}
-use Rattle.coap_store.specs.ResourceViews.{representation, resources_in, AreListed, IsListed}
+use Rattle.coap_store.specs.ResourceViews.{representation, resources_in, has_format, AreListed, IsListed}
 use Rattle.coap_store.specs.declared.resource.Resource.{Resource}
 use Rattle.coap_store.specs.contracts.path.PathKeyPartialEq.TheImpl as key_eq
 use Rattle.coap_store.proofs.PathLemmas.{key_equality, same_path_sound}
@@ -42,6 +42,19 @@ count_resources entries = length-map entries _
 pub has_found : (entries : List (Path × Resource)) (path : Path) (found : Bool) → found ≡ is_some (lookup (key_test path) entries) → is_some (found_in (resources_in entries) path) ≡ found
 has_found entries path found is =
     ap is_some (resources_found key_test key_equality entries path) ∙ some_mapped (lookup (key_test path) entries) ∙ sym is
+
+-- whether what the map finds has a format
+pub format_found : (entries : List (Path × Resource)) (path : Path) (format : Option ℕ) (found : Option Resource) → found ≡ lookup (key_test path) entries → has_format format (option_map representation found) ≡ has_format format (found_in (resources_in entries) path)
+format_found entries path format found is =
+    ap (λ f. has_format format (option_map representation f)) is ∙ ap (has_format format) (sym (resources_found key_test key_equality entries path))
+
+pub denied : (b : Bool) → not b ≡ true → false ≡ b
+denied false is = refl
+denied true is = absurd cc
+
+pub affirmed : (b : Bool) → not b ≡ false → true ≡ b
+affirmed true is = refl
+affirmed false is = absurd cc
 
 -- what the list has is in the map
 pub found_is_there : (entries : List (Path × Resource)) (path : Path) → is_some (found_in (resources_in entries) path) ≡ true → lookup (key_test path) entries ≡ None → ⊥

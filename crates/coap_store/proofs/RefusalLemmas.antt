@@ -97,3 +97,8 @@ unfolding remove_refusal
 remove_present s path lent is same some =
     let there : is_none (found_in s.resources path) ≡ false = sym (lent_alike lent (found_in s.resources path) same) ∙ some in
     rw (found_dynamic s path (found_in s.resources path) is refl there, there) refl
+
+-- a resource is removed exactly where one is found
+pub removal_told : (s : StoreValue) (path : Path) (lent : Option (Bor lent.Resource)) → IsStore s → option_map (λ r. representation r.now) lent ≡ found_in s.resources path → is_some lent ≡ is_none (remove_refusal s path)
+removal_told s path None is same = ap is_none (sym (remove_absent s path None same refl))
+removal_told s path (Some r) is same = ap is_none (sym (remove_present s path (Some r) is same refl))

@@ -1,5 +1,5 @@
 -- Lemmas on what a request is about.
-use Rattle.std.proofs.Common.{◌≡◌, ℕ, ◌<◌, true, false, length, Option, Some, None, refl, sym, ap, ◌∙◌}
+use Rattle.std.proofs.Common.{◌≡◌, ◌≢◌, ℕ, ◌<◌, true, false, [], length, Option, Some, None, refl, sym, ap, ◌∙◌}
 use Rattle.std.proofs.lemmas.Bool.{cond-false, cond_both, false_from_ne_true, true_from_ne_false, both_ways, lt-leb}
 use Rattle.std.proofs.lemmas.Option.{none-some}
 use Rattle.std.specs.Prelude.{unwrap_or, if◌then◌else◌}
@@ -66,6 +66,11 @@ without_key path none = ap (λ b. if b then Some path else None) none
 pub is_path_by_place : (path : Path) → is_dynamic (place_of path) ≡ false → is_path path ≡ true
 is_path_by_place path built =
     true_from_ne_false (is_path path) (λ none. both_ways (is_dynamic (place_of path)) built (sym (ap is_dynamic (no_key_elsewhere path (sym (without_key path none))))))
+
+-- the root is a built-in resource
+pub dynamic_is_named : (path : Path) → place_of path ≡ Dynamic → path ≢ []
+unfolding place_of
+dynamic_is_named path is root = both_ways (is_dynamic (place_of path)) (ap (λ p. is_dynamic (place_of p)) root) (ap is_dynamic is)
 
 -- ---- what a request is about
 

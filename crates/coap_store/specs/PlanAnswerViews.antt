@@ -1,7 +1,7 @@
 -- How a plan is seen: as the answer that it holds.
 use Rattle.std.specs.Prelude.{None, option_map}
 use Rattle.coap_store.specs.Answer.{Answer}
-use Rattle.coap_store.specs.PlanViews.{bytes_in, effect_value, IsAtPath, location_in}
+use Rattle.coap_store.specs.PlanViews.{bytes_in, effect_value, IsAtPath, IsToldNamed, location_in}
 use Rattle.coap_store.specs.declared.plan.Plan.TheInside.{Inside}
 
 abbrev pub plan_answer : Inside → Answer
@@ -20,6 +20,6 @@ plan_answer p = record {
   hold = None;
 }
 
--- what a plan changes is at a path of a resource
+-- what a plan changes is at a path of a resource, and a path that it tells has a segment
 abbrev pub is_plan : Inside → Type 0
-is_plan p = IsAtPath p.effect
+is_plan p = IsAtPath p.effect × IsToldNamed p.tells_location p.effect

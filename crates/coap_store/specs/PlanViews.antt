@@ -1,5 +1,5 @@
 -- How the code's values are seen in contracts.
-use Rattle.std.specs.Prelude.{◌≡◌, ℕ, Bool, true, false, List, [], Option, Some, None}
+use Rattle.std.specs.Prelude.{◌≡◌, ◌≢◌, ℕ, Bool, true, false, List, [], Option, Some, None}
 use Rattle.coap_store.specs.Paths.{Path, is_path}
 use Rattle.coap_store.specs.Requests.{path_of}
 use Rattle.coap_store.specs.Answer as answer
@@ -31,6 +31,13 @@ abbrev pub IsAtPath : Effect → Type 0
 IsAtPath effects.Nothing = Unit {0}
 IsAtPath (effects.Put request format) = is_path (path_of request.now) ≡ true
 IsAtPath (effects.Delete request) = is_path (path_of request.now) ≡ true
+
+-- what is told is no path of the root
+abbrev pub IsToldNamed : Bool → Effect → Type 0
+IsToldNamed false effect = Unit {0}
+IsToldNamed true effects.Nothing = Unit {0}
+IsToldNamed true (effects.Put request format) = path_of request.now ≢ []
+IsToldNamed true (effects.Delete request) = Unit {0}
 
 -- no path stands for the root
 abbrev pub path_or_root : Option Path → Path

@@ -1,6 +1,6 @@
 //! The answers to requests.
 
-ghost use Rattle.std.specs.Prelude.{◌≡◌, true, Option, option_map, is_none};
+ghost use Rattle.std.specs.Prelude.{◌≡◌, ◌≢◌, true, [], Option, option_map, is_none};
 ghost use Rattle.coap_wire.specs.Message.{Message};
 ghost use Rattle.coap_wire.specs.OptionNumbers as numbers;
 ghost use Rattle.coap_store.specs.Paths.{is_path};
@@ -71,6 +71,7 @@ impl Store {
     fn target(&self, asked: &Asked, now: u64) -> Target<'_>
         ensures value { target_value asked.now result ≡ target_of self.now now (path_of asked.now) }
         ensures path { result.is_path ≡ is_path (path_of asked.now) }
+        ensures place { result.place ≡ place_of (path_of asked.now) }
     {
         let place = asked.place();
         if place.is_dynamic() {
@@ -88,6 +89,7 @@ impl Store {
         requires { place_of (path_of asked.now) ≡ Dynamic }
         ensures value { (now : ℕ) → target_value asked.now result ≡ target_of self.now now (path_of asked.now) }
         ensures path { result.is_path ≡ is_path (path_of asked.now) }
+        ensures place { result.place ≡ Dynamic }
     {
         match asked.key() {
             Some(path) => Target {
@@ -137,7 +139,8 @@ impl Store {
     /// The answer by the checks of the resource, and then those of the method.
     #[tactic(auto, unfolding(crate::specs::Answer::resource_answer, crate::specs::Answer::method_answer))]
     fn at_target<'s, 'r>(&'s self, asked: &Asked<'r, 'r>, target: Target<'s>) -> Plan<'s, 'r>
-        requires { target.is_path ≡ is_path (path_of asked.now) }
+        requires path { target.is_path ≡ is_path (path_of asked.now) }
+        requires place { target.place ≡ place_of (path_of asked.now) }
         ensures { result ≡ unheld (resource_answer self.now (target_value asked.now target.entry) asked.now) }
     {
         let code = asked.code();
@@ -167,9 +170,10 @@ impl Store {
     }
 
     /// The answer to PUT and POST (RFC 7252 sections 5.8.2, 5.8.3).
-    #[tactic(auto, unfolding(crate::specs::Answer::store_answer))]
+    #[tactic(auto, using(crate::proofs::TargetLemmas::dynamic_is_named), unfolding(crate::specs::Answer::store_answer))]
     fn put_or_post<'s, 'r>(&'s self, asked: &Asked<'r, 'r>, target: Target<'s>) -> Plan<'s, 'r>
-        requires { target.is_path ≡ is_path (path_of asked.now) }
+        requires path { target.is_path ≡ is_path (path_of asked.now) }
+        requires place { place_of (path_of asked.now) ≡ Dynamic }
         ensures { result ≡ unheld (store_answer self.now (target_value asked.now target.entry) asked.now) }
     {
         let is_new = target.state.is_none();
@@ -305,7 +309,8 @@ pub(crate) fn max_age_of(place: Place) -> Option<u32>
 
 /// The answer to a request that stores its payload at its path.
 fn stored<'s, 'r>(asked: &Asked<'r, 'r>, is_new: bool) -> Plan<'s, 'r>
-    requires { is_path (path_asked asked.now) ≡ true }
+    requires path { is_path (path_asked asked.now) ≡ true }
+    requires named { path_asked asked.now ≢ [] }
     ensures { (state : Option Representation) → is_none state ≡ is_new → result ≡ stored_there (path_asked asked.now) state asked.now }
 {
     let tells_location = is_new && asked.code() == Code::POST;

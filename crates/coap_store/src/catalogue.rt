@@ -1,10 +1,10 @@
 //! The dynamic resources of a store, with the listing of them.
 
 ghost use Rattle.std.specs.Prelude.{◌≡◌, OnOk, OnErr, IfNone, IfSome, true, false};
-ghost use Rattle.std.specs.Option.{is_some};
+ghost use Rattle.std.specs.Option.{is_some, is_none};
 ghost use Rattle.coap_store.specs.Store.{found_in, put_at};
 ghost use Rattle.coap_store.specs.Listing.{listing as listing_of};
-ghost use Rattle.coap_store.specs.ResourceViews.{resources_in, AreListed, IsListed, representation};
+ghost use Rattle.coap_store.specs.ResourceViews.{resources_in, has_format, AreListed, IsListed, representation};
 
 use crate::path::PathKey;
 use crate::resource::{BUILT_IN_TEXT, Resource, Resources, entry_text, write_listing};
@@ -147,6 +147,7 @@ fn replace_alike(
     bytes: Vec<u8>,
 ) -> Option<Vec<u8>>
     requires { AreListed resources.old.entries }
+    ensures alike { is_none result ≡ has_format format (found_in (resources_in resources.old.entries) path.now) }
     ensures stored { IfNone result (resources_in resources.new.entries ≡ put_at (resources_in resources.old.entries) path.now (record { version = version; format = format; bytes = bytes.items })) }
     ensures ready { IfNone result (listing_of (resources_in resources.new.entries) ≡ listing_of (resources_in resources.old.entries)) }
     ensures all_listed { AreListed resources.new.entries }

@@ -135,12 +135,12 @@ impl<'s, 'r> Model for Plan<'s, 'r> {
 }
 
 impl<'s, 'r> Plan<'s, 'r> {
-    ghost use Rattle.std.specs.Prelude.{◌≡◌, ◌≤◌, true, [], Some, IfSome, length, option_map};
+    ghost use Rattle.std.specs.Prelude.{◌≡◌, ◌≢◌, ◌≤◌, true, [], Some, IfSome, length, option_map};
     ghost use Rattle.coap_wire.specs.Codes as code;
     ghost use Rattle.coap_store.specs.Answer.{says, only};
     ghost use Rattle.coap_store.specs.Changes.{changes as is_change};
     ghost use Rattle.coap_store.specs.Paths.{is_path};
-    ghost use Rattle.coap_store.specs.PlanViews.{bytes_in, change_value, effect_value, IsAtPath, path_or_root, location_in};
+    ghost use Rattle.coap_store.specs.PlanViews.{bytes_in, change_value, effect_value, IsAtPath, IsToldNamed, path_or_root, location_in};
 
     /// A response with this code and nothing else, which changes nothing.
     pub(crate) fn only(code: Code) -> Plan<'s, 'r>
@@ -201,7 +201,8 @@ impl<'s, 'r> Plan<'s, 'r> {
 
     /// The response to a change, which tells the path of what is put or not.
     pub(crate) fn changing(code: Code, tells_location: bool, effect: Effect<'r>) -> Plan<'s, 'r>
-        requires { IsAtPath effect }
+        requires path { IsAtPath effect }
+        requires named { IsToldNamed tells_location effect }
         ensures { result ≡ record (says (record (only code) { location = location_in tells_location (effect_value effect.entry) })) { change = effect_value effect.entry } }
     {
         Plan {
@@ -252,6 +253,7 @@ impl<'s, 'r> Plan<'s, 'r> {
     pub fn location(&self) -> Option<UriPath<'r>>
         ensures value { path_or_root result ≡ self.now.response.location }
         ensures path { IfSome result (λ path. is_path path ≡ true) }
+        ensures some { IfSome result (λ path. path ≢ []) }
     {
         if !self.tells_location {
             return None;

@@ -6,7 +6,7 @@ use crate::place::place_of;
 use crate::store::Store;
 
 impl Store {
-    ghost use Rattle.std.specs.Prelude.{◌≡◌, ◌+◌, IfOk, OnOk, OnErr};
+    ghost use Rattle.std.specs.Prelude.{◌≡◌, ◌+◌, is_none, IfOk, OnOk, OnErr};
     ghost use Rattle.coap_wire.specs.Refusal.{RefusedBy};
     ghost use Rattle.coap_store.specs.Store.{put_in, removed_in};
     ghost use Rattle.coap_store.specs.Invariant.{IsStore};
@@ -58,6 +58,14 @@ impl Store {
         }
         self.delete(path);
         Ok(())
+    }
+
+    /// Whether `remove` would take a resource away at a path. It changes nothing, and takes no memory.
+    pub fn can_remove(&self, path: &PathKey) -> bool
+        ensures { result ≡ is_none (remove_refusal self.now path.now) }
+    {
+        self.is_kept();
+        self.find(path).is_some()
     }
 
     /// Whether these bytes can be stored at a path, memory apart.

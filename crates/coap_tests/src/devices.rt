@@ -291,6 +291,39 @@ impl Read for Counted<'_> {
     }
 }
 
+/// A writer of std that allocates nothing. It takes all, and compares it with bytes that are wanted.
+#[derive(Drop)]
+pub struct Compared<'a> {
+    /// What is wanted behind that.
+    pub rest: &'a [u8],
+    /// Whether all that was written was wanted.
+    pub is_same: bool,
+}
+
+impl<'a> Compared<'a> {
+    /// A writer for these bytes.
+    pub fn new(wanted: &'a [u8]) -> Compared<'a> {
+        Compared {
+            rest: wanted,
+            is_same: true,
+        }
+    }
+}
+
+impl Write for Compared<'_> {
+    fn write(&mut self, buf: &[u8]) -> io::Result<usize> {
+        match self.rest.strip_prefix(buf) {
+            Some(rest) => self.rest = rest,
+            None => self.is_same = false,
+        }
+        Ok(buf.len())
+    }
+
+    fn flush(&mut self) -> io::Result<()> {
+        Ok(())
+    }
+}
+
 /// A writer of std that allocates nothing. It counts its writes, also one of nothing, each of which takes one byte while
 /// there is room, and of which one may fail. It keeps the first bytes.
 #[derive(Drop)]

@@ -1,6 +1,8 @@
 //! Scripts that a server replays, as rows: each event with the line that it writes. A section begins with `= ` and what is
 //! set.
 
+mod memory;
+
 use crate::devices::Ledger;
 use crate::rows::{bytes, number, same, spelled, strange, words};
 use coap_serve::{Config, Limits, Server, Starts, script};
@@ -50,9 +52,9 @@ fn set(rt: &impl Abort, setting: &mut Setting, word: &str, value: usize) {
 }
 
 /// What a section's first line sets.
-fn setting_of(rt: &(impl Abort + AllocGlobal), line: &str) -> Result<Setting, Fail> {
+fn setting_of(rt: &impl Abort, line: &str) -> Result<Setting, Fail> {
     let mut setting = usual();
-    for word in &words(rt.alloc(), line)? {
+    for word in line.split_whitespace() {
         if let Some((name, value)) = word.split_once('=') {
             set(rt, &mut setting, name, number(value)?);
         }
@@ -60,8 +62,8 @@ fn setting_of(rt: &(impl Abort + AllocGlobal), line: &str) -> Result<Setting, Fa
     Ok(setting)
 }
 
-/// A server that is set so.
-fn server_of(alloc: Global, setting: &Setting) -> Result<Server, Fail> {
+/// The configuration of a server that is set so.
+fn config_of(setting: &Setting) -> Result<Config, Fail> {
     let [max, sent, queue] = setting.limits;
     let limits = Limits::new(max, sent, queue, 0, setting.observers, 16)?;
     let config = Config::new(
@@ -72,7 +74,7 @@ fn server_of(alloc: Global, setting: &Setting) -> Result<Server, Fail> {
         1,
         setting.starts,
     )?;
-    Ok(Server::new(alloc, config)?)
+    Ok(config)
 }
 
 /// A line of a section as a script or a server writes it: parts in `'` are text, and bytes that are counted are written out.
@@ -117,7 +119,7 @@ fn rows_of(alloc: Global, text: &str) -> Result<Vec<Row>, Fail> {
 /// Replays a script on a new server, and answers what was written.
 fn replayed(alloc: Global, setting: &Setting, text: &str) -> Result<String, Fail> {
     let events = script(alloc, text.as_bytes())?;
-    let mut server = server_of(alloc, setting)?;
+    let mut server = Server::new(alloc, config_of(setting)?)?;
     let mut out = Ledger::new(alloc, usize::MAX, usize::MAX, None);
     server.replay(&events, &mut out)?;
     Ok(String::from_utf8(out.bytes)?)

@@ -1,7 +1,6 @@
 //! Runs of `serve_one`, as rows: what is set, and how the run goes then.
 
 ghost use Rattle.std.specs.Prelude.{◌≡◌, ◌+◌, ◌<◌, ◌^◌, false, [], map, vec_items};
-ghost use Rattle.coap_serve.specs.histories.Serving.{setup_of};
 ghost use Rattle.coap_serve.specs.streams.StdioRun.{IsStdioRun};
 
 mod calls;
@@ -133,7 +132,7 @@ fn serve_told(
     requires nothing_given { source.old.given.items ≡ [] }
     requires nothing_written { outlet.old.bytes.items ≡ [] }
     requires id_left { config.now.starts.ids + 1 < 2 ^ 64 }
-    ensures { IsStdioRun (setup_of config.now) config.now.turns (map vec_items source.new.given.items) outlet.new.bytes.items result }
+    ensures { IsStdioRun config.now (map vec_items source.new.given.items) outlet.new.bytes.items result }
 {
     serve_one(alloc, source, outlet, config)
 }

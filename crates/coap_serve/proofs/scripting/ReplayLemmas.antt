@@ -1,23 +1,36 @@
 -- What events come to, one by one and one after the other.
-use Rattle.std.proofs.Common.{◌≡◌, ◌≢◌, ℕ, zero, suc, ◌+◌, ◌-◌, ◌<◌, ◌≤◌, Bool, true, false, ◌&&◌, ◌==◌, nat_lt, List, [], ◌∷◌, ◌++◌, length, get_or, take, drop, map, Option, Some, None, option_map, is_some, if◌then◌else◌, refl, sym, ap, subst, ◌∙◌, append_assoc, arith, lt-ltb}
+use Rattle.std.proofs.Common.{◌≡◌, ◌≢◌, ℕ, zero, suc, ◌+◌, ◌-◌, ◌<◌, ◌≤◌, Bool, true, false, ◌&&◌, ◌==◌, nat_lt, List, [], ◌∷◌, ◌++◌, length, get_or, take, drop, map, Option, Some, None, option_map, Result, Ok, Err, is_some, is_none, not, if◌then◌else◌, refl, sym, ap, subst, ◌∙◌, append_assoc, arith, lt-ltb}
 use Rattle.std.proofs.lemmas.Bool.{le-ltb, ne_eqb}
 use Rattle.std.proofs.lemmas.List.{append-nil, take_all, take-append-drop, length-drop, length-take-le, length-map}
 use Rattle.std.proofs.Math.Seq.{take-suc, drop-cons}
 use Rattle.std.proofs.Math.ListN.{get_or-map}
-use Rattle.coap_serve.specs.script.Events.{EventValue}
+use Rattle.std.specs.Result.{IsErr}
+use Rattle.std.specs.declared.alloc.AllocError.{AllocError}
+use Rattle.coap_store.specs.Paths.{Path}
+use Rattle.coap_store.specs.Store.{StoreValue, found_in}
+use Rattle.coap_store.specs.State.{place_of, is_dynamic}
+use Rattle.coap_store.specs.Refusals.{remove_refusal}
+use Rattle.coap_store.specs.declared.fault.StoreFault.TheVariants.{NoSuch}
+use Rattle.coap_serve.specs.script.Events.{EventValue, In}
 use Rattle.coap_serve.specs.script.EventViews.{event_value}
 use Rattle.coap_serve.specs.declared.event.Event.{Event}
 use Rattle.coap_serve.specs.script.Lines.{fault_line}
 use Rattle.coap_serve.specs.script.Replay.{Ran, comes_to, unless_refused, on_connection, Fed, fed_more, goes_on, fed_once, fed_turns, fed, event_ran, behind, replayed}
-use Rattle.coap_serve.specs.script.Replayed.{IsPartlyFed, IsUnrun, IsRefusedAt, IsCutAt}
+use Rattle.coap_serve.specs.script.PartlyFed.{IsPartlyFed}
+use Rattle.coap_serve.specs.script.Replayed.{IsUnrun, IsRefusedAt, IsCutAt}
+use Rattle.coap_serve.specs.script.Shown.{where_there, took_more, took_once, took_turns, took, events_ran, ShowsMore, ShowsPart}
 use Rattle.coap_serve.specs.streams.Device.{AddsBytes, WritesPart}
 use Rattle.coap_serve.specs.values.Sessions.{SessionValue}
-use Rattle.coap_serve.specs.values.Servers.{ServerValue, server_taken, server_taken_on, count_taken, count_on, is_there}
+use Rattle.coap_serve.specs.values.Servers.{ServerValue, server_taken, server_taken_on, count_taken, count_on, is_there, session_of}
 use Rattle.coap_serve.specs.values.ServerAnswers.{IsNotTaken}
-use Rattle.coap_serve.specs.views.LineViews.{IsDrainable}
+use Rattle.coap_serve.specs.views.LineViews.{IsRun, IsDrainable}
+use Rattle.coap_serve.specs.world.Events.{Took}
+use Rattle.coap_serve.specs.world.Events as world
 use Rattle.coap_serve.specs.declared.server.TakeFault.TheVariants as taking
 use Rattle.coap_serve.specs.declared.replay.Drained.{Drained}
+use Rattle.coap_serve.specs.declared.replay.Line.{Line}
 use Rattle.coap_serve.proofs.streams.DeviceLemmas.{bytes_none, bytes_then}
+use Rattle.coap_serve.proofs.scripting.ShownLemmas.{shows_same, shows_then, shows_as, made_there, unmade_there}
 
 -- ---- one event
 
@@ -53,6 +66,11 @@ pub on_none : (v : ServerValue) (word : List ℕ) (id : ℕ) (does : SessionValu
 on_none v word id does None after line there server_is line_is = (server_is, line_is)
 on_none v word id does (Some s) after line there server_is line_is = absurd cc
 
+-- memory was refused for an event
+pub unrun : (v : ServerValue) (e : EventValue) (after : ServerValue) (r : Result Line AllocError) → IsErr r → IsUnrun v e after → IsRun v e after r
+unrun v e after (Ok line) is so = absurd cc
+unrun v e after (Err fault) is so = so
+
 -- whether a tick is refused, by whether the moment is not before that of the server
 abbrev pub refusal_by : Bool → Option ℕ
 refusal_by b = if b then None else Some 1
@@ -74,6 +92,21 @@ is_told f (Some x) = refl
 pub told_of : {A B : Type 0} (f : A → B) (o : Option A) (y : B) → option_map f o ≡ Some y → (x : A) × (o ≡ Some x) × (f x ≡ y)
 told_of f None y some = absurd cc
 told_of f (Some x) y some = (x, refl, cc)
+
+-- ---- `remove`
+
+-- the only refusal
+pub no_such : (s : StoreValue) (path : Path) → is_none (remove_refusal s path) ≡ false → remove_refusal s path ≡ Some NoSuch
+unfolding remove_refusal
+no_such s path refused =
+    elim (not (is_dynamic (place_of path))) as (λ b. is_none (if b then Some NoSuch else (if is_none (found_in s.resources path) then Some NoSuch else None)) ≡ false → (if b then Some NoSuch else (if is_none (found_in s.resources path) then Some NoSuch else None)) ≡ Some NoSuch) [
+      | true ↦ λ some. refl
+      | false ↦ elim (is_none (found_in s.resources path)) as (λ b. is_none (if b then Some NoSuch else None) ≡ false → (if b then Some NoSuch else None) ≡ Some NoSuch) [ true ↦ λ some. refl | false ↦ λ some. absurd cc ]
+    ] refused
+
+pub not_refused : {F : Type 0} (refusal : Option F) → is_none refusal ≡ true → refusal ≡ None
+not_refused None none = refl
+not_refused (Some f) none = absurd cc
 
 -- ---- `drain`
 
@@ -98,10 +131,11 @@ pub record Feeds (v : ServerValue) (id : ℕ) (bytes : List ℕ) (now : ServerVa
   pub few : turns ≤ taken
   pub within : taken ≤ length bytes
   pub so_far : fed_turns turns v id bytes ≡ record { server = now; count = taken; done = false }
+  pub shows : ShowsMore v now (took_turns turns v id bytes)
 
 pub nothing_fed : (v : ServerValue) (id : ℕ) (bytes : List ℕ) → Feeds v id bytes v 0
-unfolding fed_turns
-nothing_fed v id bytes = record { turns = 0; few = omega arith; within = omega arith; so_far = refl }
+unfolding fed_turns took_turns
+nothing_fed v id bytes = record { turns = 0; few = omega arith; within = omega arith; so_far = refl; shows = shows_same v v refl }
 
 over : (id : ℕ) (bytes : List ℕ) (f : Fed) → goes_on bytes f ≡ false → fed_once id bytes f ≡ f
 over id bytes f is = ap (λ (b : Bool). if b then fed_more id (drop f.count bytes) f else f) is
@@ -127,6 +161,47 @@ next_turn v id bytes n =
     let same : n + 1 ≡ suc n = omega arith in
     ap (λ (m : ℕ). fed_turns m v id bytes) same
 
+-- and they make no take
+took_over : (id : ℕ) (bytes : List ℕ) (f : Fed) → goes_on bytes f ≡ false → took_once id bytes f ≡ []
+took_over id bytes f is = ap (λ (b : Bool). if b then took_more id (drop f.count bytes) f else []) is
+
+takes_over : (v : ServerValue) (id : ℕ) (bytes : List ℕ) (n : ℕ) → goes_on bytes (fed_turns n v id bytes) ≡ false → (k : ℕ) → took_turns (n + k) v id bytes ≡ took_turns n v id bytes
+unfolding took_turns
+takes_over v id bytes n is zero =
+    let same : n + 0 ≡ n = omega arith in
+    ap (λ (m : ℕ). took_turns m v id bytes) same
+takes_over v id bytes n is (suc k) =
+    let same : n + suc k ≡ suc (n + k) = omega arith in
+    ap (λ (m : ℕ). took_turns m v id bytes) same
+    ∙ ap (λ (es : List world.Event). es ++ took_once id bytes (fed_turns (n + k) v id bytes)) (takes_over v id bytes n is k)
+    ∙ ap (λ (f : Fed). took_turns n v id bytes ++ took_once id bytes f) (stays_over v id bytes n is k)
+    ∙ ap (λ (es : List world.Event). took_turns n v id bytes ++ es) (took_over id bytes (fed_turns n v id bytes) is)
+    ∙ append-nil (took_turns n v id bytes)
+
+all_takes : (v : ServerValue) (id : ℕ) (bytes : List ℕ) (n : ℕ) → goes_on bytes (fed_turns n v id bytes) ≡ false → n ≤ length bytes → took v id bytes ≡ took_turns n v id bytes
+all_takes v id bytes n is few =
+    let same : length bytes ≡ n + (length bytes - n) = omega arith in
+    ap (λ (m : ℕ). took_turns m v id bytes) same ∙ takes_over v id bytes n is (length bytes - n)
+
+next_take : (v : ServerValue) (id : ℕ) (bytes : List ℕ) (n : ℕ) → took_turns (n + 1) v id bytes ≡ took_turns n v id bytes ++ took_once id bytes (fed_turns n v id bytes)
+unfolding took_turns
+next_take v id bytes n =
+    let same : n + 1 ≡ suc n = omega arith in
+    ap (λ (m : ℕ). took_turns m v id bytes) same
+
+-- what is shown behind one more take
+abbrev pub ShowsTake : ServerValue → ℕ → List ℕ → ServerValue → Type 0
+ShowsTake now id left after = ShowsMore now after (where_there (session_of id now.sessions) (λ s. Took id (take (count_taken now id left) left)))
+
+pub take_shown : (now : ServerValue) (id : ℕ) (left : List ℕ) (after : ServerValue) (k : ℕ) → is_there (session_of id now.sessions) ≡ true → k ≡ count_taken now id left → ShowsMore now after (Took id (take k left) ∷ []) → ShowsTake now id left after
+take_shown now id left after k there counted more =
+    shows_as now after (Took id (take k left) ∷ []) _
+    (ap (λ (n : ℕ). Took id (take n left) ∷ []) counted ∙ made_there (session_of id now.sessions) (Took id (take (count_taken now id left) left)) there)
+    more
+
+pub no_take_shown : (now : ServerValue) (id : ℕ) (left : List ℕ) (after : ServerValue) → IsNotTaken now id left taking.NoSuch after → ShowsTake now id left after
+no_take_shown now id left after none = shows_as now after [] _ (unmade_there (session_of id now.sessions) _ (ap is_there none.0)) (shows_same now after none.1)
+
 going_on : (bytes : List ℕ) (now : ServerValue) (taken : ℕ) → taken < length bytes → goes_on bytes (record { server = now; count = taken; done = false }) ≡ true
 going_on bytes now taken left = ap (λ (b : Bool). b && true) (lt-ltb taken (length bytes) left)
 
@@ -145,9 +220,20 @@ module _ (v : ServerValue) (id : ℕ) (bytes : List ℕ) (now : ServerValue) (ta
       ∙ ap (fed_once id bytes) feeds.so_far
       ∙ ap (λ (b : Bool). if b then fed_more id (drop taken bytes) here else here) (going_on bytes now taken left)
 
+  takes_more : took_turns (feeds.turns + 1) v id bytes ≡ took_turns feeds.turns v id bytes ++ where_there (session_of id now.sessions) (λ s. Took id (take (count_taken now id (drop taken bytes)) (drop taken bytes)))
+  takes_more =
+      let here : Fed = record { server = now; count = taken; done = false } in
+      next_take v id bytes feeds.turns
+      ∙ ap (λ (f : Fed). took_turns feeds.turns v id bytes ++ took_once id bytes f) feeds.so_far
+      ∙ ap (λ (b : Bool). took_turns feeds.turns v id bytes ++ (if b then took_more id (drop taken bytes) here else [])) (going_on bytes now taken left)
+
+  shows_more : (after : ServerValue) → ShowsTake now id (drop taken bytes) after → ShowsMore v after (took_turns (feeds.turns + 1) v id bytes)
+  shows_more after more =
+      shows_as v after _ _ (sym takes_more) (shows_then v now after (took_turns feeds.turns v id bytes) _ feeds.shows more)
+
   -- a take took some bytes
-  pub further : (k : ℕ) (after : ServerValue) → k ≤ length (drop taken bytes) → k ≡ count_taken now id (drop taken bytes) → k ≢ 0 → after ≡ server_taken now id (drop taken bytes) → Feeds v id bytes after (taken + k)
-  further k after within counted some is = record {
+  pub further : (k : ℕ) (after : ServerValue) → k ≤ length (drop taken bytes) → k ≡ count_taken now id (drop taken bytes) → k ≢ 0 → after ≡ server_taken now id (drop taken bytes) → ShowsTake now id (drop taken bytes) after → Feeds v id bytes after (taken + k)
+  further k after within counted some is more = record {
     turns = feeds.turns + 1;
     few = let few = feeds.few in omega (arith, few, some);
     within = omega (arith, within, left, length-drop taken bytes);
@@ -156,17 +242,26 @@ module _ (v : ServerValue) (id : ℕ) (bytes : List ℕ) (now : ServerValue) (ta
         ∙ ap (λ (n : ℕ). record { server = server_taken now id (drop taken bytes); count = taken + n; done = n == 0 }) (sym counted)
         ∙ ap (λ (w : ServerValue). record { server = w; count = taken + k; done = k == 0 }) (sym is)
         ∙ ap (λ (b : Bool). record { server = after; count = taken + k; done = b }) (ne_eqb k 0 some);
+    shows = shows_more after more;
   }
 
   -- a take took none
-  pub stopped : (after : ServerValue) → count_taken now id (drop taken bytes) ≡ 0 → after ≡ server_taken now id (drop taken bytes) → fed v id bytes ≡ record { server = after; count = taken; done = true }
-  stopped after none is =
-      let last : fed_turns (feeds.turns + 1) v id bytes ≡ record { server = after; count = taken; done = true } =
+  last_turn : (after : ServerValue) → count_taken now id (drop taken bytes) ≡ 0 → after ≡ server_taken now id (drop taken bytes) → fed_turns (feeds.turns + 1) v id bytes ≡ record { server = after; count = taken; done = true }
+  last_turn after none is =
       one_more
       ∙ ap (λ (n : ℕ). record { server = server_taken now id (drop taken bytes); count = taken + n; done = n == 0 }) none
       ∙ ap (λ (n : ℕ). record { server = server_taken now id (drop taken bytes); count = n; done = true }) (plus_zero taken)
-      ∙ ap (λ (w : ServerValue). record { server = w; count = taken; done = true }) (sym is) in
-      all_turns v id bytes (feeds.turns + 1) (ap (goes_on bytes) last ∙ never (nat_lt taken (length bytes))) (let few = feeds.few in omega (arith, few, left)) ∙ last
+      ∙ ap (λ (w : ServerValue). record { server = w; count = taken; done = true }) (sym is)
+
+  it_is_over : (after : ServerValue) → count_taken now id (drop taken bytes) ≡ 0 → after ≡ server_taken now id (drop taken bytes) → goes_on bytes (fed_turns (feeds.turns + 1) v id bytes) ≡ false
+  it_is_over after none is = ap (goes_on bytes) (last_turn after none is) ∙ never (nat_lt taken (length bytes))
+
+  pub stopped : (after : ServerValue) → count_taken now id (drop taken bytes) ≡ 0 → after ≡ server_taken now id (drop taken bytes) → fed v id bytes ≡ record { server = after; count = taken; done = true }
+  stopped after none is = all_turns v id bytes (feeds.turns + 1) (it_is_over after none is) (let few = feeds.few in omega (arith, few, left)) ∙ last_turn after none is
+
+  pub stopped_shows : (after : ServerValue) → count_taken now id (drop taken bytes) ≡ 0 → after ≡ server_taken now id (drop taken bytes) → ShowsTake now id (drop taken bytes) after → ShowsMore v after (took v id bytes)
+  stopped_shows after none is more =
+      shows_as v after _ _ (sym (all_takes v id bytes (feeds.turns + 1) (it_is_over after none is) (let few = feeds.few in omega (arith, few, left)))) (shows_more after more)
 
   -- memory was refused
   pub short : (count : ℕ) (after : ServerValue) → IsNotTaken now id (drop taken bytes) (taking.Memory count) after → IsPartlyFed v id bytes after
@@ -177,6 +272,19 @@ module _ (v : ServerValue) (id : ℕ) (bytes : List ℕ) (now : ServerValue) (ta
     refused = subst (λ (f : Fed). IsNotTaken f.server id (drop f.count bytes) (taking.Memory count) after) (sym feeds.so_far) refused;
   }
 
+  pub short_shows : (count : ℕ) (after : ServerValue) → IsNotTaken now id (drop taken bytes) (taking.Memory count) after → ShowsMore now after (Took id (take count (drop taken bytes)) ∷ []) → ShowsPart v (In id bytes) after
+  unfolding short
+  short_shows count after refused more =
+      let all : List world.Event = took_turns feeds.turns v id bytes ++ Took id (take count (drop taken bytes)) ∷ [] in
+      record {
+        more = all;
+        part = record {
+          fed = short count after refused;
+          made = ap (λ (f : Fed). took_turns feeds.turns v id bytes ++ Took id (take count (drop f.count bytes)) ∷ []) (sym feeds.so_far);
+        };
+        shows = shows_then v now after (took_turns feeds.turns v id bytes) _ feeds.shows more;
+      }
+
 -- the bytes are used up
 pub used_up : (v : ServerValue) (id : ℕ) (bytes : List ℕ) (now : ServerValue) (taken : ℕ) → Feeds v id bytes now taken → length bytes ≤ taken → fed v id bytes ≡ record { server = now; count = taken; done = false }
 used_up v id bytes now taken feeds none =
@@ -184,6 +292,13 @@ used_up v id bytes now taken feeds none =
     let few = feeds.few in
     let within = feeds.within in
     all_turns v id bytes feeds.turns (ap (goes_on bytes) feeds.so_far ∙ ap (λ (b : Bool). b && true) over_now) (omega (arith, few, within)) ∙ feeds.so_far
+
+pub used_up_shows : (v : ServerValue) (id : ℕ) (bytes : List ℕ) (now : ServerValue) (taken : ℕ) → Feeds v id bytes now taken → length bytes ≤ taken → ShowsMore v now (took v id bytes)
+used_up_shows v id bytes now taken feeds none =
+    let over_now : nat_lt taken (length bytes) ≡ false = le-ltb taken (length bytes) none in
+    let few = feeds.few in
+    let within = feeds.within in
+    shows_as v now _ _ (sym (all_takes v id bytes feeds.turns (ap (goes_on bytes) feeds.so_far ∙ ap (λ (b : Bool). b && true) over_now) (omega (arith, few, within)))) feeds.shows
 
 -- no connection has the number: nothing is taken, and nothing changes
 pub none_there : (now : ServerValue) (id : ℕ) (piece : List ℕ) (after : ServerValue) → IsNotTaken now id piece taking.NoSuch after → (count_taken now id piece ≡ 0) × (after ≡ server_taken now id piece)
@@ -259,8 +374,8 @@ module _ (v : ServerValue) (all : List EventValue) (index : ℕ) (now : ServerVa
   }
 
   -- the event was run, and its line not written whole
-  pub cut_at : (after : ServerValue) (line : List ℕ) (z : Option (List ℕ)) → IsWhat (event_ran now e) after line → WritesPart y z line → IsCutAt v all after (AddsBytes x z)
-  cut_at after line z ran wrote = record {
+  pub cut_at : (after : ServerValue) (line : List ℕ) (z : Option (List ℕ)) → IsWhat (event_ran now e) after line → WritesPart y z line → ShowsMore v after (events_ran v (take index all ++ e ∷ [])) → IsCutAt v all after (AddsBytes x z)
+  cut_at after line z ran wrote shows = record {
     before = take index all;
     event = e;
     others = drop (index + 1) all;
@@ -271,6 +386,7 @@ module _ (v : ServerValue) (all : List EventValue) (index : ℕ) (now : ServerVa
     some = wrote.2;
     cut = ap (λ (w : ServerValue). (event_ran w e).text) (sym so_far.server_is) ∙ sym ran.1 ∙ wrote.3;
     written = bytes_then x y z (replayed v (take index all)).text wrote.0 so_far.written wrote.4;
+    shows = shows;
   }
 
   -- the event was run, and its line written

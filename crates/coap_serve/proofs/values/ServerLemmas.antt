@@ -208,7 +208,7 @@ module _ (v : ServerValue) (entries : Entries) (is : entries ≡ map (settled_en
 
 -- ---- numbers stay where they are
 
-keys_where_one_changed : (id : ℕ) (f : SessionValue → SessionValue) (es : Entries) → keys_of (map (session_becomes id f) es) ≡ keys_of es
+pub keys_where_one_changed : (id : ℕ) (f : SessionValue → SessionValue) (es : Entries) → keys_of (map (session_becomes id f) es) ≡ keys_of es
 keys_where_one_changed id f [] = refl
 keys_where_one_changed id f (e ∷ es) =
     ap (λ k. k ∷ keys_of (map (session_becomes id f) es)) (elim (nat_eq e.0 id) as (λ b. (cond b (e.0, f e.1) e).0 ≡ e.0) [ true ↦ refl | false ↦ refl ])
@@ -226,7 +226,7 @@ found_there id (e ∷ es) (suc i) index within =
     let later = further (nat_eq id e.0) i (position_or_len (nat_eq id) (keys_of es)) (sym index) in
     rw (same_either_way e.0 id ∙ later.0) (found_there id es i (sym later.1) (omega arith))
 
-lies_still : (id i : ℕ) (es now : Entries) → keys_of now ≡ keys_of es → LiesAt id i es → LiesAt id i now
+pub lies_still : (id i : ℕ) (es now : Entries) → keys_of now ≡ keys_of es → LiesAt id i es → LiesAt id i now
 lies_still id i es now keys lies =
     let index = ap (position_or_len (nat_eq id)) keys ∙ lies.index in
     let within : i < length now = omega (arith, lies.within, sym (length-map now (λ e. e.0)) ∙ ap length keys ∙ length-map es (λ e. e.0)) in

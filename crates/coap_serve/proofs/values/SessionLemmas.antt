@@ -27,8 +27,8 @@ use Rattle.coap_serve.specs.declared.session.Session.TheInside.{Inside}
 use Rattle.coap_serve.specs.values.Sessions.{ObserverValue, ObserversValue, SessionValue, is_stale, session_ready, session_takes, session_max, observers_on, frame_on, session_with, without_entry, session_answered, answer_on, asks_this, session_handled, change_by, Taking, taking_read, taking_found, taking, RefusesPiece, notification_on, session_notified, next_stale, session_settled_once}
 use Rattle.coap_serve.specs.values.Entries.{first_index, response_on, entries_asked, entries_notified, framer_on}
 use Rattle.coap_serve.specs.views.SessionViews.{IsSession, session_value}
-use Rattle.coap_serve.proofs.values.AdvanceLemmas.{ends_in}
-use Rattle.coap_serve.proofs.values.TalkLemmas.{message_limits, reply_limits}
+use Rattle.coap_serve.proofs.values.LinkLemmas.{ends_in}
+use Rattle.coap_serve.proofs.values.LinkLemmas.{message_limits, reply_limits}
 use Rattle.coap_serve.proofs.values.EntryLemmas.{is_first}
 
 -- ---- what a stop gives up

@@ -145,7 +145,7 @@ module _ (store : StoreValue) (now : ℕ) (small : now ≤ 18446744073709551615)
 next_none : (store : StoreValue) (now : ℕ) (s : Side) → find (is_due store now) s.observers ≡ None → next_due store now s ≡ None
 next_none store now s none = elim (has_room s) as (λ b. (if b then find (is_due store now) s.observers else None) ≡ None) [ true ↦ none | false ↦ refl ]
 
-next_found : (store : StoreValue) (now : ℕ) (s : Side) (o : Observer) → next_due store now s ≡ Some o → find (is_due store now) s.observers ≡ Some o
+pub next_found : (store : StoreValue) (now : ℕ) (s : Side) (o : Observer) → next_due store now s ≡ Some o → find (is_due store now) s.observers ≡ Some o
 next_found store now s o e =
     elim (has_room s) as (λ b. (if b then find (is_due store now) s.observers else None) ≡ Some o → find (is_due store now) s.observers ≡ Some o) [ true ↦ λ is. is | false ↦ λ is. absurd cc ] e
 
@@ -160,7 +160,7 @@ unfolding count_due
 left_quiet store now o true = rw (not_due store now (record o { told = state_of store now o.path }) refl) refl
 left_quiet store now o false = refl
 
-notified_less : (store : StoreValue) (now : ℕ) (s : Side) (o : Observer) → find (is_due store now) s.observers ≡ Some o
+pub notified_less : (store : StoreValue) (now : ℕ) (s : Side) (o : Observer) → find (is_due store now) s.observers ≡ Some o
     → count_due (is_due store now) (notified store now s (Some o)).observers + 1 ≤ count_due (is_due store now) s.observers
 notified_less store now s o e =
     let m = notification_message o.token (notification store now o) in

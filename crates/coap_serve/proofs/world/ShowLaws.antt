@@ -17,7 +17,7 @@ use Rattle.coap_store.specs.Refusals.{put_refusal, remove_refusal}
 use Rattle.coap_store.specs.Changes.{IsPut}
 use Rattle.coap_serve.specs.Configs.{ConfigValues}
 use Rattle.coap_serve.specs.declared.host.Host.{Host}
-use Rattle.coap_serve.specs.histories.Serving.{is_cut}
+use Rattle.coap_serve.specs.world.Sides.{is_cut}
 use Rattle.coap_serve.specs.values.Sessions.{SessionValue, RefusesPiece, new_session, session_written, session_ended, session_released}
 use Rattle.coap_serve.specs.values.Servers.{ServerValue, session_of, server_settled, new_server, server_opened, server_taken_on, server_taken, count_on, count_taken, server_written, server_ticked, server_put, server_removed, server_ended, server_released, server_dropped}
 use Rattle.coap_serve.specs.world.Sides.{Side, new_side, handles, waiting_on, side_written, side_ended, side_released, HearsAll}

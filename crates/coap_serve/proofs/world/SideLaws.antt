@@ -20,7 +20,7 @@ use Rattle.coap_store.specs.Messages.{response_with_observe}
 use Rattle.coap_store.specs.declared.plan.Watch.{Watch}
 use Rattle.coap_store.specs.declared.plan.Watch.TheVariants as watch
 use Rattle.coap_serve.specs.declared.host.Host.{Host}
-use Rattle.coap_serve.specs.histories.Serving.{is_cut}
+use Rattle.coap_serve.specs.world.Sides.{is_cut}
 use Rattle.coap_serve.specs.values.Sessions.{ObserverValue, session_takes, session_with, new_entry, session_answered, session_answered_as, session_handled, change_by, session_rejected, session_written, session_ended, session_released, without_entry}
 use Rattle.coap_serve.specs.world.Observers.{Observer, without_token, asks_entry, has_place, entry_for, is_whole, with_entry}
 use Rattle.coap_serve.specs.world.Sides.{Side, handles, waiting_on, has_room, side_with, with_history, answered_among, side_answered, asks_answer, side_handled, side_after, change_after, side_faulted, side_written, side_ended, side_released}

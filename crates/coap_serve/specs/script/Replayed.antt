@@ -1,11 +1,12 @@
 -- What a replay of events answers.
-use Rattle.std.specs.Prelude.{◌≡◌, ◌≢◌, ℕ, ◌+◌, Bool, true, false, List, [], ◌∷◌, ◌++◌, length, drop, None, Result, Ok, Err}
-use Rattle.coap_store.specs.Refusals.{put_refusal}
+use Rattle.std.specs.Prelude.{◌≡◌, ◌≢◌, ℕ, ◌+◌, Bool, true, false, List, [], ◌∷◌, ◌++◌, length, None, Result, Ok, Err}
+use Rattle.coap_store.specs.Refusals.{put_refusal, remove_refusal}
 use Rattle.coap_serve.specs.script.Events.{EventValue, Open, In, Drain, Tick, Put, Remove, End, Release, Drop, Status}
-use Rattle.coap_serve.specs.script.Replay.{fed_turns, goes_on, event_ran, replayed}
+use Rattle.coap_serve.specs.script.Replay.{event_ran, replayed}
+use Rattle.coap_serve.specs.script.PartlyFed.{IsPartlyFed}
+use Rattle.coap_serve.specs.script.Shown.{events_ran, ShowsMore}
 use Rattle.coap_serve.specs.values.Servers.{ServerValue, session_of, is_there}
-use Rattle.coap_serve.specs.values.ServerAnswers.{open_refusal, IsNotTaken}
-use Rattle.coap_serve.specs.declared.server.TakeFault.TheVariants as taking
+use Rattle.coap_serve.specs.values.ServerAnswers.{open_refusal}
 use Rattle.coap_serve.specs.declared.replay.ReplayFault.{ReplayFault}
 use Rattle.coap_serve.specs.declared.replay.ReplayFault.TheVariants.{Write, Memory}
 
@@ -13,23 +14,15 @@ abbrev pub replay_number : ReplayFault → ℕ
 replay_number Write = 1
 replay_number (Memory event) = 2
 
--- Memory was refused within an `in`: some takes were made, and the next one was not taken for want of memory.
-pub record IsPartlyFed (v : ServerValue) (id : ℕ) (bytes : List ℕ) (after : ServerValue) : Type 0 where
-  pub turns : ℕ
-  pub count : ℕ
-  pub going : goes_on bytes (fed_turns turns v id bytes) ≡ true
-  pub refused :
-      IsNotTaken (fed_turns turns v id bytes).server id (drop (fed_turns turns v id bytes).count bytes) (taking.Memory count) after
-
 -- Memory was refused for an event, which can be an `open` or a `put` that has no other refusal, an `in`, or one whose line needs
--- memory. The server is as before, but after an `in` it has taken what came before.
+-- memory and that is not refused. The server is as before, but after an `in` it has taken what came before.
 abbrev pub IsUnrun : ServerValue → EventValue → ServerValue → Type 0
 IsUnrun v Open after = (open_refusal v ≡ None) × (after ≡ v)
 IsUnrun v (In id bytes) after = IsPartlyFed v id bytes after
 IsUnrun v (Drain id most) after = (is_there (session_of id v.sessions) ≡ true) × (after ≡ v)
 IsUnrun v (Tick now) after = ⊥
 IsUnrun v (Put path format bytes) after = (put_refusal v.host.store path bytes ≡ None) × (after ≡ v)
-IsUnrun v (Remove path text) after = after ≡ v
+IsUnrun v (Remove path text) after = (remove_refusal v.host.store path ≡ None) × (after ≡ v)
 IsUnrun v (End id) after = ⊥
 IsUnrun v (Release id) after = ⊥
 IsUnrun v (Drop id) after = ⊥
@@ -45,7 +38,7 @@ pub record IsRefusedAt (v : ServerValue) (events : List EventValue) (number : �
   pub written : HasWritten (replayed v before).text
   pub unrun : IsUnrun (replayed v before).server event after
 
--- a write failed: the last event that was run has no whole line
+-- a write failed: the last event that was run has no whole line, and the server shows it and those before it
 pub record IsCutAt (v : ServerValue) (events : List EventValue) (after : ServerValue) (HasWritten : List ℕ → Type 0) : Type 0 where
   pub before : List EventValue
   pub event : EventValue
@@ -57,6 +50,7 @@ pub record IsCutAt (v : ServerValue) (events : List EventValue) (after : ServerV
   pub some : missing ≢ []
   pub cut : (event_ran (replayed v before).server event).text ≡ part ++ missing
   pub written : HasWritten ((replayed v before).text ++ part)
+  pub shows : ShowsMore v after (events_ran v (before ++ event ∷ []))
 
 -- the server after a replay, and what it wrote
 abbrev pub IsReplayed : {T : Type 0} → ServerValue → List EventValue → ServerValue → (List ℕ → Type 0) → Result T ReplayFault → Type 0

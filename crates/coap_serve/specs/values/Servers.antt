@@ -61,11 +61,18 @@ is_there (Some x) = true
 
 -- ---- calls
 
--- a new server has no connection, and stores nothing
+-- at first nothing is stored
+abbrev pub new_host : ConfigValues → Host
+new_host c = record {
+  store = record { dynamic_max = c.dynamic_max; rep_max = c.rep_max; resources = []; versions = c.starts.versions };
+  now = c.starts.moment;
+}
+
+-- a new server has no connection
 abbrev pub new_server : ConfigValues → ServerValue
 new_server c = record {
   config = c;
-  host = record { store = record { dynamic_max = c.dynamic_max; rep_max = c.rep_max; resources = []; versions = c.starts.versions }; now = c.starts.moment };
+  host = new_host c;
   ids = c.starts.ids;
   sessions = [];
 }

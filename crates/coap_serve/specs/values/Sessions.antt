@@ -24,7 +24,7 @@ use Rattle.coap_store.specs.Changes.{IsPut}
 use Rattle.coap_store.specs.Messages.{response_with_observe}
 use Rattle.coap_store.specs.Notifications.{notification_of}
 use Rattle.coap_serve.specs.declared.host.Host.{Host}
-use Rattle.coap_serve.specs.histories.Serving.{is_cut}
+use Rattle.coap_serve.specs.world.Sides.{is_cut}
 use Rattle.coap_serve.specs.world.Observers.{format_of, has_place, is_whole, with_entry, goes_on, notification_message, first_becomes}
 
 -- an observer: the format that it was told, and the mark of the state that it was told

@@ -7,8 +7,7 @@ use Rattle.coap_conn.specs.Release.{release_refusal}
 use Rattle.coap_store.specs.Paths.{Path}
 use Rattle.coap_store.specs.Refusals.{put_refusal, remove_refusal}
 use Rattle.coap_serve.specs.Configs.{ConfigValues}
-use Rattle.coap_serve.specs.histories.Serving.{is_cut}
-use Rattle.coap_serve.specs.world.Sides.{Side, handles, waiting_on}
+use Rattle.coap_serve.specs.world.Sides.{Side, handles, waiting_on, is_cut}
 use Rattle.coap_serve.specs.world.World.{World, Step, new_world, side_of, ticks, after_steps}
 use Rattle.coap_serve.specs.world.World as step
 

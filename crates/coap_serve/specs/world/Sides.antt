@@ -1,6 +1,6 @@
 -- One connection of a server that may hold no answer: all that happened on it, and its observers; what a message does to it and
 -- to the store, and how it settles (RFC 8323 sections 3.3, 3.4, 5 and 7).
-use Rattle.std.specs.Prelude.{◌≡◌, ℕ, zero, suc, Bool, true, ◌&&◌, List, [], length, Option, Some, None, find, nat_le, is_none, if◌then◌else◌}
+use Rattle.std.specs.Prelude.{◌≡◌, ℕ, zero, suc, Bool, true, ◌&&◌, List, [], length, Option, Some, None, find, nat_le, nat_lt, is_none, if◌then◌else◌}
 use Rattle.std.specs.List.{AllByRecursion}
 use Rattle.coap_wire.specs.Message.{Message}
 use Rattle.coap_wire.specs.Stream.{StreamFault}
@@ -101,6 +101,10 @@ side_faulted s fault = if handles s then with_history s (after_reject s.history 
 -- so many bytes that wait were written
 unfoldable pub side_written : Side → ℕ → Side
 side_written s n = if nat_le n (length (waiting_on s)) then record s { history = after_written s.history n } else s
+
+-- bytes are left of a frame: the end of input cuts it
+abbrev pub is_cut : List ℕ → Bool
+is_cut rest = nat_lt 0 (length rest)
 
 -- the input ended, within a frame where it was cut
 unfoldable pub side_ended : Side → Bool → Side

@@ -132,15 +132,47 @@ d1040106bb'.well-known'04'core' => d1264506c128ff'</>;ct=0,</time>;ct=0;obs,</as
 d1040106bb'.well-known'04'core' => d11d4506c128ff'</>;ct=0,</time>;ct=0;obs,</async>;ct=0'
 610105b5'async' => 01a305
 b10101b5'async'44'3601' => 018001
-# POST of a new resource says where; a GET with Observe is answered without.
+# POST of a new resource says where; a GET with Observe is answered with it.
 = dynamic 1
 00e1 => 40e123010000
 410208b1'b'ff'z' => 21410881'b'
-3101096051'b' => 4145094101ff'z'";
+3101096051'b' => 514509410120ff'z'";
 
 #[test]
 fn answers_from_the_store(rt: HostRuntime) -> Result<(), Fail> {
     play_all(&rt, ANSWERS_FROM_THE_STORE)
+}
+
+/// What the peer changes is told to its own observers: behind the answer, and before the next message is looked at.
+const NOTIFIES_ITS_OWN_OBSERVERS: &str =
+    "# An observer is told of a PUT, and no more once it has asked so.
+= dynamic 1
+00e1 => 40e123010000
+410301b1'a'ff'x' => 014101
+3101026051'a' => 514502410120ff'x'
+410303b1'a'ff'y' => 014403514502410220ff'y'
+410102610151'a' => 4145024102ff'y'
+410305b1'a'ff'z' => 014405
+# Two observers of one path, where the queue has room for one message of the greatest size: all are told within one flush.
+= dynamic 1 sent 1152 queue 1152
+00e1 => 40e123010000
+410301b1'a'ff'x' => 014101
+3101026051'a' => 514502410120ff'x'
+3101036051'a' => 514503410120ff'x'
+410304b1'a'ff'y' => 014404514502410220ff'y'514503410220ff'y'
+210405b1'a' => 014205018402018403
+410306b1'a'ff'w' => 014106
+# A token names one request: its second use ends what the first one asked.
+= dynamic 1
+00e1 => 40e123010000
+410301b1'a'ff'x' => 014101
+3101026051'a' => 514502410120ff'x'
+010102 => a14502c0ff'coap+tcp'
+410303b1'a'ff'y' => 014403";
+
+#[test]
+fn notifies_its_own_observers(rt: HostRuntime) -> Result<(), Fail> {
+    play_all(&rt, NOTIFIES_ITS_OWN_OBSERVERS)
 }
 
 /// A configuration with no usual value: the own size, the moment, and a representation of Content-Format 7 with the first

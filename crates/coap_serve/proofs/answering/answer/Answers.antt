@@ -10,8 +10,8 @@ use Rattle.coap_serve.proofs.values.AnsweringLemmas.{may_watch, is_change, respo
 use Rattle.coap_serve.proofs.answering.answer.Goals.{then-asks_entry, else-asks_entry}
 use Rattle.coap_serve.proofs.answering.answer.Goals as goal
 
-pub entry_for-requires : goal.entry_for-requires
-entry_for-requires c =
+pub enter-requires-clause-watched : goal.enter-requires-clause-watched
+enter-requires-clause-watched c =
     elim c.if-asks_entry.branch [
       | then-asks_entry w ↦ may_watch c.args.host.now c.args.request.now (ap (λ (a : Answer). asks_entry a.watch) (sym c.answer-plan.ensures.answer) ∙ ap asks_entry (sym c.watch.ensures) ∙ sym c.asks_entry.ensures ∙ w.if-asks_entry.true)
       | else-asks_entry w ↦ absurd (let bad : ◌≡◌ {A = Bool} false true = cc (w.if-asks_entry.false) in cc)

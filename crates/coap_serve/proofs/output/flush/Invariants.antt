@@ -1,13 +1,13 @@
-use Rattle.std.proofs.Common.{◌≡◌, false, length}
-use Rattle.coap_serve.proofs.streams.FlushLemmas.{Flushes}
+use Rattle.std.proofs.Common.{◌≡◌, ◌+◌, false}
+use Rattle.coap_serve.specs.values.Servers.{session_of}
+use Rattle.coap_serve.specs.values.ServerAnswers.{stop_on}
+use Rattle.coap_serve.proofs.values.FlushLemmas.{Flushed}
 use Rattle.coap_serve.proofs.output.flush.Given as goal
 
-abbrev pub invariant-loop-writer : goal.invariant-loop-writer
-invariant-loop-writer g l =
+abbrev pub invariant-loop : goal.invariant-loop
+invariant-loop g l =
     record {
-      flushes : Flushes l.fn.link l.link (g.W.Outlet.written l.fn.writer) (g.W.Outlet.written l.writer);
+      flushing : Flushed l.fn.id l.fn.server (l.counter + 1) l.server (g.W.Outlet.written l.fn.writer) (g.W.Outlet.written l.writer) l.last.waited;
+      stop : l.last.stop ≡ stop_on (session_of l.fn.id l.server.sessions);
       works : g.W.Outlet.is_failed l.writer ≡ false;
     }
-
-abbrev pub decreases-loop-writer : goal.decreases-loop-writer
-decreases-loop-writer g l = length l.link.waiting

@@ -1,7 +1,7 @@
 use Rattle.std.proofs.Common.{ℕ, List, subst, sym}
 use Rattle.coap_serve.proofs.scripting.ReplayLemmas.{rest_of}
 use Rattle.coap_serve.proofs.streams.DeviceLemmas.{not_failed_write}
-use Rattle.coap_serve.proofs.streams.FlushLemmas.{Writes, more_written}
+use Rattle.coap_serve.proofs.streams.WriteLemmas.{Writes, more_written}
 use Rattle.coap_serve.proofs.output.write_all.Goals as goal
 
 pub loop-left-preserved : goal.loop-left-preserved

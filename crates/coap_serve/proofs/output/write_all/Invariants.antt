@@ -1,5 +1,5 @@
 use Rattle.std.proofs.Common.{◌≡◌, false, length}
-use Rattle.coap_serve.proofs.streams.FlushLemmas.{Writes}
+use Rattle.coap_serve.proofs.streams.WriteLemmas.{Writes}
 use Rattle.coap_serve.proofs.output.write_all.Given as goal
 
 abbrev pub invariant-loop-left : goal.invariant-loop-left

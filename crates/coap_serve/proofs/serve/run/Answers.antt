@@ -1,51 +1,37 @@
 use Rattle.std.proofs.Common.{refl, arith}
 use Rattle.std.proofs.lemmas.Result.{err_from_is_err_and}
-use Rattle.coap_serve.specs.values.Turns.{setup_with}
-use Rattle.coap_serve.proofs.streams.RunLemmas.{begins, quiet, live, out_of_turns, next_turn, ended_turn, stopped_turn, faulted}
+use Rattle.coap_serve.proofs.streams.RunLemmas.{run_begins, next_turn, last_turn, faulted}
 use Rattle.coap_serve.proofs.serve.run.Goals as goal
 
 pub loop-init : goal.loop-init
 loop-init g c = record {
-  runs = begins (setup_with c.args.connection.now.link.limits c.args.host.now) c.args.connection.now _ _ c.requires.new c.requires.kept;
+  runs = run_begins c.args.config.now c.args.id c.args.server.now _ _ c.requires.stands;
   reader_works = c.requires.reader_works;
   writer_works = c.requires.writer_works;
   read = omega arith;
-  handled = rw c.requires.new (omega arith);
+  messages = omega arith;
   room = refl;
 }
 
-pub returns-in_err-count-clause-run : goal.returns-in_err-count-clause-run
-returns-in_err-count-clause-run g c =
+pub returns-in_err-turn-clause-run : goal.returns-in_err-turn-clause-run
+returns-in_err-turn-clause-run g c =
     let p = err_from_is_err_and c.from_residual.result c.from_residual.ensures.1 in
-    rw (p.1, p.2) (faulted _ c.loop.counter c.loop.read c.args.turns c.loop.host c.take_turn.new.host c.loop.connection c.take_turn.new.connection _ _ _ _ _ _ c.in_err-count.field-0.0 c.loop.invariant.runs c.loop-test.true c.in_err-count.ensures.turn)
+    let so_far = c.loop.invariant.runs in
+    rw (p.1, p.2) (faulted c.args.config.now c.args.id c.loop.counter c.loop.read c.loop.messages c.loop.server c.take_turn.new.server _ _ _ _ _ _ so_far c.in_err-turn.field-0.0 (omega (arith, c.loop-test.true, c.turns-end.ensures.value)) (c.in_err-turn.ensures.turn c.args.config.now _ so_far.goes))
 
-pub returns-in-Ended-clause-run : goal.returns-in-Ended-clause-run
-returns-in-Ended-clause-run g c =
-    ended_turn _ c.loop.counter c.loop.read c.args.turns c.loop.host c.take_turn.new.host c.loop.connection c.take_turn.new.connection _ _ _ _ _ _ c.in_ok-count.field-0 c.in-Ended.reason _ c.loop.invariant.runs c.loop-test.true c.in_ok-count.ensures.turn c.in-Ended.is refl c.handled.ensures refl
-
-pub returns-in-Stopped-clause-run : goal.returns-in-Stopped-clause-run
-returns-in-Stopped-clause-run g c =
-    stopped_turn _ c.loop.counter c.loop.read c.args.turns c.loop.host c.take_turn.new.host c.loop.connection c.take_turn.new.connection _ _ _ _ _ _ c.in_ok-count.field-0 c.in-Stopped.count c.in-Stopped.reason _ c.loop.invariant.runs c.loop-test.true c.in_ok-count.ensures.turn c.in-Stopped.is refl c.handled-in-Stopped.ensures refl
+pub returns-in-Some-clause-run : goal.returns-in-Some-clause-run
+returns-in-Some-clause-run g c =
+    let so_far = c.loop.invariant.runs in
+    last_turn c.args.config.now c.args.id c.loop.counter c.loop.read c.loop.messages c.loop.server c.take_turn.new.server _ _ _ _ _ _ so_far c.in_ok-turn.turn _ (omega (arith, c.loop-test.true, c.turns-end.ensures.value)) (c.in_ok-turn.ensures.turn c.args.config.now _ so_far.goes) refl refl c.in-Some.is
 
 pub loop-preserved : goal.loop-preserved
 loop-preserved g c =
-    let next = next_turn _ c.loop.counter c.loop.read c.loop.host c.take_turn.new.host c.loop.connection c.take_turn.new.connection _ _ _ _ _ _ c.in_ok-count.field-0 c.in-More.count c.loop.invariant.runs c.in_ok-count.ensures.turn c.in-More.is in
+    let so_far = c.loop.invariant.runs in
     record {
-      runs = next.runs;
-      reader_works = c.in_ok-count.ensures.read;
-      writer_works = c.in_ok-count.ensures.write;
-      read = omega (arith, next.few, c.loop.invariant.read);
-      handled = omega (arith, next.few_handled, c.loop.invariant.handled);
+      runs = next_turn c.args.config.now c.args.id c.loop.counter c.loop.read c.loop.messages c.loop.server c.take_turn.new.server _ _ _ _ _ _ so_far c.in_ok-turn.turn (c.in_ok-turn.ensures.turn c.args.config.now _ so_far.goes) c.in_default.is;
+      reader_works = c.in_ok-turn.ensures.read;
+      writer_works = c.in_ok-turn.ensures.write;
+      read = omega (arith, c.in_ok-turn.ensures.few, c.loop.invariant.read);
+      messages = omega (arith, c.in_ok-turn.ensures.few_messages, c.loop.invariant.messages);
       room = omega (arith, c.take_turn.auto.buffer, c.loop.invariant.room);
     }
-
-pub take_turn-requires-clause-quiet : goal.take_turn-requires-clause-quiet
-take_turn-requires-clause-quiet g c = quiet _ _ _ _ c.loop.host _ c.loop.connection _ _ (g.R.Source.told c.loop.reader) _ _ (g.W.Outlet.written c.loop.writer) c.loop.invariant.runs
-
-pub take_turn-requires-clause-live : goal.take_turn-requires-clause-live
-take_turn-requires-clause-live g c = live _ _ _ _ c.loop.host _ c.loop.connection _ _ (g.R.Source.told c.loop.reader) _ _ (g.W.Outlet.written c.loop.writer) c.loop.invariant.runs
-
-pub returns-clause-run : goal.returns-clause-run
-returns-clause-run g c =
-    let all = out_of_turns _ _ _ _ c.loop.host _ c.loop.connection _ _ (g.R.Source.told c.loop.reader) _ _ (g.W.Outlet.written c.loop.writer) c.loop.invariant.runs in
-    (all.0, all.1, all.2, all.3, (omega (arith, all.4.0, c.loop-test.false), all.4.1))

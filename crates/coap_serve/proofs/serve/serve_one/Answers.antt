@@ -1,22 +1,26 @@
-use Rattle.std.proofs.Common.{ap, ◌∙◌}
-use Rattle.coap_serve.specs.histories.Serving.{Setup, setup_of}
-use Rattle.coap_serve.specs.values.Connection.{opened}
-use Rattle.coap_serve.proofs.streams.RunLemmas.{not_fresh, not_greeted, greeted_limits, greeted}
+use Rattle.coap_serve.proofs.streams.StartLemmas.{Opens, opens_so, goes_at_first, text_at_first, cut_at_first, greeted, not_begun}
 use Rattle.coap_serve.proofs.serve.serve_one.Goals as goal
 
 pub returns-in_default-clause-run : goal.returns-in_default-clause-run
-returns-in_default-clause-run g c = not_fresh (setup_of c.args.config.now) c.args.config.now.turns _ _
+returns-in_default-clause-run g c = not_begun c.args.config.now _ _
 
 pub returns-in_default-open-clause-run : goal.returns-in_default-open-clause-run
-returns-in_default-open-clause-run g c = not_fresh (setup_of c.args.config.now) c.args.config.now.turns _ _
+returns-in_default-open-clause-run g c = not_begun c.args.config.now _ _
 
 pub returns-in_default-flush-clause-run : goal.returns-in_default-flush-clause-run
 returns-in_default-flush-clause-run g c =
-    not_greeted (setup_of c.args.config.now) c.args.config.now.turns c.in-Ok.connection _ _ _ (c.in-Ok.ensures.opened ∙ ap opened c.limits.ensures) c.in_default-flush.ensures.part
+    let o = c.in-Ok-open.ensures in
+    let opens : Opens c.args.config.now c.open.new.self c.in-Ok-open.id = opens_so c.args.config.now c.in-Ok.server c.open.new.self c.in-Ok-open.id c.in-Ok.ensures.value o.id o.ok o.ranges c.in-Ok.ensures.shows o.shows in
+    cut_at_first c.args.config.now c.open.new.self c.in-Ok-open.id opens _ _ _ c.in_default-flush.ensures.part
+
+pub run-requires-clause-stands : goal.run-requires-clause-stands
+run-requires-clause-stands g c =
+    let o = c.in-Ok-open.ensures in
+    let opens : Opens c.args.config.now c.open.new.self c.in-Ok-open.id = opens_so c.args.config.now c.in-Ok.server c.open.new.self c.in-Ok-open.id c.in-Ok.ensures.value o.id o.ok o.ranges c.in-Ok.ensures.shows o.shows in
+    goes_at_first c.args.config.now c.open.new.self c.in-Ok-open.id opens c.flush.new.server _ c.in-Ok-flush.ensures.ok
 
 pub returns-clause-run : goal.returns-clause-run
 returns-clause-run g c =
-    let setup : Setup = setup_of c.args.config.now in
-    let new = c.in-Ok.ensures.opened ∙ ap opened c.limits.ensures in
-    let limits = greeted_limits setup c.in-Ok.connection c.flush.new.self new c.in-Ok-flush.ensures.after in
-    greeted setup c.args.config.now.turns c.turns.result c.in-Ok-open.host c.in-Ok.connection c.flush.new.self _ _ _ _ _ c.run.result new c.in-Ok-open.ensures.value limits c.turns.ensures.value c.in-Ok-flush.ensures.ok c.run.ensures.run
+    let o = c.in-Ok-open.ensures in
+    let opens : Opens c.args.config.now c.open.new.self c.in-Ok-open.id = opens_so c.args.config.now c.in-Ok.server c.open.new.self c.in-Ok-open.id c.in-Ok.ensures.value o.id o.ok o.ranges c.in-Ok.ensures.shows o.shows in
+    greeted c.args.config.now _ _ _ _ _ c.run.result (text_at_first c.args.config.now c.open.new.self c.in-Ok-open.id opens c.flush.new.server _ c.in-Ok-flush.ensures.ok) c.run.ensures.run

@@ -1,46 +1,58 @@
-use Rattle.std.proofs.Common.{refl, ap, ◌∙◌, sym, arith}
-use Rattle.coap_conn.specs.Phases.{stop_of}
-use Rattle.coap_serve.specs.values.Connection.{ConnectionValue}
-use Rattle.coap_serve.proofs.values.PieceLemmas.{begins, is_filled, is_used_up, took, handled_within, shorter, goes_further, served, stopped, refused, failed_write}
+use Rattle.std.proofs.Common.{◌+◌, ◌≤◌, ℕ, List, sym, subst, ◌∙◌, arith}
+use Rattle.std.proofs.lemmas.List.{length-drop}
+use Rattle.coap_serve.proofs.scripting.ReplayLemmas.{rest_of}
+use Rattle.coap_serve.proofs.streams.TakeLemmas.{WasTaken, front_served, front_cut, front_some, handled_few}
+use Rattle.coap_serve.proofs.streams.PieceLemmas.{Serves, serves_none, served_all, serves_more, serves_last, cut_off, piece_refused, is_filled, is_used_up, stop_given, no_stop_given}
+use Rattle.coap_serve.proofs.serve.serve_piece.Given.{Over}
 use Rattle.coap_serve.proofs.serve.serve_piece.Goals as goal
 
 pub loop-rest-init : goal.loop-rest-init
-loop-rest-init g c = record { serves = begins _ _ _ _ c.requires.kept c.requires.quiet c.requires.live; works = c.requires.works }
+loop-rest-init g c = record { serves = λ k bytes goes. serves_none k c.args.server.now c.args.id bytes c.args.piece.now _ goes; works = c.requires.works; few = omega arith }
 
 pub returns-in_default-clause-served : goal.returns-in_default-clause-served
-returns-in_default-clause-served g c = refused _ _ _ _ _ _ _ _ c.loop-rest.invariant.serves c.in_default.ensures.refused
+returns-in_default-clause-served g c = λ k bytes goes.
+    piece_refused k c.args.id bytes c.args.piece.now c.loop-rest.server c.loop-rest.rest.now _ _ c.loop-rest.messages (c.loop-rest.invariant.serves k bytes goes) c.take.new.self c.in_default.field-0 c.in_default.ensures.refused
 
 pub returns-in_default-flush-clause-served : goal.returns-in_default-flush-clause-served
-returns-in_default-flush-clause-served g c =
-    let t = c.in-Ok.ensures in
-    failed_write _ _ _ _ _ _ _ _ _ c.loop-rest.invariant.serves (took _ _ _ _ _ _ t.count t.after t.host) _ c.take.new.host c.flush.new.self c.in_default-flush.ensures.part
+returns-in_default-flush-clause-served g c = λ k bytes goes.
+    let so_far = c.loop-rest.invariant.serves k bytes goes in
+    let took : WasTaken c.loop-rest.server c.take.new.self c.args.id c.loop-rest.rest.now c.in-Ok.taken = record { after_is = c.in-Ok.ensures.ok; takes_so = c.in-Ok.ensures.takes; says = c.in-Ok.ensures.says; shows = c.in-Ok.ensures.shows } in
+    cut_off k c.args.id bytes c.args.piece.now c.loop-rest.server c.loop-rest.rest.now _ _ c.loop-rest.messages so_far c.in-Ok.taken.bytes _
+    (front_cut k c.loop-rest.server c.args.id _ c.loop-rest.rest.now so_far.goes c.take.new.self c.in-Ok.taken took _ _ c.in_default-flush.ensures.part)
 
-pub returns-in-Some-clause-served : goal.returns-in-Some-clause-served
-returns-in-Some-clause-served g c =
-    let t = c.in-Ok.ensures in
-    let stop_is = sym (ap (λ (v : ConnectionValue). stop_of v.link.phase) c.in-Ok-flush.ensures.after) ∙ sym c.stop.ensures ∙ c.in-Some.is in
-    stopped _ _ _ _ _ _ _ _ _ c.loop-rest.invariant.serves (took _ _ _ _ _ _ t.count t.after t.host) _ c.take.new.host c.flush.new.self c.in-Some.reason stop_is c.in-Ok-flush.ensures.after c.in-Ok-flush.ensures.ok
+pub returns-then-is_some-clause-served : goal.returns-then-is_some-clause-served
+returns-then-is_some-clause-served g c = λ k bytes goes.
+    let so_far = c.loop-rest.invariant.serves k bytes goes in
+    let took : WasTaken c.loop-rest.server c.take.new.self c.args.id c.loop-rest.rest.now c.in-Ok.taken = record { after_is = c.in-Ok.ensures.ok; takes_so = c.in-Ok.ensures.takes; says = c.in-Ok.ensures.says; shows = c.in-Ok.ensures.shows } in
+    let stopped = stop_given c.in-Ok-flush.stop c.if-is_some.ensures in
+    serves_last k c.args.id bytes c.args.piece.now c.loop-rest.server c.loop-rest.rest.now _ _ c.loop-rest.messages so_far c.in-Ok.taken.bytes _ c.flush.new.server _ stopped.0
+    (front_served k c.loop-rest.server c.args.id _ c.loop-rest.rest.now so_far.goes c.take.new.self c.in-Ok.taken took c.flush.new.server _ c.handled-messages.result c.handled-messages.ensures c.in-Ok-flush.ensures.ok)
+    (sym c.in-Ok-flush.ensures.stop ∙ stopped.1)
 
-pub returns-in-Some-clause-handled : goal.returns-in-Some-clause-handled
-returns-in-Some-clause-handled g c =
-    let t = c.in-Ok.ensures in
-    let within = handled_within _ _ _ _ _ _ _ _ _ c.loop-rest.invariant.serves (took _ _ _ _ _ _ t.count t.after t.host) (is_filled c.loop-rest.rest.now c.loop-rest-test.ensures) in
-    omega (arith, within, ap (λ (v : ConnectionValue). v.handled) c.in-Ok-flush.ensures.after)
+-- a take takes some bytes
+some : (g : Over) (c : goal.After-rest-1 g) → 1 ≤ c.in-Ok.taken.bytes
+some g c =
+    let goes = c.requires.stands in
+    let so_far = c.loop-rest.invariant.serves goes.0 goes.1 goes.2 in
+    let took : WasTaken c.loop-rest.server c.take.new.self c.args.id c.loop-rest.rest.now c.in-Ok.taken = record { after_is = c.in-Ok.ensures.ok; takes_so = c.in-Ok.ensures.takes; says = c.in-Ok.ensures.says; shows = c.in-Ok.ensures.shows } in
+    front_some goes.0 c.loop-rest.server c.args.id _ c.loop-rest.rest.now so_far.goes c.take.new.self c.in-Ok.taken took (is_filled c.loop-rest.rest.now c.loop-rest-test.ensures)
 
 pub loop-rest-smaller : goal.loop-rest-smaller
-loop-rest-smaller g c =
-    let t = c.in-Ok.ensures in
-    let going = sym (ap (λ (v : ConnectionValue). stop_of v.link.phase) c.in-Ok-flush.ensures.after) ∙ sym c.stop.ensures ∙ c.in_default-stop.is in
-    shorter _ _ _ _ _ _ _ _ _ c.loop-rest.invariant.serves (took _ _ _ _ _ _ t.count t.after t.host) (is_filled c.loop-rest.rest.now c.loop-rest-test.ensures) t.within going
+loop-rest-smaller g c = rw (rest_of c.in-Ok.taken.bytes c.loop-rest.rest.now) (omega (arith, some g c, c.in-Ok.ensures.within, length-drop c.in-Ok.taken.bytes c.loop-rest.rest.now, is_filled c.loop-rest.rest.now c.loop-rest-test.ensures))
 
 pub loop-rest-preserved : goal.loop-rest-preserved
-loop-rest-preserved g c =
-    let t = c.in-Ok.ensures in
-    let going = sym (ap (λ (v : ConnectionValue). stop_of v.link.phase) c.in-Ok-flush.ensures.after) ∙ sym c.stop.ensures ∙ c.in_default-stop.is in
-    record {
-      serves = goes_further _ _ _ _ _ _ _ _ _ c.loop-rest.invariant.serves (took _ _ _ _ _ _ t.count t.after t.host) _ c.take.new.host c.flush.new.self (is_filled c.loop-rest.rest.now c.loop-rest-test.ensures) t.within going refl c.in-Ok-flush.ensures.after c.in-Ok-flush.ensures.ok;
-      works = c.in-Ok-flush.ensures.failure;
-    }
+loop-rest-preserved g c = record {
+  serves = λ k bytes goes.
+      let so_far = c.loop-rest.invariant.serves k bytes goes in
+      let took : WasTaken c.loop-rest.server c.take.new.self c.args.id c.loop-rest.rest.now c.in-Ok.taken = record { after_is = c.in-Ok.ensures.ok; takes_so = c.in-Ok.ensures.takes; says = c.in-Ok.ensures.says; shows = c.in-Ok.ensures.shows } in
+      subst (λ (rest : List ℕ). Serves k c.args.id bytes c.args.piece.now c.flush.new.server rest (g.W.Outlet.written c.args.writer.now) (g.W.Outlet.written c.flush.new.writer) (c.loop-rest.messages + c.handled-messages.result)) (sym (rest_of c.in-Ok.taken.bytes c.loop-rest.rest.now))
+      (serves_more k c.args.id bytes c.args.piece.now c.loop-rest.server c.loop-rest.rest.now _ _ c.loop-rest.messages so_far c.in-Ok.taken.bytes _ c.flush.new.server _
+      (front_served k c.loop-rest.server c.args.id _ c.loop-rest.rest.now so_far.goes c.take.new.self c.in-Ok.taken took c.flush.new.server _ c.handled-messages.result c.handled-messages.ensures c.in-Ok-flush.ensures.ok)
+      (sym c.in-Ok-flush.ensures.stop ∙ no_stop_given c.in-Ok-flush.stop c.if-is_some.ensures));
+  works = c.in-Ok-flush.ensures.failure;
+  few = rw (rest_of c.in-Ok.taken.bytes c.loop-rest.rest.now) (omega (arith, some g c, c.in-Ok.ensures.within, length-drop c.in-Ok.taken.bytes c.loop-rest.rest.now, c.handled-messages.ensures, handled_few c.in-Ok.taken.handled, c.loop-rest.invariant.few));
+}
 
 pub returns-clause-served : goal.returns-clause-served
-returns-clause-served g c = served _ _ _ _ _ _ _ _ c.loop-rest.invariant.serves (is_used_up c.loop-rest.rest.now c.loop-rest-test.ensures)
+returns-clause-served g c = λ k bytes goes.
+    served_all k c.args.id bytes c.args.piece.now c.loop-rest.server c.loop-rest.rest.now _ _ c.loop-rest.messages (c.loop-rest.invariant.serves k bytes goes) (is_used_up c.loop-rest.rest.now c.loop-rest-test.ensures)

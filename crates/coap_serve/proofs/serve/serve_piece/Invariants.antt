@@ -1,12 +1,15 @@
-use Rattle.std.proofs.Common.{◌≡◌, false, length}
-use Rattle.coap_serve.proofs.values.PieceLemmas.{Serves}
+use Rattle.std.proofs.Common.{◌≡◌, ◌≤◌, ◌+◌, ℕ, List, false, length}
+use Rattle.coap_serve.specs.Configs.{ConfigValues}
+use Rattle.coap_serve.specs.streams.Standing.{IsGoing}
+use Rattle.coap_serve.proofs.streams.PieceLemmas.{Serves}
 use Rattle.coap_serve.proofs.serve.serve_piece.Given as goal
 
 abbrev pub invariant-loop-rest : goal.invariant-loop-rest
 invariant-loop-rest g l =
     record {
-      serves : Serves l.fn.host l.fn.connection l.fn.piece (g.W.Outlet.written l.fn.writer) l.host l.connection l.rest (g.W.Outlet.written l.writer);
+      serves : (c : ConfigValues) (bytes : List ℕ) → IsGoing c l.fn.server l.fn.id bytes → Serves c l.fn.id bytes l.fn.piece l.server l.rest (g.W.Outlet.written l.fn.writer) (g.W.Outlet.written l.writer) l.messages;
       works : g.W.Outlet.is_failed l.writer ≡ false;
+      few : l.messages + length l.rest ≤ length l.fn.piece;
     }
 
 abbrev pub decreases-loop-rest : goal.decreases-loop-rest

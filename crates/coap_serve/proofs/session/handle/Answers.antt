@@ -3,7 +3,7 @@ use Rattle.coap_conn.specs.Verdicts.{is_request}
 use Rattle.coap_conn.specs.LinkValue.{LinkValue}
 use Rattle.coap_store.specs.Changes.{changes}
 use Rattle.coap_serve.specs.values.Sessions.{SessionValue, host_changed}
-use Rattle.coap_serve.proofs.values.TalkLemmas.{message_limits}
+use Rattle.coap_serve.proofs.values.LinkLemmas.{message_limits}
 use Rattle.coap_serve.proofs.values.SessionLemmas.{on_request, no_request, message_handled, nothing_changes}
 use Rattle.coap_serve.proofs.session.handle.Goals as goal
 

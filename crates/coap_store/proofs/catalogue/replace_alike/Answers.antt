@@ -1,8 +1,8 @@
-use Rattle.std.proofs.Common.{◌≡◌, refl, sym, ap, subst, ◌∙◌}
+use Rattle.std.proofs.Common.{◌≡◌, Some, None, refl, sym, ap, subst, ◌∙◌}
 use Rattle.std.proofs.lemmas.Map.Steps.{set_value_same}
 use Rattle.coap_store.specs.Store.{put_at}
 use Rattle.coap_store.specs.ResourceViews.{AreListed, resources_in}
-use Rattle.coap_store.proofs.CatalogueLemmas.{key_test, same_format, written_list, written_are_listed, bytes_of_written}
+use Rattle.coap_store.proofs.CatalogueLemmas.{key_test, format_found, denied, affirmed, same_format, written_list, written_are_listed, bytes_of_written}
 use Rattle.coap_store.proofs.catalogue.replace_alike.Goals as goal
 
 -- what was found, written back
@@ -10,6 +10,13 @@ left : (c : goal.After-resources-then-ne-1) → (c.get_mut.follows.lender c.in-S
 left c =
     (c.get_mut.follows.holds c.in-Some.resource.now).0
     ∙ set_value_same (key_test c.args.path.now) c.args.resources.now.entries c.in-Some.resource.now (sym c.in-Some.ensures.value)
+
+pub returns-in_default-clause-alike : goal.returns-in_default-clause-alike
+returns-in_default-clause-alike c = format_found _ _ c.args.format None c.in_default.ensures.value
+
+pub returns-then-ne-clause-alike : goal.returns-then-ne-clause-alike
+returns-then-ne-clause-alike c =
+    denied _ (sym c.ne.ensures ∙ c.if-ne.true) ∙ format_found _ _ c.args.format (Some c.in-Some.resource.now) c.in-Some.ensures.value
 
 pub returns-then-ne-clause-all_listed : goal.returns-then-ne-clause-all_listed
 returns-then-ne-clause-all_listed c = subst (λ es. AreListed es) (sym (left c)) c.requires
@@ -28,3 +35,7 @@ returns-clause-ready c = bytes_of_written _ _ _ c.in-Some.resource.now _ (sym c.
 pub returns-clause-all_listed : goal.returns-clause-all_listed
 returns-clause-all_listed c =
     written_are_listed _ _ _ c.in-Some.resource.now _ (sym c.in-Some.ensures.value) (c.get_mut.follows.holds _).0 refl refl c.requires
+
+pub returns-clause-alike : goal.returns-clause-alike
+returns-clause-alike c =
+    affirmed _ (sym c.ne.ensures ∙ c.if-ne.false) ∙ format_found _ _ c.args.format (Some c.in-Some.resource.now) c.in-Some.ensures.value

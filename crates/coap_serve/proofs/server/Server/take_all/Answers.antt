@@ -1,9 +1,13 @@
-use Rattle.std.proofs.Common.{◌≡◌, ◌-◌, ◌≤◌, ℕ, List, true, false, length, take, drop, sym, ap, subst, ◌∙◌, arith}
+use Rattle.std.proofs.Common.{◌≡◌, ◌-◌, ◌≤◌, ℕ, List, true, false, length, take, drop, sym, ap, subst, ◌∙◌, arith, [], ◌∷◌}
 use Rattle.coap_serve.specs.script.Replay.{Fed, fed}
+use Rattle.coap_serve.specs.script.Shown.{ShowsMore}
 use Rattle.coap_serve.specs.values.Servers.{server_taken, count_taken}
 use Rattle.coap_serve.specs.values.ServerAnswers.{IsNotTaken}
+use Rattle.coap_serve.specs.world.Events.{Took}
+use Rattle.coap_serve.specs.world.Shows.{ShowsRefused}
 use Rattle.coap_serve.specs.declared.server.TakeFault.{TakeFault}
-use Rattle.coap_serve.proofs.scripting.ReplayLemmas.{rest_of, nothing_fed, further, stopped, short, used_up, none_there}
+use Rattle.coap_serve.specs.declared.server.TakeFault.TheVariants as taking
+use Rattle.coap_serve.proofs.scripting.ReplayLemmas.{rest_of, nothing_fed, further, stopped, short, used_up, none_there, take_shown, no_take_shown, stopped_shows, short_shows, used_up_shows}
 use Rattle.coap_serve.proofs.server.Server.take_all.Goals as goal
 
 pub loop-taken-init : goal.loop-taken-init
@@ -33,6 +37,8 @@ loop-taken-preserved c =
     (t.count ∙ ap (count_taken c.loop-taken.self c.args.id) rest)
     c.if-piece-eq0.false
     (t.ok ∙ ap (server_taken c.loop-taken.self c.args.id) rest)
+    (take_shown c.loop-taken.self c.args.id (drop c.loop-taken.taken c.args.bytes.now) c.take.new.self c.in-Ok.piece.bytes t.there (t.count ∙ ap (count_taken c.loop-taken.self c.args.id) rest)
+    (subst (λ (p : List ℕ). ShowsMore c.loop-taken.self c.take.new.self (Took c.args.id (take c.in-Ok.piece.bytes p) ∷ [])) rest t.shows))
 
 -- no connection has the number
 none_found : (c : goal.In-Err-NoSuch) → fed c.args.self.now c.args.id c.args.bytes.now ≡ record { server = c.take.new.self; count = c.loop-taken.taken; done = true }
@@ -64,3 +70,44 @@ returns-clause-count c = ap (λ (f : Fed). f.count) (sym (all_taken c))
 
 pub returns-clause-after : goal.returns-clause-after
 returns-clause-after c = ap (λ (f : Fed). f.server) (sym (all_taken c))
+
+-- ---- what is shown
+
+pub returns-then-piece-eq0-clause-shows : goal.returns-then-piece-eq0-clause-shows
+returns-then-piece-eq0-clause-shows c =
+    let rest = rest_of c.loop-taken.taken c.args.bytes.now in
+    let left = drop c.loop-taken.taken c.args.bytes.now in
+    let t = c.in-Ok.ensures in
+    let counted = t.count ∙ ap (count_taken c.loop-taken.self c.args.id) rest in
+    let more = subst (λ (p : List ℕ). ShowsMore c.loop-taken.self c.take.new.self (Took c.args.id (take c.in-Ok.piece.bytes p) ∷ [])) rest t.shows in
+    stopped_shows c.args.self.now c.args.id c.args.bytes.now c.loop-taken.self c.loop-taken.taken c.loop-taken.invariant c.loop-taken-test.true c.take.new.self
+    (sym counted ∙ c.if-piece-eq0.true)
+    (t.ok ∙ ap (server_taken c.loop-taken.self c.args.id) rest)
+    (take_shown c.loop-taken.self c.args.id left c.take.new.self c.in-Ok.piece.bytes t.there counted more)
+
+pub returns-in-Err-NoSuch-clause-shows : goal.returns-in-Err-NoSuch-clause-shows
+returns-in-Err-NoSuch-clause-shows c =
+    let rest = rest_of c.loop-taken.taken c.args.bytes.now in
+    let left = drop c.loop-taken.taken c.args.bytes.now in
+    let no : IsNotTaken c.loop-taken.self c.args.id left taking.NoSuch c.take.new.self =
+    subst (λ (p : List ℕ). IsNotTaken c.loop-taken.self c.args.id p taking.NoSuch c.take.new.self) rest
+    (subst (λ (f : TakeFault). IsNotTaken c.loop-taken.self c.args.id (take (length c.args.bytes.now - c.loop-taken.taken) left) f c.take.new.self) c.in-Err-NoSuch.field-0-is c.in-Err-NoSuch.ensures.refused) in
+    let none = none_there c.loop-taken.self c.args.id left c.take.new.self no in
+    stopped_shows c.args.self.now c.args.id c.args.bytes.now c.loop-taken.self c.loop-taken.taken c.loop-taken.invariant c.loop-taken-test.true c.take.new.self none.0 none.1
+    (no_take_shown c.loop-taken.self c.args.id left c.take.new.self no)
+
+pub returns-in-Err-Memory-clause-shows_refused : goal.returns-in-Err-Memory-clause-shows_refused
+returns-in-Err-Memory-clause-shows_refused c =
+    let rest = rest_of c.loop-taken.taken c.args.bytes.now in
+    let left = drop c.loop-taken.taken c.args.bytes.now in
+    let now = c.loop-taken.self in
+    let id = c.args.id in
+    let e = c.in-Err-Memory.ensures in
+    let count = c.in-Err-Memory.field-0-0 in
+    let new = c.take.new.self in
+    short_shows c.args.self.now id c.args.bytes.now now c.loop-taken.taken c.loop-taken.invariant c.loop-taken-test.true count new
+    (subst (λ (f : TakeFault). IsNotTaken now id left f new) c.in-Err-Memory.field-0-is (subst (λ (p : List ℕ). IsNotTaken now id p c.in-Err-Memory.field-0 new) rest e.refused))
+    (λ es shows. subst (λ (f : TakeFault). ShowsRefused es id left f new) c.in-Err-Memory.field-0-is (subst (λ (p : List ℕ). ShowsRefused es id p c.in-Err-Memory.field-0 new) rest (e.shows_refused es shows)))
+
+pub returns-clause-shows : goal.returns-clause-shows
+returns-clause-shows c = used_up_shows c.args.self.now c.args.id c.args.bytes.now c.loop-taken.self c.loop-taken.taken c.loop-taken.invariant (omega (arith, c.loop-taken-test.false))

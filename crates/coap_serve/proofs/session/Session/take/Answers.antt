@@ -6,7 +6,7 @@ use Rattle.coap_conn.specs.declared.phase.Reject.TheVariants as reject
 use Rattle.coap_conn.specs.LinkValue.{LinkValue}
 use Rattle.coap_serve.specs.values.Sessions.{ObserversValue, SessionValue, RefusesPiece, session_takes, taking}
 use Rattle.coap_serve.specs.views.SessionViews.{session_value}
-use Rattle.coap_serve.proofs.values.TalkLemmas.{reject_limits}
+use Rattle.coap_serve.proofs.values.LinkLemmas.{reject_limits}
 use Rattle.coap_serve.proofs.values.SessionLemmas.{given_up, reframed, some_taken, may_unread, unread_framer, refused, kept_but_last}
 use Rattle.coap_serve.proofs.session.Session.take.Goals as goal
 

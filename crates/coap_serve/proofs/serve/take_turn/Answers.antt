@@ -1,0 +1,16 @@
+use Rattle.std.proofs.Common.{sym, arith}
+use Rattle.std.proofs.lemmas.List.{length-take-le}
+use Rattle.std.proofs.lemmas.Result.{err_from_is_err_and}
+use Rattle.coap_serve.proofs.streams.TurnLemmas.{has_read, turn_fault, turn_piece}
+use Rattle.coap_serve.proofs.serve.take_turn.Goals as goal
+
+pub returns-in_err-messages-clause-turn : goal.returns-in_err-messages-clause-turn
+returns-in_err-messages-clause-turn g c = λ k bytes goes.
+    let p = err_from_is_err_and c.from_residual.result c.from_residual.ensures.1 in
+    let has = has_read _ _ c.read.new.buffer c.in-Some.count (omega (arith, c.read.auto.buffer, c.requires.room)) c.in-Some.ensures.within c.if-count-eq0.false c.in-Some.ensures.given in
+    rw (p.1, p.2) (turn_fault k bytes _ c.serve_piece.new.server _ _ c.in_err-messages.field-0.0 has (c.in_err-messages.ensures.served k bytes goes))
+
+pub returns-clause-turn : goal.returns-clause-turn
+returns-clause-turn g c = λ k bytes goes.
+    let has = has_read _ _ c.read.new.buffer c.in-Some.count (omega (arith, c.read.auto.buffer, c.requires.room)) c.in-Some.ensures.within c.if-count-eq0.false c.in-Some.ensures.given in
+    turn_piece k c.args.server.now c.args.id bytes _ c.serve_piece.new.server _ _ _ goes has (c.in_ok-messages.ensures.served k bytes goes) (sym (length-take-le c.in-Some.count c.read.new.buffer c.in-Some.ensures.within)) c.stop.ensures

@@ -1,0 +1,101 @@
+-- The end of input, and the beginning of a run.
+use Rattle.std.proofs.Common.{◌≡◌, ℕ, Bool, true, false, cond, List, [], ◌∷◌, ◌++◌, Option, Some, None, refl, sym, ap, subst, ◌∙◌}
+use Rattle.std.specs.Prelude.{is_none, option_map}
+use Rattle.coap_wire.specs.Stream.{split}
+use Rattle.coap_conn.specs.declared.reason.Reason.{Reason}
+use Rattle.coap_conn.specs.declared.phase.Phase.TheVariants as phase
+use Rattle.coap_conn.specs.Limits.{LimitValues}
+use Rattle.coap_conn.specs.Phases.{stop_of, takes_messages}
+use Rattle.coap_conn.specs.History.{History, with_effect, end_reason, standing_now}
+use Rattle.coap_conn.specs.Reaction.{stop}
+use Rattle.coap_serve.specs.Configs.{ConfigValues}
+use Rattle.coap_serve.specs.values.Sessions.{SessionValue}
+use Rattle.coap_serve.specs.values.Servers.{ServerValue, session_of, is_there}
+use Rattle.coap_serve.specs.values.ServerAnswers.{stop_on}
+use Rattle.coap_serve.specs.world.Sides.{Side, is_cut, side_ended, settled}
+use Rattle.coap_serve.specs.world.World.{World, side_of}
+use Rattle.coap_serve.specs.world.World as world
+use Rattle.coap_serve.specs.world.Events.{Event, Ended, stream_on, steps_by, world_after}
+use Rattle.coap_serve.specs.world.Shows.{Shows}
+use Rattle.coap_serve.specs.streams.Output.{only_id, stream_of, outcome}
+use Rattle.coap_serve.specs.streams.Standing.{Stands, IsGoing}
+use Rattle.coap_serve.proofs.world.PlaceLaws.{all_there, changed_here}
+use Rattle.coap_serve.proofs.world.StepLaws.{world_step}
+use Rattle.coap_serve.proofs.world.ShowLaws.{side_there}
+use Rattle.coap_serve.proofs.world.HandlingLaws.{settled_still}
+use Rattle.coap_serve.proofs.streams.OutputLaws.{world_for_written, stop_there}
+use Rattle.coap_serve.proofs.streams.TakeLemmas.{is_not_missing}
+
+-- ---- the end of input
+
+ended_by : (h : History) (cut takes : Bool) → takes ≡ true → (cond takes (with_effect h (stop (standing_now h) (end_reason cut) [])) h).phase ≡ phase.Stopped (end_reason cut)
+ended_by h cut true is = refl
+ended_by h cut false is = absurd cc
+
+-- a connection that takes messages stops at the end of input
+ended_phase : (s : Side) (cut : Bool) → takes_messages s.history.phase ≡ true → (side_ended s cut).history.phase ≡ phase.Stopped (end_reason cut)
+unfolding side_ended
+ended_phase s cut takes = ended_by s.history cut (takes_messages s.history.phase) takes
+
+ended_there : (limits : LimitValues) (w : World) (id : ℕ) (cut : Bool) (s : Side) → side_of id w.sides ≡ Some s → side_of id (world.step limits w (world.Ended id cut)).sides ≡ Some (settled w.store w.now (side_ended s cut))
+unfolding world.step world.acted
+ended_there limits w id cut s is =
+    all_there id (settled w.store w.now) _ ∙ ap (option_map (settled w.store w.now)) (changed_here id (λ u. side_ended u cut) w.sides ∙ ap (option_map (λ u. side_ended u cut)) is)
+
+ended_one : (M : ℕ) (es : List Event) (id : ℕ) → steps_by M es (Ended id) ≡ world.Ended id (is_cut (stream_on M id es).rest) ∷ []
+unfolding steps_by
+ended_one M es id = refl
+
+takes_where_none : (stop : Option Reason) → stop ≡ None → is_none stop ≡ true
+takes_where_none stop none = ap (λ (o : Option Reason). is_none o) none
+
+module _ (c : ConfigValues) (v v1 : ServerValue) (bytes : List ℕ) (stands : Stands c v bytes) (going : (outcome c bytes).stop ≡ None) (config : v1.config ≡ c) (shows : (events : List Event) → Shows v events → Shows v1 (events ++ Ended (only_id c) ∷ [])) where
+  abbrev id : ℕ
+  id = only_id c
+
+  abbrev es : List Event
+  es = stands.events
+
+  abbrev w : World
+  w = world_after c es
+
+  there : (s : Side) × (side_of id w.sides ≡ Some s) × (takes_messages s.history.phase ≡ true)
+  there =
+      let all = world_for_written c bytes in
+      let is : side_of id w.sides ≡ Some all.0 = ap (λ (u : World). side_of id u.sides) stands.world ∙ all.1 in
+      (all.0, is, takes_where_none (stop_of all.0.history.phase) (sym (stop_there c bytes all.0 all.1) ∙ going))
+
+  abbrev cut : Bool
+  cut = is_cut (stream_on c.limits.max_message id es).rest
+
+  abbrev t : Side
+  t = settled w.store w.now (side_ended there.0 cut)
+
+  then : side_of id (world_after c (es ++ Ended id ∷ [])).sides ≡ Some t
+  then =
+      ap (λ (u : World). side_of id u.sides) (world_step c es (Ended id) (world.Ended id cut) (ended_one c.limits.max_message es id))
+      ∙ ended_there c.limits w id cut there.0 there.1
+
+  stopped : stop_of t.history.phase ≡ Some (end_reason (is_cut (stream_of c bytes).rest))
+  stopped =
+      ap stop_of ((settled_still w.store w.now (side_ended there.0 cut)).stopped (end_reason cut) (ended_phase there.0 cut there.2))
+      ∙ ap (λ (taken : List ℕ). Some (end_reason (is_cut (split c.limits.max_message taken).rest))) (stands.taken going)
+
+  pub ended_stop : stop_on (session_of id v1.sessions) ≡ Some (end_reason (is_cut (stream_of c bytes).rest))
+  ended_stop =
+      ap stop_on (side_there v1 (es ++ Ended id ∷ []) id t (shows es stands.shows) (ap (λ (k : ConfigValues). side_of id (world_after k (es ++ Ended id ∷ [])).sides) config ∙ then))
+      ∙ stopped
+
+-- the same where the number has a name
+pub end_stops : (c : ConfigValues) (v v1 : ServerValue) (id : ℕ) (bytes : List ℕ) → IsGoing c v id bytes → v1.config ≡ v.config → ((events : List Event) → Shows v events → Shows v1 (events ++ Ended id ∷ [])) → stop_on (session_of id v1.sessions) ≡ Some (end_reason (is_cut (stream_of c bytes).rest))
+end_stops c v v1 id bytes goes config shows =
+    subst (λ (n : ℕ). ((events : List Event) → Shows v events → Shows v1 (events ++ Ended n ∷ [])) → stop_on (session_of n v1.sessions) ≡ Some (end_reason (is_cut (stream_of c bytes).rest))) (sym goes.number)
+    (ended_stop c v v1 bytes goes.stands goes.going (config ∙ goes.stands.config)) shows
+
+-- the connection is there
+there_by : (o : Option SessionValue) → false ≡ is_there o → o ≡ None
+there_by None e = refl
+there_by (Some s) e = absurd cc
+
+pub not_there : (c : ConfigValues) (v : ServerValue) (id : ℕ) (bytes : List ℕ) → IsGoing c v id bytes → false ≡ is_there (session_of id v.sessions) → ⊥
+not_there c v id bytes goes none = is_not_missing c v id bytes [] goes (there_by (session_of id v.sessions) none)

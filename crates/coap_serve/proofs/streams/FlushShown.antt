@@ -1,0 +1,136 @@
+-- A flush of a server that shows a world is the flush of that world.
+use Rattle.std.proofs.Common.{◌≡◌, ◌⊎◌, ℕ, zero, suc, ◌≤◌, List, [], ◌∷◌, ◌++◌, length, Option, Some, refl, sym, ap, subst, ◌∙◌, append_assoc, arith, inl, inr}
+use Rattle.std.specs.Prelude.{option_map}
+use Rattle.std.proofs.lemmas.List.{append-nil, length-map}
+use Rattle.coap_conn.specs.Limits.{LimitValues}
+use Rattle.coap_serve.specs.Configs.{ConfigValues}
+use Rattle.coap_serve.specs.values.Servers.{ServerValue, session_of, server_written}
+use Rattle.coap_serve.specs.values.Flushes.{Flush, waiting_in, waiting_at, observers_in, observers_at, flush_turns}
+use Rattle.coap_serve.specs.world.Sides.{Side, waiting_on, side_written, settled}
+use Rattle.coap_serve.specs.world.World.{World, side_of}
+use Rattle.coap_serve.specs.world.World as world
+use Rattle.coap_serve.specs.world.Events.{Event, Wrote, taken_on, stream_on, steps_by, world_after}
+use Rattle.coap_serve.specs.world.Shows.{Shows, session_shown}
+use Rattle.coap_serve.specs.streams.Output.{waiting_of, written_once, written_times, flushed}
+use Rattle.coap_serve.proofs.values.FlushLemmas.{no_turns, turn_more}
+use Rattle.coap_serve.proofs.world.StepLaws.{taken_then, world_step}
+use Rattle.coap_serve.proofs.world.PlaceLaws.{all_there, changed_here}
+use Rattle.coap_serve.proofs.world.HearingLaws.{world_hears}
+use Rattle.coap_serve.proofs.streams.FlushLaws.{flushed_so, flushed_early}
+use Rattle.coap_serve.proofs.world.ShowLaws.{side_there, shows_written}
+use Rattle.coap_serve.proofs.world.WorldLaws.{side_is}
+use Rattle.coap_serve.proofs.world.ReachedLaws.{world_is}
+use Rattle.coap_serve.proofs.world.GrowLaws.{front_written, same_front, written_all, settled_grows, settled_handled, written_handled}
+use Rattle.coap_serve.proofs.world.KeptLaws.{side_written_goes_on}
+
+-- what waited was written
+pub written_there : (limits : LimitValues) (w : World) (id n : ℕ) (s : Side) → side_of id w.sides ≡ Some s → side_of id (world.step limits w (world.Written id n)).sides ≡ Some (settled w.store w.now (side_written s n))
+unfolding world.step world.acted
+written_there limits w id n s is =
+    all_there id (settled w.store w.now) _ ∙ ap (option_map (settled w.store w.now)) (changed_here id (λ u. side_written u n) w.sides ∙ ap (option_map (λ u. side_written u n)) is)
+
+wrote_one : (M : ℕ) (es : List Event) (id n : ℕ) → steps_by M es (Wrote id n) ≡ world.Written id n ∷ []
+unfolding steps_by
+wrote_one M es id n = refl
+
+-- The server after some turns of a flush shows this world, and this was written.
+pub record FlushShown (c : ConfigValues) (es : List Event) (id : ℕ) (s : Side) (turns : ℕ) (after : ServerValue) (text : List ℕ) : Type 0 where
+  pub config : after.config ≡ c
+  pub events : List Event
+  pub shows : Shows after events
+  pub world : world_after c events ≡ written_times c.limits id turns (world_after c es)
+  pub taken : taken_on id events ≡ taken_on id es
+  pub side : Side
+  pub there : side_of id (world_after c events).sides ≡ Some side
+  pub said : front_written side ≡ front_written s ++ text
+  pub handled : side.history.handled ≡ s.history.handled
+
+no_turn : (c : ConfigValues) (v : ServerValue) (es : List Event) (id : ℕ) (s : Side) → v.config ≡ c → Shows v es → side_of id (world_after c es).sides ≡ Some s → FlushShown c es id s 0 v []
+unfolding written_times
+no_turn c v es id s config shows is =
+    record { config = config; events = es; shows = shows; world = refl; taken = refl; side = s; there = is; said = sym (append-nil (front_written s)); handled = refl }
+
+-- one turn more
+module _ (c : ConfigValues) (es : List Event) (id : ℕ) (s : Side) (turns : ℕ) (now : ServerValue) (text : List ℕ) (so_far : FlushShown c es id s turns now text) where
+  abbrev fs : List Event
+  fs = so_far.events
+
+  abbrev w : World
+  w = world_after c fs
+
+  pub session_is : session_of id now.sessions ≡ Some (session_shown (stream_on now.config.limits.max_message id fs).rest so_far.side)
+  session_is = side_there now fs id so_far.side so_far.shows (ap (λ (k : ConfigValues). side_of id (world_after k fs).sides) so_far.config ∙ so_far.there)
+
+  pub waits_shown : waiting_at id now ≡ waiting_on so_far.side
+  waits_shown = ap waiting_in session_is
+
+  abbrev n : ℕ
+  n = length (waiting_at id now)
+
+  abbrev next : Side
+  next = settled w.store w.now (side_written so_far.side n)
+
+  next_world : world_after c (fs ++ Wrote id n ∷ []) ≡ written_times c.limits id (suc turns) (world_after c es)
+  unfolding written_times
+  next_world =
+      world_step c fs (Wrote id n) (world.Written id n) (wrote_one c.limits.max_message fs id n)
+      ∙ ap (λ (k : ℕ). world.step c.limits w (world.Written id k)) (ap (λ (b : List ℕ). length b) waits_shown ∙ ap (λ (o : Option Side). length (waiting_of o)) (sym so_far.there))
+      ∙ ap (written_once c.limits id) so_far.world
+
+  next_there : side_of id (world_after c (fs ++ Wrote id n ∷ [])).sides ≡ Some next
+  next_there =
+      ap (λ (u : World). side_of id u.sides) (world_step c fs (Wrote id n) (world.Written id n) (wrote_one c.limits.max_message fs id n))
+      ∙ written_there c.limits w id n so_far.side so_far.there
+
+  next_said : front_written next ≡ front_written s ++ (text ++ waiting_at id now)
+  next_said =
+      let t : Side = so_far.side in
+      let wrote : Side = side_written t n in
+      let is = (side_is c w id t (world_is c fs) so_far.there).is_history in
+      same_front wrote next ((side_written_goes_on t n).history is) (settled_grows w.store w.now wrote)
+      ∙ ap (λ (k : ℕ). front_written (side_written t k)) (ap (λ (b : List ℕ). length b) waits_shown)
+      ∙ written_all t
+      ∙ ap (λ (b : List ℕ). b ++ waiting_on t) so_far.said
+      ∙ append_assoc (front_written s) text (waiting_on t)
+      ∙ ap (λ (b : List ℕ). front_written s ++ (text ++ b)) (sym waits_shown)
+
+  turn_shown : FlushShown c es id s (suc turns) (server_written now id n) (text ++ waiting_at id now)
+  turn_shown = record {
+    config = so_far.config;
+    events = fs ++ Wrote id n ∷ [];
+    shows = shows_written now fs id n _ so_far.shows session_is (omega (arith, ap (λ (b : List ℕ). length b) waits_shown));
+    world = next_world;
+    taken = taken_then id fs (Wrote id n) ∙ append-nil (taken_on id fs) ∙ so_far.taken;
+    side = next;
+    there = next_there;
+    said = next_said;
+    handled = settled_handled w.store w.now (side_written so_far.side n) ∙ written_handled so_far.side n ∙ so_far.handled;
+  }
+
+-- all turns
+pub flush_shown : (c : ConfigValues) (v : ServerValue) (es : List Event) (id : ℕ) (s : Side) (turns : ℕ) → v.config ≡ c → Shows v es → side_of id (world_after c es).sides ≡ Some s
+    → FlushShown c es id s turns (flush_turns turns id v).server (flush_turns turns id v).text
+flush_shown c v es id s zero config shows is = subst (λ (f : Flush). FlushShown c es id s 0 f.server f.text) (sym (no_turns id v)) (no_turn c v es id s config shows is)
+flush_shown c v es id s (suc turns) config shows is =
+    let f : Flush = flush_turns turns id v in
+    subst (λ (g : Flush). FlushShown c es id s (suc turns) g.server g.text) (sym (turn_more turns id v)) (turn_shown c es id s turns f.server f.text (flush_shown c v es id s turns config shows is))
+
+-- ---- where a flush ends
+
+module _ (c : ConfigValues) (v : ServerValue) (es : List Event) (id : ℕ) (s : Side) (config : v.config ≡ c) (shows : Shows v es) (there : side_of id (world_after c es).sides ≡ Some s) where
+  observers_there : observers_at id v ≡ length s.observers
+  observers_there = ap observers_in (side_there v es id s shows (ap (λ (k : ConfigValues). side_of id (world_after k es).sides) config ∙ there)) ∙ length-map s.observers _
+
+  abbrev pub flushing : (turns : ℕ) → FlushShown c es id s turns (flush_turns turns id v).server (flush_turns turns id v).text
+  flushing turns = flush_shown c v es id s turns config shows there
+
+  -- after all turns, or those after which nothing waits, the world is flushed
+  pub flush_ends : (turns : ℕ) → turns ≤ suc (observers_at id v) → (waiting_at id (flush_turns turns id v).server ≡ []) ⊎ (turns ≡ suc (observers_at id v)) → world_after c (flushing turns).events ≡ flushed c.limits id (world_after c es)
+  flush_ends turns within done =
+      let f = flushing turns in
+      f.world ∙ elim done [
+        | inl none ↦
+            flushed_early c.limits id turns (world_after c es) s f.side (world_hears c es) there (ap (λ (w : World). side_of id w.sides) (sym f.world) ∙ f.there)
+            (sym (waits_shown c es id s turns (flush_turns turns id v).server (flush_turns turns id v).text f) ∙ none) (omega (arith, within, observers_there))
+        | inr all ↦ ap (λ (n : ℕ). written_times c.limits id n (world_after c es)) (all ∙ ap (λ (n : ℕ). suc n) observers_there) ∙ sym (flushed_so c.limits id (world_after c es) s there)
+      ]

@@ -1,0 +1,129 @@
+-- A flush, one turn after the other, as the code makes it.
+use Rattle.std.proofs.Common.{◌≡◌, ℕ, suc, ◌≤◌, List, [], ◌∷◌, ◌++◌, length, Option, Some, None, Result, Ok, Err, Bool, true, false, refl, sym, ap, subst, ◌∙◌, append_assoc, arith, inl, inr}
+use Rattle.std.specs.Prelude.{option_map, not, OnErr}
+use Rattle.std.proofs.lemmas.List.{append-nil}
+use Rattle.coap_serve.specs.streams.Device.{AddsBytes, WritesPart}
+use Rattle.coap_serve.specs.values.Sessions.{SessionValue}
+use Rattle.coap_serve.specs.values.Servers.{ServerValue, session_of, server_written}
+use Rattle.coap_serve.specs.values.ServerAnswers.{front_of}
+use Rattle.coap_serve.specs.values.Flushes.{Flush, waiting_in, waiting_at, observers_at, flush_once, flush_turns, IsFlushedOnce, IsFlushed, IsPartFlushed}
+use Rattle.coap_serve.proofs.streams.DeviceLemmas.{bytes_none, bytes_then}
+
+waits_on : (o : Option SessionValue) (w : List ℕ) → Some w ≡ option_map (λ s. s.link.waiting) o → w ≡ waiting_in o
+waits_on None w is = absurd cc
+waits_on (Some s) w is = cc
+
+-- the front of a connection is what waits on it
+pub front_waits : (id : ℕ) (v : ServerValue) (w : List ℕ) → Some w ≡ front_of v id → w ≡ waiting_at id v
+front_waits id v w is = waits_on (session_of id v.sessions) w is
+
+none_on : (o : Option SessionValue) → None ≡ option_map (λ s. s.link.waiting) o → waiting_in o ≡ []
+none_on None is = refl
+none_on (Some s) is = absurd cc
+
+-- where there is no connection nothing waits
+pub none_waits : (id : ℕ) (v : ServerValue) → None ≡ front_of v id → waiting_at id v ≡ []
+none_waits id v is = none_on (session_of id v.sessions) is
+
+pub none_left : (w : List ℕ) → length w ≡ 0 → w ≡ []
+none_left [] none = refl
+none_left (b ∷ w) none = absurd cc
+
+-- ---- turns
+
+pub no_turns : (id : ℕ) (v : ServerValue) → flush_turns 0 id v ≡ record { server = v; text = [] }
+unfolding flush_turns
+no_turns id v = refl
+
+pub turn_more : (turns id : ℕ) (v : ServerValue) → flush_turns (suc turns) id v ≡ flush_once id (flush_turns turns id v)
+unfolding flush_turns
+turn_more turns id v = refl
+
+turn_more_so : (turns more id : ℕ) (v : ServerValue) → more ≡ suc turns → flush_turns more id v ≡ flush_once id (flush_turns turns id v)
+turn_more_so turns more id v is = ap (λ (n : ℕ). flush_turns n id v) is ∙ turn_more turns id v
+
+-- after so many turns the server is now this one; the outlet told x before the flush and tells y
+pub record Flushing (id : ℕ) (v : ServerValue) (turns : ℕ) (now : ServerValue) (x y : Option (List ℕ)) : Type 0 where
+  pub server : now ≡ (flush_turns turns id v).server
+  pub written : AddsBytes x y (flush_turns turns id v).text
+
+pub flush_begins : (id : ℕ) (v : ServerValue) (x : Option (List ℕ)) → Flushing id v 0 v x x
+flush_begins id v x = record {
+  server = ap (λ (f : Flush). f.server) (sym (no_turns id v));
+  written = subst (λ (f : Flush). AddsBytes x x f.text) (sym (no_turns id v)) (bytes_none x);
+}
+
+module _ (id : ℕ) (v : ServerValue) (turns : ℕ) (now : ServerValue) (x y z : Option (List ℕ)) (so_far : Flushing id v turns now x y) where
+  -- nothing waits
+  pub nothing_waits : turns ≤ suc (observers_at id v) → waiting_at id now ≡ [] → IsFlushed id v now (AddsBytes x y)
+  nothing_waits within none = record { turns = turns; within = within; done = inl none; server = so_far.server; written = so_far.written }
+
+  -- all turns were made
+  pub all_turns : turns ≡ suc (observers_at id v) → IsFlushed id v now (AddsBytes x y)
+  all_turns all = record { turns = turns; within = omega (arith, all); done = inr all; server = so_far.server; written = so_far.written }
+
+  abbrev f : Flush
+  f = flush_turns turns id v
+
+  -- one turn more
+  pub flush_further : (more : ℕ) (w : List ℕ) (next : ServerValue) → more ≡ suc turns → w ≡ waiting_at id now → next ≡ server_written now id (length w) → AddsBytes y z w → Flushing id v more next x z
+  flush_further more w next one waits is wrote =
+      let whole = turn_more_so turns more id v one in
+      let here : w ≡ waiting_at id f.server = waits ∙ ap (waiting_at id) so_far.server in
+      record {
+        server =
+            is
+            ∙ ap (λ (u : ServerValue). server_written u id (length w)) so_far.server
+            ∙ ap (λ (b : List ℕ). server_written f.server id (length b)) here
+            ∙ ap (λ (g : Flush). g.server) (sym whole);
+        written =
+            subst (λ (g : Flush). AddsBytes x z g.text) (sym whole)
+            (subst (λ (b : List ℕ). AddsBytes x z (f.text ++ b)) here (bytes_then x y z f.text w so_far.written wrote));
+      }
+
+  -- a part was written in one turn more
+  pub flush_cut : (w : List ℕ) → suc turns ≤ suc (observers_at id v) → w ≡ waiting_at id now → WritesPart y z w → IsPartFlushed id v (WritesPart x z)
+  flush_cut w within waits wrote =
+      let whole = turn_more turns id v in
+      let here : w ≡ waiting_at id f.server = waits ∙ ap (waiting_at id) so_far.server in
+      record {
+        turns = suc turns;
+        within = within;
+        part =
+            subst (λ (g : Flush). WritesPart x z g.text) (sym whole)
+            (subst (λ (b : List ℕ). WritesPart x z (f.text ++ b)) here (
+              f.text ++ wrote.0,
+              wrote.1,
+              wrote.2,
+              ap (λ (b : List ℕ). f.text ++ b) wrote.3 ∙ sym (append_assoc f.text wrote.0 wrote.1),
+              bytes_then x y z f.text wrote.0 so_far.written wrote.4,
+            ));
+      }
+
+-- what holds in any case holds where a result is a fault
+pub on_any_fault : {T E : Type 0} (r : Result T E) (P : Type 0) → P → OnErr r P
+on_any_fault (Ok x) P holds = tt
+on_any_fault (Err e) P holds = holds
+
+-- ---- one turn of the code
+
+-- after so many turns the server is now this one, where the last one wrote something; else nothing waits
+abbrev pub Flushed : ℕ → ServerValue → ℕ → ServerValue → Option (List ℕ) → Option (List ℕ) → Bool → Type 0
+Flushed id v turns now x y true = Flushing id v turns now x y
+Flushed id v turns now x y false = IsFlushed id v now (AddsBytes x y)
+
+pub turned : (id : ℕ) (v : ServerValue) (turns : ℕ) (now : ServerValue) (x y z : Option (List ℕ)) (next : ServerValue) (more : ℕ) (waited : Bool) → Flushing id v turns now x y → turns ≤ suc (observers_at id v) → more ≡ suc turns → IsFlushedOnce id now next (AddsBytes y z) waited
+    → Flushed id v more next x z waited
+turned id v turns now x y z next more true so_far within one did = flush_further id v turns now x y z so_far more (waiting_at id now) next one refl did.0 did.1
+turned id v turns now x y z next more false so_far within one did =
+    nothing_waits id v turns next x z z
+    (record { server = did.1 ∙ so_far.server; written = subst (AddsBytes x z) (append-nil (flush_turns turns id v).text) (bytes_then x y z (flush_turns turns id v).text [] so_far.written did.2) })
+    within (ap (waiting_at id) did.1 ∙ did.0)
+
+pub goes_on_so : (id : ℕ) (v : ServerValue) (turns : ℕ) (now : ServerValue) (x y : Option (List ℕ)) (waited : Bool) → not waited ≡ false → Flushed id v turns now x y waited → Flushing id v turns now x y
+goes_on_so id v turns now x y true is so_far = so_far
+goes_on_so id v turns now x y false is so_far = absurd cc
+
+pub all_flushed : (id : ℕ) (v : ServerValue) (turns : ℕ) (now : ServerValue) (x y : Option (List ℕ)) (waited : Bool) → turns ≡ suc (observers_at id v) → Flushed id v turns now x y waited → IsFlushed id v now (AddsBytes x y)
+all_flushed id v turns now x y true all so_far = all_turns id v turns now x y y so_far all
+all_flushed id v turns now x y false all so_far = so_far

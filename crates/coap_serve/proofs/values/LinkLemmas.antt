@@ -1,0 +1,58 @@
+-- What the calls of a link leave as it is, and where a message ends in a piece.
+use Rattle.std.proofs.Common.{◌≡◌, ℕ, ◌+◌, ◌-◌, ◌<◌, Bool, true, false, cond, List, [], ◌++◌, length, take, drop, refl, inl, inr, sym, ap, ◌∙◌, arith}
+use Rattle.std.proofs.lemmas.Bool.{cases_lt}
+use Rattle.std.proofs.lemmas.List.{length-append, take-append-drop, take-append-le, take_at, drop_at}
+use Rattle.std.proofs.Math.Seq.{drop-append-add}
+use Rattle.coap_wire.specs.Message.{Message}
+use Rattle.coap_wire.specs.Beginning.{Beginning, Unfinished, Whole, beginning}
+use Rattle.coap_wire.proofs.StreamSteps.{whole_parts, whole_itself, whole_more}
+use Rattle.coap_conn.specs.declared.phase.Reject.{Reject}
+use Rattle.coap_conn.specs.Phases.{takes_messages, answers}
+use Rattle.coap_conn.specs.LinkValue.{LinkValue, link_after_message, link_after_reply, link_after_reject}
+
+-- ---- limits stay
+
+limits_stay : (does : Bool) (l now : LinkValue) → now.limits ≡ l.limits → (cond does now l).limits ≡ l.limits
+limits_stay true l now same = same
+limits_stay false l now same = refl
+
+pub reject_limits : (l : LinkValue) (fault : Reject) → (link_after_reject l fault).limits ≡ l.limits
+reject_limits l fault = limits_stay (takes_messages l.phase) l _ refl
+
+pub message_limits : (l : LinkValue) (m : Message) → (link_after_message l m).limits ≡ l.limits
+message_limits l m = limits_stay (takes_messages l.phase) l _ refl
+
+pub reply_limits : (l : LinkValue) (m : Message) → (link_after_reply l m).limits ≡ l.limits
+reply_limits l m = limits_stay (answers l.phase) l _ refl
+
+-- ---- where a frame ends in its piece
+
+-- a whole frame has more bytes than were kept of it
+longer_than_kept : (M : ℕ) (kept piece frame rest : List ℕ) → beginning M kept ≡ Unfinished → beginning M (kept ++ piece) ≡ Whole frame rest → length kept < length frame
+longer_than_kept M kept piece frame rest u e =
+    let n = length frame in
+    elim (cases_lt (length kept) n) [
+      | inl fits ↦ fits
+      | inr small ↦ (
+          let front : take n kept ≡ frame = sym (take-append-le n kept piece (omega arith)) ∙ ap (take n) (whole_parts M (kept ++ piece) frame rest e).bytes ∙ take_at frame rest n refl in
+          let cut : kept ≡ frame ++ drop n kept = sym (take-append-drop n kept) ∙ ap (λ (s : List ℕ). s ++ drop n kept) front in
+          let bad : ◌≡◌ {A = Beginning} Unfinished (Whole frame (drop n kept)) = sym u ∙ ap (beginning M) cut ∙ whole_more M frame (drop n kept) frame [] (whole_itself M (kept ++ piece) frame rest e) in
+          absurd cc)
+    ]
+
+-- what is left of the piece, and that some of it was taken
+pub record EndsIn (piece rest : List ℕ) : Type 0 where
+  pub left : drop (length piece - length rest) piece ≡ rest
+  pub some : 0 < length piece - length rest
+
+pub ends_in : (M : ℕ) (kept piece frame rest : List ℕ) → beginning M kept ≡ Unfinished → beginning M (kept ++ piece) ≡ Whole frame rest → EndsIn piece rest
+ends_in M kept piece frame rest u e =
+    let c = whole_parts M (kept ++ piece) frame rest e in
+    let n = length piece - length rest in
+    let long = longer_than_kept M kept piece frame rest u e in
+    let all : length kept + length piece ≡ length frame + length rest = sym (length-append kept piece) ∙ ap (λ (s : List ℕ). length s) c.bytes ∙ length-append frame rest in
+    let size : length frame ≡ length kept + n = omega (arith, long, all) in
+    record {
+      left = sym (drop-append-add kept piece n) ∙ ap (drop (length kept + n)) c.bytes ∙ drop_at frame rest (length kept + n) size;
+      some = omega (arith, long, all);
+    }
