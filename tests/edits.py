@@ -224,7 +224,7 @@ def check(name, below, edits):
     texts = {}
     for edit in edits:
         texts = edit.applied(texts)
-    with tempfile.TemporaryDirectory(prefix="edits-") as room:
+    with tempfile.TemporaryDirectory(prefix="edits-", ignore_cleanup_errors=True) as room:
         copy_crates(room, name, below)
         for file, text in texts.items():
             with open(f"{room}/crates/{name}/{file}", "w", encoding="utf-8") as it:
@@ -265,11 +265,12 @@ class Outcome:
 def try_round(name, below, edits):
     try:
         lines = check(name, below, edits)
-    except BadEdit as why:
-        return Outcome([], edits, str(why))
+    except (BadEdit, OSError, shutil.Error) as why:
+        # what the machine refused may be had by a smaller round
+        return Outcome([], edits, str(why) or repr(why))
     judged = any(it.startswith(("logic=not-proved", "logic=proved")) for it in lines)
     if not judged:
-        return Outcome([], edits, next((it for it in lines if "error" in it), "the check gave no verdict"))
+        return Outcome([], edits, next((it for it in lines if "error" in it), f"the check gave no verdict: {lines[-1:]}"))
     is_open, known = open_functions(lines), all_functions(lines)
     strange = [it for edit in edits for it in edit.functions() - known if not edit.is_constant()]
     if strange:

@@ -27,7 +27,7 @@ CASES = [
     ("get", "/time", "", "0", "", 0x45),
     ("get", "/.well-known/core", "", "</>;ct=0,</time>;ct=0;obs,</async>;ct=0", "", 0x45),
     ("get", "/none", "", "", "4.04", 0x84),
-    ("get", "/async", "", "", "5.03", 0xA3),
+    ("get", "/async?0", "", "done", "", 0x45),
     ("put", "/a", "x", "", "4.04", 0x84),
     ("put", "/time", "x", "", "4.05", 0x85),
     ("delete", "/a", "", "", "", 0x42),

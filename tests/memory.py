@@ -26,7 +26,7 @@ LISTING = b"</>;ct=0,</time>;ct=0;obs,</async>;ct=0".hex()
 KINDS = [
     ("GET of the root", "010101", "a14501" + GREETING),
     ("GET of the moment", "510101b474696d65", "514501c02101ff30"),
-    ("GET of /async", "610101b56173796e63", "01a301"),
+    ("GET of /async without delay", "810101b56173796e634130", "614501c0ff646f6e65"),
     ("GET of the listing", "d1040101bb2e77656c6c2d6b6e6f776e04636f7265", "d11d4501c128ff" + LISTING),
     ("GET of an absent path", "210101b178", "018401"),
     ("DELETE of an absent path", "210401b178", "014201"),

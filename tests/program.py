@@ -55,13 +55,15 @@ STREAMS = [
     ("00e100", ""),
     ("70e123100000202108" "00e2", "00e3"),
     ("f0ffffffff01" "00e1" "00e2", ABORTS["message too large"]),
-    # the resources: the moment, the listing, an absent one; nothing can be stored or held
+    # the resources: the moment, the listing, an absent one; nothing can be stored, and what is held at the end is given up
     ("00e1" "510107b474696d65", "514507c02101ff30"),
     ("00e1" "d1040106bb2e77656c6c2d6b6e6f776e04636f7265", "d11d4506c128ff" + b"</>;ct=0,</time>;ct=0;obs,</async>;ct=0".hex()),
     ("00e1" "210102b161", "018402"),
     ("00e1" "410301b161ff78", "018401"),
     ("00e1" "210403b161", "014203"),
-    ("00e1" "610104b56173796e63", "01a304"),
+    ("00e1" "610104b56173796e63" "11e20620" "01e207", "01e307"),
+    ("00e1" "810104b56173796e634130" "11e20620", "614504c0ff646f6e65" "11e30620"),
+    ("00e1" "b10104b56173796e634433363031", "018004"),
     # a request between Pings
     ("00e1" "01e201" "01e202" "0001" "01e203", "01e301" "01e302" "a045" + GREETING + "01e303"),
     # more than one read takes
@@ -97,6 +99,18 @@ SCRIPTS = [
     (
         "open\ndrain 1\nopen\ndrain 2\nin 1 00e16101076054" "74696d65\nin 2 00e1510108b4" "74696d65\ntick 5\ndrain 1\ndrain 2\n",
         f"open 1\nout 1 {CSM}\nopen 2\nout 2 {CSM}\nin 1 11\nin 2 10\ntick 5\nout 1 61450760602101ff3061450760602101ff35\nout 2 514508c02101ff30\n",
+    ),
+    # a Pong with Custody waits for an answer that is held, also once the peer released the connection
+    (
+        "open\ndrain 1\nin 1 00e1\nin 1 810105b56173796e634133\nin 1 11e20620\nin 1 00e4\ntick 2\ndrain 1\ntick 3\ndrain 1\nstatus 1\n",
+        f"open 1\nout 1 {CSM}\nin 1 2\nin 1 11\nin 1 4\nin 1 2 stop 9\ntick 2\nout 1 -\ntick 3\nout 1 614505c0ff646f6e6511e30620\n"
+        "status 1 releasing 9 kept 0 waiting 0 pending 0 observers 0\n",
+    ),
+    # 10,000 answers are held and sent on one connection, and nothing is left
+    (
+        "open\ndrain 1\nin 1 00e1\n" + "".join(f"in 1 810105b56173796e634131\ntick {it}\ndrain 1\n" for it in range(1, 10001)) + "status 1\n",
+        f"open 1\nout 1 {CSM}\nin 1 2\n" + "".join(f"in 1 11\ntick {it}\nout 1 614505c0ff646f6e65\n" for it in range(1, 10001))
+        + "status 1 open kept 0 waiting 0 pending 0 observers 0\n",
     ),
     # more than one read takes, and a line that is longer than one write
     (

@@ -1,6 +1,6 @@
 -- What was announced last counts, and whatever is queued fits.
-use Rattle.std.proofs.Common.{◌≡◌, ℕ, ◌≤◌, ◌&&◌, ◌==◌, List, [], ◌∷◌, ◌++◌, length, min, Option, Some, None, refl, ap, ◌∙◌, arith}
-use Rattle.std.specs.Prelude.{nat_le}
+use Rattle.std.proofs.Common.{◌≡◌, ℕ, ◌≤◌, true, false, ◌&&◌, ◌==◌, List, [], ◌∷◌, ◌++◌, length, min, Option, Some, None, refl, ap, ◌∙◌, arith}
+use Rattle.std.specs.Prelude.{nat_le, nat_lt}
 use Rattle.std.specs.List.{AllByRecursion, filter_map}
 use Rattle.std.proofs.lemmas.Bool.{cond_both, leb-true}
 use Rattle.std.proofs.lemmas.List.Elements.{filter_map-append}
@@ -18,7 +18,8 @@ use Rattle.coap_conn.specs.Reasons.{abort_of}
 use Rattle.coap_conn.specs.Announced.{announcement, announced, last_or, has_critical_option, bad_csm_option}
 use Rattle.coap_conn.specs.Fit.{AllFit, fit, fitted, abort_fitted, without_payload, without_options, bare_response}
 use Rattle.coap_conn.specs.Limits.{LimitValues, AreInRange}
-use Rattle.coap_conn.specs.Reaction.{Standing, Reaction, react, reaction_unless, live_reaction, open_reaction, csm_reaction, request_reaction, send, send_as, abort, is_reserved, is_signal, is_method, minds_critical_options, pong_of, not_implemented}
+use Rattle.coap_conn.specs.Held.{HeldValue, Answer, Pong}
+use Rattle.coap_conn.specs.Reaction.{Standing, Reaction, react, reaction_unless, live_reaction, open_reaction, csm_reaction, request_reaction, send, send_as, abort, is_reserved, is_signal, is_method, minds_critical_options, asks_custody, pong_with, pong_of, ping_reaction, not_implemented, due_effect}
 use Rattle.coap_conn.specs.History.{History, new_history, limit_now, standing_now, release}
 use Rattle.coap_conn.proofs.LinkLemmas.{announced_none}
 use Rattle.coap_conn.proofs.SmallLemmas.{csm_small, release_small}
@@ -80,10 +81,16 @@ request_fit : (s : Standing) (m : Message) (role : Role) → Fits s (request_rea
 request_fit s m Server = tt
 request_fit s m Client = send_fit s (not_implemented m) (bare_response (not_implemented m))
 
+ping_fit : (s : Standing) (m : Message) → Fits s (ping_reaction s m)
+ping_fit s m =
+    cond_both (asks_custody m && nat_lt 0 (length s.held)) _ _ (Fits s)
+    (λ e. cond_both (nat_lt (length s.held) s.most) _ _ (Fits s) (λ f. tt) (λ f. send_fit s (pong_with false m.token) (pong_with false m.token)))
+    (λ e. send_fit s (pong_of m) (without_options (pong_of m)))
+
 open_fit : (s : Standing) (m : Message) → Fits s (open_reaction s m)
 open_fit s m =
     cond_both (minds_critical_options m.code && has_critical_option m) _ _ (Fits s) (λ e. aborted_fit s reason.BadSignalOption)
-    (λ e. cond_both (m.code == code.ping) _ _ (Fits s) (λ e. send_fit s (pong_of m) (without_options (pong_of m)))
+    (λ e. cond_both (m.code == code.ping) _ _ (Fits s) (λ e. ping_fit s m)
     (λ e. cond_both (m.code == code.release) _ _ (Fits s) (λ e. tt)
     (λ e. cond_both (m.code == code.pong) _ _ (Fits s) (λ e. tt)
     (λ e. cond_both (is_signal m.code) _ _ (Fits s) (λ e. tt)
@@ -122,3 +129,11 @@ stopped_fits h why = aborted_fit (standing_now h) why
 
 pub released_fits : (h : History) → 2 ≤ limit_now h → AllFit (limit_now h) (release ∷ [])
 released_fits h enough = (omega (arith, enough, release_small), tt)
+
+due_fit : (s : Standing) (e : Option HeldValue) → AllFit s.limit (due_effect s e).queued
+due_fit s None = tt
+due_fit s (Some (Answer token moment)) = tt
+due_fit s (Some (Pong token)) = send_fit s (pong_with true token) (pong_with false token)
+
+pub due_fits : (h : History) (e : Option HeldValue) → AllFit (limit_now h) (due_effect (standing_now h) e).queued
+due_fits h e = due_fit (standing_now h) e

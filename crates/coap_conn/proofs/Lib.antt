@@ -1,7 +1,10 @@
 pub mod LinkLemmas
+pub mod PendingLemmas
 pub mod SmallLemmas
 pub mod CsmLemmas
 pub mod HistoryLaws
 pub mod RequestLemmas
 pub mod FirstLaws
 pub mod StopLaws
+pub mod HeldLaws
+mod Worked

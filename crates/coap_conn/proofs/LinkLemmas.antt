@@ -1,5 +1,5 @@
 -- A link shows its history after each call.
-use Rattle.std.proofs.Common.{◌≡◌, ℕ, ◌≤◌, Bool, true, false, cond, List, [], ◌∷◌, ◌++◌, length, drop, Option, Some, None, refl, sym, ap, ◌∙◌, arith}
+use Rattle.std.proofs.Common.{◌≡◌, ℕ, ◌≤◌, Bool, true, false, ◌&&◌, cond, List, [], ◌∷◌, ◌++◌, length, drop, Option, Some, None, refl, sym, ap, ◌∙◌, arith}
 use Rattle.std.specs.Prelude.{unwrap_or}
 use Rattle.std.specs.List.{filter_map}
 use Rattle.std.proofs.lemmas.List.{append-nil, drop-append-le, drop-drop, length-append, length-drop}
@@ -16,9 +16,10 @@ use Rattle.coap_conn.specs.Rejects.{reject_reason}
 use Rattle.coap_conn.specs.Limits.{LimitValues}
 use Rattle.coap_conn.specs.Announced.{announcement, announced, last_or}
 use Rattle.coap_conn.specs.Fit.{bare_response}
-use Rattle.coap_conn.specs.Reaction.{Standing, Effect, react, send, abort, stop}
-use Rattle.coap_conn.specs.History.{History, IsHistory, bytes_of, own_csm, new_history, with_effect, standing_now, after_message, after_send, after_reply, after_reject, after_end, after_release, after_written, end_reason, release}
-use Rattle.coap_conn.specs.LinkValue.{LinkValue, link_of, LinkShows, new_link, link_with, standing_in, link_after_message, link_after_send, link_after_reply, link_after_reject, link_after_end, link_after_release, link_after_written}
+use Rattle.coap_conn.specs.Held.{HeldValue, Answer, first_due}
+use Rattle.coap_conn.specs.Reaction.{Standing, Effect, react, send, abort, stop, due_effect}
+use Rattle.coap_conn.specs.History.{History, IsHistory, bytes_of, own_csm, new_history, with_effect, standing_now, after_message, after_send, after_reply, after_reject, after_end, after_release, after_written, after_hold, after_due, may_hold, standing_due, end_reason, release}
+use Rattle.coap_conn.specs.LinkValue.{LinkValue, link_of, LinkShows, new_link, link_with, standing_in, link_after_message, link_after_send, link_after_reply, link_after_reject, link_after_end, link_after_release, link_after_written, can_hold, link_after_hold, link_after_due}
 
 -- ---- what is queued
 
@@ -31,13 +32,13 @@ waiting_more h ms is = ap (drop h.written) (bytes_more h.queued ms) ∙ drop-app
 history_more : (h : History) (ms : List Message) → IsHistory h → h.written ≤ length (bytes_of (h.queued ++ ms))
 history_more h ms is = omega (arith, is, ap (λ (t : List ℕ). length t) (bytes_more h.queued ms), length-append (bytes_of h.queued) (bytes_of ms))
 
--- the link that shows a history, with other bytes, another phase and another size of the peer
-abbrev link_at : History → List ℕ → Phase → ℕ → LinkValue
-link_at h waiting phase peer_max = record { role = h.role; limits = h.limits; waiting = waiting; phase = phase; peer_max = peer_max; tokens = h.tokens }
+-- the link that shows a history, with other bytes, another phase, another size of the peer, and where something else is held
+abbrev link_at : History → List ℕ → Phase → List HeldValue → ℕ → LinkValue
+link_at h waiting phase held peer_max = record { role = h.role; limits = h.limits; waiting = waiting; phase = phase; peer_max = peer_max; held = held; tokens = h.tokens }
 
 -- an effect shows as the same effect
 effect_of : (h : History) (e : Effect) → IsHistory h → link_with (link_of h) e ≡ link_of (with_effect h e)
-effect_of h e is = ap (λ (w : List ℕ). link_at h w e.phase (announced h.handled)) (sym (waiting_more h e.queued is))
+effect_of h e is = ap (λ (w : List ℕ). link_at h w e.phase e.held (announced h.handled)) (sym (waiting_more h e.queued is))
 
 -- the same where a test says whether there is an effect
 pub effect_shown : (v new : LinkValue) (h : History) (e : Effect) (does : Bool) → new ≡ cond does (link_with v e) v → LinkShows v h → LinkShows new (cond does (with_effect h e) h)
@@ -76,7 +77,7 @@ announced_none = refl
 pub new_shown : (role : Role) (limits : LimitValues) (tokens : ℕ) (new : LinkValue) → new ≡ new_link role limits tokens → LinkShows new (new_history role limits tokens)
 new_shown role limits tokens new is = record {
   is_history = omega arith;
-  same = is ∙ ap (λ (n : ℕ). link_at (new_history role limits tokens) (bytes_of (own_csm limits.max_message ∷ [])) (new_history role limits tokens).phase n) (sym announced_none);
+  same = is ∙ ap (λ (n : ℕ). link_at (new_history role limits tokens) (bytes_of (own_csm limits.max_message ∷ [])) (new_history role limits tokens).phase [] n) (sym announced_none);
 }
 
 -- a history and a link to which a message was added with what it does
@@ -88,8 +89,8 @@ link_heard v m e = record (link_with v e) { peer_max = unwrap_or (announcement m
 
 heard_of : (h : History) (m : Message) (e : Effect) → IsHistory h → link_heard (link_of h) m e ≡ link_of (history_heard h m e)
 heard_of h m e is =
-    ap (λ (w : List ℕ). link_at h w e.phase (unwrap_or (announcement m) (announced h.handled))) (sym (waiting_more h e.queued is))
-    ∙ ap (λ (n : ℕ). link_at h (drop h.written (bytes_of (h.queued ++ e.queued))) e.phase n) (sym (announced_more h.handled m))
+    ap (λ (w : List ℕ). link_at h w e.phase e.held (unwrap_or (announcement m) (announced h.handled))) (sym (waiting_more h e.queued is))
+    ∙ ap (λ (n : ℕ). link_at h (drop h.written (bytes_of (h.queued ++ e.queued))) e.phase e.held n) (sym (announced_more h.handled m))
 
 heard_shown : (v new : LinkValue) (h : History) (m : Message) (e : Effect) (does : Bool) → new ≡ cond does (link_heard v m e) v → LinkShows v h → LinkShows new (cond does (history_heard h m e) h)
 heard_shown v new h m e true is shows = record {
@@ -127,10 +128,26 @@ release_shown v new is h shows =
     (is ∙ ap (λ (s : Standing). cond (is_open s.phase) (link_with v (stop s ReleasedHere (release ∷ []))) v) (standing_shown v h shows)) shows
 
 written_of : (h : History) (n : ℕ) → link_after_written (link_of h) n ≡ link_of (after_written h n)
-written_of h n = ap (λ (w : List ℕ). link_at h w h.phase (announced h.handled)) (drop-drop n h.written (bytes_of h.queued))
+written_of h n = ap (λ (w : List ℕ). link_at h w h.phase h.held (announced h.handled)) (drop-drop n h.written (bytes_of h.queued))
 
 pub written_shown : (v new : LinkValue) (n : ℕ) → n ≤ length v.waiting → new ≡ link_after_written v n → (h : History) → LinkShows v h → LinkShows new (after_written h n)
 written_shown v new n within is h shows = record {
   is_history = omega (arith, within, shows.is_history, ap (λ (w : LinkValue). length w.waiting) shows.same, length-drop h.written (bytes_of h.queued));
   same = is ∙ ap (λ (w : LinkValue). link_after_written w n) shows.same ∙ written_of h n;
 }
+
+-- ---- what is held
+
+hold_with : (v new : LinkValue) (h : History) (held : List HeldValue) (does : Bool) → new ≡ cond does (record v { held = v.held ++ held }) v → LinkShows v h → LinkShows new (cond does (record h { held = h.held ++ held }) h)
+hold_with v new h held true is shows = record { is_history = shows.is_history; same = is ∙ ap (λ (w : LinkValue). record w { held = w.held ++ held }) shows.same }
+hold_with v new h held false is shows = record { is_history = shows.is_history; same = is ∙ shows.same }
+
+pub hold_shown : (v new : LinkValue) (token : List ℕ) (moment : ℕ) → new ≡ link_after_hold v token moment → (h : History) → LinkShows v h → LinkShows new (after_hold h token moment)
+hold_shown v new token moment is h shows =
+    hold_with v new h (Answer token moment ∷ []) (is_open h.phase && may_hold h)
+    (is ∙ ap (λ (w : LinkValue). cond (is_open w.phase && can_hold w) (record v { held = v.held ++ Answer token moment ∷ [] }) v) shows.same) shows
+
+pub due_shown : (v new : LinkValue) (now : ℕ) → new ≡ link_after_due v now → (h : History) → LinkShows v h → LinkShows new (after_due h now)
+due_shown v new now is h shows =
+    effect_shown v new h (due_effect (standing_due now (standing_now h)) (first_due now h.held)) true
+    (is ∙ ap (λ (s : Standing). link_with v (due_effect (standing_due now s) (first_due now s.held))) (standing_shown v h shows)) shows

@@ -1,5 +1,5 @@
 -- Nothing follows a stop.
-use Rattle.std.proofs.Common.{◌≡◌, Bool, false, cond, Option, Some, refl, ap}
+use Rattle.std.proofs.Common.{◌≡◌, Bool, false, ◌&&◌, cond, Option, Some, refl, ap}
 use Rattle.std.specs.Prelude.{is_none}
 use Rattle.coap_wire.specs.Message.{Message}
 use Rattle.coap_conn.specs.declared.reason.Reason.{Reason}
@@ -26,6 +26,10 @@ not_open (phase.Stopped because) why over = refl
 
 pub stays_released : (h after : History) (why : Reason) → stop_of h.phase ≡ Some why → cond (is_open h.phase) after h ≡ h
 stays_released h after why over = ap (λ (b : Bool). cond b after h) (not_open h.phase why over)
+
+-- the same where there is one more test
+pub stays_unheld : (h after : History) (may : Bool) (why : Reason) → stop_of h.phase ≡ Some why → cond (is_open h.phase && may) after h ≡ h
+stays_unheld h after may why over = ap (λ (b : Bool). cond (b && may) after h) (not_open h.phase why over)
 
 pub stays_stopped : (h after : History) (why : Reason) → h.phase ≡ phase.Stopped why → cond (answers h.phase) after h ≡ h
 stays_stopped h after why stopped = ap (λ (p : Phase). cond (answers p) after h) stopped

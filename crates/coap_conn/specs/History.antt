@@ -1,5 +1,5 @@
 -- All that happened on one side of a connection, and what each call adds to it (RFC 8323 sections 3.3 and 5).
-use Rattle.std.specs.Prelude.{◌≡◌, ℕ, ◌+◌, ◌≤◌, Bool, true, false, List, [], ◌∷◌, ◌++◌, length, if◌then◌else◌}
+use Rattle.std.specs.Prelude.{◌≡◌, ℕ, ◌+◌, ◌≤◌, Bool, true, false, ◌&&◌, List, [], ◌∷◌, ◌++◌, length, nat_lt, if◌then◌else◌}
 use Rattle.std.specs.List.{flat_map}
 use Rattle.coap_wire.specs.Message.{Message}
 use Rattle.coap_wire.specs.Spelling.{spelling}
@@ -17,10 +17,11 @@ use Rattle.coap_conn.specs.Rejects.{reject_reason}
 use Rattle.coap_conn.specs.Limits.{LimitValues}
 use Rattle.coap_conn.specs.Announced.{announced, size_limit}
 use Rattle.coap_conn.specs.Fit.{bare_response}
-use Rattle.coap_conn.specs.Reaction.{Standing, Effect, stop, abort, send, react}
+use Rattle.coap_conn.specs.Held.{HeldValue, Answer, first_due, without_due}
+use Rattle.coap_conn.specs.Reaction.{Standing, Effect, stop, abort, send, react, due_effect}
 
--- the messages handled and the messages queued, in order, how many bytes of the queued ones were written, and how the
--- connection stands; tokens is the number of the last token given
+-- the messages handled and the messages queued, in order, how many bytes of the queued ones were written, how the connection
+-- stands, and what is held; tokens is the number of the last token given
 pub record History : Type 0 where
   pub role : Role
   pub limits : LimitValues
@@ -28,6 +29,7 @@ pub record History : Type 0 where
   pub queued : List Message
   pub written : ℕ
   pub phase : Phase
+  pub held : List HeldValue
   pub tokens : ℕ
 
 -- the own Capabilities and Settings: Max-Message-Size, and nothing else (RFC 8323 section 5.3)
@@ -37,7 +39,7 @@ own_csm M = record { code = code.csm; token = []; options = record { number = op
 -- the connection begins with the own Capabilities and Settings
 abbrev pub new_history : Role → LimitValues → ℕ → History
 new_history role limits tokens =
-    record { role = role; limits = limits; handled = []; queued = own_csm limits.max_message ∷ []; written = 0; phase = Waiting; tokens = tokens }
+    record { role = role; limits = limits; handled = []; queued = own_csm limits.max_message ∷ []; written = 0; phase = Waiting; held = []; tokens = tokens }
 
 -- the own Capabilities and Settings are the first message queued
 abbrev pub AnnouncedFirst : History → Type 0
@@ -58,13 +60,13 @@ abbrev pub limit_now : History → ℕ
 limit_now h = size_limit h.limits.max_sent (announced h.handled)
 
 abbrev pub standing_now : History → Standing
-standing_now h = record { role = h.role; phase = h.phase; limit = limit_now h }
+standing_now h = record { role = h.role; phase = h.phase; limit = limit_now h; held = h.held; most = h.limits.pending }
 
 -- ---- what happens
 
 -- an effect
 abbrev pub with_effect : History → Effect → History
-with_effect h e = record h { queued = h.queued ++ e.queued; phase = e.phase }
+with_effect h e = record h { queued = h.queued ++ e.queued; phase = e.phase; held = e.held }
 
 -- a message was handled, where messages are taken
 abbrev pub after_message : History → Message → History
@@ -105,3 +107,20 @@ after_release h = if is_open h.phase then with_effect h (stop (standing_now h) R
 -- so many bytes more were written
 abbrev pub after_written : History → ℕ → History
 after_written h n = record h { written = h.written + n }
+
+-- ---- what is held
+
+-- there is room for one more
+abbrev pub may_hold : History → Bool
+may_hold h = nat_lt (length h.held) h.limits.pending
+
+-- an answer is held until its moment comes, where the connection is open and there is room
+abbrev pub after_hold : History → List ℕ → ℕ → History
+after_hold h token moment = if is_open h.phase && may_hold h then record h { held = h.held ++ Answer token moment ∷ [] } else h
+
+-- what is due first was taken out
+abbrev pub standing_due : ℕ → Standing → Standing
+standing_due now s = record s { held = without_due now s.held }
+
+abbrev pub after_due : History → ℕ → History
+after_due h now = with_effect h (due_effect (standing_due now (standing_now h)) (first_due now h.held))

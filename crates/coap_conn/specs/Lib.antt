@@ -7,6 +7,8 @@ pub mod Rejects
 pub mod Announced
 pub mod Fit
 pub mod Verdicts
+pub mod Held
+pub mod HeldViews
 pub mod Reaction
 pub mod History
 pub mod LinkValue

@@ -1,5 +1,5 @@
 -- A link as the code holds it, what its calls do to it, and which link shows a history.
-use Rattle.std.specs.Prelude.{◌≡◌, ℕ, ◌-◌, ◌<◌, ◌≤◌, ◌^◌, Bool, ◌&&◌, List, [], ◌∷◌, ◌++◌, length, drop, unwrap_or, ◌==◌, if◌then◌else◌}
+use Rattle.std.specs.Prelude.{◌≡◌, ◌⊎◌, ℕ, ◌-◌, ◌<◌, ◌≤◌, ◌^◌, Bool, true, ◌&&◌, List, [], ◌∷◌, ◌++◌, length, drop, unwrap_or, nat_lt, ◌==◌, if◌then◌else◌}
 use Rattle.coap_wire.specs.Message.{Message}
 use Rattle.coap_conn.specs.declared.phase.Phase.{Phase}
 use Rattle.coap_conn.specs.declared.phase.Phase.TheVariants.{Waiting}
@@ -11,33 +11,37 @@ use Rattle.coap_conn.specs.Rejects.{reject_reason}
 use Rattle.coap_conn.specs.Limits.{LimitValues}
 use Rattle.coap_conn.specs.Announced.{base_size, bad_csm_option, csm_size, announcement, announced, size_limit}
 use Rattle.coap_conn.specs.Fit.{bare_response}
-use Rattle.coap_conn.specs.Reaction.{Standing, Effect, stop, abort, send, csm_reaction, live_reaction, react}
-use Rattle.coap_conn.specs.History.{History, IsHistory, bytes_of, own_csm, end_reason, release}
+use Rattle.coap_conn.specs.Held.{HeldValue, Answer, first_due}
+use Rattle.coap_conn.specs.Reaction.{Standing, Effect, stop, abort, send, csm_reaction, live_reaction, react, due_effect}
+use Rattle.coap_conn.specs.History.{History, IsHistory, bytes_of, own_csm, end_reason, release, standing_due}
 
--- waiting are the bytes to be written, peer_max the greatest message that the peer takes
+-- waiting are the bytes to be written, peer_max the greatest message that the peer takes, held what is sent later
 pub record LinkValue : Type 0 where
   pub role : Role
   pub limits : LimitValues
   pub waiting : List ℕ
   pub phase : Phase
   pub peer_max : ℕ
+  pub held : List HeldValue
   pub tokens : ℕ
 
 -- the link that a history leaves: what was queued without what was written, and the last size announced
 abbrev pub link_of : History → LinkValue
 link_of h =
-    record { role = h.role; limits = h.limits; waiting = drop h.written (bytes_of h.queued); phase = h.phase; peer_max = announced h.handled; tokens = h.tokens }
+    record { role = h.role; limits = h.limits; waiting = drop h.written (bytes_of h.queued); phase = h.phase; peer_max = announced h.handled; held = h.held; tokens = h.tokens }
 
 -- the link shows the history
 pub record LinkShows (v : LinkValue) (h : History) : Type 0 where
   pub is_history : IsHistory h
   pub same : v ≡ link_of h
 
--- what a link keeps: no more waits than the queue has room for
+-- what a link keeps: no more waits than the queue has room for, no more is held than may be, and nothing where nothing is answered
 pub record IsLink (v : LinkValue) : Type 0 where
   pub within : length v.waiting ≤ v.limits.queue
   pub enough : v.limits.max_sent ≤ v.limits.queue
   pub small : v.peer_max < 2 ^ 32
+  pub few : length v.held ≤ v.limits.pending
+  pub answering : (v.held ≡ []) ⊎ (answers v.phase ≡ true)
 
 -- ---- what is seen of it
 
@@ -49,25 +53,25 @@ free_in v = v.limits.queue - length v.waiting
 abbrev pub IsReady : LinkValue → Type 0
 IsReady v = v.limits.max_sent ≤ free_in v
 
--- nothing more is to be written: no message is taken any more, nothing is pending, and no byte waits
+-- nothing more is to be written: no message is taken any more, nothing is held, and no byte waits
 abbrev pub is_finished : LinkValue → Bool
-is_finished v = is_over v.phase && length v.waiting == 0
+is_finished v = is_over v.phase && (length v.held == 0 && length v.waiting == 0)
 
 abbrev pub limit_in : LinkValue → ℕ
 limit_in v = size_limit v.limits.max_sent v.peer_max
 
 abbrev pub standing_in : LinkValue → Standing
-standing_in v = record { role = v.role; phase = v.phase; limit = limit_in v }
+standing_in v = record { role = v.role; phase = v.phase; limit = limit_in v; held = v.held; most = v.limits.pending }
 
 -- ---- what its calls do
 
 -- a new link: the own Capabilities and Settings wait
 abbrev pub new_link : Role → LimitValues → ℕ → LinkValue
 new_link role limits tokens =
-    record { role = role; limits = limits; waiting = bytes_of (own_csm limits.max_message ∷ []); phase = Waiting; peer_max = base_size; tokens = tokens }
+    record { role = role; limits = limits; waiting = bytes_of (own_csm limits.max_message ∷ []); phase = Waiting; peer_max = base_size; held = []; tokens = tokens }
 
 abbrev pub link_with : LinkValue → Effect → LinkValue
-link_with v e = record v { waiting = v.waiting ++ bytes_of e.queued; phase = e.phase }
+link_with v e = record v { waiting = v.waiting ++ bytes_of e.queued; phase = e.phase; held = e.held }
 
 -- each call where it does something, as the history of the connection goes on
 
@@ -94,6 +98,16 @@ link_after_release v = if is_open v.phase then link_with v (stop (standing_in v)
 
 abbrev pub link_after_written : LinkValue → ℕ → LinkValue
 link_after_written v n = record v { waiting = drop n v.waiting }
+
+-- there is room for one more that is held
+abbrev pub can_hold : LinkValue → Bool
+can_hold v = nat_lt (length v.held) v.limits.pending
+
+abbrev pub link_after_hold : LinkValue → List ℕ → ℕ → LinkValue
+link_after_hold v token moment = if is_open v.phase && can_hold v then record v { held = v.held ++ Answer token moment ∷ [] } else v
+
+abbrev pub link_after_due : LinkValue → ℕ → LinkValue
+link_after_due v now = link_with v (due_effect (standing_due now (standing_in v)) (first_due now v.held))
 
 -- ---- a message that is taken
 

@@ -1,5 +1,5 @@
 -- What a message does on a connection (RFC 8323 sections 3.3, 3.4 and 5, RFC 7252 section 12.1).
-use Rattle.std.specs.Prelude.{ℕ, ◌/◌, Bool, true, false, ◌&&◌, ◌||◌, List, [], ◌∷◌, length, Option, Some, None, ◌==◌, if◌then◌else◌}
+use Rattle.std.specs.Prelude.{ℕ, ◌/◌, Bool, true, false, ◌&&◌, ◌||◌, List, [], ◌∷◌, ◌++◌, length, Option, Some, None, nat_lt, ◌==◌, if◌then◌else◌}
 use Rattle.std.specs.List.{list_any}
 use Rattle.coap_wire.specs.Message.{CoapOption, Message}
 use Rattle.coap_wire.specs.Codes as code
@@ -16,19 +16,24 @@ use Rattle.coap_conn.specs.declared.phase.Reply.TheVariants as reply
 use Rattle.coap_conn.specs.Reasons.{abort_of}
 use Rattle.coap_conn.specs.Announced.{has_critical_option, bad_csm_option}
 use Rattle.coap_conn.specs.Fit.{fit, bare_response, without_options, abort_fitted}
+use Rattle.coap_conn.specs.Held.{HeldValue, Answer, Pong}
 use Rattle.coap_conn.specs.Verdicts.{VerdictValue}
 use Rattle.coap_conn.specs.Verdicts as verdict
 
--- what a connection stands on: which end this is, how it stands, and the greatest message that may be sent
+-- what a connection stands on: which end this is, how it stands, the greatest message that may be sent, what is held, and how much
+-- may be
 pub record Standing : Type 0 where
   pub role : Role
   pub phase : Phase
   pub limit : ℕ
+  pub held : List HeldValue
+  pub most : ℕ
 
 -- what is queued, and what the connection stands on afterwards
 pub record Effect : Type 0 where
   pub queued : List Message
   pub phase : Phase
+  pub held : List HeldValue
 
 pub record Reaction : Type 0 where
   pub effect : Effect
@@ -38,12 +43,11 @@ pub record Reaction : Type 0 where
 
 -- nothing changes
 abbrev pub stay : Standing → Effect
-stay s = record { queued = []; phase = s.phase }
+stay s = record { queued = []; phase = s.phase; held = s.held }
 
--- The one way to stop: these messages are the last that are queued. Whatever else a connection comes to stand on is given up
--- here.
+-- The one way to stop: these messages are the last that are queued, and whatever is held is given up.
 abbrev pub stop : Standing → Reason → List Message → Effect
-stop s why farewell = record (stay s) { queued = farewell; phase = phase.Stopped why }
+stop s why farewell = record { queued = farewell; phase = phase.Stopped why; held = [] }
 
 -- a stop with the Abort for its reason, where there is one, as it fits
 abbrev pub abort : Standing → Reason → Effect
@@ -113,9 +117,30 @@ abbrev pub custody_options : Bool → List CoapOption
 custody_options true = record { number = option.custody; value = [] } ∷ []
 custody_options false = []
 
--- the Pong: the Ping's token, and Custody where it was asked, since nothing is pending
+-- a Pong to the Ping with this token, with Custody or not
+abbrev pub pong_with : Bool → List ℕ → Message
+pong_with custody token = record { code = code.pong; token = token; options = custody_options custody; payload = [] }
+
+-- the Pong to a Ping where nothing is held: with Custody where it was asked
 abbrev pub pong_of : Message → Message
-pong_of m = record { code = code.pong; token = m.token; options = custody_options (asks_custody m); payload = [] }
+pong_of m = pong_with (asks_custody m) m.token
+
+-- a Pong with Custody
+abbrev pub is_custody_pong : Message → Bool
+is_custody_pong m = m.code == code.pong && asks_custody m
+
+-- one more is held, and the caller is told that the message is dealt with
+abbrev pub holds : Standing → HeldValue → Reaction
+holds s e = record { effect = record (stay s) { held = s.held ++ e ∷ [] }; verdict = verdict.Done }
+
+-- a Pong that must wait: it is held where there is room, and else it is sent without Custody
+abbrev pub late_pong : Standing → Message → Reaction
+late_pong s m = if nat_lt (length s.held) s.most then holds s (Pong m.token) else sends s (pong_with false m.token) (pong_with false m.token)
+
+-- A Ping: a Pong with Custody says that all requests before it were answered, so it waits for what is held (RFC 8323 section
+-- 5.4.1).
+abbrev pub ping_reaction : Standing → Message → Reaction
+ping_reaction s m = if asks_custody m && nat_lt 0 (length s.held) then late_pong s m else sends s (pong_of m) (without_options (pong_of m))
 
 -- 5.01, Not Implemented
 abbrev pub not_implemented : Message → Message
@@ -131,7 +156,7 @@ request_reaction s m Client = sends s (not_implemented m) (bare_response (not_im
 abbrev pub open_reaction : Standing → Message → Reaction
 open_reaction s m =
     if minds_critical_options m.code && has_critical_option m then aborts s BadSignalOption
-    else (if m.code == code.ping then sends s (pong_of m) (without_options (pong_of m))
+    else (if m.code == code.ping then ping_reaction s m
     else (if m.code == code.release then becomes s (phase.Releasing PeerRelease) (verdict.Stopped PeerRelease)
     else (if m.code == code.pong then tells s verdict.Stranger
     else (if is_signal m.code then tells s verdict.Done
@@ -156,3 +181,11 @@ reaction_unless s m (Some why) = tells s (verdict.Stopped why)
 -- What a message does.
 unfoldable pub react : Standing → Message → Reaction
 react s m = reaction_unless s m (stop_of s.phase)
+
+-- ---- what is due
+
+-- what was due first was taken out: an answer is sent by the caller, and a Pong, which has Custody, is queued as it fits
+abbrev pub due_effect : Standing → Option HeldValue → Effect
+due_effect s None = stay s
+due_effect s (Some (Answer token moment)) = stay s
+due_effect s (Some (Pong token)) = send s (pong_with true token) (pong_with false token)

@@ -7,12 +7,13 @@ pub mod laws;
 mod limits;
 mod link;
 mod messages;
+mod pending;
 mod phase;
 mod queue;
 mod reason;
 
 pub use limits::{LimitFault, Limits};
 pub use link::Link;
-pub use phase::{Phase, Reject, Reply, Role, SendFault, Verdict};
+pub use phase::{Due, Full, Phase, Reject, Reply, Role, SendFault, Verdict};
 pub use queue::OutQueue;
 pub use reason::Reason;

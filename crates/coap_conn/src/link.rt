@@ -5,15 +5,16 @@ ghost use Rattle.coap_conn.specs.Phases.{is_waiting as waits};
 ghost use Rattle.coap_conn.specs.Reaction.{is_reserved as reserved, minds_critical_options as minds_critical};
 ghost use Rattle.coap_conn.specs.Rejects.{reject_reason};
 
-use crate::csm::{announced_size, has_critical_option};
+use crate::csm::{announced_size, asks_custody, has_critical_option};
 use crate::limits::Limits;
 use crate::messages::{
     abort_text, abort_with, announce, bad_csm_number, bare_of, pong_to, queue_release,
 };
-use crate::phase::{Phase, Reject, Reply, Role, SendFault, Verdict};
+use crate::pending::{Held, Pending};
+use crate::phase::{Due, Full, Phase, Reject, Reply, Role, SendFault, Verdict};
 use crate::queue::OutQueue;
 use crate::reason::Reason;
-use coap_wire::{Builder, Code, MessageRef, uint_bytes};
+use coap_wire::{Builder, Code, MessageRef, Token, uint_bytes};
 use std::alloc::{AllocError, Global};
 use std::marker::Model;
 
@@ -32,6 +33,7 @@ pub struct Link {
     queue: OutQueue,
     phase: Phase,
     peer_max: u32,
+    pending: Pending,
     tokens: u64,
 }
 
@@ -48,26 +50,28 @@ impl Model for Link {
 }
 
 impl Link {
-    ghost use Rattle.std.specs.Prelude.{◌≡◌, ◌≤◌, ◌++◌, ◌↔◌, ⊤, [], length, if◌then◌else◌, IsTrue, IfOk, OnOk, OnErr};
+    ghost use Rattle.std.specs.Prelude.{◌≡◌, ◌≤◌, ◌++◌, ◌↔◌, ⊤, ℕ, List, true, false, [], length, if◌then◌else◌, IsTrue, IsFalse, IfOk, OnOk, OnErr};
     ghost use Rattle.std.specs.Borrow.{sem, follows_so};
     ghost use mathlib.Core.Option.{none};
     ghost use Rattle.coap_wire.specs.Spelling.{spelling};
     ghost use Rattle.coap_wire.specs.Refusal.{RefusedBy};
     ghost use Rattle.coap_conn.specs.Announced.{bad_csm_option};
     ghost use Rattle.coap_conn.specs.Fit.{fit, fitted, bare_response, without_options};
-    ghost use Rattle.coap_conn.specs.Phases.{IsLive, IsAnswering};
-    ghost use Rattle.coap_conn.specs.Reaction.{react, stop, abort, send, told_of, csm_reaction, live_reaction, open_reaction, pong_of, sends, request_reaction};
+    ghost use Rattle.coap_conn.specs.Phases.{IsLive, IsAnswering, is_open};
+    ghost use Rattle.coap_conn.specs.Held.{AnAnswer, due_told, first_due};
+    ghost use Rattle.coap_conn.specs.HeldViews.{due_value};
+    ghost use Rattle.coap_conn.specs.Reaction.{react, stop, abort, send, told_of, csm_reaction, live_reaction, open_reaction, ping_reaction, pong_with, sends, request_reaction};
     ghost use Rattle.coap_conn.specs.Verdicts as verdict;
     ghost use Rattle.coap_conn.specs.declared.phase.Phase.TheVariants as phase;
     ghost use Rattle.coap_conn.specs.declared.phase.Role.TheVariants as role;
-    ghost use Rattle.coap_conn.specs.History.{History, bytes_of, new_history, after_message, after_reject, after_end, after_reply, after_release, after_written};
-    ghost use Rattle.coap_conn.specs.LinkValue.{LinkShows, IsLink, IsReady, free_in, limit_in, standing_in, is_finished, new_link, link_with, link_handled, link_after_message, link_after_csm, link_after_reply, link_after_reject, link_after_end, link_after_release, link_after_written};
+    ghost use Rattle.coap_conn.specs.History.{History, bytes_of, new_history, after_message, after_reject, after_end, after_reply, after_release, after_written, after_hold, after_due};
+    ghost use Rattle.coap_conn.specs.LinkValue.{LinkShows, IsLink, IsReady, free_in, limit_in, standing_in, is_finished, new_link, link_with, link_handled, link_after_message, link_after_csm, link_after_reply, link_after_reject, link_after_end, link_after_release, link_after_written, can_hold, link_after_hold, link_after_due};
     ghost use Rattle.coap_conn.specs.LinkViews.{verdict_value};
     ghost use Rattle.coap_conn.specs.Release.{release_refusal};
     ghost use Rattle.coap_conn.specs.contracts.link.Link.{the_row};
 
-    /// A new connection, with the own Capabilities and Settings queued. The room of its queue is reserved here. The first
-    /// token that it gives is the number after `tokens_from`.
+    /// A new connection, with the own Capabilities and Settings queued. The room of its queue and of what it holds is reserved
+    /// here. The first token that it gives is the number after `tokens_from`.
     ///
     /// # Errors
     ///
@@ -82,6 +86,7 @@ impl Link {
         ensures shows { IfOk result (λ l. LinkShows l (new_history role limits tokens_from)) }
     {
         let mut queue = OutQueue::new(alloc, limits.queue())?;
+        let pending = Pending::new(alloc, limits.pending())?;
         announce(&mut queue, limits.max_message());
         Ok(Link {
             role,
@@ -89,6 +94,7 @@ impl Link {
             queue,
             phase: Phase::Waiting,
             peer_max: BASE_SIZE,
+            pending,
             tokens: tokens_from,
         })
     }
@@ -146,11 +152,12 @@ impl Link {
         self.peer_max
     }
 
-    /// How many answers are held: none are yet.
+    /// How many answers and Pongs are held.
     pub fn pending(&self) -> usize
-        ensures { result ≡ 0 }
+        ensures count { result ≡ length self.now.held }
+        ensures within { length self.now.held ≤ self.now.limits.pending }
     {
-        0
+        self.pending.len()
     }
 
     /// How many requests are outstanding: none are yet.
@@ -160,12 +167,12 @@ impl Link {
         0
     }
 
-    /// Whether nothing more is to be written: it stopped, or its peer released it, and no byte waits. A request that the
-    /// caller has yet to answer is not counted.
+    /// Whether nothing more is to be written: it stopped, or its peer released it and nothing is held, and no byte waits. A request
+    /// that the caller has yet to answer is not counted.
     pub fn finished(&self) -> bool
         ensures { result ≡ is_finished self.now }
     {
-        self.phase.stop().is_some() && self.queue.waiting() == 0
+        self.phase.stop().is_some() && self.pending.is_empty() && self.queue.waiting() == 0
     }
 
     /// Handles a message (RFC 8323 sections 3.3, 3.4 and 5). There must be room for the greatest message sent, and the
@@ -221,7 +228,51 @@ impl Link {
         self.reply_bare(response)
     }
 
-    /// Sends Release and stops (RFC 8323 section 5.5).
+    /// Holds the answer to the request with this token until a moment, in seconds. The connection must be open.
+    ///
+    /// # Errors
+    ///
+    /// `Full` where as many are held as may be. Nothing has changed then.
+    pub fn hold(&mut self, token: Token, moment: u64) -> Result<(), Full>
+        requires open { is_open self.old.phase ≡ true }
+        ensures held { OnOk result (IsTrue (can_hold self.old)) }
+        ensures full { OnErr result (IsFalse (can_hold self.old)) }
+        ensures after { OnOk result (self.new ≡ link_after_hold self.old token.items moment) }
+        ensures shows { OnOk result ((h : History) → LinkShows self.old h → LinkShows self.new (after_hold h token.items moment)) }
+        ensures err { OnErr result (self.new ≡ self.old) }
+    {
+        if self.pending.is_full() {
+            return Err(Full);
+        }
+        self.pending.hold(Held::Answer { token, moment });
+        Ok(())
+    }
+
+    /// Takes out what is due first at a moment, in seconds: of the held answers whose moments have come the one of the least moment,
+    /// the earliest of equals, which the caller sends by `reply`; else a Pong with nothing held before it, which is queued with
+    /// Custody as it fits the peer, or the connection stops (RFC 8323 section 5.4.1). There must be room for the greatest message
+    /// sent.
+    pub fn due(&mut self, now: u64) -> Due
+        requires ready { IsReady self.old }
+        ensures due { due_value result ≡ due_told (first_due now self.old.held) }
+        ensures after { self.new ≡ link_after_due self.old now }
+        ensures shows { (h : History) → LinkShows self.old h → LinkShows self.new (after_due h now) }
+        // An answer can be sent at once.
+        ensures answer { (token : List ℕ) → due_value result ≡ AnAnswer token → IsReady self.new × IsAnswering self.new.phase }
+    {
+        let Some(index) = self.pending.due(now) else {
+            return Due::Nothing;
+        };
+        match self.pending.take(index) {
+            Held::Answer { token, .. } => Due::Answer(token),
+            Held::Pong(token) => {
+                self.send(&pong_to(&token, true), &pong_to(&token, false));
+                Due::Pong
+            }
+        }
+    }
+
+    /// Sends Release and stops (RFC 8323 section 5.5). What is held is given up.
     ///
     /// # Errors
     ///
@@ -325,12 +376,13 @@ impl Link {
         self.send(response, &bare)
     }
 
-    /// The one way to stop, behind what was queued for it. Whatever else a link comes to hold is given up here.
+    /// The one way to stop, behind what was queued for it. Whatever is held is given up.
     fn stop(&mut self, reason: Reason) -> Verdict
         ensures verdict { verdict_value result ≡ verdict.Stopped reason }
         ensures after { self.new ≡ link_with self.old (stop (standing_in self.old) reason []) }
     {
         self.phase = Phase::Stopped(reason);
+        self.pending.clear();
         Verdict::Stopped(reason)
     }
 
@@ -408,14 +460,31 @@ impl Link {
         }
     }
 
-    /// Answers a Ping. (Apart from `on_open`, since a function clears all its locals.)
+    /// Answers a Ping, or holds its Pong, where it asks for Custody and something is held.
     fn on_ping(&mut self, message: &MessageRef) -> Verdict
         requires { IsReady self.old }
-        ensures verdict { verdict_value result ≡ (sends (standing_in self.old) (pong_of message.now) (without_options (pong_of message.now))).verdict }
-        ensures after { self.new ≡ link_with self.old (sends (standing_in self.old) (pong_of message.now) (without_options (pong_of message.now))).effect }
+        ensures verdict { verdict_value result ≡ (ping_reaction (standing_in self.old) message.now).verdict }
+        ensures after { self.new ≡ link_with self.old (ping_reaction (standing_in self.old) message.now).effect }
     {
-        let pong = pong_to(message);
-        self.answer(&pong, &Builder::new(Code::PONG, message.token()))
+        let custody = asks_custody(message);
+        if !custody || self.pending.is_empty() {
+            return self.pong(message, custody);
+        }
+        if self.pending.is_full() {
+            return self.pong(message, false);
+        }
+        self.pending.hold(Held::Pong(copy_of(message.token())));
+        Verdict::Done
+    }
+
+    /// Answers a Ping. (Apart from `on_ping`, since a function clears all its locals.)
+    fn pong(&mut self, message: &MessageRef, custody: bool) -> Verdict
+        requires { IsReady self.old }
+        ensures verdict { verdict_value result ≡ (sends (standing_in self.old) (pong_with custody message.now.token) (pong_with false message.now.token)).verdict }
+        ensures after { self.new ≡ link_with self.old (sends (standing_in self.old) (pong_with custody message.now.token) (pong_with false message.now.token)).effect }
+    {
+        let pong = pong_to(message.token(), custody);
+        self.answer(&pong, &pong_to(message.token(), false))
     }
 
     /// Handles a request: the caller answers it at the server, and at the client it is not implemented.
@@ -453,6 +522,16 @@ impl Link {
             Reply::Stopped => Verdict::Stopped(Reason::PeerTooSmall),
         }
     }
+}
+
+/// The same token.
+fn copy_of(token: &Token) -> Token
+    ensures { result.items ≡ token.now.items }
+{
+    let Ok(copy) = Token::try_from(token.as_slice()) else {
+        unreachable!()
+    };
+    copy
 }
 
 /// Whether a code has the reserved class 1 or 6 (RFC 7252 section 12.1).

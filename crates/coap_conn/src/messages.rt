@@ -2,15 +2,15 @@
 
 ghost use Rattle.std.specs.Prelude.{◌≡◌, ◌≤◌, ◌∷◌, ◌++◌, [], length, option_copied};
 ghost use Rattle.coap_conn.specs.Reasons.{abort_text as text_for, abort_with as abort_message, number_told, told_options};
-ghost use Rattle.coap_conn.specs.Reaction.{pong_of};
+ghost use Rattle.coap_conn.specs.Reaction.{pong_with};
 ghost use Rattle.coap_conn.specs.Fit.{bare_response};
 ghost use Rattle.coap_conn.specs.History.{bytes_of, own_csm, release};
 ghost use Rattle.coap_conn.specs.QueueValue.{free_of};
 
-use crate::csm::{CUSTODY, MAX_MESSAGE_SIZE, asks_custody};
+use crate::csm::{CUSTODY, MAX_MESSAGE_SIZE};
 use crate::queue::OutQueue;
 use crate::reason::Reason;
-use coap_wire::{Builder, Code, MessageRef, Token, uint_bytes};
+use coap_wire::{Builder, Code, Token, uint_bytes};
 
 /// Bad-CSM-Option, an option of Abort (RFC 8323 section 5.6).
 const BAD_CSM_OPTION: u16 = 2;
@@ -38,12 +38,12 @@ pub(crate) fn queue_release(queue: &mut OutQueue)
     queue.put(&Builder::new(Code::RELEASE, &Token::new()));
 }
 
-/// The Pong to a Ping, with Custody where it was asked, since nothing is pending (RFC 8323 section 5.4).
-pub(crate) fn pong_to(message: &MessageRef) -> Builder<'static>
-    ensures { result ≡ pong_of message.now }
+/// A Pong to the Ping with this token, with Custody or not (RFC 8323 section 5.4).
+pub(crate) fn pong_to(token: &Token, custody: bool) -> Builder<'static>
+    ensures { result ≡ pong_with custody token.now.items }
 {
-    let mut pong = Builder::new(Code::PONG, message.token());
-    if asks_custody(message) {
+    let mut pong = Builder::new(Code::PONG, token);
+    if custody {
         let Ok(()) = pong.option(CUSTODY, &[]) else {
             unreachable!()
         };

@@ -73,6 +73,22 @@ pub enum Verdict {
     Stopped(Reason),
 }
 
+/// What was due of what is held. It is held no more.
+#[derive(Debug, Drop)]
+pub enum Due {
+    /// The answer to the request with this token, which the caller sends.
+    Answer(Token),
+    /// A Pong with Custody, which was queued as it fits, or the connection stopped (RFC 8323 section 5.4.1).
+    Pong,
+    /// Nothing: nothing has changed.
+    Nothing,
+}
+
+/// No room for another answer to be held.
+#[derive(Clone, Copy, Debug, PartialEq, Eq, Error)]
+#[error("no room for another answer")]
+pub struct Full;
+
 /// What became of a message that was to be sent.
 #[derive(Clone, Copy, Debug, PartialEq, Eq)]
 pub enum Reply {

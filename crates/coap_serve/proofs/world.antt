@@ -3,6 +3,8 @@ mod Worked
 mod WorkedEvents
 mod WorkedMore
 mod WorkedViews
+mod WorkedHeld
+mod WorkedCustody
 pub mod StepLaws
 pub mod TookLaws
 pub mod PlaceLaws
@@ -29,5 +31,6 @@ pub mod HandledLaws
 pub mod FitLaws
 pub mod RefusedLaws
 pub mod ToldMessages
+pub mod CustodyLaws
 pub mod ToldAnswers
 pub mod ToldLaws

@@ -6,3 +6,4 @@ pub mod Shows
 pub mod View
 pub mod Handling
 pub mod Told
+pub mod Custody

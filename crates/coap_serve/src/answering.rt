@@ -1,27 +1,30 @@
 //! Answers requests and notifies observers.
 
-ghost use Rattle.std.specs.Prelude.{◌≡◌, ◌<◌, ◌++◌, ◌∷◌, [], Some, length, slice_get, IfOk, OnOk, OnErr};
-ghost use Rattle.coap_conn.specs.Phases.{IsAnswering};
-ghost use Rattle.coap_conn.specs.LinkValue.{IsReady, link_after_reply};
+ghost use Rattle.std.specs.Prelude.{◌≡◌, ◌<◌, ◌≤◌, ◌++◌, ◌∷◌, [], true, Some, None, is_some, length, slice_get, if◌then◌else◌, IfOk, OnOk, OnErr};
+ghost use Rattle.coap_conn.specs.Phases.{IsAnswering, is_open};
+ghost use Rattle.coap_conn.specs.Held.{HeldValue, first_due};
+ghost use Rattle.coap_conn.specs.LinkValue.{IsReady, can_hold, link_after_hold, link_after_reply};
+ghost use Rattle.coap_store.specs.Answer.{unheld};
+ghost use Rattle.coap_store.specs.Messages.{response_message};
 ghost use Rattle.coap_store.specs.Requests.{path_of};
 ghost use Rattle.coap_store.specs.Changes.{IsPut, changes};
 ghost use Rattle.coap_store.specs.Watching.{MayWatch};
 ghost use Rattle.coap_serve.specs.world.Observers.{asks_entry as asks, is_whole as is_sent_whole};
-ghost use Rattle.coap_serve.specs.values.Sessions.{ObserverValue, answer_on, host_changed, is_stale, new_entry, notification_on, without_entry};
-ghost use Rattle.coap_serve.specs.values.Entries.{first_index, response_on, entries_asked, entries_notified};
+ghost use Rattle.coap_serve.specs.values.Sessions.{ObserverValue, answer_on, hold_on, held_in, host_changed, is_stale, link_sent, new_entry, notification_on, without_entry};
+ghost use Rattle.coap_serve.specs.values.Entries.{first_index, link_replied, entries_replied, entries_notified};
 ghost use Rattle.coap_serve.specs.views.ObserverViews.{observer_value};
 
 use crate::host::{Host, mark_at};
 use crate::observers::{Observer, Observers};
 use crate::response::respond;
-use coap_conn::{Link, Reply};
-use coap_store::{Change, State, Watch, request_path};
+use coap_conn::{Due, Link, Reply};
+use coap_store::{Change, Plan, State, Watch, held_response, request_path};
 use coap_wire::{Code, MessageRef, Token};
 use std::alloc::AllocError;
 
-/// Answers a request, and answers whether that put or deleted a resource. What it changes is changed before it is answered. The
-/// entry with its token goes, and where it asks to be entered as an observer and there is room, it is, if its response is sent
-/// whole (RFC 7641 section 4.1).
+/// Answers a request, or holds its answer, and answers whether that put or deleted a resource. What it changes is changed before it is
+/// answered. The entry with its token goes, and where it asks to be entered as an observer and there is room, it is, if its response
+/// is sent whole (RFC 7641 section 4.1).
 ///
 /// # Errors
 ///
@@ -33,10 +36,10 @@ pub(crate) fn answer(
     request: &MessageRef,
 ) -> Result<bool, AllocError>
     requires ready { IsReady link.old }
-    requires answering { IsAnswering link.old.phase }
+    requires open { is_open link.old.phase ≡ true }
     ensures changed { IfOk result (λ changed. changed ≡ changes (answer_on host.old request.now).change) }
-    ensures link { OnOk result (link.new ≡ link_after_reply link.old (response_on host.old observers.old.room (without_entry request.now.token observers.old.entries) request.now)) }
-    ensures entries { OnOk result (observers.new ≡ record observers.old { entries = entries_asked host.old link.old observers.old.room (without_entry request.now.token observers.old.entries) request.now }) }
+    ensures link { OnOk result (link.new ≡ link_replied host.old link.old observers.old.room (without_entry request.now.token observers.old.entries) request.now (held_in link.old (hold_on host.old request.now))) }
+    ensures entries { OnOk result (observers.new ≡ record observers.old { entries = entries_replied host.old link.old observers.old.room (without_entry request.now.token observers.old.entries) request.now (held_in link.old (hold_on host.old request.now)) }) }
     ensures host { OnOk result (host.new ≡ host_changed host.old (answer_on host.old request.now).change) }
     ensures put { OnErr result (IsPut (answer_on host.old request.now).change) }
     ensures unchanged { OnErr result (host.new ≡ host.old) }
@@ -44,6 +47,11 @@ pub(crate) fn answer(
     ensures kept { OnErr result (observers.new ≡ observers.old) }
 {
     let plan = host.store.answer(request, host.now);
+    if let Some(seconds) = plan.hold() {
+        let moment = host.now.saturating_add(u64::from(seconds));
+        answer_late(link, observers, request, plan, moment);
+        return Ok(false);
+    }
     let change = plan.change();
     if let Change::Nothing = change {
         observers.forget(request.token());
@@ -59,6 +67,43 @@ pub(crate) fn answer(
         observers.forget(request.token());
         respond(link, request.token(), &plan, false);
         Ok(true)
+    }
+}
+
+/// Holds the answer to a request until a moment, or refuses it for now where no more can be held. The observer with its token goes.
+fn answer_late(
+    link: &mut Link,
+    observers: &mut Observers,
+    request: &MessageRef,
+    plan: Plan,
+    moment: u64,
+)
+    requires ready { IsReady link.old }
+    requires open { is_open link.old.phase ≡ true }
+    requires short { length plan.response.payload ≤ 1048576 }
+    ensures link { link.new ≡ (if can_hold link.old then link_after_hold link.old request.now.token moment else link_after_reply link.old (response_message request.now.token (unheld plan.entry).response)) }
+    ensures entries { observers.new ≡ record observers.old { entries = without_entry request.now.token observers.old.entries } }
+{
+    observers.forget(request.token());
+    if link.hold(copy_of(request.token()), moment).is_err() {
+        respond(link, request.token(), &plan.unheld(), false);
+    }
+}
+
+/// Sends what is held and due first at a moment, where anything is, and answers whether anything was.
+pub(crate) fn send_due(link: &mut Link, now: u64) -> bool
+    requires { IsReady link.old }
+    ensures sent { (e : HeldValue) → first_due now link.old.held ≡ Some e → link.new ≡ link_sent link.old now e }
+    ensures silent { first_due now link.old.held ≡ None → link.new ≡ link.old }
+    ensures found { result ≡ is_some (first_due now link.old.held) }
+{
+    match link.due(now) {
+        Due::Nothing => false,
+        Due::Pong => true,
+        Due::Answer(token) => {
+            respond(link, &token, &held_response(), false);
+            true
+        }
     }
 }
 
@@ -104,15 +149,22 @@ fn entry_for(host: &Host, request: &MessageRef) -> Observer
     let State::Present(there) = host.store.state(&path, host.now) else {
         unreachable!()
     };
-    let Ok(token) = Token::try_from(request.token().as_slice()) else {
-        unreachable!()
-    };
     Observer {
-        token,
+        token: copy_of(request.token()),
         format: there.format(),
         mark: mark_at(host.now, &there),
         path,
     }
+}
+
+/// The same token.
+fn copy_of(token: &Token) -> Token
+    ensures { result.items ≡ token.now.items }
+{
+    let Ok(copy) = Token::try_from(token.as_slice()) else {
+        unreachable!()
+    };
+    copy
 }
 
 /// Notifies the first observer that is stale, which is the one at this index (RFC 7641 section 4.2): it is told the state now and

@@ -1,6 +1,6 @@
 //! What holds of every server, each as the contract of a function that does nothing.
 
-ghost use Rattle.std.specs.Prelude.{◌≡◌, ℕ, ◌≤◌, List, ◌∷◌, ◌++◌, length, Some, None};
+ghost use Rattle.std.specs.Prelude.{◌≡◌, ℕ, Bool, ◌≤◌, List, [], ◌∷◌, ◌++◌, length, true, false, Some, None};
 ghost use Rattle.std.specs.List.{AllByRecursion};
 ghost use Rattle.coap_wire.specs.Message.{Message};
 ghost use Rattle.coap_wire.specs.Stream.{StreamFault};
@@ -8,18 +8,23 @@ ghost use Rattle.coap_conn.specs.declared.phase.Phase.TheVariants.{Stopped};
 ghost use Rattle.coap_conn.specs.Limits.{LimitValues, AreInRange};
 ghost use Rattle.coap_conn.specs.Fit.{AllFit};
 ghost use Rattle.coap_conn.specs.Rejects.{reject_of, reject_reason};
-ghost use Rattle.coap_conn.specs.History.{limit_now};
+ghost use Rattle.coap_conn.specs.Held.{Answer};
+ghost use Rattle.coap_conn.specs.History.{limit_now, after_message, after_reply, after_hold, after_due};
+ghost use Rattle.coap_store.specs.Store.{StoreValue};
+ghost use Rattle.coap_store.specs.Answer.{answer_of};
 ghost use Rattle.coap_serve.specs.Configs.{ConfigValues};
 ghost use Rattle.coap_serve.specs.values.Servers.{ServerValue};
-ghost use Rattle.coap_serve.specs.world.Sides.{Side, waiting_on, HearsAll};
+ghost use Rattle.coap_serve.specs.world.Sides.{Side, waiting_on, HearsAll, handles, asks_answer, held_for, moment_after, held_message, next_held, side_after, side_faulted, side_written, side_ended, side_released, settled_once};
+ghost use Rattle.coap_serve.specs.world.Custody.{StandFor, QueuesCustody, IsFirstHeld};
 ghost use Rattle.coap_serve.specs.world.World.{World, Step, Opened, new_world, side_of, step, after_steps};
 ghost use Rattle.coap_serve.specs.world.Events.{Event, Took, stream_on, steps_of, world_after, AreAccepted};
 ghost use Rattle.coap_serve.specs.world.Shows.{Shows, kept_on};
 ghost use Rattle.coap_serve.specs.world.View.{view_of, after_view, AreSeen};
-ghost use Rattle.coap_serve.specs.world.Told.{WasToldLast, HaveOwnTokens};
+ghost use Rattle.coap_serve.specs.world.Told.{WasToldLast, HaveOwnTokens, asked_late};
 
 /// No change is lost: after every call, on each connection less than the greatest message sent is free in the queue, or every
-/// observer was told the state that its path has now.
+/// observer was told the state that its path has now, every held answer whose moment has come was sent, and no held Pong is left that
+/// nothing stands before.
 pub fn no_change_is_lost()
     ensures { (v : ServerValue) (events : List Event) (id : ℕ) (s : Side) → Shows v events → side_of id (world_after v.config events).sides ≡ Some s → HearsAll v.host.store v.host.now s }
 {}
@@ -61,19 +66,36 @@ pub fn a_connection_sees_others_through_the_store_alone()
     ensures alike { (c : ConfigValues) (id : ℕ) (events others : List Event) → view_of c.limits id (new_world c) (steps_of c.limits.max_message events) ≡ view_of c.limits id (new_world c) (steps_of c.limits.max_message others) → side_of id (world_after c events).sides ≡ side_of id (world_after c others).sides }
 {}
 
-/// The limits are kept, after any events: on each connection no more bytes wait than the queue holds, and there are no more
-/// observers than the limits allow; and after events that were accepted, no more bytes are kept of an unfinished message than
+/// The limits are kept, after any events: on each connection no more bytes wait than the queue holds, and no more answers and Pongs
+/// are held and there are no more observers than the limits allow; and after events that were accepted, no more bytes are kept of an unfinished message than
 /// the greatest one has.
 pub fn limits_are_kept()
     ensures waiting { (c : ConfigValues) (events : List Event) (id : ℕ) (s : Side) → AreInRange c.limits → side_of id (world_after c events).sides ≡ Some s → length (waiting_on s) ≤ c.limits.queue }
     ensures observers { (c : ConfigValues) (events : List Event) (id : ℕ) (s : Side) → side_of id (world_after c events).sides ≡ Some s → length s.observers ≤ c.limits.observers }
+    ensures held { (c : ConfigValues) (events : List Event) (id : ℕ) (s : Side) → side_of id (world_after c events).sides ≡ Some s → length s.history.held ≤ c.limits.pending }
     ensures kept { (c : ConfigValues) (events : List Event) (id : ℕ) (s : Side) → AreInRange c.limits → AreAccepted c events → side_of id (world_after c events).sides ≡ Some s → length (kept_on s (stream_on c.limits.max_message id events).rest) ≤ c.limits.max_message }
 {}
 
 /// Each observer was told what it holds, after any events: of all responses ever queued on the connection with its token, the last
-/// one has Observe and is the 2.05 with the state that the observer was told last, or the 2.03 with that state's ETag. No two
-/// observers of a connection have one token.
+/// one has Observe and is the 2.05 with the state that the observer was told last, or the 2.03 with that state's ETag; where no request
+/// on the connection that is answered late had that token. No two observers of a connection have one token.
 pub fn observers_were_told_last()
-    ensures told { (c : ConfigValues) (events : List Event) (id : ℕ) (s : Side) → side_of id (world_after c events).sides ≡ Some s → AllByRecursion (WasToldLast s.history.queued) s.observers }
+    ensures told { (c : ConfigValues) (events : List Event) (id : ℕ) (s : Side) → side_of id (world_after c events).sides ≡ Some s → AllByRecursion (λ o. asked_late o.token s.history.handled ≡ false → WasToldLast s.history.queued o) s.observers }
     ensures tokens { (c : ConfigValues) (events : List Event) (id : ℕ) (s : Side) → side_of id (world_after c events).sides ≡ Some s → HaveOwnTokens s.observers }
+{}
+
+/// A Pong with Custody comes after every response to a request that was handled before its Ping (RFC 8323 section 5.4.1): after any
+/// events what is held stands in the order of the messages that asked for it, and such a Pong is queued at once only where nothing is
+/// held, later only where it is the first that is held, and by nothing else that happens to a connection. An answer that a message
+/// asks to be held is held, where there is room, and when it is due first it is sent.
+pub fn custody_comes_last()
+    ensures order { (c : ConfigValues) (events : List Event) (id : ℕ) (s : Side) → side_of id (world_after c events).sides ≡ Some s → StandFor s.history.handled s.history.held }
+    ensures at_once { (store : StoreValue) (now : ℕ) (s : Side) (m : Message) → QueuesCustody s (side_after store now s m) → s.history.held ≡ [] }
+    ensures later { (store : StoreValue) (now : ℕ) (s : Side) → QueuesCustody s (settled_once store now s) → (token : List ℕ) × IsFirstHeld s token }
+    ensures held { (store : StoreValue) (now : ℕ) (s : Side) (m : Message) (seconds : ℕ) → handles s ≡ true → asks_answer s m ≡ true → held_for (after_message s.history m) (answer_of store now m).hold ≡ Some seconds → (side_after store now s m).history ≡ after_hold (after_message s.history m) m.token (moment_after now seconds) }
+    ensures sent { (store : StoreValue) (now : ℕ) (s : Side) (token : List ℕ) (moment : ℕ) → next_held now s ≡ Some (Answer token moment) → (settled_once store now s).history ≡ after_reply (after_due s.history now) (held_message token) }
+    ensures faulted { (s : Side) (fault : StreamFault) → QueuesCustody s (side_faulted s fault) → ⊥ }
+    ensures ended { (s : Side) (cut : Bool) → QueuesCustody s (side_ended s cut) → ⊥ }
+    ensures released { (s : Side) → QueuesCustody s (side_released s) → ⊥ }
+    ensures written { (s : Side) (n : ℕ) → QueuesCustody s (side_written s n) → ⊥ }
 {}

@@ -29,7 +29,7 @@ pub(crate) fn flush<W: Outlet>(
 {
     let first = server.flush_once(id, writer)?;
     let mut last = first;
-    for _ in 0..first.observers {
+    for _ in 0..first.more {
         if !last.waited {
             return Ok(last.stop);
         }

@@ -7,6 +7,7 @@ ghost use Rattle.coap_serve.specs.streams.Device.{AddsBytes, WritesPart};
 ghost use Rattle.coap_serve.specs.values.Flushes.{IsFlushedAt};
 ghost use Rattle.coap_serve.specs.values.Sessions.{SessionValue, session_written, session_ended, session_released, session_settled};
 ghost use Rattle.coap_serve.specs.values.Servers.{LiesAt, session_of, changed_at, settled_entry};
+ghost use Rattle.coap_serve.specs.values.Entries.{settled_held};
 ghost use Rattle.coap_serve.specs.values.ServerAnswers.{released_refusal_on, handled_so};
 
 use crate::config::Config;
@@ -134,7 +135,7 @@ pub struct Status {
     pub kept: usize,
     /// The bytes that wait to be written.
     pub waiting: usize,
-    /// The answers that are held: none are yet.
+    /// The answers and Pongs that are held.
     pub pending: usize,
     /// The observers.
     pub observers: usize,
@@ -149,8 +150,8 @@ pub struct Status {
 pub(crate) struct Flushed {
     /// Whether anything waited.
     pub waited: bool,
-    /// How many observers there were before.
-    pub observers: usize,
+    /// How much was held before, and how many observers there were.
+    pub more: usize,
     /// Why the connection takes no message any more.
     pub stop: Option<Reason>,
 }
@@ -191,7 +192,7 @@ impl Server {
     ghost use Rattle.coap_serve.specs.values.Servers.{new_server, session_of, is_there, server_opened, count_taken, server_taken, server_written, server_ticked, server_put, server_removed, server_ended, server_released, server_dropped};
     ghost use Rattle.coap_serve.specs.values.ServerAnswers.{OpenedOrMemory, open_refusal, handled_by, IsNotTaken, written_refusal, released_refusal, front_of, status_of, stop_on};
     ghost use Rattle.coap_serve.specs.streams.Device.{AddsBytes, WritesPart};
-    ghost use Rattle.coap_serve.specs.values.Flushes.{waiting_at, observers_at, IsFlushedOnce};
+    ghost use Rattle.coap_serve.specs.values.Flushes.{waiting_at, more_at, IsFlushedOnce};
     ghost use Rattle.coap_serve.specs.contracts.server.Server.{the_row};
 
     /// A server with no connection, that stores nothing, whose counts begin where the configuration says.
@@ -266,7 +267,7 @@ impl Server {
         match self.sessions[at].take(&mut self.host, piece) {
             Err(bytes) => Err(TakeFault::Memory { bytes }),
             Ok(taking) => {
-                settle_where(taking.changed, &mut self.sessions, &self.host);
+                settle_after(taking.changed, &mut self.sessions, at, &self.host);
                 let stop = self.sessions[at].phase().stop();
                 Ok(Taken {
                     bytes: taking.count,
@@ -310,8 +311,8 @@ impl Server {
         Ok(())
     }
 
-    /// Writes all that waits on a connection, where anything does, and settles then. Answers whether anything waited, how many
-    /// observers there were, and why the connection takes no message any more.
+    /// Writes all that waits on a connection, where anything does, and settles then. Answers whether anything waited, how much was held
+    /// and how many observers there were, and why the connection takes no message any more.
     ///
     /// # Errors
     ///
@@ -323,7 +324,7 @@ impl Server {
     ) -> Result<Flushed, WriteFailed>
         requires { W.is_failed writer.old ≡ false }
         ensures ok { IfOk result (λ f. IsFlushedOnce id self.old self.new (AddsBytes (W.written writer.old) (W.written writer.new)) f.waited) }
-        ensures observers { IfOk result (λ f. f.observers ≡ observers_at id self.old) }
+        ensures more { IfOk result (λ f. f.more ≡ more_at id self.old) }
         ensures stop { IfOk result (λ f. f.stop ≡ stop_on (session_of id self.new.sessions)) }
         ensures part { OnErr result (WritesPart (W.written writer.old) (W.written writer.new) (waiting_at id self.old)) }
         ensures failure { W.is_failed writer.new ≡ is_err result }
@@ -331,18 +332,14 @@ impl Server {
         let Some(at) = find(&self.sessions, id) else {
             return Ok(Flushed {
                 waited: false,
-                observers: 0,
+                more: 0,
                 stop: None,
             });
         };
-        let observers = self.sessions[at].observers();
+        let more = self.sessions[at].more();
         let waited = flush_at(&mut self.sessions, at, &self.host, writer)?;
         let stop = self.sessions[at].phase().stop();
-        Ok(Flushed {
-            waited,
-            observers,
-            stop,
-        })
+        Ok(Flushed { waited, more, stop })
     }
 
     /// The moment is now this one, in seconds.
@@ -468,7 +465,7 @@ impl Server {
             phase: session.phase(),
             kept: session.kept(),
             waiting: session.waiting(),
-            pending: 0,
+            pending: session.pending(),
             observers: session.observers(),
             peer_max: session.peer_max(),
             finished: session.finished(),
@@ -493,12 +490,15 @@ fn settle_all(sessions: &mut Sessions, host: &Host)
     }
 }
 
-/// Every connection settles where this holds.
-fn settle_where(changed: bool, sessions: &mut Sessions, host: &Host)
-    ensures { sessions.new.entries ≡ (if changed then map (settled_entry host.entry.now) sessions.old.entries else sessions.old.entries) }
+/// Every connection settles where a message changed a resource, and else the one at an index, where it holds something.
+fn settle_after(changed: bool, sessions: &mut Sessions, at: usize, host: &Host)
+    requires { at < length sessions.old.entries }
+    ensures { sessions.new.entries ≡ (if changed then map (settled_entry host.entry.now) sessions.old.entries else changed_at at (settled_held host.entry.now) sessions.old.entries) }
 {
     if changed {
         settle_all(sessions, host);
+    } else {
+        sessions[at].settle_held(host);
     }
 }
 

@@ -7,7 +7,7 @@ ghost use Rattle.coap_store.specs.Changes.{IsPut, changes};
 ghost use Rattle.coap_serve.specs.values.Sessions.{change_by, host_changed, observers_on, session_handled, session_with};
 ghost use Rattle.coap_serve.specs.values.Entries.{framer_on};
 
-use crate::answering::{answer, notify};
+use crate::answering::{answer, notify, send_due};
 use crate::host::Host;
 use crate::observers::Observers;
 use coap_conn::{Limits, Link, Phase, Reject, Role, SendFault, Verdict};
@@ -63,7 +63,7 @@ impl Model for Session {
 }
 
 impl Session {
-    ghost use Rattle.std.specs.Prelude.{◌≡◌, ◌≤◌, ⊤, length, take, is_some, IfOk, IfErr, OnOk, OnErr};
+    ghost use Rattle.std.specs.Prelude.{◌≡◌, ◌≤◌, ◌+◌, ◌||◌, ⊤, length, take, is_some, IfOk, IfErr, OnOk, OnErr};
     ghost use Rattle.std.specs.Borrow.{sem, follows_so};
     ghost use mathlib.Core.Option.{none};
     ghost use Rattle.coap_wire.specs.Refusal.{RefusedBy};
@@ -71,7 +71,8 @@ impl Session {
     ghost use Rattle.coap_conn.specs.LinkValue.{is_finished};
     ghost use Rattle.coap_conn.specs.Release.{release_refusal};
     ghost use Rattle.coap_store.specs.Changes.{changes};
-    ghost use Rattle.coap_serve.specs.values.Sessions.{new_session, session_takes, next_stale, session_settled_once, taking, host_changed, session_written, session_ended, session_released, session_settled, IsSettled, RefusesPiece};
+    ghost use Rattle.coap_serve.specs.values.Sessions.{new_session, session_takes, next_held_in, next_stale, session_notified, session_settled_once, taking, host_changed, session_written, session_ended, session_released, session_settled, IsSettled, RefusesPiece};
+    ghost use Rattle.coap_serve.specs.values.Entries.{settled_held};
     ghost use Rattle.coap_serve.specs.contracts.session.Session.{the_row};
 
     /// A new connection with these limits, whose own Capabilities and Settings wait. All its room is reserved here.
@@ -152,27 +153,50 @@ impl Session {
         }
     }
 
-    /// Notifies the observers that are due, one after the other, as long as there is room for the greatest message sent
-    /// (RFC 7641 section 4.2).
+    /// Sends what is held and due, and notifies the observers that are due, one after the other, as long as there is room for the
+    /// greatest message sent (RFC 8323 section 5.4.1, RFC 7641 section 4.2).
     pub(crate) fn settle(&mut self, host: &Host)
         ensures after { self.new ≡ session_settled host.entry.now self.old }
         ensures settled { IsSettled host.entry.now self.new }
     {
-        for _ in 0..self.observers.len() {
+        for _ in 0..self.more() {
             if !self.settle_once(host) {
                 return;
             }
         }
     }
 
-    /// Notifies the first observer that is due, where there is one and there is room, and answers whether there was.
+    /// The same where something is held: no observer is due then.
+    pub(crate) fn settle_held(&mut self, host: &Host)
+        ensures { self.new ≡ settled_held host.entry.now self.old }
+    {
+        if self.link.pending() > 0 {
+            self.settle(host);
+        }
+    }
+
+    /// Sends what is held and due first, or else notifies the first observer that is due, where there is room, and answers whether
+    /// there was any.
     fn settle_once(&mut self, host: &Host) -> bool
         ensures after { self.new ≡ session_settled_once host.entry.now self.old }
-        ensures found { result ≡ is_some (next_stale host.entry.now self.old) }
+        ensures found { result ≡ (is_some (next_held_in host.entry.now.now self.old) || is_some (next_stale host.entry.now self.old)) }
     {
         if !self.link.ready() {
             return false;
         }
+        if send_due(&mut self.link, host.now) {
+            give_up(&mut self.framer, &self.link, &mut self.observers);
+            return true;
+        }
+        self.notify_once(host)
+    }
+
+    /// Notifies the first observer that is due, where there is one, and answers whether there was. There must be room.
+    fn notify_once(&mut self, host: &Host) -> bool
+        requires { IsReady self.old.link }
+        ensures after { self.new ≡ session_notified host.entry.now self.old (next_stale host.entry.now self.old) }
+        ensures found { result ≡ is_some (next_stale host.entry.now self.old) }
+    {
         let Some(index) = self.observers.first_stale(host) else {
             return false;
         };
@@ -239,6 +263,20 @@ impl Session {
         ensures { result ≡ length self.now.link.waiting }
     {
         self.link.waiting()
+    }
+
+    /// How many answers and Pongs are held.
+    pub(crate) fn pending(&self) -> usize
+        ensures { result ≡ length self.now.link.held }
+    {
+        self.link.pending()
+    }
+
+    /// How many are held, and how many observers there are, together.
+    pub(crate) fn more(&self) -> usize
+        ensures { result ≡ length self.now.link.held + length self.now.observers }
+    {
+        self.link.pending() + self.observers.len()
     }
 
     /// How many observers there are.

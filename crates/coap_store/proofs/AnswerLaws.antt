@@ -13,7 +13,7 @@ use Rattle.coap_store.specs.Store.{Representation, StoreValue, found_in}
 use Rattle.coap_store.specs.State.{is_dynamic, is_async, place_of, key_for, stored_at, state_at, Target, target_of}
 use Rattle.coap_store.specs.Listing.{listing}
 use Rattle.coap_store.specs.Requests.{values_of, value_of, number_of, has_option, is_get, is_delete, is_method, path_of, preconditions_hold, is_good_query}
-use Rattle.coap_store.specs.Answer.{Answer, only, says, when, refuse, first_of, is_accepted, etag_at, is_among, valid, content, watched, late, get_answer, greatest_version, stored_under, too_large, store_answer, deletion, delete_answer, needs_resource, read_answer, method_answer, resource_answer, answer_at, removes_watch, finally, answer_of, unheld_by, unheld, prompt_answer}
+use Rattle.coap_store.specs.Answer.{Answer, only, says, when, refuse, first_of, is_accepted, etag_at, is_among, valid, content, watched, late, get_answer, greatest_version, stored_under, too_large, store_answer, deletion, delete_answer, needs_resource, read_answer, method_answer, resource_answer, answer_at, removes_watch, finally, answer_of, unheld_by, unheld}
 use Rattle.coap_store.specs.Changes.{TakesPut, TakesChange, changes}
 use Rattle.coap_store.specs.declared.place.Place.{Place}
 use Rattle.coap_store.specs.declared.place.Place.TheVariants.{Root, Time, Async, Listing, Dynamic}
@@ -37,15 +37,21 @@ is_error c = nat_le 128 c
 abbrev pub OfErrors : (Answer → Type 0) → Type 0
 OfErrors P = (c : ℕ) → is_error c ≡ true → P (says (only c))
 
--- what holds of each answer to a GET of a representation
-pub record OfContents (P : Answer → Type 0) (place : Place) (r : Representation) (m : Message) : Type 0 where
+-- what holds of each answer to a GET of a representation, where what was checked before is known
+pub record OfKnownContents (P : Answer → Type 0) (place : Place) (r : Representation) (m : Message) : Type 0 where
   pub valid : is_among (etag_at place r) (values_of numbers.etag m) ≡ true → P (watched place m (valid place r))
-  pub late : P (late place r m)
+  pub late : is_async place ≡ true → is_good_query (value_of numbers.uri_query m) ≡ true → P (late place r m)
   pub content : P (watched place m (content place r))
 
-pub get_cases : (P : Answer → Type 0) (place : Place) (r : Representation) (m : Message) → OfErrors P → OfContents P place r m → P (get_answer place r m)
+-- the query is good where a bad one is refused
+good_query : (waits good : Bool) → (waits && not good) ≡ false → waits ≡ true → good ≡ true
+good_query true true e is = refl
+good_query true false e is = sym e
+good_query false good e is = absurd cc
+
+pub known_get_cases : (P : Answer → Type 0) (place : Place) (r : Representation) (m : Message) → OfErrors P → OfKnownContents P place r m → P (get_answer place r m)
 unfolding get_answer
-get_cases P place r m errors contents =
+known_get_cases P place r m errors contents =
     let last = watched place m (content place r) in
     let wants_late = is_async place && not (is_good_query (value_of numbers.uri_query m)) in
     let fourth = when (is_async place) (late place r m) ∷ [] in
@@ -55,8 +61,17 @@ get_cases P place r m errors contents =
     let other_format = not (is_accepted (number_of numbers.accept m) r.format) in
     checked P other_format (says (only code.not_acceptable)) second last (λ _. errors code.not_acceptable refl) (λ _.
     checked P is_valid (watched place m (valid place r)) third last (λ among. contents.valid among) (λ _.
-    checked P wants_late (says (only code.bad_request)) fourth last (λ _. errors code.bad_request refl) (λ _.
-    checked P (is_async place) (late place r m) [] last (λ _. contents.late) (λ _. contents.content))))
+    checked P wants_late (says (only code.bad_request)) fourth last (λ _. errors code.bad_request refl) (λ good.
+    checked P (is_async place) (late place r m) [] last (λ waits. contents.late waits (good_query _ _ good waits)) (λ _. contents.content))))
+
+-- what holds of each answer to a GET of a representation
+pub record OfContents (P : Answer → Type 0) (place : Place) (r : Representation) (m : Message) : Type 0 where
+  pub valid : is_among (etag_at place r) (values_of numbers.etag m) ≡ true → P (watched place m (valid place r))
+  pub late : P (late place r m)
+  pub content : P (watched place m (content place r))
+
+pub get_cases : (P : Answer → Type 0) (place : Place) (r : Representation) (m : Message) → OfErrors P → OfContents P place r m → P (get_answer place r m)
+get_cases P place r m errors contents = known_get_cases P place r m errors (record { valid = contents.valid; late = λ waits good. contents.late; content = contents.content })
 
 -- nothing speaks against storing
 pub record CanStore (s : StoreValue) (t : Target) (m : Message) : Type 0 where
@@ -85,6 +100,12 @@ pub record OfMethods (P : Answer → Type 0) (s : StoreValue) (t : Target) (m : 
   pub deleted : is_dynamic t.place ≡ true → is_get m ≡ false → P (delete_answer t)
   pub stored : is_dynamic t.place ≡ true → is_get m ≡ false → P (store_answer s t m)
 
+-- where a GET is known to be one
+pub record OfKnownMethods (P : Answer → Type 0) (s : StoreValue) (t : Target) (m : Message) : Type 0 where
+  pub read : is_get m ≡ true → (r : Representation) → t.state ≡ Some r → P (get_answer t.place r m)
+  pub deleted : is_dynamic t.place ≡ true → is_get m ≡ false → P (delete_answer t)
+  pub stored : is_dynamic t.place ≡ true → is_get m ≡ false → P (store_answer s t m)
+
 read_cases : (P : Answer → Type 0) (place : Place) (state : Option Representation) (m : Message) → OfErrors P → ((r : Representation) → state ≡ Some r → P (get_answer place r m)) → P (read_answer place state m)
 read_cases P place None m errors read = errors code.not_found refl
 read_cases P place (Some r) m errors read = read r refl
@@ -95,14 +116,14 @@ not_get true g e f = refl
 not_get false true e f = sym f
 not_get false false e f = sym e
 
-method_cases : (P : Answer → Type 0) (s : StoreValue) (t : Target) (m : Message) → OfErrors P → OfMethods P s t m → (not (is_dynamic t.place) && not (is_get m)) ≡ false → P (method_answer s t m)
+method_cases : (P : Answer → Type 0) (s : StoreValue) (t : Target) (m : Message) → OfErrors P → OfKnownMethods P s t m → (not (is_dynamic t.place) && not (is_get m)) ≡ false → P (method_answer s t m)
 unfolding method_answer
 method_cases P s t m errors methods allowed =
-    chosen P (is_get m) _ _ (λ _. read_cases P t.place t.state m errors methods.read) (λ other.
+    chosen P (is_get m) _ _ (λ get. read_cases P t.place t.state m errors (methods.read get)) (λ other.
     let dynamic : is_dynamic t.place ≡ true = not_get _ _ allowed other in
     chosen P (is_delete m) _ _ (λ _. methods.deleted dynamic other) (λ _. methods.stored dynamic other))
 
-resource_cases : (P : Answer → Type 0) (s : StoreValue) (t : Target) (m : Message) → OfErrors P → OfMethods P s t m → P (resource_answer s t m)
+resource_cases : (P : Answer → Type 0) (s : StoreValue) (t : Target) (m : Message) → OfErrors P → OfKnownMethods P s t m → P (resource_answer s t m)
 unfolding resource_answer
 resource_cases P s t m errors methods =
     let last = method_answer s t m in
@@ -116,9 +137,9 @@ resource_cases P s t m errors methods =
     checked P fails (says (only code.precondition_failed)) [] last (λ _. errors code.precondition_failed refl) (λ _.
     method_cases P s t m errors methods allowed)))
 
-pub answer_cases : (P : Answer → Type 0) (s : StoreValue) (t : Target) (m : Message) → OfErrors P → OfMethods P s t m → P (answer_at s t m)
+pub known_answer_cases : (P : Answer → Type 0) (s : StoreValue) (t : Target) (m : Message) → OfErrors P → OfKnownMethods P s t m → P (answer_at s t m)
 unfolding answer_at
-answer_cases P s t m errors methods =
+known_answer_cases P s t m errors methods =
     let last = resource_answer s t m in
     let third = refuse (not (is_method m)) code.method_not_allowed ∷ [] in
     let asks_proxy = has_option numbers.proxy_uri m || has_option numbers.proxy_scheme m in
@@ -128,6 +149,9 @@ answer_cases P s t m errors methods =
     checked P asks_proxy (says (only code.proxying_not_supported)) third last (λ _. errors code.proxying_not_supported refl) (λ _.
     checked P (not (is_method m)) (says (only code.method_not_allowed)) [] last (λ _. errors code.method_not_allowed refl) (λ _.
     resource_cases P s t m errors methods)))
+
+pub answer_cases : (P : Answer → Type 0) (s : StoreValue) (t : Target) (m : Message) → OfErrors P → OfMethods P s t m → P (answer_at s t m)
+answer_cases P s t m errors methods = known_answer_cases P s t m errors (record { read = λ get. methods.read; deleted = methods.deleted; stored = methods.stored })
 
 -- ---- what becomes of an answer afterwards
 
@@ -230,12 +254,6 @@ taken_of s now m small =
     let a = answer_at s (target_of s now (path_of m)) m in
     subst (TakesChange s) (sym (change_finally (removes_watch m) a)) (taken_at s now (path_of m) m small)
 
-pub taken : (s : StoreValue) (now : ℕ) (m : Message) → s.versions < 2 ^ 64 → TakesChange s (prompt_answer s now m).change
-unfolding prompt_answer
-taken s now m small =
-    let a = answer_of s now m in
-    subst (TakesChange s) (sym (change_unheld a.hold a)) (taken_of s now m small)
-
 -- ---- what says that the store changes has no payload
 
 -- no payload beside a change
@@ -259,16 +277,11 @@ bare_finally : (b : Bool) (a : Answer) → IsBare a → IsBare (finally b a)
 bare_finally true a is = is
 bare_finally false a is = is
 
-bare_unheld : (hold : Option ℕ) (a : Answer) → IsBare a → IsBare (unheld_by hold a)
-bare_unheld None a is = is
-bare_unheld (Some seconds) a is = λ h. refl
-
-pub bare : (s : StoreValue) (now : ℕ) (m : Message) → changes (prompt_answer s now m).change ≡ true → (prompt_answer s now m).response.payload ≡ []
-unfolding prompt_answer answer_of
-bare s now m =
+pub bare_of : (s : StoreValue) (now : ℕ) (m : Message) → changes (answer_of s now m).change ≡ true → (answer_of s now m).response.payload ≡ []
+unfolding answer_of
+bare_of s now m =
     let a = answer_at s (target_of s now (path_of m)) m in
-    let b = finally (removes_watch m) a in
-    bare_unheld b.hold b (bare_finally (removes_watch m) a (bare_at s (target_of s now (path_of m)) m))
+    bare_finally (removes_watch m) a (bare_at s (target_of s now (path_of m)) m)
 
 -- ---- how long a payload is
 
@@ -312,14 +325,9 @@ short_finally : (b : Bool) (a : Answer) → IsShort a → IsShort (finally b a)
 short_finally true a is = is
 short_finally false a is = is
 
-short_unheld : (hold : Option ℕ) (a : Answer) → IsShort a → IsShort (unheld_by hold a)
-short_unheld None a is = is
-short_unheld (Some seconds) a is = omega arith
-
-pub short : (s : StoreValue) (now : ℕ) (m : Message) → length (listing s.resources) ≤ 1048576 → ((path : Path) (r : Representation) → found_in s.resources path ≡ Some r → length r.bytes ≤ 1048576) → now < 2 ^ 64 → length (prompt_answer s now m).response.payload ≤ 1048576
-unfolding prompt_answer answer_of
-short s now m listed each small =
+pub short_of : (s : StoreValue) (now : ℕ) (m : Message) → length (listing s.resources) ≤ 1048576 → ((path : Path) (r : Representation) → found_in s.resources path ≡ Some r → length r.bytes ≤ 1048576) → now < 2 ^ 64 → length (answer_of s now m).response.payload ≤ 1048576
+unfolding answer_of
+short_of s now m listed each small =
     let a = answer_at s (target_of s now (path_of m)) m in
-    let b = finally (removes_watch m) a in
     let are : AreShort s = record { listing = listed; stored = each } in
-    short_unheld b.hold b (short_finally (removes_watch m) a (short_at s now (path_of m) m are small))
+    short_finally (removes_watch m) a (short_at s now (path_of m) m are small)

@@ -6,16 +6,20 @@ use Rattle.arrayvec.specs.declared.array_vec.ArrayVec.{ArrayVec}
 use Rattle.coap_wire.specs.Message.{Message}
 use Rattle.coap_wire.specs.OptionNumbers as numbers
 use Rattle.coap_store.specs.Store.{Representation}
-use Rattle.coap_store.specs.Requests.{number_of, values_of}
+use Rattle.coap_store.specs.Requests.{number_of, values_of, value_of, is_good_query}
 use Rattle.coap_store.specs.State.{is_async}
-use Rattle.coap_store.specs.Answer.{get_answer, unheld, is_accepted, etag_at, is_among, watched, valid, content}
+use Rattle.coap_store.specs.Answer.{get_answer, is_accepted, etag_at, is_among, watched, valid, late, content}
 use Rattle.coap_store.specs.declared.place.Place.{Place}
 
-pub get_valid : (place : Place) (r : Representation) (m : Message) → is_accepted (number_of numbers.accept m) r.format ≡ true → is_among (etag_at place r) (values_of numbers.etag m) ≡ true → unheld (get_answer place r m) ≡ watched place m (valid place r)
+pub get_valid : (place : Place) (r : Representation) (m : Message) → is_accepted (number_of numbers.accept m) r.format ≡ true → is_among (etag_at place r) (values_of numbers.etag m) ≡ true → get_answer place r m ≡ watched place m (valid place r)
 unfolding get_answer
 get_valid place r m accepted among = rw (accepted, among) refl
 
-pub get_content : (place : Place) (r : Representation) (m : Message) → is_accepted (number_of numbers.accept m) r.format ≡ true → is_among (etag_at place r) (values_of numbers.etag m) ≡ false → is_async place ≡ false → unheld (get_answer place r m) ≡ watched place m (content place r)
+pub get_late : (place : Place) (r : Representation) (m : Message) → is_accepted (number_of numbers.accept m) r.format ≡ true → is_among (etag_at place r) (values_of numbers.etag m) ≡ false → is_async place ≡ true → is_good_query (value_of numbers.uri_query m) ≡ true → get_answer place r m ≡ late place r m
+unfolding get_answer
+get_late place r m accepted among waits good = rw (accepted, among, waits, good) refl
+
+pub get_content : (place : Place) (r : Representation) (m : Message) → is_accepted (number_of numbers.accept m) r.format ≡ true → is_among (etag_at place r) (values_of numbers.etag m) ≡ false → is_async place ≡ false → get_answer place r m ≡ watched place m (content place r)
 unfolding get_answer
 get_content place r m accepted among prompt = rw (accepted, among, prompt) refl
 

@@ -21,3 +21,4 @@ pub mod StateLemmas
 pub mod NotificationLaws
 pub mod RememberingLaws
 pub mod WatchLaws
+pub mod HoldLaws

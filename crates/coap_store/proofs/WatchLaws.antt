@@ -125,6 +125,10 @@ watched_of : (s : StoreValue) (now : ℕ) (m : Message) → WatchesWell s now (p
 unfolding answer_of
 watched_of s now m = watched_finally s now (path_of m) (removes_watch m) (answer_at s (target_of s now (path_of m)) m) (watched_at s now (path_of m) m)
 
+-- it is not held
+pub watched_at_once : (s : StoreValue) (now : ℕ) (m : Message) → (answer_of s now m).watch ≡ watch.Add → (answer_of s now m).hold ≡ None
+watched_at_once s now m e = (watched_of s now m e).at_once
+
 pub watched_is_there : (s : StoreValue) (now : ℕ) (m : Message) → (answer_of s now m).watch ≡ watch.Add → MayWatch s now (path_of m) (answer_of s now m)
 watched_is_there s now m e = (watched_of s now m e).may
 

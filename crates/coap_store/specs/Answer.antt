@@ -1,5 +1,5 @@
 -- The answer to a request (RFC 7252 sections 5.8 to 5.10 and 12.1, RFC 6690 section 4, RFC 7641 section 4.1).
-use Rattle.std.specs.Prelude.{ℕ, Bool, true, false, not, ◌&&◌, ◌||◌, List, [], ◌∷◌, length, Option, Some, None, is_some, is_none, nat_le, nat_lt, ◌==◌, if◌then◌else◌}
+use Rattle.std.specs.Prelude.{ℕ, Bool, true, false, not, ◌&&◌, ◌||◌, List, [], ◌∷◌, length, Option, Some, None, codes, is_some, is_none, nat_le, nat_lt, ◌==◌, if◌then◌else◌}
 use Rattle.std.specs.List.{list_any}
 use Rattle.coap_wire.specs.Message.{Message}
 use Rattle.coap_wire.specs.Codes as code
@@ -7,7 +7,7 @@ use Rattle.coap_wire.specs.OptionNumbers as numbers
 use Rattle.coap_wire.specs.Recognition.{first_critical}
 use Rattle.coap_store.specs.Paths.{Path, same_bytes}
 use Rattle.coap_store.specs.Store.{Representation, StoreValue, put_in, removed_in}
-use Rattle.coap_store.specs.State.{is_dynamic, is_time, is_async, is_observable, Target, target_of}
+use Rattle.coap_store.specs.State.{is_dynamic, is_time, is_async, is_observable, place_of, text_plain, Target, target_of}
 use Rattle.coap_store.specs.declared.place.Place.{Place}
 use Rattle.coap_store.specs.declared.plan.Watch.{Watch}
 use Rattle.coap_store.specs.declared.plan.Watch.TheVariants as watch
@@ -103,6 +103,14 @@ watched place m r = record (says r) { watch = watch_of place m }
 -- the answer is held as long as the query asks
 abbrev pub late : Place → Representation → Message → Answer
 late place r m = record (says (content place r)) { hold = Some (seconds_of (value_of numbers.uri_query m)) }
+
+-- the response of every answer that is held
+abbrev pub held_response : Response
+held_response = record (only code.content) { format = Some text_plain; payload = codes "done" }
+
+-- a GET of the resource that answers late
+abbrev pub asks_late : Message → Bool
+asks_late m = is_get m && is_async (place_of (path_of m))
 
 unfoldable pub get_answer : Place → Representation → Message → Answer
 get_answer place r m =
@@ -213,7 +221,7 @@ changed s Nothing = s
 changed s (Put path format bytes) = put_in s path format bytes
 changed s (Delete path) = removed_in s path
 
--- ---- where nothing can be held
+-- ---- where nothing more can be held
 
 -- an answer that would be held is refused for now
 abbrev pub unheld_by : Option ℕ → Answer → Answer
@@ -223,6 +231,6 @@ unheld_by (Some seconds) a = record a { response = only code.service_unavailable
 abbrev pub unheld : Answer → Answer
 unheld a = unheld_by a.hold a
 
--- the answer of a server that holds none
+-- the answer that is sent at once: what would be held is refused for now
 unfoldable pub prompt_answer : StoreValue → ℕ → Message → Answer
 prompt_answer s now m = unheld (answer_of s now m)

@@ -1,5 +1,5 @@
 -- How a plan is seen: as the answer that it holds.
-use Rattle.std.specs.Prelude.{None, option_map}
+use Rattle.std.specs.Prelude.{option_map}
 use Rattle.coap_store.specs.Answer.{Answer}
 use Rattle.coap_store.specs.PlanViews.{bytes_in, effect_value, IsAtPath, IsToldNamed, location_in}
 use Rattle.coap_store.specs.declared.plan.Plan.TheInside.{Inside}
@@ -17,7 +17,7 @@ plan_answer p = record {
   };
   change = effect_value p.effect;
   watch = p.watch;
-  hold = None;
+  hold = p.hold;
 }
 
 -- what a plan changes is at a path of a resource, and a path that it tells has a segment

@@ -6,7 +6,7 @@ ghost use Rattle.coap_wire.specs.OptionNumbers as numbers;
 ghost use Rattle.coap_store.specs.Paths.{is_path};
 ghost use Rattle.coap_store.specs.Store.{Representation};
 ghost use Rattle.coap_store.specs.Requests.{path_of as path_asked, values_of, is_method as is_known_method, preconditions_hold as hold};
-ghost use Rattle.coap_store.specs.Answer.{get_answer, read_answer, unheld, etag_at, max_age_at, is_accepted as accepts, is_among as is_one_of, watch_of, removes_watch as asks_removal, stored as stored_there, delete_answer};
+ghost use Rattle.coap_store.specs.Answer.{get_answer, read_answer, etag_at, max_age_at, is_accepted as accepts, is_among as is_one_of, watch_of, removes_watch as asks_removal, stored as stored_there, delete_answer};
 ghost use Rattle.coap_store.specs.TargetViews.{found_value, target_value};
 
 use crate::path::PathKey;
@@ -26,15 +26,15 @@ impl Store {
     ghost use Rattle.coap_store.specs.Store.{found_in};
     ghost use Rattle.coap_store.specs.State.{place_of, target_of, state_at};
     ghost use Rattle.coap_store.specs.declared.place.Place.TheVariants.{Dynamic};
-    ghost use Rattle.coap_store.specs.Answer.{answer_at, resource_answer, store_answer, needs_resource as needs, unheld, prompt_answer};
+    ghost use Rattle.coap_store.specs.Answer.{answer_of, answer_at, resource_answer, store_answer, needs_resource as needs};
     ghost use Rattle.coap_store.specs.Changes.{TakesChange, changes};
     ghost use Rattle.coap_store.specs.Invariant.{IsStore};
     ghost use Rattle.coap_store.specs.TargetViews.{found_value, target_value};
 
     /// The answer to a request at a moment in seconds. It allocates nothing, and changes nothing: `apply` makes the change.
-    /// No answer is held yet: where one would be, it is 5.03.
+    /// A GET of the resource that answers late is held for as many seconds as it asks: the plan tells how many.
     pub fn answer<'s, 'r>(&'s self, request: &'r MessageRef<'r>, now: u64) -> Plan<'s, 'r>
-        ensures answer { result ≡ prompt_answer self.now now request.now }
+        ensures answer { result ≡ answer_of self.now now request.now }
         ensures taken { TakesChange self.now result.change }
         ensures bare { changes result.change ≡ true → result.response.payload ≡ [] }
         ensures short { length result.response.payload ≤ 1048576 }
@@ -53,7 +53,7 @@ impl Store {
     /// The answer by the checks of the request alone, and then those of the resource.
     #[tactic(auto, unfolding(crate::specs::Answer::answer_at))]
     fn checked<'s, 'r>(&'s self, asked: &Asked<'r, 'r>, now: u64) -> Plan<'s, 'r>
-        ensures { result ≡ unheld (answer_at self.now (target_of self.now now (path_of asked.now)) asked.now) }
+        ensures { result ≡ answer_at self.now (target_of self.now now (path_of asked.now)) asked.now }
     {
         if asked.has_bad_option() {
             return Plan::only(Code::BAD_OPTION);
@@ -141,7 +141,7 @@ impl Store {
     fn at_target<'s, 'r>(&'s self, asked: &Asked<'r, 'r>, target: Target<'s>) -> Plan<'s, 'r>
         requires path { target.is_path ≡ is_path (path_of asked.now) }
         requires place { target.place ≡ place_of (path_of asked.now) }
-        ensures { result ≡ unheld (resource_answer self.now (target_value asked.now target.entry) asked.now) }
+        ensures { result ≡ resource_answer self.now (target_value asked.now target.entry) asked.now }
     {
         let code = asked.code();
         if target.state.is_none() && self.needs_resource(code) {
@@ -174,7 +174,7 @@ impl Store {
     fn put_or_post<'s, 'r>(&'s self, asked: &Asked<'r, 'r>, target: Target<'s>) -> Plan<'s, 'r>
         requires path { target.is_path ≡ is_path (path_of asked.now) }
         requires place { place_of (path_of asked.now) ≡ Dynamic }
-        ensures { result ≡ unheld (store_answer self.now (target_value asked.now target.entry) asked.now) }
+        ensures { result ≡ store_answer self.now (target_value asked.now target.entry) asked.now }
     {
         let is_new = target.state.is_none();
         let greatest = self.rep_max();
@@ -214,7 +214,7 @@ fn preconditions_hold(asked: &Asked, state: Option<&Found>) -> bool
 
 /// The answer to GET (RFC 7252 section 5.8.1).
 fn read<'s, 'r>(asked: &Asked<'_, 'r>, target: Target<'s>) -> Plan<'s, 'r>
-    ensures { result ≡ unheld (read_answer target.entry.place (option_map found_value target.entry.state) asked.now) }
+    ensures { result ≡ read_answer target.entry.place (option_map found_value target.entry.state) asked.now }
 {
     let Target {
         is_path: _,
@@ -227,10 +227,11 @@ fn read<'s, 'r>(asked: &Asked<'_, 'r>, target: Target<'s>) -> Plan<'s, 'r>
     }
 }
 
-/// The answer to GET at a resource.
+/// The answer to GET at a resource. At the one that answers late it is held for as many seconds as the first Uri-Query says, 5
+/// where there is none.
 #[tactic(auto, unfolding(crate::specs::Answer::get_answer))]
 fn get<'s, 'r>(asked: &Asked<'_, 'r>, place: Place, found: Found<'s>) -> Plan<'s, 'r>
-    ensures { result ≡ unheld (get_answer place (found_value found.entry) asked.now) }
+    ensures { result ≡ get_answer place (found_value found.entry) asked.now }
 {
     if !is_accepted(asked.accept(), found.format) {
         return Plan::only(Code::NOT_ACCEPTABLE);
@@ -243,7 +244,7 @@ fn get<'s, 'r>(asked: &Asked<'_, 'r>, place: Place, found: Found<'s>) -> Plan<'s
         return Plan::only(Code::BAD_REQUEST);
     }
     if place.is_async() {
-        return Plan::only(Code::SERVICE_UNAVAILABLE);
+        return Plan::content(etag, found, max_age_of(place), Watch::Nothing).held(asked.seconds());
     }
     Plan::content(etag, found, max_age_of(place), watch_for(asked, place))
 }

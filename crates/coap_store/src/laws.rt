@@ -7,7 +7,7 @@ ghost use Rattle.coap_store.specs.Paths.{Path, is_path};
 ghost use Rattle.coap_store.specs.Store.{Representation, StoreValue, found_in, put_in, removed_in};
 ghost use Rattle.coap_store.specs.State.{place_of, state_of};
 ghost use Rattle.coap_store.specs.Requests.{is_get, path_of, etag_of};
-ghost use Rattle.coap_store.specs.Answer.{Change, Nothing, Put, Delete, answer_of, prompt_answer, changed};
+ghost use Rattle.coap_store.specs.Answer.{Change, Nothing, Put, Delete, only, held_response, asks_late, answer_of, prompt_answer, changed};
 ghost use Rattle.coap_store.specs.Changes.{says_change, TakesChange, HasSmallFormat, changed_by, TakesChanges};
 ghost use Rattle.coap_store.specs.Invariant.{AreDistinct, IsStore};
 ghost use Rattle.coap_store.specs.Refusals.{put_refusal};
@@ -26,7 +26,7 @@ pub fn store_changes_where_said()
     ensures not_said { (s : StoreValue) (now : ℕ) (m : Message) → IsFalse (says_change (answer_of s now m).response (state_of s now (path_of m))) → changed s (answer_of s now m).change ≡ s }
 {}
 
-/// The same where no answer can be held.
+/// The same where no more answers can be held.
 pub fn store_changes_where_said_promptly()
     ensures said { (s : StoreValue) (now : ℕ) (m : Message) → IsTrue (says_change (prompt_answer s now m).response (state_of s now (path_of m))) → changed s (prompt_answer s now m).change ≢ s }
     ensures not_said { (s : StoreValue) (now : ℕ) (m : Message) → IsFalse (says_change (prompt_answer s now m).response (state_of s now (path_of m))) → changed s (prompt_answer s now m).change ≡ s }
@@ -136,4 +136,14 @@ pub fn notifications_tell_the_state()
 pub fn what_is_watched_is_there()
     ensures watched { (s : StoreValue) (now : ℕ) (m : Message) → (answer_of s now m).watch ≡ Add → MayWatch s now (path_of m) (answer_of s now m) }
     ensures promptly { (s : StoreValue) (now : ℕ) (m : Message) → (prompt_answer s now m).watch ≡ Add → MayWatch s now (path_of m) (prompt_answer s now m) }
+{}
+
+/// Only a GET of the resource that answers late is held, for at most 3,600 seconds; it changes nothing, asks for no observer, and
+/// its response is always the same one. Where it cannot be held, it is 5.03.
+pub fn what_is_held_is_one_response()
+    ensures held { (s : StoreValue) (now : ℕ) (m : Message) (seconds : ℕ) → (answer_of s now m).hold ≡ Some seconds → IsTrue (asks_late m) × ((answer_of s now m).response ≡ held_response) × ((answer_of s now m).change ≡ Nothing) × (seconds ≤ 3600) }
+    ensures watch { (s : StoreValue) (now : ℕ) (m : Message) (seconds : ℕ) → (answer_of s now m).hold ≡ Some seconds → (answer_of s now m).watch ≢ Add }
+    ensures refused { (s : StoreValue) (now : ℕ) (m : Message) (seconds : ℕ) → (answer_of s now m).hold ≡ Some seconds → (prompt_answer s now m).response ≡ only code.service_unavailable }
+    ensures change { (s : StoreValue) (now : ℕ) (m : Message) → (prompt_answer s now m).change ≡ (answer_of s now m).change }
+    ensures prompt { (s : StoreValue) (now : ℕ) (m : Message) → (answer_of s now m).hold ≡ None → prompt_answer s now m ≡ answer_of s now m }
 {}

@@ -4,6 +4,7 @@
 mod answer;
 mod catalogue;
 mod fault;
+mod late;
 pub mod laws;
 mod notes;
 mod notifications;
@@ -20,6 +21,7 @@ mod trail;
 mod uri_path;
 
 pub use fault::StoreFault;
+pub use late::held_response;
 pub use path::{PathKey, Segments};
 pub use place::Place;
 pub use plan::{Bytes, Change, Plan, Watch};

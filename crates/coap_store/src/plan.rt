@@ -106,8 +106,9 @@ pub enum Watch {
     Drop,
 }
 
-/// The answer to a request: the response, apart from the request's token, what the request changes, and what it asks of
-/// the observers. It borrows the bytes of the store and of the request. Contracts see an `Answer`.
+/// The answer to a request: the response, apart from the request's token, what the request changes, what it asks of the
+/// observers, and for how long the response is held. It borrows the bytes of the store and of the request. Contracts see an
+/// `Answer`.
 #[derive(Debug, Drop)]
 pub struct Plan<'s, 'r> {
     code: Code,
@@ -120,6 +121,8 @@ pub struct Plan<'s, 'r> {
     payload: Bytes<'s>,
     effect: Effect<'r>,
     watch: Watch,
+    /// For how many seconds the response is held, where it is.
+    hold: Option<u32>,
 }
 
 impl<'s, 'r> Model for Plan<'s, 'r> {
@@ -137,7 +140,7 @@ impl<'s, 'r> Model for Plan<'s, 'r> {
 impl<'s, 'r> Plan<'s, 'r> {
     ghost use Rattle.std.specs.Prelude.{◌≡◌, ◌≢◌, ◌≤◌, true, [], Some, IfSome, length, option_map};
     ghost use Rattle.coap_wire.specs.Codes as code;
-    ghost use Rattle.coap_store.specs.Answer.{says, only};
+    ghost use Rattle.coap_store.specs.Answer.{says, only, unheld};
     ghost use Rattle.coap_store.specs.Changes.{changes as is_change};
     ghost use Rattle.coap_store.specs.Paths.{is_path};
     ghost use Rattle.coap_store.specs.PlanViews.{bytes_in, change_value, effect_value, IsAtPath, IsToldNamed, path_or_root, location_in};
@@ -156,6 +159,7 @@ impl<'s, 'r> Plan<'s, 'r> {
             payload: Bytes::Stored(&[]),
             effect: Effect::Nothing,
             watch: Watch::Nothing,
+            hold: None,
         }
     }
 
@@ -217,6 +221,16 @@ impl<'s, 'r> Plan<'s, 'r> {
         ensures { result ≡ record self.entry { watch = watch } }
     {
         Plan { watch, ..self }
+    }
+
+    /// The same answer, which is held for so many seconds.
+    pub(crate) fn held(self, seconds: u32) -> Plan<'s, 'r>
+        ensures { result ≡ record self.entry { hold = Some seconds } }
+    {
+        Plan {
+            hold: Some(seconds),
+            ..self
+        }
     }
 
     /// The response's code.
@@ -312,6 +326,29 @@ impl<'s, 'r> Plan<'s, 'r> {
         self.watch
     }
 
+    /// For how many seconds the response is held, at most 3,600, where it is held. (Own: no RFC says when a separate response
+    /// comes.)
+    pub fn hold(&self) -> Option<u32>
+        ensures seconds { result ≡ self.now.hold }
+    {
+        self.hold
+    }
+
+    /// The same answer where no more can be held: 5.03 in place of one that would be held.
+    pub fn unheld(self) -> Plan<'s, 'r>
+        ensures { result ≡ unheld self.entry }
+    {
+        match self.hold {
+            None => self,
+            Some(_) => Plan {
+                tells_location: false,
+                effect: self.effect,
+                watch: self.watch,
+                ..Plan::only(Code::SERVICE_UNAVAILABLE)
+            },
+        }
+    }
+
     /// The same answer without a payload, which borrows the request alone.
     pub fn without_payload<'d>(self) -> Plan<'d, 'r>
         ensures { result ≡ record self.entry { response = record self.entry.response { payload = [] } } }
@@ -326,6 +363,7 @@ impl<'s, 'r> Plan<'s, 'r> {
             payload: Bytes::Stored(&[]),
             effect: self.effect,
             watch: self.watch,
+            hold: self.hold,
         }
     }
 }

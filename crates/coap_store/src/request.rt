@@ -97,7 +97,7 @@ fn small_value(bytes: &[u8]) -> u16
 }
 
 impl<'q, 'r> Asked<'q, 'r> {
-    ghost use Rattle.std.specs.Prelude.{◌≡◌, ◌||◌, Option, option_map, is_some};
+    ghost use Rattle.std.specs.Prelude.{◌≡◌, ◌||◌, true, Option, option_map, is_some};
     ghost use Rattle.coap_wire.specs.Recognition.{first_critical};
     ghost use Rattle.std.specs.List.{list_any};
     ghost use Rattle.coap_wire.specs.OptionNumbers as numbers;
@@ -199,6 +199,20 @@ impl<'q, 'r> Asked<'q, 'r> {
         }
     }
 
+    /// For how many seconds the request asks that its answer is held: 5 where it does not say.
+    pub(crate) fn seconds(&self) -> u32
+        requires { spec.is_good_query (spec.value_of numbers.uri_query self.now) ≡ true }
+        ensures { result ≡ spec.seconds_of (spec.value_of numbers.uri_query self.now) }
+    {
+        let Some(bytes) = self.notes.query else {
+            return USUAL_SECONDS;
+        };
+        let Some(seconds) = seconds_in(bytes) else {
+            unreachable!()
+        };
+        u32::from(seconds)
+    }
+
     /// Whether If-Match holds for a resource with this version, or for one that does not exist: it is absent, or one of its
     /// values is empty, or the version's ETag (RFC 7252 section 5.10.8.1).
     pub(crate) fn match_holds(&self, version: Option<u64>) -> bool
@@ -240,6 +254,9 @@ const MAX_DIGITS: usize = 4;
 
 /// The most seconds for which an answer is held.
 const MAX_SECONDS: u16 = 3600;
+
+/// For how many seconds an answer is held where the request does not say.
+const USUAL_SECONDS: u32 = 5;
 
 /// The number of seconds that 1 to 4 decimal digits mean, `None` above 3,600 and for other bytes.
 fn seconds_in(bytes: &[u8]) -> Option<u16>

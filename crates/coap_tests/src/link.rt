@@ -6,14 +6,14 @@
 //! `open` has it announce nothing. Any other opening names the role and the six limits, and nothing is written. Behind
 //! ` | ` the first event can follow at once.
 //!
-//! The events: `hear` a message, `reply` with one, `release`, `reject` bytes (`format`, `large`, `token`), `end` (`cut`,
-//! `whole`), `write` so many bytes, `count` what is pending and outstanding, and `look`. What is told is the event's answer,
-//! or `-`, and then the phase, the greatest message that the peer takes, the bytes that are free, whether the link is ready,
+//! The events: `hear` a message, `reply` with one, `hold` the answer to a token until a moment, `due` at a moment, `release`, `reject`
+//! bytes (`format`, `large`, `token`), `end` (`cut`, `whole`), `write` so many bytes, `count` what is pending and outstanding, and
+//! `look`. What is told is the event's answer, or `-`, and then the phase, the greatest message that the peer takes, the bytes that are free, whether the link is ready,
 //! whether it is finished, and the bytes that wait.
 
 use crate::rows::{bytes, digits, halves, number, same, spelled, strange, words};
 use coap_conn::{Limits, Link, Phase, Reject, Role};
-use coap_wire::{Builder, MessageRef, parse};
+use coap_wire::{Builder, MessageRef, Token, parse};
 use std::alloc::{AllocError, Global};
 use std::process::Abort;
 use std::test::Fail;
@@ -137,6 +137,26 @@ fn reject(rt: &impl Abort, link: &mut Link, word: &str) {
     }
 }
 
+/// Holds the answer to the request with a token until a moment, and tells whether it is.
+fn hold(
+    rt: &(impl Abort + AllocGlobal),
+    link: &mut Link,
+    token: &str,
+    moment: &str,
+) -> Result<String, Fail> {
+    let bytes = bytes(rt.alloc(), token)?;
+    let Ok(token) = Token::try_from(bytes.as_slice()) else {
+        return Ok(format!(in rt.alloc(); "no token")?);
+    };
+    let moment = number(moment)? as u64;
+    match link.phase() {
+        Phase::Open => {}
+        Phase::Waiting | Phase::Releasing(_) | Phase::Stopped(_) => assert!(rt; false),
+    }
+    let held = link.hold(token, moment);
+    Ok(format!(in rt.alloc(); "{held:?}")?)
+}
+
 /// Writes so many bytes of those that wait.
 fn write(rt: &impl Abort, link: &mut Link, count: usize) {
     assert!(rt; count <= link.waiting());
@@ -149,6 +169,12 @@ fn act(rt: &(impl Abort + AllocGlobal), link: &mut Link, event: &str) -> Result<
     match words.as_slice() {
         ["hear", word] => return hear(rt, link, word),
         ["reply", word] => return reply(rt, link, word),
+        ["hold", token, moment] => return hold(rt, link, token, moment),
+        ["due", moment] => {
+            assert!(rt; link.ready());
+            let due = link.due(number(moment)? as u64);
+            return Ok(format!(in rt.alloc(); "{due:?}")?);
+        }
         ["release"] => {
             let answer = link.release();
             return Ok(format!(in rt.alloc(); "{answer:?}")?);
@@ -475,6 +501,73 @@ hear 00bf => Stranger Open 1152 131072 ready unfinished -
 count => pending 0 outstanding 0 Open 1152 131072 ready unfinished -
 hear 001f => Request Open 1152 131072 ready unfinished -";
 
+/// Answers come in order of their moments, of equal ones the first held; a Pong with Custody waits for what was held before its Ping
+/// and for nothing else; no more is held than may be, and then a Pong has no Custody; a Ping without Custody waits for nothing.
+const HOLDS: &str = "\
+= server 1152 1152 1152 3 0 1 | write 5 => - Waiting 1152 1152 ready unfinished -
+due 9 => Nothing Waiting 1152 1152 ready unfinished -
+hear 00e1 => Opened Open 1152 1152 ready unfinished -
+hold 0a 7 => Ok(()) Open 1152 1152 ready unfinished -
+hold 0b 5 => Ok(()) Open 1152 1152 ready unfinished -
+count => pending 2 outstanding 0 Open 1152 1152 ready unfinished -
+hear 11e20120 => Done Open 1152 1152 ready unfinished -
+count => pending 3 outstanding 0 Open 1152 1152 ready unfinished -
+hear 11e20220 => Done Open 1152 1149 unready unfinished 01e302
+write 3 => - Open 1152 1152 ready unfinished -
+hear 01e203 => Done Open 1152 1149 unready unfinished 01e303
+write 3 => - Open 1152 1152 ready unfinished -
+hold 0c 5 => Err(Full) Open 1152 1152 ready unfinished -
+due 4 => Nothing Open 1152 1152 ready unfinished -
+due 5 => Answer([11]) Open 1152 1152 ready unfinished -
+hold 0d 7 => Ok(()) Open 1152 1152 ready unfinished -
+due 6 => Nothing Open 1152 1152 ready unfinished -
+due 18446744073709551615 => Answer([10]) Open 1152 1152 ready unfinished -
+due 6 => Pong Open 1152 1148 unready unfinished 11e30120
+write 4 => - Open 1152 1152 ready unfinished -
+due 7 => Answer([13]) Open 1152 1152 ready unfinished -
+hear 11e20420 => Done Open 1152 1148 unready unfinished 11e30420
+count => pending 0 outstanding 0 Open 1152 1148 unready unfinished 11e30420";
+
+#[test]
+fn holds(rt: HostRuntime) -> Result<(), Fail> {
+    play_all(&rt, HOLDS)
+}
+
+/// What is held outlives the peer's Release, which is not finished before it is gone, and nothing else that ends the connection.
+const ENDS_WITH_SOMETHING_HELD: &str = "\
+= usual open | hold 0a 7 => Ok(()) Open 1152 131072 ready unfinished -
+hear 00e4 => Stopped(PeerRelease) Releasing(PeerRelease) 1152 131072 ready unfinished -
+end whole => - Releasing(PeerRelease) 1152 131072 ready unfinished -
+count => pending 1 outstanding 0 Releasing(PeerRelease) 1152 131072 ready unfinished -
+due 7 => Answer([10]) Releasing(PeerRelease) 1152 131072 ready finished -
+= usual open | hold 0a 7 => Ok(()) Open 1152 131072 ready unfinished -
+end whole => - Stopped(Ended) 1152 131072 ready finished -
+count => pending 0 outstanding 0 Stopped(Ended) 1152 131072 ready finished -
+= usual open | hold 0a 7 => Ok(()) Open 1152 131072 ready unfinished -
+hear 00e5 => Stopped(PeerAbort) Stopped(PeerAbort) 1152 131072 ready finished -
+due 7 => Nothing Stopped(PeerAbort) 1152 131072 ready finished -
+= usual open | hold 0a 7 => Ok(()) Open 1152 131072 ready unfinished -
+release => Ok(()) Stopped(ReleasedHere) 1152 131070 ready unfinished 00e4
+count => pending 0 outstanding 0 Stopped(ReleasedHere) 1152 131070 ready unfinished 00e4
+= usual open | hold 0a 7 => Ok(()) Open 1152 131072 ready unfinished -
+reject token => - Stopped(TokenLength) 1152 131052 ready unfinished d004e5ff'bad token length'
+count => pending 0 outstanding 0 Stopped(TokenLength) 1152 131052 ready unfinished d004e5ff'bad token length'
+= usual open | hold 0a 7 => Ok(()) Open 1152 131072 ready unfinished -
+hear 11e20120 => Done Open 1152 131072 ready unfinished -
+due 7 => Answer([10]) Open 1152 131072 ready unfinished -
+hear 20e12102 => Done Open 2 131072 ready unfinished -
+due 7 => Pong Stopped(PeerTooSmall) 2 131072 ready finished -
+= usual open | hold 0a 7 => Ok(()) Open 1152 131072 ready unfinished -
+hear 11e20120 => Done Open 1152 131072 ready unfinished -
+due 7 => Answer([10]) Open 1152 131072 ready unfinished -
+hear 20e12103 => Done Open 3 131072 ready unfinished -
+due 7 => Pong Open 3 131069 ready unfinished 01e301";
+
+#[test]
+fn ends_with_something_held(rt: HostRuntime) -> Result<(), Fail> {
+    play_all(&rt, ENDS_WITH_SOMETHING_HELD)
+}
+
 #[test]
 fn goes_on_after_other_messages(rt: HostRuntime) -> Result<(), Fail> {
     play_all(&rt, GOES_ON_AFTER_OTHER_MESSAGES)
@@ -669,7 +762,7 @@ fn opens_with_odd_limits(rt: HostRuntime) -> Result<(), Fail> {
     play_all(&rt, OPENS_WITH_ODD_LIMITS)
 }
 
-/// `rt try --test --fail-alloc 1` refuses the only allocation of this test.
+/// `rt try --test --fail-alloc 1` and `2` refuse the two allocations of this test.
 #[test]
 fn opens_or_tells_no_memory(rt: HostRuntime) -> Result<(), Fail> {
     let wanted: &[u8] = b"\x40\xe1\x23\x01\x00\x00";

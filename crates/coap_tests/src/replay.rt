@@ -15,6 +15,7 @@ use std::test::Fail;
 struct Setting {
     /// The bytes of the greatest message taken and of the greatest one sent, and of the queue.
     limits: [usize; 3],
+    pending: usize,
     observers: usize,
     connections: usize,
     dynamic: usize,
@@ -22,10 +23,11 @@ struct Setting {
     starts: Starts,
 }
 
-/// The setting of most sections: that of the program, where nothing is given. No answer is held.
+/// The setting of most sections: that of the program, where nothing is given.
 fn usual() -> Setting {
     Setting {
         limits: [65_536, 65_536, 131_072],
+        pending: 16,
         observers: 16,
         connections: 16,
         dynamic: 0,
@@ -40,6 +42,7 @@ fn set(rt: &impl Abort, setting: &mut Setting, word: &str, value: usize) {
         "max" => setting.limits[0] = value,
         "sent" => setting.limits[1] = value,
         "queue" => setting.limits[2] = value,
+        "pending" => setting.pending = value,
         "observers" => setting.observers = value,
         "connections" => setting.connections = value,
         "dynamic" => setting.dynamic = value,
@@ -65,7 +68,7 @@ fn setting_of(rt: &impl Abort, line: &str) -> Result<Setting, Fail> {
 /// The configuration of a server that is set so.
 fn config_of(setting: &Setting) -> Result<Config, Fail> {
     let [max, sent, queue] = setting.limits;
-    let limits = Limits::new(max, sent, queue, 0, setting.observers, 16)?;
+    let limits = Limits::new(max, sent, queue, setting.pending, setting.observers, 16)?;
     let config = Config::new(
         limits,
         setting.connections,
@@ -459,9 +462,37 @@ fn plays_observers(rt: HostRuntime) -> Result<(), Fail> {
     play_all(&rt, OBSERVERS)
 }
 
-/// What requests are answered, where nothing is held.
-const REQUESTS: &str = "
-= nothing is held
+/// What is held, and when it is sent.
+const HELD: &str = "
+= a Pong waits for what is held, which outlives the peer's Release
+open => open 1
+drain 1 => out 1 40e123010000
+in 1 00e1 => in 1 2
+in 1 810105b5'async'4133 => in 1 11
+in 1 11e20620 => in 1 4
+status 1 => status 1 open kept 0 waiting 0 pending 2 observers 0
+in 1 00e4 => in 1 2 stop 9
+tick 2 => tick 2
+drain 1 => out 1 -
+status 1 => status 1 releasing 9 kept 0 waiting 0 pending 2 observers 0
+tick 3 => tick 3
+drain 1 => out 1 614505c0ff'done'11e30620
+status 1 => status 1 releasing 9 kept 0 waiting 0 pending 0 observers 0
+tick 1 => tick fault 1
+= one is held pending=1
+open => open 1
+drain 1 => out 1 40e123010000
+in 1 00e1 => in 1 2
+in 1 810105b5'async'4133 => in 1 11
+in 1 11e20620 => in 1 4
+drain 1 => out 1 01e306
+in 1 610107b5'async' => in 1 9
+drain 1 => out 1 01a307
+tick 3 => tick 3
+drain 1 => out 1 614505c0ff'done'
+in 1 11e20820 => in 1 4
+drain 1 => out 1 11e30820
+= nothing is held pending=0
 open => open 1
 drain 1 => out 1 40e123010000
 in 1 00e1 => in 1 2
@@ -470,6 +501,115 @@ in 1 11e20620 => in 1 4
 drain 1 => out 1 01a30511e30620
 in 1 00e4 => in 1 2 stop 9
 status 1 => status 1 releasing 9 kept 0 waiting 0 pending 0 observers 0
+tick 2 => tick 2
+tick 1 => tick fault 1
+= how long an answer may be held
+open => open 1
+drain 1 => out 1 40e123010000
+in 1 00e1 => in 1 2
+in 1 b10101b5'async'44'3601' => in 1 14
+drain 1 => out 1 018001
+in 1 810102b5'async'4130 => in 1 11
+drain 1 => out 1 614502c0ff'done'
+= answers come by their moments
+open => open 1
+drain 1 => out 1 40e123010000
+in 1 00e1 => in 1 2
+in 1 810103b5'async'4132 => in 1 11
+in 1 11e20620 => in 1 4
+in 1 810104b5'async'4131 => in 1 11
+tick 1 => tick 1
+drain 1 => out 1 614504c0ff'done'
+tick 2 => tick 2
+drain 1 => out 1 614503c0ff'done'11e30620
+= answers that are due at once come by their moments
+open => open 1
+drain 1 => out 1 40e123010000
+in 1 00e1 => in 1 2
+in 1 810103b5'async'4132 => in 1 11
+in 1 810104b5'async'4131 => in 1 11
+tick 2 => tick 2
+drain 1 => out 1 614504c0ff'done'614503c0ff'done'
+= the last moment
+open => open 1
+drain 1 => out 1 40e123010000
+in 1 00e1 => in 1 2
+tick 18446744073709551615 => tick 18446744073709551615
+in 1 610107b5'async' => in 1 9
+drain 1 => out 1 614507c0ff'done'
+= what is held is given up where the connection stops
+open => open 1
+drain 1 => out 1 40e123010000
+in 1 00e1 => in 1 2
+in 1 810105b5'async'4133 => in 1 11
+in 1 00e5 => in 1 2 stop 8
+status 1 => status 1 stopped 8 kept 0 waiting 0 pending 0 observers 0
+tick 3 => tick 3
+drain 1 => out 1 -
+= what is held waits for room, and comes before what observers are told sent=1152 queue=1152 dynamic=1
+put /a - 78 => put 1
+open => open 1
+drain 1 => out 1 40e123010000
+in 1 00e1 => in 1 2
+in 1 310101605161 => in 1 6
+in 1 810105b5'async'4131 => in 1 0
+drain 1 => out 1 514501410120ff78
+in 1 810105b5'async'4131 => in 1 11
+in 1 11e20620 => in 1 4
+put /a - 79 => put 2
+tick 1 => tick 1
+drain 1 => out 1 514501410220ff79
+drain 1 => out 1 614505c0ff'done'
+drain 1 => out 1 11e30620
+put /a - 7a => put 3
+drain 1 => out 1 514501410320ff7a
+= a request whose answer is held takes the place of the observer with its token dynamic=1
+put /a - 78 => put 1
+open => open 1
+drain 1 => out 1 40e123010000
+in 1 00e1 => in 1 2
+in 1 310101605161 => in 1 6
+in 1 810101b5'async'4131 => in 1 11
+status 1 => status 1 open kept 0 waiting 8 pending 1 observers 0
+put /a - 79 => put 2
+tick 1 => tick 1
+drain 1 => out 1 514501410120ff78614501c0ff'done'
+= an answer that does not fit the peer any more
+open => open 1
+drain 1 => out 1 40e123010000
+in 1 00e1 => in 1 2
+in 1 810105b5'async'4131 => in 1 11
+in 1 20e12103 => in 1 4
+tick 1 => tick 1
+drain 1 => out 1 01a005
+in 1 810106b5'async'4131 => in 1 11
+in 1 20e12102 => in 1 4
+tick 2 => tick 2
+status 1 => status 1 stopped 10 kept 0 waiting 0 pending 0 observers 0
+= each connection holds its own pending=1
+open => open 1
+open => open 2
+drain 1 => out 1 40e123010000
+drain 2 => out 2 40e123010000
+in 1 00e1 => in 1 2
+in 2 00e1 => in 2 2
+in 1 810105b5'async'4131 => in 1 11
+in 2 810106b5'async'4132 => in 2 11
+in 2 610107b5'async' => in 2 9
+drain 2 => out 2 01a307
+tick 2 => tick 2
+drain 2 => out 2 614506c0ff'done'
+drain 1 => out 1 614505c0ff'done'";
+
+#[test]
+fn plays_held(rt: HostRuntime) -> Result<(), Fail> {
+    play_all(&rt, HELD)
+}
+
+/// What requests are answered.
+const REQUESTS: &str = "
+= the moment does not go back
+open => open 1
 tick 2 => tick 2
 tick 1 => tick fault 1
 = put and deleted dynamic=1
@@ -568,7 +708,7 @@ fn plays_calls(rt: HostRuntime) -> Result<(), Fail> {
 
 #[test]
 fn cuts_change_nothing(rt: HostRuntime) -> Result<(), Fail> {
-    for text in [STREAMS, SIZES, OBSERVERS, REQUESTS, CALLS] {
+    for text in [STREAMS, SIZES, OBSERVERS, HELD, REQUESTS, CALLS] {
         play_cuts(&rt, text)?;
     }
     Ok(())

@@ -276,6 +276,10 @@ fn told(rt: &(impl Abort + AllocGlobal), plan: Plan) -> Result<String, Fail> {
     let (class, detail) = (code.class(), code.detail());
     let (changed, watched) = (name_of(&plan.change()), name_of_watch(plan.watch()));
     let mut text = format!(in alloc; "{class}.{detail:02}{changed}{watched}")?;
+    if let Some(seconds) = plan.hold() {
+        let held = format!(in alloc; " held={seconds}")?;
+        text.push_str(held.as_str())?;
+    }
     push_options(alloc, &mut text, &plan)?;
     if !plan.payload().is_empty() {
         let part = format!(in alloc; " | {}", word_of(alloc, plan.payload())?)?;

@@ -3,7 +3,6 @@ use Rattle.std.proofs.Common.{◌≡◌, ℕ, Bool, true, false, cond, List, [],
 use Rattle.std.specs.Prelude.{is_none, option_map}
 use Rattle.coap_wire.specs.Stream.{split}
 use Rattle.coap_conn.specs.declared.reason.Reason.{Reason}
-use Rattle.coap_conn.specs.declared.phase.Phase.TheVariants as phase
 use Rattle.coap_conn.specs.Limits.{LimitValues}
 use Rattle.coap_conn.specs.Phases.{stop_of, takes_messages}
 use Rattle.coap_conn.specs.History.{History, with_effect, end_reason, standing_now}
@@ -22,20 +21,20 @@ use Rattle.coap_serve.specs.streams.Standing.{Stands, IsGoing}
 use Rattle.coap_serve.proofs.world.PlaceLaws.{all_there, changed_here}
 use Rattle.coap_serve.proofs.world.StepLaws.{world_step}
 use Rattle.coap_serve.proofs.world.ShowLaws.{side_there}
-use Rattle.coap_serve.proofs.world.HandlingLaws.{settled_still}
+use Rattle.coap_serve.proofs.world.HandlingLaws.{HasStopped, settled_still}
 use Rattle.coap_serve.proofs.streams.OutputLaws.{world_for_written, stop_there}
 use Rattle.coap_serve.proofs.streams.TakeLemmas.{is_not_missing}
 
 -- ---- the end of input
 
-ended_by : (h : History) (cut takes : Bool) → takes ≡ true → (cond takes (with_effect h (stop (standing_now h) (end_reason cut) [])) h).phase ≡ phase.Stopped (end_reason cut)
-ended_by h cut true is = refl
+ended_by : (h : History) (cut takes : Bool) → takes ≡ true → HasStopped (cond takes (with_effect h (stop (standing_now h) (end_reason cut) [])) h) (end_reason cut)
+ended_by h cut true is = (refl, refl)
 ended_by h cut false is = absurd cc
 
--- a connection that takes messages stops at the end of input
-ended_phase : (s : Side) (cut : Bool) → takes_messages s.history.phase ≡ true → (side_ended s cut).history.phase ≡ phase.Stopped (end_reason cut)
+-- a connection that takes messages stops at the end of input, and gives up what it holds
+ended_side : (s : Side) (cut : Bool) → takes_messages s.history.phase ≡ true → HasStopped (side_ended s cut).history (end_reason cut)
 unfolding side_ended
-ended_phase s cut takes = ended_by s.history cut (takes_messages s.history.phase) takes
+ended_side s cut takes = ended_by s.history cut (takes_messages s.history.phase) takes
 
 ended_there : (limits : LimitValues) (w : World) (id : ℕ) (cut : Bool) (s : Side) → side_of id w.sides ≡ Some s → side_of id (world.step limits w (world.Ended id cut)).sides ≡ Some (settled w.store w.now (side_ended s cut))
 unfolding world.step world.acted
@@ -78,7 +77,7 @@ module _ (c : ConfigValues) (v v1 : ServerValue) (bytes : List ℕ) (stands : St
 
   stopped : stop_of t.history.phase ≡ Some (end_reason (is_cut (stream_of c bytes).rest))
   stopped =
-      ap stop_of ((settled_still w.store w.now (side_ended there.0 cut)).stopped (end_reason cut) (ended_phase there.0 cut there.2))
+      ap stop_of ((settled_still w.store w.now (side_ended there.0 cut)).stopped (end_reason cut) (ended_side there.0 cut there.2)).0
       ∙ ap (λ (taken : List ℕ). Some (end_reason (is_cut (split c.limits.max_message taken).rest))) (stands.taken going)
 
   pub ended_stop : stop_on (session_of id v1.sessions) ≡ Some (end_reason (is_cut (stream_of c bytes).rest))

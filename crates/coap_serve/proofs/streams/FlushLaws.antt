@@ -5,16 +5,19 @@ use Rattle.std.specs.List.{AllByRecursion}
 use Rattle.std.proofs.lemmas.Bool.{le-leb, cases_eq}
 use Rattle.std.proofs.lemmas.List.{length-drop, drop_all}
 use Rattle.coap_conn.specs.Limits.{LimitValues}
+use Rattle.coap_conn.specs.Phases.{is_open}
+use Rattle.coap_conn.specs.Held.{HeldValue}
 use Rattle.coap_conn.specs.History.{History, bytes_of, after_written}
 use Rattle.coap_store.specs.Store.{StoreValue}
-use Rattle.coap_serve.specs.world.Observers.{Observer, is_due}
-use Rattle.coap_serve.specs.world.Sides.{Side, waiting_on, side_written, next_due, notified, settled_once, settled_within, settled, HearsAll}
+use Rattle.coap_serve.specs.world.Observers.{Observer, is_due, notification, notification_message}
+use Rattle.coap_serve.specs.world.Sides.{Side, waiting_on, side_written, next_due, notified, next_held, after_sent, settled_so, settled_once, settled_within, settled, HearsAll}
 use Rattle.coap_serve.specs.world.World.{Place, World, Step, side_of, changed_at, acted, settled_place, all_settled, step}
 use Rattle.coap_serve.specs.world.World as world
-use Rattle.coap_serve.specs.streams.Output.{waiting_of, observers_of, written_once, written_times, flushed}
+use Rattle.coap_serve.specs.streams.Output.{waiting_of, more_of, written_once, written_times, flushed}
 use Rattle.coap_serve.proofs.world.GrowLaws.{settled_handled, written_handled}
 use Rattle.coap_serve.proofs.world.EntryLemmas.{count_due, count_within}
-use Rattle.coap_serve.proofs.world.SettleLaws.{next_found, notified_less, at_rest, settled_rests}
+use Rattle.coap_serve.proofs.world.SideLaws.{reply_leaves, sent_held}
+use Rattle.coap_serve.proofs.world.SettleLaws.{IsAtRest, next_found, notified_less, at_rest, settled_rests, hears_sent}
 use Rattle.coap_serve.proofs.world.PlaceLaws.{all_there, changed_here}
 use Rattle.coap_serve.proofs.world.HearingLaws.{AllHear, step_hears}
 use Rattle.coap_serve.proofs.world.ShownLemmas.{unchanged, hears_rests}
@@ -29,6 +32,15 @@ observers_by false s h = refl
 written_observers : (s : Side) (n : ℕ) → (side_written s n).observers ≡ s.observers
 unfolding side_written
 written_observers s n = observers_by (nat_le n (length (waiting_on s))) s (after_written s.history n)
+
+held_by : (does : Bool) (s : Side) (h : History) → h.held ≡ s.history.held → (cond does (record s { history = h }) s).history.held ≡ s.history.held
+held_by true s h same = same
+held_by false s h same = refl
+
+-- and what is held
+written_held : (s : Side) (n : ℕ) → (side_written s n).history.held ≡ s.history.held
+unfolding side_written
+written_held s n = held_by (nat_le n (length (waiting_on s))) s (after_written s.history n) refl
 
 -- where all that waits is written, nothing waits
 written_empties : (s : Side) → waiting_on (side_written s (length (waiting_on s))) ≡ []
@@ -46,38 +58,72 @@ none_written s =
     ap (λ (b : Bool). cond b (record s { history = after_written s.history 0 }) s) (le-leb 0 (length (waiting_on s)) (omega arith))
     ∙ ap (λ (n : ℕ). record s { history = record s.history { written = n } }) same
 
--- ---- how many observers are due
+-- ---- how much is left to be sent
 
--- how many observers are due on a connection
-abbrev due_on : StoreValue → ℕ → Side → ℕ
-due_on store now s = count_due (is_due store now) s.observers
+-- how much a connection holds and how many observers are due on it, together
+abbrev left_on : StoreValue → ℕ → Side → ℕ
+left_on store now s = length s.history.held + count_due (is_due store now) s.observers
 
--- settling leaves no more that are due
-within_due : (turns : ℕ) (store : StoreValue) (now : ℕ) (s : Side) → due_on store now (settled_within turns store now s) ≤ due_on store now s
-unfolding settled_within settled_once
-within_due zero store now s = omega arith
-within_due (suc turns) store now s =
-    elim (next_due store now s) as (λ found. next_due store now s ≡ found → due_on store now (settled_within turns store now (notified store now s found)) ≤ due_on store now s) [
-      | None ↦ λ e. within_due turns store now s
-      | Some o ↦ λ e. omega (arith, within_due turns store now (notified store now s (Some o)), notified_less store now s o (next_found store now s o e))
-    ] refl
+count_if : (due : Observer → Bool) (b : Bool) (os : List Observer) → count_due due (cond b os []) ≤ count_due due os
+unfolding count_due
+count_if due true os = omega arith
+count_if due false os = omega arith
 
--- and fewer, where one is notified
-within_less : (turns : ℕ) (store : StoreValue) (now : ℕ) (s : Side) (o : Observer) → next_due store now s ≡ Some o → due_on store now s ≤ turns → due_on store now (settled_within turns store now s) + 1 ≤ due_on store now s
-unfolding settled_within settled_once
-within_less zero store now s o e few = absurd (omega (arith, few, notified_less store now s o (next_found store now s o e)))
-within_less (suc turns) store now s o e few =
-    subst (λ (found : Option Observer). due_on store now (settled_within turns store now (notified store now s found)) + 1 ≤ due_on store now s) (sym e)
-    (omega (arith, within_due turns store now (notified store now s (Some o)), notified_less store now s o (next_found store now s o e)))
+notified_by : (store : StoreValue) (now : ℕ) (s : Side) (found : Option Observer) → next_due store now s ≡ found → (found ≡ None) ⊎ (left_on store now (notified store now s found) + 1 ≤ left_on store now s)
+notified_by store now s None e = inl refl
+notified_by store now s (Some o) e = inr (omega (arith, notified_less store now s o (next_found store now s o e), reply_leaves s.history (notification_message o.token (notification store now o))))
 
-settled_by : (store : StoreValue) (now : ℕ) (s : Side) (found : Option Observer) → next_due store now s ≡ found → (next_due store now s ≡ None) ⊎ (due_on store now (settled store now s) + 1 ≤ due_on store now s)
+-- a turn sends nothing, or leaves less
+abbrev TurnsOnce : StoreValue → ℕ → Side → Type 0
+TurnsOnce store now s = IsAtRest store now s ⊎ (left_on store now (settled_once store now s) + 1 ≤ left_on store now s)
+
+-- an answer or a Pong that was sent leaves no more observers that are due
+sent_due : (store : StoreValue) (now : ℕ) (s : Side) (e : HeldValue) → next_held now s ≡ Some e → count_due (is_due store now) (settled_once store now s).observers ≤ count_due (is_due store now) s.observers
+unfolding settled_once
+sent_due store now s e is =
+    subst (λ (found : Option HeldValue). count_due (is_due store now) (settled_so store now s found).observers ≤ count_due (is_due store now) s.observers) (sym is)
+    (count_if (is_due store now) (is_open (after_sent s.history now e).phase) s.observers)
+
+once_by : (store : StoreValue) (now : ℕ) (s : Side) (found : Option HeldValue) → next_held now s ≡ found → TurnsOnce store now s
+unfolding settled_once
+once_by store now s None is =
+    elim (notified_by store now s (next_due store now s) refl) [
+      | inl none ↦ inl (is, none)
+      | inr less ↦ inr (subst (λ (found : Option HeldValue). left_on store now (settled_so store now s found) + 1 ≤ left_on store now s) (sym is) less)
+    ]
+once_by store now s (Some e) is = inr (omega (arith, sent_held store now s e is, sent_due store now s e is))
+
+once_less : (store : StoreValue) (now : ℕ) (s : Side) → TurnsOnce store now s
+once_less store now s = once_by store now s (next_held now s) refl
+
+-- settling leaves no more
+within_left : (turns : ℕ) (store : StoreValue) (now : ℕ) (s : Side) → left_on store now (settled_within turns store now s) ≤ left_on store now s
+unfolding settled_within
+within_left zero store now s = omega arith
+within_left (suc turns) store now s =
+    elim (once_less store now s) [
+      | inl rests ↦ omega (arith, ap (λ (t : Side). left_on store now t) (at_rest (suc turns) store now s rests))
+      | inr less ↦ omega (arith, within_left turns store now (settled_once store now s), less)
+    ]
+
+-- and less, where anything is sent
+within_less : (turns : ℕ) (store : StoreValue) (now : ℕ) (s : Side) → left_on store now s ≤ turns → IsAtRest store now s ⊎ (left_on store now (settled_within turns store now s) + 1 ≤ left_on store now s)
+unfolding settled_within
+within_less zero store now s few = elim (once_less store now s) [ inl rests ↦ inl rests | inr less ↦ absurd (omega (arith, few, less)) ]
+within_less (suc turns) store now s few =
+    elim (once_less store now s) [
+      | inl rests ↦ inl rests
+      | inr less ↦ inr (omega (arith, within_left turns store now (settled_once store now s), less))
+    ]
+
+-- no more is left than is held, and observe, together
+left_within : (store : StoreValue) (now : ℕ) (s : Side) → left_on store now s ≤ length s.history.held + length s.observers
+left_within store now s = omega (arith, count_within (is_due store now) s.observers)
+
+-- settling sends nothing, or leaves less
+settled_less : (store : StoreValue) (now : ℕ) (s : Side) → IsAtRest store now s ⊎ (left_on store now (settled store now s) + 1 ≤ left_on store now s)
 unfolding settled
-settled_by store now s None e = inl e
-settled_by store now s (Some o) e = inr (within_less (length s.observers) store now s o e (count_within (is_due store now) s.observers))
-
--- settling notifies none, or leaves fewer that are due
-settled_less : (store : StoreValue) (now : ℕ) (s : Side) → (next_due store now s ≡ None) ⊎ (due_on store now (settled store now s) + 1 ≤ due_on store now s)
-settled_less store now s = settled_by store now s (next_due store now s) refl
+settled_less store now s = within_less (length s.history.held + length s.observers) store now s (left_within store now s)
 
 -- ---- a connection, turn by turn
 
@@ -89,28 +135,34 @@ unfoldable side_times : StoreValue → ℕ → ℕ → Side → Side
 side_times store now zero s = s
 side_times store now (suc turns) s = side_once store now (side_times store now turns s)
 
--- nothing waits on it, and nobody is to be notified
+-- nothing waits on it, and nothing is to be sent
 abbrev Rests : StoreValue → ℕ → Side → Type 0
-Rests store now s = (waiting_on s ≡ []) × (next_due store now s ≡ None)
+Rests store now s = (waiting_on s ≡ []) × IsAtRest store now s
 
 once_stays : (store : StoreValue) (now : ℕ) (s : Side) → Rests store now s → side_once store now s ≡ s
 unfolding settled
 once_stays store now s rests =
     ap (λ (bytes : List ℕ). settled store now (side_written s (length bytes))) rests.0
     ∙ ap (settled store now) (none_written s)
-    ∙ at_rest (length s.observers) store now s rests.1
+    ∙ at_rest (length s.history.held + length s.observers) store now s rests.1
 
--- after a turn nothing waits, or fewer are due
-once_turn : (store : StoreValue) (now : ℕ) (s : Side) → Rests store now (side_once store now s) ⊎ (due_on store now (side_once store now s) + 1 ≤ due_on store now s)
+-- a write leaves what is left to be sent
+written_left : (store : StoreValue) (now : ℕ) (s : Side) (n : ℕ) → left_on store now (side_written s n) ≡ left_on store now s
+written_left store now s n =
+    ap (λ (held : List HeldValue). length held + count_due (is_due store now) (side_written s n).observers) (written_held s n)
+    ∙ ap (λ (os : List Observer). length s.history.held + count_due (is_due store now) os) (written_observers s n)
+
+-- after a turn nothing waits, or less is left
+once_turn : (store : StoreValue) (now : ℕ) (s : Side) → Rests store now (side_once store now s) ⊎ (left_on store now (side_once store now s) + 1 ≤ left_on store now s)
 unfolding settled
 once_turn store now s =
     let u : Side = side_written s (length (waiting_on s)) in
     elim (settled_less store now u) [
-      | inl none ↦ inl (ap waiting_on (at_rest (length u.observers) store now u none) ∙ written_empties s, settled_rests store now u)
-      | inr less ↦ inr (omega (arith, less, ap (λ (os : List Observer). count_due (is_due store now) os) (written_observers s (length (waiting_on s)))))
+      | inl rests ↦ inl (ap waiting_on (at_rest (length u.history.held + length u.observers) store now u rests) ∙ written_empties s, settled_rests store now u)
+      | inr less ↦ inr (omega (arith, less, written_left store now s (length (waiting_on s))))
     ]
 
-times_turn : (turns : ℕ) (store : StoreValue) (now : ℕ) (s : Side) → Rests store now (side_times store now turns s) ⊎ (due_on store now (side_times store now turns s) + turns ≤ due_on store now s)
+times_turn : (turns : ℕ) (store : StoreValue) (now : ℕ) (s : Side) → Rests store now (side_times store now turns s) ⊎ (left_on store now (side_times store now turns s) + turns ≤ left_on store now s)
 unfolding side_times
 times_turn zero store now s = inr (omega arith)
 times_turn (suc turns) store now s =
@@ -123,12 +175,12 @@ times_turn (suc turns) store now s =
       ]
     ]
 
--- no more turns are needed than there are observers, and one
-times_rest : (store : StoreValue) (now : ℕ) (s : Side) → Rests store now (side_times store now (suc (length s.observers)) s)
+-- no more turns are needed than is held, and observe, together, and one
+times_rest : (store : StoreValue) (now : ℕ) (s : Side) → Rests store now (side_times store now (suc (more_of (Some s))) s)
 times_rest store now s =
-    elim (times_turn (suc (length s.observers)) store now s) [
+    elim (times_turn (suc (more_of (Some s))) store now s) [
       | inl rests ↦ rests
-      | inr few ↦ absurd (omega (arith, few, count_within (is_due store now) s.observers))
+      | inr few ↦ absurd (omega (arith, few, left_within store now s))
     ]
 
 -- ---- a world, turn by turn
@@ -163,14 +215,14 @@ times_there limits id (suc turns) w s there =
     ∙ ap (λ (now : ℕ). Some (side_once w.store now t)) (times_now limits id turns w)
 
 -- as many turns as a flush has on this connection
-pub flushed_so : (limits : LimitValues) (id : ℕ) (w : World) (s : Side) → side_of id w.sides ≡ Some s → flushed limits id w ≡ written_times limits id (suc (length s.observers)) w
+pub flushed_so : (limits : LimitValues) (id : ℕ) (w : World) (s : Side) → side_of id w.sides ≡ Some s → flushed limits id w ≡ written_times limits id (suc (more_of (Some s))) w
 unfolding flushed
-flushed_so limits id w s there = ap (λ (o : Option Side). written_times limits id (suc (length (observers_of o))) w) there
+flushed_so limits id w s there = ap (λ (o : Option Side). written_times limits id (suc (more_of o)) w) there
 
 -- A flush leaves nothing that waits.
 pub flushed_empties : (limits : LimitValues) (id : ℕ) (w : World) (s : Side) → side_of id w.sides ≡ Some s → (t : Side) × (side_of id (flushed limits id w).sides ≡ Some t) × (waiting_on t ≡ [])
 flushed_empties limits id w s there =
-    let turns : ℕ = suc (length s.observers) in (
+    let turns : ℕ = suc (more_of (Some s)) in (
       side_times w.store w.now turns s,
       ap (λ (v : World). side_of id v.sides) (flushed_so limits id w s there) ∙ times_there limits id turns w s there,
       (times_rest w.store w.now s).0,
@@ -180,7 +232,7 @@ flushed_empties limits id w s there =
 
 settled_stays : (store : StoreValue) (now : ℕ) (s : Side) → HearsAll store now s → settled store now s ≡ s
 unfolding settled
-settled_stays store now s hears = at_rest (length s.observers) store now s (hears_rests store now s hears)
+settled_stays store now s hears = at_rest (length s.history.held + length s.observers) store now s (hears_sent store now s hears, hears_rests store now s hears)
 
 places_stay : (store : StoreValue) (now : ℕ) (ps : List Place) → AllByRecursion (λ p. HearsAll store now p.side) ps → map (settled_place store now) ps ≡ ps
 places_stay store now [] hear = refl
@@ -219,7 +271,7 @@ quiet_times limits id (suc turns) w s hear there none = ap (written_once limits 
 -- And so does a flush.
 pub quiet_flush : (limits : LimitValues) (id : ℕ) (w : World) (s : Side) → AllHear w → side_of id w.sides ≡ Some s → waiting_on s ≡ [] → flushed limits id w ≡ w
 unfolding flushed
-quiet_flush limits id w s hear there none = quiet_times limits id (suc (length (observers_of (side_of id w.sides)))) w s hear there none
+quiet_flush limits id w s hear there none = quiet_times limits id (suc (more_of (side_of id w.sides))) w s hear there none
 
 -- ---- a flush that ends early
 
@@ -247,10 +299,10 @@ times_further limits id turns (suc most) w t hear there none h =
     ]
 
 -- Where nothing waits after some turns of a flush, it ends there.
-pub flushed_early : (limits : LimitValues) (id turns : ℕ) (w : World) (s t : Side) → AllHear w → side_of id w.sides ≡ Some s → side_of id (written_times limits id turns w).sides ≡ Some t → waiting_on t ≡ [] → turns ≤ suc (length s.observers)
+pub flushed_early : (limits : LimitValues) (id turns : ℕ) (w : World) (s t : Side) → AllHear w → side_of id w.sides ≡ Some s → side_of id (written_times limits id turns w).sides ≡ Some t → waiting_on t ≡ [] → turns ≤ suc (more_of (Some s))
     → written_times limits id turns w ≡ flushed limits id w
 flushed_early limits id turns w s t hear before there none h =
-    times_further limits id turns (suc (length s.observers)) w t hear there none h ∙ sym (flushed_so limits id w s before)
+    times_further limits id turns (suc (more_of (Some s))) w t hear there none h ∙ sym (flushed_so limits id w s before)
 
 -- ---- a flush handles nothing
 
@@ -264,17 +316,17 @@ times_handled (suc turns) store now s =
 
 pub flushed_there : (limits : LimitValues) (id : ℕ) (w : World) (s : Side) → side_of id w.sides ≡ Some s → (t : Side) × (side_of id (flushed limits id w).sides ≡ Some t) × (t.history.handled ≡ s.history.handled)
 flushed_there limits id w s there =
-    let turns : ℕ = suc (length s.observers) in (
+    let turns : ℕ = suc (more_of (Some s)) in (
       side_times w.store w.now turns s,
       ap (λ (v : World). side_of id v.sides) (flushed_so limits id w s there) ∙ times_there limits id turns w s there,
       times_handled turns w.store w.now s,
     )
 
--- ---- a flush where nobody observes
+-- ---- a flush where nothing is held and nobody observes
 
-settled_alone : (store : StoreValue) (now : ℕ) (s : Side) → s.observers ≡ [] → settled store now s ≡ s
+settled_alone : (store : StoreValue) (now : ℕ) (s : Side) → more_of (Some s) ≡ 0 → settled store now s ≡ s
 unfolding settled settled_within
-settled_alone store now s none = ap (λ (os : List Observer). settled_within (length os) store now s) none
+settled_alone store now s none = ap (λ (turns : ℕ). settled_within turns store now s) none
 
 written_phase_by : (does : Bool) (s : Side) (h : History) → h.phase ≡ s.history.phase → (cond does (record s { history = h }) s).history.phase ≡ s.history.phase
 written_phase_by true s h same = same
@@ -284,16 +336,19 @@ written_phase : (s : Side) (n : ℕ) → (side_written s n).history.phase ≡ s.
 unfolding side_written
 written_phase s n = written_phase_by _ s _ refl
 
-once_alone : (store : StoreValue) (now : ℕ) (s : Side) → s.observers ≡ [] → (side_once store now s).history.phase ≡ s.history.phase
+written_more : (s : Side) (n : ℕ) → more_of (Some (side_written s n)) ≡ more_of (Some s)
+written_more s n = omega (arith, ap (λ (held : List HeldValue). length held) (written_held s n), ap (λ (os : List Observer). length os) (written_observers s n))
+
+once_alone : (store : StoreValue) (now : ℕ) (s : Side) → more_of (Some s) ≡ 0 → (side_once store now s).history.phase ≡ s.history.phase
 once_alone store now s none =
     let n : ℕ = length (waiting_on s) in
-    ap (λ (t : Side). t.history.phase) (settled_alone store now (side_written s n) (written_observers s n ∙ none)) ∙ written_phase s n
+    ap (λ (t : Side). t.history.phase) (settled_alone store now (side_written s n) (written_more s n ∙ none)) ∙ written_phase s n
 
 -- it leaves how the connection stands
-pub flushed_alone : (limits : LimitValues) (id : ℕ) (w : World) (s : Side) → s.observers ≡ [] → side_of id w.sides ≡ Some s → (t : Side) × (side_of id (flushed limits id w).sides ≡ Some t) × (t.history.phase ≡ s.history.phase)
+pub flushed_alone : (limits : LimitValues) (id : ℕ) (w : World) (s : Side) → more_of (Some s) ≡ 0 → side_of id w.sides ≡ Some s → (t : Side) × (side_of id (flushed limits id w).sides ≡ Some t) × (t.history.phase ≡ s.history.phase)
 unfolding side_times
 flushed_alone limits id w s none there = (
   side_times w.store w.now 1 s,
-  ap (λ (v : World). side_of id v.sides) (flushed_so limits id w s there ∙ ap (λ (os : List Observer). written_times limits id (suc (length os)) w) none) ∙ times_there limits id 1 w s there,
+  ap (λ (v : World). side_of id v.sides) (flushed_so limits id w s there ∙ ap (λ (turns : ℕ). written_times limits id (suc turns) w) none) ∙ times_there limits id 1 w s there,
   once_alone w.store w.now s none,
 )

@@ -1,17 +1,17 @@
 -- A flush of a server that shows a world is the flush of that world.
-use Rattle.std.proofs.Common.{◌≡◌, ◌⊎◌, ℕ, zero, suc, ◌≤◌, List, [], ◌∷◌, ◌++◌, length, Option, Some, refl, sym, ap, subst, ◌∙◌, append_assoc, arith, inl, inr}
+use Rattle.std.proofs.Common.{◌≡◌, ◌⊎◌, ℕ, zero, suc, ◌+◌, ◌≤◌, List, [], ◌∷◌, ◌++◌, length, Option, Some, refl, sym, ap, subst, ◌∙◌, append_assoc, arith, inl, inr}
 use Rattle.std.specs.Prelude.{option_map}
 use Rattle.std.proofs.lemmas.List.{append-nil, length-map}
 use Rattle.coap_conn.specs.Limits.{LimitValues}
 use Rattle.coap_serve.specs.Configs.{ConfigValues}
 use Rattle.coap_serve.specs.values.Servers.{ServerValue, session_of, server_written}
-use Rattle.coap_serve.specs.values.Flushes.{Flush, waiting_in, waiting_at, observers_in, observers_at, flush_turns}
+use Rattle.coap_serve.specs.values.Flushes.{Flush, waiting_in, waiting_at, more_in, more_at, flush_turns}
 use Rattle.coap_serve.specs.world.Sides.{Side, waiting_on, side_written, settled}
 use Rattle.coap_serve.specs.world.World.{World, side_of}
 use Rattle.coap_serve.specs.world.World as world
 use Rattle.coap_serve.specs.world.Events.{Event, Wrote, taken_on, stream_on, steps_by, world_after}
 use Rattle.coap_serve.specs.world.Shows.{Shows, session_shown}
-use Rattle.coap_serve.specs.streams.Output.{waiting_of, written_once, written_times, flushed}
+use Rattle.coap_serve.specs.streams.Output.{waiting_of, more_of, written_once, written_times, flushed}
 use Rattle.coap_serve.proofs.values.FlushLemmas.{no_turns, turn_more}
 use Rattle.coap_serve.proofs.world.StepLaws.{taken_then, world_step}
 use Rattle.coap_serve.proofs.world.PlaceLaws.{all_there, changed_here}
@@ -118,19 +118,20 @@ flush_shown c v es id s (suc turns) config shows is =
 -- ---- where a flush ends
 
 module _ (c : ConfigValues) (v : ServerValue) (es : List Event) (id : ℕ) (s : Side) (config : v.config ≡ c) (shows : Shows v es) (there : side_of id (world_after c es).sides ≡ Some s) where
-  observers_there : observers_at id v ≡ length s.observers
-  observers_there = ap observers_in (side_there v es id s shows (ap (λ (k : ConfigValues). side_of id (world_after k es).sides) config ∙ there)) ∙ length-map s.observers _
+  more_there : more_at id v ≡ more_of (Some s)
+  more_there =
+      ap more_in (side_there v es id s shows (ap (λ (k : ConfigValues). side_of id (world_after k es).sides) config ∙ there)) ∙ ap (λ (n : ℕ). length s.history.held + n) (length-map s.observers _)
 
   abbrev pub flushing : (turns : ℕ) → FlushShown c es id s turns (flush_turns turns id v).server (flush_turns turns id v).text
   flushing turns = flush_shown c v es id s turns config shows there
 
   -- after all turns, or those after which nothing waits, the world is flushed
-  pub flush_ends : (turns : ℕ) → turns ≤ suc (observers_at id v) → (waiting_at id (flush_turns turns id v).server ≡ []) ⊎ (turns ≡ suc (observers_at id v)) → world_after c (flushing turns).events ≡ flushed c.limits id (world_after c es)
+  pub flush_ends : (turns : ℕ) → turns ≤ suc (more_at id v) → (waiting_at id (flush_turns turns id v).server ≡ []) ⊎ (turns ≡ suc (more_at id v)) → world_after c (flushing turns).events ≡ flushed c.limits id (world_after c es)
   flush_ends turns within done =
       let f = flushing turns in
       f.world ∙ elim done [
         | inl none ↦
             flushed_early c.limits id turns (world_after c es) s f.side (world_hears c es) there (ap (λ (w : World). side_of id w.sides) (sym f.world) ∙ f.there)
-            (sym (waits_shown c es id s turns (flush_turns turns id v).server (flush_turns turns id v).text f) ∙ none) (omega (arith, within, observers_there))
-        | inr all ↦ ap (λ (n : ℕ). written_times c.limits id n (world_after c es)) (all ∙ ap (λ (n : ℕ). suc n) observers_there) ∙ sym (flushed_so c.limits id (world_after c es) s there)
+            (sym (waits_shown c es id s turns (flush_turns turns id v).server (flush_turns turns id v).text f) ∙ none) (omega (arith, within, more_there))
+        | inr all ↦ ap (λ (n : ℕ). written_times c.limits id n (world_after c es)) (all ∙ ap (λ (n : ℕ). suc n) more_there) ∙ sym (flushed_so c.limits id (world_after c es) s there)
       ]

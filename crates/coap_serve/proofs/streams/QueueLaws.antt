@@ -1,22 +1,24 @@
 -- What was queued on a connection stays queued: a message, a fault and a write only add to it.
 use Rattle.std.proofs.Common.{◌≡◌, ℕ, zero, suc, Bool, true, false, cond, List, [], ◌++◌, length, map, Option, Some, None, refl, sym, ap, subst, ◌∙◌, append_assoc, inl, inr}
-use Rattle.std.specs.Prelude.{nat_le, option_map}
+use Rattle.std.specs.Prelude.{◌+◌, ◌&&◌, nat_le, option_map}
 use Rattle.std.proofs.lemmas.Bool.{cases_eq}
 use Rattle.std.proofs.lemmas.List.{append-nil}
 use Rattle.coap_wire.specs.Message.{Message}
 use Rattle.coap_wire.specs.Stream.{StreamFault}
 use Rattle.coap_conn.specs.Limits.{LimitValues}
-use Rattle.coap_conn.specs.Phases.{takes_messages, answers}
+use Rattle.coap_conn.specs.Phases.{takes_messages, answers, is_open}
 use Rattle.coap_conn.specs.Fit.{bare_response}
 use Rattle.coap_conn.specs.Rejects.{reject_of, reject_reason}
-use Rattle.coap_conn.specs.Reaction.{Effect, abort, send, react}
+use Rattle.coap_conn.specs.Held.{HeldValue, first_due}
+use Rattle.coap_conn.specs.Held as held
+use Rattle.coap_conn.specs.Reaction.{Effect, abort, send, react, due_effect}
 use Rattle.coap_conn.specs.declared.phase.Reject.{Reject}
-use Rattle.coap_conn.specs.History.{History, standing_now, with_effect, after_message, after_reply, after_reject, after_written}
+use Rattle.coap_conn.specs.History.{History, standing_now, standing_due, with_effect, after_message, after_reply, after_reject, after_written, may_hold, after_hold, after_due}
 use Rattle.coap_store.specs.Store.{StoreValue}
-use Rattle.coap_store.specs.Answer.{Answer, prompt_answer}
+use Rattle.coap_store.specs.Answer.{Answer, answer_of, prompt_answer}
 use Rattle.coap_store.specs.Messages.{response_with_observe}
 use Rattle.coap_serve.specs.world.Observers.{Observer, without_token, has_place, notification, notification_message}
-use Rattle.coap_serve.specs.world.Sides.{Side, waiting_on, handles, with_history, side_answered, asks_answer, side_handled, side_after, side_faulted, side_written, next_due, notified, settled_once, settled_within, settled}
+use Rattle.coap_serve.specs.world.Sides.{Side, waiting_on, handles, with_history, side_answered, moment_after, held_for, side_replied, asks_answer, side_handled, side_after, side_faulted, side_written, next_due, notified, next_held, held_message, after_sent, settled_so, settled_once, settled_within, settled}
 use Rattle.coap_serve.specs.world.World.{Place, World, side_of, changed_at, acted, settled_place, step}
 use Rattle.coap_serve.specs.world.World as world
 use Rattle.coap_serve.specs.streams.Output.{written_times, flushed}
@@ -62,18 +64,25 @@ side_if false s t more = queues_self s.history
 answered_queues : (store : StoreValue) (now : ℕ) (h : History) (others : List Observer) (m : Message) (a : Answer) → QueuesMore h (side_answered store now h others m a).history
 answered_queues store now h others m a = reply_queues h (response_with_observe m.token (has_place h.limits.observers others a.watch) a.response)
 
-handled_by : (store : StoreValue) (now : ℕ) (s : Side) (m : Message) (asks : Bool)
-    → SideQueues s (cond asks (side_answered store now (after_message s.history m) (without_token m.token s.observers) m (prompt_answer store now m)) (with_history s (after_message s.history m)))
-handled_by store now s m true =
+-- an answer that is held queues nothing
+hold_queues : (h : History) (token : List ℕ) (moment : ℕ) → QueuesMore h (after_hold h token moment)
+hold_queues h token moment = queues_if (is_open h.phase && may_hold h) h _ (queues_self h)
+
+replied_queues : (store : StoreValue) (now : ℕ) (h : History) (others : List Observer) (m : Message) (hold : Option ℕ) → QueuesMore h (side_replied store now h others m hold).history
+replied_queues store now h others m None = answered_queues store now h others m (prompt_answer store now m)
+replied_queues store now h others m (Some seconds) = hold_queues h m.token (moment_after now seconds)
+
+handled_by : (store : StoreValue) (now : ℕ) (s : Side) (m : Message) (hold : Option ℕ) (asks : Bool)
+    → SideQueues s (cond asks (side_replied store now (after_message s.history m) (without_token m.token s.observers) m hold) (with_history s (after_message s.history m)))
+handled_by store now s m hold true =
     let h : History = after_message s.history m in
     let others : List Observer = without_token m.token s.observers in
-    let a : Answer = prompt_answer store now m in
-    queues_then s.history h (side_answered store now h others m a).history (message_queues s.history m) (answered_queues store now h others m a)
-handled_by store now s m false = message_queues s.history m
+    queues_then s.history h (side_replied store now h others m hold).history (message_queues s.history m) (replied_queues store now h others m hold)
+handled_by store now s m hold false = message_queues s.history m
 
 after_queues : (store : StoreValue) (now : ℕ) (s : Side) (m : Message) → SideQueues s (side_after store now s m)
 unfolding side_after
-after_queues store now s m = side_if (handles s) s (side_handled store now s m) (handled_by store now s m (asks_answer s m))
+after_queues store now s m = side_if (handles s) s (side_handled store now s m) (handled_by store now s m (held_for (after_message s.history m) (answer_of store now m).hold) (asks_answer s m))
 
 faulted_queues : (s : Side) (fault : StreamFault) → SideQueues s (side_faulted s fault)
 unfolding side_faulted
@@ -87,16 +96,28 @@ notified_queues : (store : StoreValue) (now : ℕ) (s : Side) (due : Option Obse
 notified_queues store now s None = queues_self s.history
 notified_queues store now s (Some o) = reply_queues s.history (notification_message o.token (notification store now o))
 
+-- what is due first was taken out, and a Pong is queued
+due_queues : (h : History) (now : ℕ) → QueuesMore h (after_due h now)
+due_queues h now = effect_queues h (due_effect (standing_due now (standing_now h)) (first_due now h.held))
+
+sent_queues : (h : History) (now : ℕ) (e : HeldValue) → QueuesMore h (after_sent h now e)
+sent_queues h now (held.Answer token moment) = queues_then h (after_due h now) (after_sent h now (held.Answer token moment)) (due_queues h now) (reply_queues (after_due h now) (held_message token))
+sent_queues h now (held.Pong token) = due_queues h now
+
+so_queues : (store : StoreValue) (now : ℕ) (s : Side) (found : Option HeldValue) → SideQueues s (settled_so store now s found)
+so_queues store now s None = notified_queues store now s (next_due store now s)
+so_queues store now s (Some e) = sent_queues s.history now e
+
 within_queues : (turns : ℕ) (store : StoreValue) (now : ℕ) (s : Side) → SideQueues s (settled_within turns store now s)
 unfolding settled_within settled_once
 within_queues zero store now s = queues_self s.history
 within_queues (suc turns) store now s =
-    let told : Side = notified store now s (next_due store now s) in
-    queues_then s.history told.history (settled_within turns store now told).history (notified_queues store now s (next_due store now s)) (within_queues turns store now told)
+    let next : Side = settled_so store now s (next_held now s) in
+    queues_then s.history next.history (settled_within turns store now next).history (so_queues store now s (next_held now s)) (within_queues turns store now next)
 
 settled_queues : (store : StoreValue) (now : ℕ) (s : Side) → SideQueues s (settled store now s)
 unfolding settled
-settled_queues store now s = within_queues (length s.observers) store now s
+settled_queues store now s = within_queues (length s.history.held + length s.observers) store now s
 
 -- ---- worlds
 

@@ -7,7 +7,7 @@ use Rattle.coap_serve.specs.declared.serve.Report.{Report}
 use Rattle.coap_serve.specs.declared.serve.IoFault.{IoFault}
 use Rattle.coap_serve.specs.declared.serve.IoFault.TheVariants.{Write, Memory}
 use Rattle.coap_serve.specs.values.Servers.{ServerValue, new_server, server_opened}
-use Rattle.coap_serve.specs.values.Flushes.{waiting_at, observers_at, flush_turns, IsFlushed, IsPartFlushed}
+use Rattle.coap_serve.specs.values.Flushes.{waiting_at, more_at, flush_turns, IsFlushed, IsPartFlushed}
 use Rattle.coap_serve.specs.world.Sides.{Side, new_side, waiting_on}
 use Rattle.coap_serve.specs.world.World.{World, new_world, side_of, step}
 use Rattle.coap_serve.specs.world.World as world
@@ -53,7 +53,7 @@ module _ (c : ConfigValues) (v : ServerValue) (ranges : AreInRange c.limits) (co
   abbrev flushing : (turns : ℕ) → FlushShown c es id (new_side c.limits) turns (flush_turns turns id v).server (flush_turns turns id v).text
   flushing turns = shown.flushing c v es id (new_side c.limits) config shows there turns
 
-  flush_ends : (turns : ℕ) → turns ≤ suc (observers_at id v) → (waiting_at id (flush_turns turns id v).server ≡ []) ⊎ (turns ≡ suc (observers_at id v)) → world_after c (flushing turns).events ≡ world_for c []
+  flush_ends : (turns : ℕ) → turns ≤ suc (more_at id v) → (waiting_at id (flush_turns turns id v).server ≡ []) ⊎ (turns ≡ suc (more_at id v)) → world_after c (flushing turns).events ≡ world_for c []
   flush_ends turns within done =
       shown.flush_ends c v es id (new_side c.limits) config shows there turns within done ∙ ap (flushed c.limits id) opened ∙ sym (world_for_none c)
 
@@ -78,18 +78,18 @@ module _ (c : ConfigValues) (v : ServerValue) (ranges : AreInRange c.limits) (co
   -- what a run begins from
   pub goes_first : (after : ServerValue) (wrote : List ℕ → Type 0) → IsFlushed id v after wrote → IsGoing c after id []
   goes_first after wrote did =
-      let ends = flush_ends did.turns did.within (subst (λ (u : ServerValue). (waiting_at id u ≡ []) ⊎ (did.turns ≡ suc (observers_at id v))) did.server did.done) in
+      let ends = flush_ends did.turns did.within (subst (λ (u : ServerValue). (waiting_at id u ≡ []) ⊎ (did.turns ≡ suc (more_at id v))) did.server did.done) in
       record { number = refl; ranges = ranges; stands = subst (λ (u : ServerValue). Stands c u []) (sym did.server) (stands_now did.turns ends); going = none_stops c }
 
   pub text_first : (after : ServerValue) (wrote : List ℕ → Type 0) → IsFlushed id v after wrote → wrote (stdio_output c [])
   text_first after wrote did =
-      let ends = flush_ends did.turns did.within (subst (λ (u : ServerValue). (waiting_at id u ≡ []) ⊎ (did.turns ≡ suc (observers_at id v))) did.server did.done) in
+      let ends = flush_ends did.turns did.within (subst (λ (u : ServerValue). (waiting_at id u ≡ []) ⊎ (did.turns ≡ suc (more_at id v))) did.server did.done) in
       subst wrote (sym (text_is did.turns ends)) did.written
 
   -- what waits on a new connection was not written whole
   pub not_greeted : (a : Told) (x z : Option (List ℕ)) → IsPartFlushed id v (WritesPart x z) → (pieces : List (List ℕ)) × (output : List ℕ) × HasGiven a a pieces × AllByRecursion (λ p. length p ≤ 4096) pieces × AddsBytes x z output × IsStdioRun c pieces output (Err Write)
   not_greeted a x z did =
-      let all : ℕ = suc (observers_at id v) in
+      let all : ℕ = suc (more_at id v) in
       let ends = flush_ends all (omega arith) (inr refl) in
       let more = text_grows id v did.turns all did.within in (
         [],

@@ -15,7 +15,7 @@ use Rattle.coap_serve.specs.Configs.{ConfigValues}
 use Rattle.coap_serve.specs.values.Sessions.{SessionValue, RefusesPiece}
 use Rattle.coap_serve.specs.values.Servers.{ServerValue, session_of, server_taken, server_taken_on}
 use Rattle.coap_serve.specs.values.ServerAnswers.{stop_on, RefusesPieceOn}
-use Rattle.coap_serve.specs.values.Flushes.{Flush, waiting_at, observers_at, flush_turns, IsFlushed, IsPartFlushed}
+use Rattle.coap_serve.specs.values.Flushes.{Flush, waiting_at, more_at, flush_turns, IsFlushed, IsPartFlushed}
 use Rattle.coap_serve.specs.declared.server.Taken.{Taken}
 use Rattle.coap_serve.specs.streams.Device.{AddsBytes, WritesPart}
 use Rattle.coap_serve.specs.streams.Output.{only_id, stream_of, flushed, world_for, side_for, outcome_on, outcome, stdio_output}
@@ -278,7 +278,7 @@ module _ (v : ServerValue) (bytes piece : List ℕ) (stands : Stands v.config v 
     flushing turns = shown.flushing c v1 fs id s1 config_then shows_then grown.1 turns
 
     -- where a flush ends the world is that for the bytes
-    flush_ends : (turns : ℕ) → turns ≤ suc (observers_at id v1) → (waiting_at id (flush_turns turns id v1).server ≡ []) ⊎ (turns ≡ suc (observers_at id v1)) → world_after c (flushing turns).events ≡ world_for c (bytes ++ T)
+    flush_ends : (turns : ℕ) → turns ≤ suc (more_at id v1) → (waiting_at id (flush_turns turns id v1).server ≡ []) ⊎ (turns ≡ suc (more_at id v1)) → world_after c (flushing turns).events ≡ world_for c (bytes ++ T)
     flush_ends turns within done = shown.flush_ends c v1 fs id s1 config_then shows_then grown.1 turns within done ∙ flushed_world
 
     -- and so is all that was written
@@ -312,7 +312,7 @@ module _ (v : ServerValue) (bytes piece : List ℕ) (stands : Stands v.config v 
     pub served_front : (after : ServerValue) (wrote : List ℕ → Type 0) → IsFlushed id v1 after wrote → FrontServed c id bytes T after wrote (count_of t.handled)
     served_front after wrote did =
         let turns : ℕ = did.turns in
-        let ends = flush_ends turns did.within (subst (λ (u : ServerValue). (waiting_at id u ≡ []) ⊎ (turns ≡ suc (observers_at id v1))) did.server did.done) in
+        let ends = flush_ends turns did.within (subst (λ (u : ServerValue). (waiting_at id u ≡ []) ⊎ (turns ≡ suc (more_at id v1))) did.server did.done) in
         subst (λ (u : ServerValue). FrontServed c id bytes T u wrote (count_of t.handled)) (sym did.server) (record {
           whole = record {
             stands = stands_now turns ends;
@@ -327,7 +327,7 @@ module _ (v : ServerValue) (bytes piece : List ℕ) (stands : Stands v.config v 
     -- A write failed: a part was written of what is defined for the bytes taken.
     pub cut_front : (x y : Option (List ℕ)) → IsPartFlushed id v1 (WritesPart x y) → IsCut c bytes T (AddsBytes x y)
     cut_front x y did =
-        let all : ℕ = suc (observers_at id v1) in
+        let all : ℕ = suc (more_at id v1) in
         let ends = flush_ends all (omega arith) (inr refl) in
         let more = text_grows id v1 did.turns all did.within in
         record {

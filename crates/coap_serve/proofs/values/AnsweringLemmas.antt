@@ -1,16 +1,22 @@
--- What is entered and sent where a request is answered and where an observer is notified.
-use Rattle.std.proofs.Common.{◌≡◌, ℕ, Bool, true, false, ◌&&◌, List, [], Some, refl, sym, ap, ◌∙◌}
-use Rattle.std.specs.Prelude.{nat_lt, ◌==◌, length, slice_set}
+-- What is entered, held and sent where a request is answered, where what is held is due, and where an observer is notified.
+use Rattle.std.proofs.Common.{◌≡◌, ℕ, Bool, true, false, ◌&&◌, List, [], ◌++◌, Option, Some, None, refl, sym, ap, ◌∙◌}
+use Rattle.std.specs.Prelude.{not, nat_lt, ◌==◌, length, slice_set, if◌then◌else◌}
 use Rattle.std.specs.List.{remove}
+use Rattle.std.proofs.lemmas.List.{append-nil}
 use Rattle.coap_wire.specs.Message.{Message}
 use Rattle.coap_wire.specs.Codes as code
 use Rattle.coap_conn.specs.declared.phase.Reply.{Reply}
 use Rattle.coap_conn.specs.Fit.{fit, bare_response}
-use Rattle.coap_conn.specs.LinkValue.{LinkValue, limit_in}
+use Rattle.coap_conn.specs.Held.{HeldValue, first_due}
+use Rattle.coap_conn.specs.Reaction.{due_effect}
+use Rattle.coap_conn.specs.History.{standing_due}
+use Rattle.coap_conn.specs.LinkValue.{LinkValue, limit_in, standing_in, link_with, link_after_reply, can_hold, link_after_hold, link_after_due}
+use Rattle.coap_conn.proofs.HeldLaws.{due_nothing}
 use Rattle.coap_store.specs.Requests.{path_of}
-use Rattle.coap_store.specs.Answer.{Answer, Response, says}
+use Rattle.coap_store.specs.Answer as answer
+use Rattle.coap_store.specs.Answer.{Answer, Response, says, answer_of, unheld_by, unheld, prompt_answer}
 use Rattle.coap_store.specs.Changes.{changes}
-use Rattle.coap_store.specs.Messages.{response_with_observe}
+use Rattle.coap_store.specs.Messages.{response_message, response_with_observe}
 use Rattle.coap_store.specs.Notifications.{notification_of}
 use Rattle.coap_store.specs.PlanViews.{change_value}
 use Rattle.coap_store.specs.Watching.{MayWatch}
@@ -18,11 +24,13 @@ use Rattle.coap_store.specs.declared.plan.Change.{Change}
 use Rattle.coap_store.specs.declared.plan.Change.TheVariants as change
 use Rattle.coap_store.specs.declared.plan.Watch.{Watch}
 use Rattle.coap_store.specs.declared.plan.Watch.TheVariants as watch
+use Rattle.coap_store.proofs.HoldLaws.{held_of, held_unwatched, same_change, same_at_once}
 use Rattle.coap_store.proofs.WatchLaws.{promptly_watched_is_there}
 use Rattle.coap_serve.specs.declared.host.Host.{Host}
-use Rattle.coap_serve.specs.world.Observers.{asks_entry, is_whole, goes_on, first_becomes}
-use Rattle.coap_serve.specs.values.Sessions.{ObserverValue, answer_on, entry_left, is_stale, mark_of, notification_on, state_on}
-use Rattle.coap_serve.specs.values.Entries.{first_index, is_observed, response_on, is_sent, entries_asked, entries_notified}
+use Rattle.coap_serve.specs.world.Sides.{moment_after}
+use Rattle.coap_serve.specs.world.Observers.{asks_entry, is_whole, with_entry, goes_on, first_becomes}
+use Rattle.coap_serve.specs.values.Sessions.{ObserverValue, new_entry, answer_on, hold_on, held_in, host_changed, entry_left, is_stale, mark_of, notification_on, state_on}
+use Rattle.coap_serve.specs.values.Entries.{first_index, is_observed, response_on, is_sent, entries_asked, link_replied, entries_replied, entries_notified}
 use Rattle.coap_serve.proofs.values.EntryLemmas.{is_first}
 
 -- ---- a request
@@ -58,6 +66,110 @@ pub is_change : (c : Change) → (c ≡ change.Nothing → ⊥) → true ≡ cha
 is_change change.Nothing other = absurd (other refl)
 is_change (change.Put path format bytes) other = refl
 is_change (change.Delete path) other = refl
+
+-- ---- a request whose answer asks to be held
+
+late_quiet : (host : Host) (m : Message) (seconds : ℕ) → hold_on host m ≡ Some seconds → (answer_on host m).change ≡ answer.Nothing
+late_quiet host m seconds e = same_change host.store host.now m ∙ (held_of host.store host.now m seconds e).change
+
+pub late_changes : (host : Host) (m : Message) (seconds : ℕ) → hold_on host m ≡ Some seconds → false ≡ changes (answer_on host m).change
+late_changes host m seconds e = ap changes (sym (late_quiet host m seconds e))
+
+pub late_host : (host : Host) (m : Message) (seconds : ℕ) → hold_on host m ≡ Some seconds → host ≡ host_changed host (answer_on host m).change
+late_host host m seconds e = ap (host_changed host) (sym (late_quiet host m seconds e))
+
+same_watch : (hold : Option ℕ) (a : Answer) → (unheld_by hold a).watch ≡ a.watch
+same_watch None a = refl
+same_watch (Some seconds) a = refl
+
+prompt_watch : (host : Host) (m : Message) → (answer_on host m).watch ≡ (answer_of host.store host.now m).watch
+unfolding prompt_answer
+prompt_watch host m = same_watch (hold_on host m) (answer_of host.store host.now m)
+
+-- it is not one of an observer
+late_unobserved : (host : Host) (m : Message) (seconds room : ℕ) (others : List ObserverValue) → hold_on host m ≡ Some seconds → is_observed host room others m ≡ false
+late_unobserved host m seconds room others e =
+    let w = (answer_on host m).watch in
+    elim (asks_entry w) as (λ b. asks_entry w ≡ b → (b && nat_lt (length others) room) ≡ false) [
+      | true ↦ λ asks. absurd (held_unwatched host.store host.now m seconds e (sym (prompt_watch host m) ∙ adds w asks))
+      | false ↦ λ silent. refl
+    ] refl
+
+-- the response that refuses it for now
+late_refused : (host : Host) (m : Message) (seconds room : ℕ) (others : List ObserverValue) → hold_on host m ≡ Some seconds → response_message m.token (unheld (answer_of host.store host.now m)).response ≡ response_on host room others m
+unfolding prompt_answer
+late_refused host m seconds room others e = ap (λ (b : Bool). response_with_observe m.token b (answer_on host m).response) (sym (late_unobserved host m seconds room others e))
+
+-- it is held where there is room, and else refused for now
+pub late_link : (host : Host) (m : Message) (l : LinkValue) (seconds moment room : ℕ) (others : List ObserverValue) → hold_on host m ≡ Some seconds → moment ≡ moment_after host.now seconds
+    → (if can_hold l then link_after_hold l m.token moment else link_after_reply l (response_message m.token (unheld (answer_of host.store host.now m)).response)) ≡ link_replied host l room others m (held_in l (hold_on host m))
+late_link host m l seconds moment room others e at =
+    elim (can_hold l) as (λ b. (if b then link_after_hold l m.token moment else link_after_reply l (response_message m.token (unheld (answer_of host.store host.now m)).response)) ≡ link_replied host l room others m (if b then Some seconds else None)) [
+      | true ↦ ap (link_after_hold l m.token) at
+      | false ↦ ap (link_after_reply l) (late_refused host m seconds room others e)
+    ]
+    ∙ ap (λ (hold : Option ℕ). link_replied host l room others m (held_in l hold)) (sym e)
+
+pub late_entries : (host : Host) (m : Message) (l : LinkValue) (seconds room : ℕ) (others : List ObserverValue) → hold_on host m ≡ Some seconds → others ≡ entries_replied host l room others m (held_in l (hold_on host m))
+late_entries host m l seconds room others e =
+    elim (can_hold l) as (λ b. others ≡ entries_replied host l room others m (if b then Some seconds else None)) [
+      | true ↦ refl
+      | false ↦ rw (late_unobserved host m seconds room others e) refl
+    ]
+    ∙ ap (λ (hold : Option ℕ). entries_replied host l room others m (held_in l hold)) (sym e)
+
+-- ---- a request that is answered at once
+
+pub prompt_is : (host : Host) (m : Message) (a : Answer) → a ≡ answer_of host.store host.now m → hold_on host m ≡ None → a ≡ answer_on host m
+prompt_is host m a is none = is ∙ sym (same_at_once host.store host.now m none)
+
+-- whether the response is one of an observer, by what the code computes
+not_not : (b : Bool) → not (not b) ≡ b
+not_not true = refl
+not_not false = refl
+
+pub observed_where_asked : (host : Host) (m : Message) (room : ℕ) (others : List ObserverValue) (asks full observes : Bool) → asks ≡ asks_entry (answer_on host m).watch → asks ≡ true → full ≡ not (nat_lt (length others) room) → observes ≡ not full → observes ≡ is_observed host room others m
+observed_where_asked host m room others asks full observes asks_is asked full_is is =
+    is
+    ∙ ap not full_is
+    ∙ not_not (nat_lt (length others) room)
+    ∙ ap (λ (b : Bool). b && nat_lt (length others) room) (sym asked ∙ asks_is)
+
+pub observed_where_unasked : (host : Host) (m : Message) (room : ℕ) (others : List ObserverValue) (asks observes : Bool) → asks ≡ asks_entry (answer_on host m).watch → asks ≡ false → observes ≡ false → observes ≡ is_observed host room others m
+observed_where_unasked host m room others asks observes asks_is silent is = is ∙ ap (λ (b : Bool). b && nat_lt (length others) room) (sym silent ∙ asks_is)
+
+-- what the code computes where it changes nothing: whether the response is one of an observer, and what was sent
+module _ (host : Host) (m : Message) (l : LinkValue) (room : ℕ) (others : List ObserverValue) (a : Answer) (observes : Bool) (none : hold_on host m ≡ None) (is : a ≡ answer_on host m) (observed : observes ≡ is_observed host room others m) where
+  response_is : response_with_observe m.token observes a.response ≡ response_on host room others m
+  response_is =
+      ap (λ (b : Answer). response_with_observe m.token observes b.response) is
+      ∙ ap (λ (b : Bool). response_with_observe m.token b (answer_on host m).response) observed
+
+  pub prompt_link : link_after_reply l (response_with_observe m.token observes a.response) ≡ link_replied host l room others m (held_in l (hold_on host m))
+  prompt_link = ap (link_after_reply l) response_is ∙ ap (λ (hold : Option ℕ). link_replied host l room others m (held_in l hold)) (sym none)
+
+  pub prompt_entries : (reply : Reply) → reply ≡ fit (limit_in l) (response_with_observe m.token observes a.response) (bare_response (response_with_observe m.token observes a.response))
+      → with_entry (observes && is_whole reply) others (new_entry host m) ≡ entries_replied host l room others m (held_in l (hold_on host m))
+  prompt_entries reply sent =
+      ap (λ (b : Bool). with_entry (b && is_whole reply) others (new_entry host m)) observed
+      ∙ ap (λ (r : Reply). with_entry (is_observed host room others m && is_whole r) others (new_entry host m)) (sent ∙ ap (λ (r : Message). fit (limit_in l) r (bare_response r)) response_is)
+      ∙ ap (λ (hold : Option ℕ). entries_replied host l room others m (held_in l hold)) (sym none)
+
+-- a request that changes something is answered at once
+pub change_link : (host : Host) (m : Message) (l : LinkValue) (room : ℕ) (others : List ObserverValue) (response : Message) → hold_on host m ≡ None → response ≡ response_on host room others m → link_after_reply l response ≡ link_replied host l room others m (held_in l (hold_on host m))
+change_link host m l room others response none is = ap (link_after_reply l) is ∙ ap (λ (hold : Option ℕ). link_replied host l room others m (held_in l hold)) (sym none)
+
+pub change_entries : (host : Host) (m : Message) (l : LinkValue) (room : ℕ) (others : List ObserverValue) → hold_on host m ≡ None → changes (answer_on host m).change ≡ true → others ≡ entries_replied host l room others m (held_in l (hold_on host m))
+change_entries host m l room others none does = entries_unobserved host l m room others does ∙ ap (λ (hold : Option ℕ). entries_replied host l room others m (held_in l hold)) (sym none)
+
+-- ---- what is held
+
+-- where nothing is due nothing is sent
+pub nothing_sent : (l : LinkValue) (now : ℕ) → first_due now l.held ≡ None → link_after_due l now ≡ l
+nothing_sent l now none =
+    ap (λ (e : Option HeldValue). link_with l (due_effect (standing_due now (standing_in l)) e)) none
+    ∙ ap (λ (held : List HeldValue). record l { waiting = l.waiting ++ []; held = held }) (due_nothing now l.held none).1
+    ∙ ap (λ (waiting : List ℕ). record l { waiting = waiting }) (append-nil l.waiting)
 
 -- ---- a notification
 

@@ -6,7 +6,7 @@ use Rattle.coap_serve.specs.streams.Device.{AddsBytes, WritesPart}
 use Rattle.coap_serve.specs.values.Sessions.{SessionValue}
 use Rattle.coap_serve.specs.values.Servers.{ServerValue, session_of, server_written}
 use Rattle.coap_serve.specs.values.ServerAnswers.{front_of}
-use Rattle.coap_serve.specs.values.Flushes.{Flush, waiting_in, waiting_at, observers_at, flush_once, flush_turns, IsFlushedOnce, IsFlushed, IsPartFlushed}
+use Rattle.coap_serve.specs.values.Flushes.{Flush, waiting_in, waiting_at, more_at, flush_once, flush_turns, IsFlushedOnce, IsFlushed, IsPartFlushed}
 use Rattle.coap_serve.proofs.streams.DeviceLemmas.{bytes_none, bytes_then}
 
 waits_on : (o : Option SessionValue) (w : List ℕ) → Some w ≡ option_map (λ s. s.link.waiting) o → w ≡ waiting_in o
@@ -55,11 +55,11 @@ flush_begins id v x = record {
 
 module _ (id : ℕ) (v : ServerValue) (turns : ℕ) (now : ServerValue) (x y z : Option (List ℕ)) (so_far : Flushing id v turns now x y) where
   -- nothing waits
-  pub nothing_waits : turns ≤ suc (observers_at id v) → waiting_at id now ≡ [] → IsFlushed id v now (AddsBytes x y)
+  pub nothing_waits : turns ≤ suc (more_at id v) → waiting_at id now ≡ [] → IsFlushed id v now (AddsBytes x y)
   nothing_waits within none = record { turns = turns; within = within; done = inl none; server = so_far.server; written = so_far.written }
 
   -- all turns were made
-  pub all_turns : turns ≡ suc (observers_at id v) → IsFlushed id v now (AddsBytes x y)
+  pub all_turns : turns ≡ suc (more_at id v) → IsFlushed id v now (AddsBytes x y)
   all_turns all = record { turns = turns; within = omega (arith, all); done = inr all; server = so_far.server; written = so_far.written }
 
   abbrev f : Flush
@@ -82,7 +82,7 @@ module _ (id : ℕ) (v : ServerValue) (turns : ℕ) (now : ServerValue) (x y z :
       }
 
   -- a part was written in one turn more
-  pub flush_cut : (w : List ℕ) → suc turns ≤ suc (observers_at id v) → w ≡ waiting_at id now → WritesPart y z w → IsPartFlushed id v (WritesPart x z)
+  pub flush_cut : (w : List ℕ) → suc turns ≤ suc (more_at id v) → w ≡ waiting_at id now → WritesPart y z w → IsPartFlushed id v (WritesPart x z)
   flush_cut w within waits wrote =
       let whole = turn_more turns id v in
       let here : w ≡ waiting_at id f.server = waits ∙ ap (waiting_at id) so_far.server in
@@ -112,7 +112,7 @@ abbrev pub Flushed : ℕ → ServerValue → ℕ → ServerValue → Option (Lis
 Flushed id v turns now x y true = Flushing id v turns now x y
 Flushed id v turns now x y false = IsFlushed id v now (AddsBytes x y)
 
-pub turned : (id : ℕ) (v : ServerValue) (turns : ℕ) (now : ServerValue) (x y z : Option (List ℕ)) (next : ServerValue) (more : ℕ) (waited : Bool) → Flushing id v turns now x y → turns ≤ suc (observers_at id v) → more ≡ suc turns → IsFlushedOnce id now next (AddsBytes y z) waited
+pub turned : (id : ℕ) (v : ServerValue) (turns : ℕ) (now : ServerValue) (x y z : Option (List ℕ)) (next : ServerValue) (more : ℕ) (waited : Bool) → Flushing id v turns now x y → turns ≤ suc (more_at id v) → more ≡ suc turns → IsFlushedOnce id now next (AddsBytes y z) waited
     → Flushed id v more next x z waited
 turned id v turns now x y z next more true so_far within one did = flush_further id v turns now x y z so_far more (waiting_at id now) next one refl did.0 did.1
 turned id v turns now x y z next more false so_far within one did =
@@ -124,6 +124,6 @@ pub goes_on_so : (id : ℕ) (v : ServerValue) (turns : ℕ) (now : ServerValue) 
 goes_on_so id v turns now x y true is so_far = so_far
 goes_on_so id v turns now x y false is so_far = absurd cc
 
-pub all_flushed : (id : ℕ) (v : ServerValue) (turns : ℕ) (now : ServerValue) (x y : Option (List ℕ)) (waited : Bool) → turns ≡ suc (observers_at id v) → Flushed id v turns now x y waited → IsFlushed id v now (AddsBytes x y)
+pub all_flushed : (id : ℕ) (v : ServerValue) (turns : ℕ) (now : ServerValue) (x y : Option (List ℕ)) (waited : Bool) → turns ≡ suc (more_at id v) → Flushed id v turns now x y waited → IsFlushed id v now (AddsBytes x y)
 all_flushed id v turns now x y true all so_far = all_turns id v turns now x y y so_far all
 all_flushed id v turns now x y false all so_far = so_far

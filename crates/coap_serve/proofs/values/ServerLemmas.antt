@@ -12,7 +12,7 @@ use Rattle.coap_serve.specs.values.Sessions.{SessionValue, new_session, session_
 use Rattle.coap_serve.specs.values.Servers.{ServerValue, LiesAt, session_of, is_there, changed_at, session_becomes, on_session, settled_entry, server_settled, server_ticked, server_opened, server_dropped, AreSettled}
 use Rattle.coap_serve.specs.values.ServerAnswers.{front_of, session_status}
 use Rattle.coap_serve.specs.views.ServerViews.{IsServer}
-use Rattle.coap_serve.proofs.values.SettleLemmas.{settled_is_settled, settled_stays}
+use Rattle.coap_serve.proofs.values.SettleLemmas.{no_held_due, settled_is_settled, settled_stays}
 
 abbrev pub Entries : Type 0
 Entries = List (ℕ × SessionValue)
@@ -68,6 +68,18 @@ unfolding changed_at
 written_at_index f [] i s at = refl
 written_at_index f (e ∷ es) zero s at = ap (λ v. (e.0, f v) ∷ es) (let is : e.1 ≡ s = cc in sym is)
 written_at_index f (e ∷ es) (suc i) s at = ap (λ rest. e ∷ rest) (written_at_index f es i s at)
+
+pub length-written : (es : Entries) (i : ℕ) (s : SessionValue) → length (set_value_at es i s) ≡ length es
+length-written [] i s = refl
+length-written (e ∷ es) zero s = refl
+length-written (e ∷ es) (suc i) s = ap suc (length-written es i s)
+
+-- two changes at one index
+pub changed_twice : (i : ℕ) (f g : SessionValue → SessionValue) (es : Entries) → changed_at i f (changed_at i g es) ≡ changed_at i (λ s. f (g s)) es
+unfolding changed_at
+changed_twice i f g [] = refl
+changed_twice zero f g (e ∷ es) = refl
+changed_twice (suc i) f g (e ∷ es) = ap (λ (rest : Entries). e ∷ rest) (changed_twice i f g es)
 
 -- what was there, written again
 nothing_written : (es : Entries) (i : ℕ) (s : SessionValue) → slice_get (values_of es) i ≡ Some s → set_value_at es i s ≡ es
@@ -349,7 +361,10 @@ module _ (v : ServerValue) (id i : ℕ) (entries : Entries) (server : IsServer v
 
 new_is_settled : (host : Host) (limits : LimitValues) → IsSettled host (new_session limits)
 unfolding next_stale
-new_is_settled host limits = elim (session_ready (new_session limits)) as (λ b. (if b then find (is_stale host) [] else None) ≡ None) [ true ↦ refl | false ↦ refl ]
+new_is_settled host limits = (
+  no_held_due host.now (new_session limits) (omega arith),
+  elim (session_ready (new_session limits)) as (λ b. (if b then find (is_stale host) [] else None) ≡ None) [ true ↦ refl | false ↦ refl ],
+)
 
 each_with_last : (P : ℕ × SessionValue → Type 0) (es : Entries) (e : ℕ × SessionValue) → AllByRecursion P es → P e → AllByRecursion P (es ++ e ∷ [])
 each_with_last P [] e all last = (last, tt)

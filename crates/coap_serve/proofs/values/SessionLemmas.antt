@@ -1,6 +1,6 @@
 -- What holds of a session as the code holds it, and what its calls do.
 use Rattle.std.proofs.Common.{◌≡◌, ℕ, zero, suc, ◌-◌, ◌<◌, ◌≤◌, Bool, true, false, List, [], ◌∷◌, ◌++◌, length, take, Option, Some, None, Result, Ok, Err, refl, sym, ap, subst, ◌∙◌, arith, inl, inr}
-use Rattle.std.specs.Prelude.{◌⊎◌, find, slice_get, nat_le, is_some, OnOk, IsTrue, if◌then◌else◌}
+use Rattle.std.specs.Prelude.{◌⊎◌, ◌||◌, find, slice_get, nat_le, is_some, OnOk, IsTrue, if◌then◌else◌}
 use Rattle.std.proofs.lemmas.Bool.{le-leb, leb-true, cond-true, cond-false}
 use Rattle.std.proofs.lemmas.List.{length-take-le, take-take}
 use Rattle.coap_wire.specs.Message.{Message}
@@ -14,7 +14,8 @@ use Rattle.coap_conn.specs.declared.phase.Verdict.{Verdict}
 use Rattle.coap_conn.specs.declared.phase.Verdict.TheVariants as told
 use Rattle.coap_conn.specs.Limits.{LimitValues, AreInRange}
 use Rattle.coap_conn.specs.LinkViews.{verdict_value}
-use Rattle.coap_conn.specs.LinkValue.{LinkValue, IsReady, free_in, standing_in, link_with, link_after_message, link_after_reply, link_after_end, link_after_release}
+use Rattle.coap_conn.specs.Held.{HeldValue, Answer, Pong, first_due}
+use Rattle.coap_conn.specs.LinkValue.{LinkValue, IsReady, free_in, standing_in, link_with, link_after_message, link_after_reply, link_after_end, link_after_release, link_after_due}
 use Rattle.coap_conn.specs.declared.reason.Reason.TheVariants.{ReleasedHere}
 use Rattle.coap_conn.specs.History.{end_reason, release}
 use Rattle.coap_conn.specs.Reaction.{stop}
@@ -24,8 +25,9 @@ use Rattle.coap_store.specs.Answer as answer
 use Rattle.coap_store.specs.Changes.{IsPut}
 use Rattle.coap_serve.specs.declared.host.Host.{Host}
 use Rattle.coap_serve.specs.declared.session.Session.TheInside.{Inside}
-use Rattle.coap_serve.specs.values.Sessions.{ObserverValue, ObserversValue, SessionValue, is_stale, session_ready, session_takes, session_max, observers_on, frame_on, session_with, without_entry, session_answered, answer_on, asks_this, session_handled, change_by, Taking, taking_read, taking_found, taking, RefusesPiece, notification_on, session_notified, next_stale, session_settled_once}
-use Rattle.coap_serve.specs.values.Entries.{first_index, response_on, entries_asked, entries_notified, framer_on}
+use Rattle.coap_serve.specs.world.Sides.{held_message}
+use Rattle.coap_serve.specs.values.Sessions.{ObserverValue, ObserversValue, SessionValue, is_stale, session_ready, session_takes, session_max, observers_on, frame_on, session_with, without_entry, answer_on, hold_on, held_in, session_replied, asks_this, session_handled, change_by, Taking, taking_read, taking_found, taking, RefusesPiece, notification_on, session_notified, next_held_in, next_stale, link_sent, session_settled_so, session_settled_once, IsSettled}
+use Rattle.coap_serve.specs.values.Entries.{first_index, link_replied, entries_replied, entries_notified, framer_on}
 use Rattle.coap_serve.specs.views.SessionViews.{IsSession, session_value}
 use Rattle.coap_serve.proofs.values.LinkLemmas.{ends_in}
 use Rattle.coap_serve.proofs.values.LinkLemmas.{message_limits, reply_limits}
@@ -66,22 +68,29 @@ on_both : {T E : Type 0} {A B C : Type 0} (r : Result T E) → (A → B → C) �
 on_both (Ok x) both a b = both a b
 on_both (Err e) both a b = tt
 
--- a request was answered, by the parts of the answer
+-- a request was answered or its answer is held, by the parts of either
+replied_as : (host : Host) (l : LinkValue) (others : List ObserverValue) (m : Message) (hold : Option ℕ) → session_with [] (link_replied host l l.limits.observers others m hold) (entries_replied host l l.limits.observers others m hold) ≡ session_replied host l others m hold
+replied_as host l others m None = refl
+replied_as host l others m (Some seconds) = refl
+
 request_handled : (host : Host) (v : SessionValue) (m : Message) (l after : LinkValue) (room : ℕ) (o p : ObserversValue) → asks_this v.link m ≡ true → l ≡ link_after_message v.link m → room ≡ v.link.limits.observers
-    → after ≡ link_after_reply l (response_on host room (without_entry m.token v.observers) m) → p ≡ record o { entries = entries_asked host l room (without_entry m.token v.observers) m } → session_with [] after p.entries ≡ session_handled host v m
+    → after ≡ link_replied host l room (without_entry m.token v.observers) m (held_in l (hold_on host m)) → p ≡ record o { entries = entries_replied host l room (without_entry m.token v.observers) m (held_in l (hold_on host m)) }
+    → session_with [] after p.entries ≡ session_handled host v m
 unfolding session_handled
 request_handled host v m l after room o p asks is room_is after_is p_is =
     let others : List ObserverValue = without_entry m.token v.observers in
     let first : LinkValue = link_after_message v.link m in
+    let hold : Option ℕ = hold_on host m in
     let rooms : room ≡ first.limits.observers = room_is ∙ ap (λ (k : LimitValues). k.observers) (sym (message_limits v.link m)) in
     ap (λ (k : LinkValue). session_with [] k p.entries) after_is
-    ∙ ap (λ (k : ObserversValue). session_with [] (link_after_reply l (response_on host room others m)) k.entries) p_is
-    ∙ ap (λ (k : LinkValue). session_with [] (link_after_reply k (response_on host room others m)) (entries_asked host k room others m)) is
-    ∙ ap (λ (n : ℕ). session_with [] (link_after_reply first (response_on host n others m)) (entries_asked host first n others m)) rooms
-    ∙ sym (cond-true (asks_this v.link m) (session_answered host first others m (answer_on host m)) (session_with [] first v.observers) asks)
+    ∙ ap (λ (k : ObserversValue). session_with [] (link_replied host l room others m (held_in l hold)) k.entries) p_is
+    ∙ ap (λ (k : LinkValue). session_with [] (link_replied host k room others m (held_in k hold)) (entries_replied host k room others m (held_in k hold))) is
+    ∙ ap (λ (n : ℕ). session_with [] (link_replied host first n others m (held_in first hold)) (entries_replied host first n others m (held_in first hold))) rooms
+    ∙ replied_as host first others m (held_in first hold)
+    ∙ sym (cond-true (asks_this v.link m) (session_replied host first others m (held_in first hold)) (session_with [] first v.observers) asks)
 
 pub on_request : {E : Type 0} (r : Result Bool E) (host : Host) (v : SessionValue) (m : Message) (l after : LinkValue) (o p : ObserversValue) → asks_this v.link m ≡ true → l ≡ link_after_message v.link m → o.room ≡ v.link.limits.observers → o.entries ≡ v.observers
-    → OnOk r (after ≡ link_after_reply l (response_on host o.room (without_entry m.token o.entries) m)) → OnOk r (p ≡ record o { entries = entries_asked host l o.room (without_entry m.token o.entries) m })
+    → OnOk r (after ≡ link_replied host l o.room (without_entry m.token o.entries) m (held_in l (hold_on host m))) → OnOk r (p ≡ record o { entries = entries_replied host l o.room (without_entry m.token o.entries) m (held_in l (hold_on host m)) })
     → OnOk r ((frame : List ℕ) → session_with [] after p.entries ≡ session_handled host (record v { frame = frame }) m)
 on_request r host v m l after o p asks is room entries =
     on_both r (λ link_is p_is frame. request_handled host (record v { frame = frame; observers = o.entries }) m l after o.room o p asks is room link_is p_is ∙ ap (λ (os : List ObserverValue). session_handled host (record v { frame = frame; observers = os }) m) entries)
@@ -100,7 +109,7 @@ pub message_handled : (host : Host) (v : SessionValue) (m : Message) (l : LinkVa
 unfolding session_handled
 message_handled host v m l other is =
     ap (λ (k : LinkValue). session_with [] k v.observers) is
-    ∙ sym (cond-false (asks_this v.link m) (session_answered host (link_after_message v.link m) (without_entry m.token v.observers) m (answer_on host m)) (session_with [] (link_after_message v.link m) v.observers) other)
+    ∙ sym (cond-false (asks_this v.link m) (session_replied host (link_after_message v.link m) (without_entry m.token v.observers) m (held_in (link_after_message v.link m) (hold_on host m))) (session_with [] (link_after_message v.link m) v.observers) other)
 
 pub nothing_changes : (host : Host) (l : LinkValue) (m : Message) → asks_this l m ≡ false → change_by host l m ≡ answer.Nothing
 nothing_changes host l m other = cond-false (asks_this l m) (answer_on host m).change answer.Nothing other
@@ -201,13 +210,18 @@ ready_is l false same =
       | false ↦ λ less. refl
     ] refl
 
-pub next_unready : (host : Host) (v : SessionValue) → session_ready v ≡ false → next_stale host v ≡ None
-unfolding next_stale
-next_unready host v e = cond-false (session_ready v) (find (is_stale host) v.observers) None e
+-- where there is no room nothing is left to settle
+pub settled_unready : (host : Host) (v : SessionValue) → session_ready v ≡ false → IsSettled host v
+unfolding next_held_in next_stale
+settled_unready host v e = (cond-false (session_ready v) (first_due host.now v.link.held) None e, cond-false (session_ready v) (find (is_stale host) v.observers) None e)
 
 pub next_ready : (host : Host) (v : SessionValue) → session_ready v ≡ true → next_stale host v ≡ find (is_stale host) v.observers
 unfolding next_stale
 next_ready host v e = cond-true (session_ready v) (find (is_stale host) v.observers) None e
+
+pub held_ready : (now : ℕ) (v : SessionValue) → session_ready v ≡ true → next_held_in now v ≡ first_due now v.link.held
+unfolding next_held_in
+held_ready now v e = cond-true (session_ready v) (first_due now v.link.held) None e
 
 entry_there : (os : List ObserverValue) (i : ℕ) → i < length os → (o : ObserverValue) × (slice_get os i ≡ Some o)
 entry_there [] i within = absurd (omega arith)
@@ -240,12 +254,59 @@ module _ (host : Host) (s : Inside) (index : ℕ) (l : LinkValue) (o : Observers
   pub notified_room : o.room ≡ s.observers.room
   notified_room = ap (λ (k : ObserversValue). k.room) (is.entries there.0 there.1)
 
-  pub settled_once : (g : FramerValue) (p : ObserversValue) → g ≡ framer_on l s.framer → p ≡ record o { entries = observers_on l o.entries } → record { frame = g.kept; link = l; observers = p.entries } ≡ session_settled_once host (session_value s)
-  unfolding session_settled_once
-  settled_once g p g_is p_is =
+  pub notified_once : (g : FramerValue) (p : ObserversValue) → g ≡ framer_on l s.framer → p ≡ record o { entries = observers_on l o.entries }
+      → record { frame = g.kept; link = l; observers = p.entries } ≡ session_notified host (session_value s) (next_stale host (session_value s))
+  notified_once g p g_is p_is =
       ap (λ (f : FramerValue). record { frame = f.kept; link = l; observers = p.entries }) g_is
       ∙ ap (λ (frame : List ℕ). record { frame = frame; link = l; observers = p.entries }) (kept_stays l s.framer)
       ∙ ap (λ (k : ObserversValue). record { frame = frame_on l s.framer.kept; link = l; observers = k.entries }) p_is
       ∙ ap (λ (k : ObserversValue). session_with s.framer.kept l k.entries) (is.entries there.0 there.1)
       ∙ ap (λ (k : LinkValue). session_with s.framer.kept k (entries_notified host s.link s.observers.entries there.0)) (is.link there.0 there.1)
       ∙ ap (session_notified host (session_value s)) (sym next_is)
+
+-- ---- what is held
+
+pub sent_limits : (l : LinkValue) (now : ℕ) (e : HeldValue) → (link_sent l now e).limits ≡ l.limits
+sent_limits l now (Answer token moment) = reply_limits (link_after_due l now) (held_message token)
+sent_limits l now (Pong token) = refl
+
+there_is : {A : Type 0} (o : Option A) → is_some o ≡ true → (x : A) × (o ≡ Some x)
+there_is None e = absurd cc
+there_is (Some x) e = (x, refl)
+
+pub there_is_none : {A : Type 0} (o : Option A) → is_some o ≡ false → o ≡ None
+there_is_none None e = refl
+there_is_none (Some x) e = absurd cc
+
+-- a session in which what was held and due first was sent
+pub record IsSent (host : Host) (s : Inside) (l : LinkValue) : Type 0 where
+  pub ready : session_ready (session_value s) ≡ true
+  pub some : is_some (first_due host.now s.link.held) ≡ true
+  pub link : (e : HeldValue) → first_due host.now s.link.held ≡ Some e → l ≡ link_sent s.link host.now e
+
+module _ (host : Host) (s : Inside) (l : LinkValue) (is : IsSent host s l) where
+  abbrev due : (e : HeldValue) × (first_due host.now s.link.held ≡ Some e)
+  due = there_is (first_due host.now s.link.held) is.some
+
+  held_is : next_held_in host.now (session_value s) ≡ Some due.0
+  held_is = held_ready host.now (session_value s) is.ready ∙ due.1
+
+  pub held_found : true ≡ (is_some (next_held_in host.now (session_value s)) || is_some (next_stale host (session_value s)))
+  held_found = ap (λ (e : Option HeldValue). is_some e || is_some (next_stale host (session_value s))) (sym held_is)
+
+  pub due_limits : l.limits ≡ s.link.limits
+  due_limits = ap (λ (k : LinkValue). k.limits) (is.link due.0 due.1) ∙ sent_limits s.link host.now due.0
+
+  pub sent_once : (g : FramerValue) (p : ObserversValue) → g ≡ framer_on l s.framer → p ≡ record s.observers { entries = observers_on l s.observers.entries } → record { frame = g.kept; link = l; observers = p.entries } ≡ session_settled_once host (session_value s)
+  unfolding session_settled_once
+  sent_once g p g_is p_is =
+      ap (λ (f : FramerValue). record { frame = f.kept; link = l; observers = p.entries }) g_is
+      ∙ ap (λ (frame : List ℕ). record { frame = frame; link = l; observers = p.entries }) (kept_stays l s.framer)
+      ∙ ap (λ (k : ObserversValue). record { frame = frame_on l s.framer.kept; link = l; observers = k.entries }) p_is
+      ∙ ap (λ (k : LinkValue). session_with s.framer.kept k s.observers.entries) (is.link due.0 due.1)
+      ∙ ap (session_settled_so host (session_value s)) (sym held_is)
+
+-- where nothing that is held is due, an observer is notified
+pub settles_by_notice : (host : Host) (v : SessionValue) → next_held_in host.now v ≡ None → session_settled_once host v ≡ session_notified host v (next_stale host v)
+unfolding session_settled_once
+settles_by_notice host v none = ap (session_settled_so host v) none

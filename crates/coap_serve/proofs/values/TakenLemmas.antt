@@ -1,8 +1,9 @@
--- What a piece leaves of a server: no connection is left to settle where no resource changed.
-use Rattle.std.proofs.Common.{◌≡◌, ℕ, ◌+◌, ◌-◌, Bool, true, false, cond, ◌&&◌, List, [], ◌∷◌, ◌++◌, length, take, drop, Option, Some, None, refl, sym, ap, subst, ◌∙◌, arith, append_assoc}
-use Rattle.std.specs.Prelude.{map, filter, find, not, nat_eq, nat_lt, slice_get, if◌then◌else◌, Result, Ok, Err}
+-- What a piece leaves of a server: where no resource changed, no connection is left to settle but the one that took the piece, where
+-- it holds something.
+use Rattle.std.proofs.Common.{◌≡◌, ℕ, ◌+◌, ◌-◌, ◌≤◌, Bool, true, false, cond, ◌&&◌, List, [], ◌∷◌, ◌++◌, length, take, drop, Option, Some, None, refl, sym, ap, subst, ◌∙◌, arith, append_assoc}
+use Rattle.std.specs.Prelude.{map, filter, find, not, nat_eq, nat_lt, slice_get, ◌==◌, if◌then◌else◌, Result, Ok, Err}
 use Rattle.std.specs.Map.{values_of}
-use Rattle.std.proofs.lemmas.Bool.{eq-eqb, and_parts}
+use Rattle.std.proofs.lemmas.Bool.{eq-eqb, eqb-true, and_parts}
 use Rattle.std.proofs.lemmas.List.{length-append, length-drop, take-append-drop}
 use Rattle.indexmap.specs.IndexMap.{set_value_at}
 use Rattle.coap_wire.specs.Message.{Message}
@@ -17,7 +18,7 @@ use Rattle.coap_conn.specs.declared.reason.Reason.{Reason}
 use Rattle.coap_conn.specs.declared.phase.Reject.TheVariants as reject
 use Rattle.coap_conn.specs.Rejects.{reject_of}
 use Rattle.coap_conn.specs.Fit.{fit, bare_response}
-use Rattle.coap_conn.specs.LinkValue.{LinkValue, limit_in, link_after_message, link_after_reply, link_after_reject}
+use Rattle.coap_conn.specs.LinkValue.{LinkValue, limit_in, link_after_message, link_after_reply, link_after_reject, link_after_hold}
 use Rattle.coap_store.specs.Messages.{response_with_observe}
 use Rattle.coap_store.specs.Paths.{same_bytes}
 use Rattle.coap_store.specs.Store.{Representation}
@@ -28,25 +29,42 @@ use Rattle.coap_store.specs.declared.plan.Watch.{Watch}
 use Rattle.coap_store.specs.declared.plan.Watch.TheVariants as watch
 use Rattle.coap_store.proofs.WatchLaws.{promptly_watched_is_there}
 use Rattle.coap_serve.specs.declared.host.Host.{Host}
+use Rattle.coap_serve.specs.world.Sides.{moment_after}
 use Rattle.coap_serve.specs.world.Observers.{asks_entry, has_place, with_entry, is_whole}
-use Rattle.coap_serve.specs.values.Sessions.{ObserverValue, SessionValue, Taking, mark_at, mark_of, is_marked, is_stale, session_ready, session_takes, session_max, observers_on, without_entry, new_entry, session_with, session_responded, session_answered, answer_on, asks_this, session_handled, taking_read, taking_found, taking, host_changed, next_stale, IsSettled, RefusesPiece}
-use Rattle.coap_serve.specs.values.Servers.{ServerValue, LiesAt, session_of, session_becomes, settled_entry, AreSettled, server_taken_so, server_taken_on, server_taken, count_on, count_taken}
+use Rattle.coap_serve.specs.values.Sessions.{ObserverValue, SessionValue, Taking, mark_at, mark_of, is_marked, is_stale, session_ready, session_takes, session_max, observers_on, without_entry, new_entry, session_with, session_responded, session_answered, answer_on, hold_on, held_in, session_replied, asks_this, session_handled, taking_read, taking_found, taking, host_changed, next_held_in, next_stale, session_settled, IsSettled, RefusesPiece}
+use Rattle.coap_serve.specs.values.Entries.{settled_held}
+use Rattle.coap_serve.specs.values.Servers.{ServerValue, LiesAt, session_of, changed_at, session_becomes, settled_entry, AreSettled, server_taken_so, server_taken_on, server_taken, count_on, count_taken}
 use Rattle.coap_serve.specs.values.ServerAnswers.{stop_on, handled_so, handled_on, handled_by, RefusesPieceOn}
 use Rattle.coap_serve.specs.views.ServerViews.{IsServer}
-use Rattle.coap_serve.proofs.values.ServerLemmas.{Entries, written_at_index, changed_one, all_settled_stay, settled_at, taken_server_with, lies_where_taken}
+use Rattle.coap_serve.proofs.values.SettleLemmas.{no_held_due, settled_stays}
+use Rattle.coap_serve.proofs.values.ServerLemmas.{Entries, written_at_index, changed_one, changed_twice, settling, one_settles, all_settled_stay, settled_at, taken_server_with, lies_where_taken}
 
 -- ---- no observer is stale
 
 abbrev NoneStale : Host → List ObserverValue → Type 0
 NoneStale host os = find (is_stale host) os ≡ None
 
-settled_where_none : (host : Host) (v : SessionValue) → NoneStale host v.observers → IsSettled host v
+settled_where_none : (host : Host) (v : SessionValue) → length v.link.held ≤ 0 → NoneStale host v.observers → IsSettled host v
 unfolding next_stale
-settled_where_none host v none = elim (session_ready v) as (λ b. (if b then find (is_stale host) v.observers else None) ≡ None) [ true ↦ none | false ↦ refl ]
+settled_where_none host v nothing none = (
+  no_held_due host.now v nothing,
+  elim (session_ready v) as (λ b. (if b then find (is_stale host) v.observers else None) ≡ None) [ true ↦ none | false ↦ refl ],
+)
 
 none_where_settled : (host : Host) (v : SessionValue) → session_ready v ≡ true → IsSettled host v → NoneStale host v.observers
 unfolding next_stale
-none_where_settled host v ready settled = sym (rw ready refl) ∙ settled
+none_where_settled host v ready settled = sym (rw ready refl) ∙ settled.1
+
+-- where no observer is stale, a connection settles where it holds something
+settled_held_none : (host : Host) (v : SessionValue) → NoneStale host v.observers → settled_held host v ≡ session_settled host v
+settled_held_none host v none =
+    elim (length v.link.held == 0) as (λ b. (length v.link.held == 0) ≡ b → (if b then v else session_settled host v) ≡ session_settled host v) [
+      | true ↦ λ nothing. sym (settled_stays host v (settled_where_none host v (omega (arith, eqb-true (length v.link.held) 0 nothing)) none))
+      | false ↦ λ _. refl
+    ] refl
+
+settled_held_still : (host : Host) (v : SessionValue) → IsSettled host v → settled_held host v ≡ session_settled host v
+settled_held_still host v settled = elim (length v.link.held == 0) as (λ b. (if b then v else session_settled host v) ≡ session_settled host v) [ true ↦ sym (settled_stays host v settled) | false ↦ refl ]
 
 none_of_no_more : (host : Host) (l : LinkValue) (os : List ObserverValue) → NoneStale host os → NoneStale host (observers_on l os)
 none_of_no_more host l os none = elim (is_open l.phase) as (λ b. find (is_stale host) (if b then os else []) ≡ None) [ true ↦ none | false ↦ refl ]
@@ -98,12 +116,18 @@ answered_none host l others m none =
     responded_none host l others (new_entry host m) observes (response_with_observe m.token observes a.response) none
     (λ e. entry_is_told host m (adds_where_asked a.watch (and_parts (asks_entry a.watch) (nat_lt (length others) l.limits.observers) e).0))
 
+-- nor is any where the answer is held
+replied_none : (host : Host) (l : LinkValue) (others : List ObserverValue) (m : Message) (hold : Option ℕ) → NoneStale host others → NoneStale host (session_replied host l others m hold).observers
+replied_none host l others m None none = answered_none host l others m none
+replied_none host l others m (Some seconds) none = none_of_no_more host (link_after_hold l m.token (moment_after host.now seconds)) others none
+
 handled_none : (host : Host) (v : SessionValue) (m : Message) → NoneStale host v.observers → NoneStale host (session_handled host v m).observers
 unfolding session_handled without_entry
 handled_none host v m none =
     let l : LinkValue = link_after_message v.link m in
-    elim (asks_this v.link m) as (λ b. NoneStale host (if b then session_answered host l (without_entry m.token v.observers) m (answer_on host m) else session_with [] l v.observers).observers) [
-      | true ↦ answered_none host l (without_entry m.token v.observers) m (none_of_fewer (is_stale host) (λ o. not (same_bytes o.token m.token)) v.observers none)
+    let hold : Option ℕ = held_in l (hold_on host m) in
+    elim (asks_this v.link m) as (λ b. NoneStale host (if b then session_replied host l (without_entry m.token v.observers) m hold else session_with [] l v.observers).observers) [
+      | true ↦ replied_none host l (without_entry m.token v.observers) m hold (none_of_fewer (is_stale host) (λ o. not (same_bytes o.token m.token)) v.observers none)
       | false ↦ none_of_no_more host l v.observers none
     ]
 
@@ -118,14 +142,15 @@ found_none host v f Nothing none = none
 found_none host v f (AFrame frame) none = read_none host v f.taken (message_of frame) none
 found_none host v f (AFault fault) none = none_of_no_more host (link_after_reject v.link (reject_of (OfFrame fault))) v.observers none
 
--- a connection that was settled is so where the host stays as it was
-pub taking_stays_settled : (host : Host) (v : SessionValue) (piece : List ℕ) → IsSettled host v → IsSettled host (taking host v piece).session
+-- a connection that was settled settles where it holds something, while the host stays as it was
+pub taking_settles_held : (host : Host) (v : SessionValue) (piece : List ℕ) → IsSettled host v → settled_held host (taking host v piece).session ≡ session_settled host (taking host v piece).session
 unfolding taking
-taking_stays_settled host v piece settled =
+taking_settles_held host v piece settled =
     let f : Framing = framing (session_max v) v.frame piece in
-    elim (session_takes v) as (λ b. session_takes v ≡ b → IsSettled host (if b then taking_found host v f f.finding else record { count = 0; handled = false; session = v; change = answer.Nothing }).session) [
-      | true ↦ λ takes. settled_where_none host _ (found_none host v f f.finding (none_where_settled host v (and_parts (takes_messages v.link.phase) (session_ready v) takes).1 settled))
-      | false ↦ λ _. settled
+    let P : Taking → Type 0 = λ t. settled_held host t.session ≡ session_settled host t.session in
+    elim (session_takes v) as (λ b. session_takes v ≡ b → P (if b then taking_found host v f f.finding else record { count = 0; handled = false; session = v; change = answer.Nothing })) [
+      | true ↦ λ takes. settled_held_none host _ (found_none host v f f.finding (none_where_settled host v (and_parts (takes_messages v.link.phase) (session_ready v) takes).1 settled))
+      | false ↦ λ _. settled_held_still host v settled
     ] refl
 
 -- ---- memory was refused
@@ -169,14 +194,21 @@ unfolding taking framing
 taking_where_takes host v piece takes =
     ap (λ (b : Bool). if b then taking_begun host v piece (beginning (session_max v) (v.frame ++ piece)) else record { count = 0; handled = false; session = v; change = answer.Nothing }) takes
 
--- without its last byte, the message is not handled
-pub refused_changes_nothing : (host : Host) (v : SessionValue) (piece : List ℕ) (count : ℕ) → RefusesPiece host v piece count → (taking host v (take count piece)).change ≡ answer.Nothing
-refused_changes_nothing host v piece count refuses =
-    let M : ℕ = session_max v in
-    let all = taking_where_takes host v piece refuses.takes in
-    let whole = put_is_whole host v piece (beginning M (v.frame ++ piece)) count (sym (ap (λ (t : Taking). t.count) all) ∙ refuses.last) (subst (λ (t : Taking). IsPut t.change) all refuses.stores) in
-    ap (λ (t : Taking). t.change) (taking_where_takes host v (take count piece) refuses.takes)
-    ∙ ap (λ b. (taking_begun host v (take count piece) b).change) (before_whole M v.frame piece whole.0 whole.1 count whole.2 whole.3)
+-- without its last byte, the message is not handled: its bytes are kept
+module _ (host : Host) (v : SessionValue) (piece : List ℕ) (count : ℕ) (refuses : RefusesPiece host v piece count) where
+  front_taken : taking host v (take count piece) ≡ taking_begun host v (take count piece) Unfinished
+  front_taken =
+      let M : ℕ = session_max v in
+      let all = taking_where_takes host v piece refuses.takes in
+      let whole = put_is_whole host v piece (beginning M (v.frame ++ piece)) count (sym (ap (λ (t : Taking). t.count) all) ∙ refuses.last) (subst (λ (t : Taking). IsPut t.change) all refuses.stores) in
+      taking_where_takes host v (take count piece) refuses.takes ∙ ap (taking_begun host v (take count piece)) (before_whole M v.frame piece whole.0 whole.1 count whole.2 whole.3)
+
+  pub refused_changes_nothing : (taking host v (take count piece)).change ≡ answer.Nothing
+  refused_changes_nothing = ap (λ (t : Taking). t.change) front_taken
+
+  pub refused_stays_settled : IsSettled host v → IsSettled host (taking host v (take count piece)).session
+  unfolding next_held_in next_stale
+  refused_stays_settled settled = subst (λ (t : Taking). IsSettled host t.session) (sym front_taken) settled
 
 -- ---- the host
 
@@ -220,22 +252,48 @@ module _ (v : ServerValue) (id i : ℕ) (s : SessionValue) (piece : List ℕ) (s
   written_is =
       written_at_index (λ _. taken_here.session) v.sessions i s here ∙ changed_one id (λ _. taken_here.session) v.sessions i lies.distinct lies.index lies.within
 
-  -- where no resource changed, all are settled
-  quiet_settled : changes taken_here.change ≡ false → AreSettled host_after with_it
-  quiet_settled quiet =
-      subst (λ host. AreSettled host with_it) (sym (host_stays v.host taken_here.change quiet))
-      (settled_with v.host id taken_here.session v.sessions (taking_stays_settled v.host s piece (settled_at v.host i v.sessions s server.settled here)) server.settled)
+  -- where no resource changed, the others are settled
+  quiet_is : changes taken_here.change ≡ false → changed_at i (settled_held host_after) (set_value_at v.sessions i taken_here.session) ≡ map (settled_entry host_after) with_it
+  quiet_is quiet =
+      let last : SessionValue → SessionValue = λ _. taken_here.session in
+      let settles : settled_held v.host taken_here.session ≡ session_settled v.host taken_here.session = taking_settles_held v.host s piece (settled_at v.host i v.sessions s server.settled here) in
+      subst (λ (host : Host). changed_at i (settled_held host) (set_value_at v.sessions i taken_here.session) ≡ map (settled_entry host) with_it) (sym (host_stays v.host taken_here.change quiet))
+      (ap (changed_at i (settled_held v.host)) (written_at_index last v.sessions i s here)
+      ∙ changed_twice i (settled_held v.host) last v.sessions
+      ∙ ap (λ (to : SessionValue). changed_at i (λ _. to) v.sessions) settles
+      ∙ changed_one id (settling v.host last) v.sessions i lies.distinct lies.index lies.within
+      ∙ one_settles v.host id last v.sessions server.settled)
 
-  -- all settle where a resource changed, and else none does
+  -- the same where it holds still
+  pub still_is : changes taken_here.change ≡ false → IsSettled v.host taken_here.session → set_value_at v.sessions i taken_here.session ≡ map (settled_entry host_after) with_it
+  still_is quiet still =
+      written_is
+      ∙ sym (all_settled_stay host_after with_it (subst (λ (host : Host). AreSettled host with_it) (sym (host_stays v.host taken_here.change quiet)) (settled_with v.host id taken_here.session v.sessions still server.settled)))
+
+  -- all settle where a resource changed, and else the one, where it holds something
   abbrev left_so : Host → SessionValue → Bool → Entries
-  left_so host after changed = cond changed (map (settled_entry host) (set_value_at v.sessions i after)) (set_value_at v.sessions i after)
+  left_so host after changed = cond changed (map (settled_entry host) (set_value_at v.sessions i after)) (changed_at i (settled_held host) (set_value_at v.sessions i after))
 
   left_is : left_so host_after taken_here.session (changes taken_here.change) ≡ map (settled_entry host_after) with_it
   left_is =
       elim (changes taken_here.change) as (λ b. changes taken_here.change ≡ b → left_so host_after taken_here.session b ≡ map (settled_entry host_after) with_it) [
         | true ↦ λ _. ap (map (settled_entry host_after)) written_is
-        | false ↦ λ quiet. written_is ∙ sym (all_settled_stay host_after with_it (quiet_settled quiet))
+        | false ↦ quiet_is
       ] refl
+
+  -- a server with these connections
+  module _ (host : Host) (entries : Entries) (host_is : host ≡ host_after) (all : entries ≡ map (settled_entry host_after) with_it) where
+    pub becomes_value : record v { host = host; sessions = entries } ≡ server_taken v id piece
+    becomes_value =
+        ap (λ (h : Host). record v { host = h; sessions = entries }) host_is
+        ∙ ap (λ (es : Entries). record v { host = host_after; sessions = es }) all
+        ∙ sym taken_is
+
+    pub becomes_server : IsServer (record v { host = host; sessions = entries })
+    becomes_server =
+        subst (λ (h : Host). IsServer (record v { host = h; sessions = entries })) (sym host_is)
+        (subst (λ (es : Entries). IsServer (record v { host = host_after; sessions = es })) (sym all)
+        (taken_server_with v id (λ _. taken_here.session) host_after server))
 
   module _ (host : Host) (after : SessionValue) (changed : Bool) (entries : Entries) (after_is : after ≡ taken_here.session) (host_is : host ≡ host_after) (changed_is : changed ≡ changes taken_here.change) (entries_are : entries ≡ left_so host after changed) where
     all_are : entries ≡ map (settled_entry host_after) with_it
@@ -244,16 +302,10 @@ module _ (v : ServerValue) (id i : ℕ) (s : SessionValue) (piece : List ℕ) (s
         ∙ ap (left_so host_after taken_here.session) changed_is ∙ left_is
 
     pub taken_value : record v { host = host; sessions = entries } ≡ server_taken v id piece
-    taken_value =
-        ap (λ (h : Host). record v { host = h; sessions = entries }) host_is
-        ∙ ap (λ (es : Entries). record v { host = host_after; sessions = es }) all_are
-        ∙ sym taken_is
+    taken_value = becomes_value host entries host_is all_are
 
     pub taken_server : IsServer (record v { host = host; sessions = entries })
-    taken_server =
-        subst (λ (h : Host). IsServer (record v { host = h; sessions = entries })) (sym host_is)
-        (subst (λ (es : Entries). IsServer (record v { host = host_after; sessions = es })) (sym all_are)
-        (taken_server_with v id (λ _. taken_here.session) host_after server))
+    taken_server = becomes_server host entries host_is all_are
 
     pub taken_lies : LiesAt id i entries
     taken_lies = subst (LiesAt id i) (sym all_are) (lies_where_taken id i (λ _. taken_here.session) host_after v.sessions lies)
@@ -280,8 +332,13 @@ module _ (v : ServerValue) (id i : ℕ) (s : SessionValue) (piece : List ℕ) (c
     host_after_is : host ≡ host_changed v.host (taking v.host s (take count piece)).change
     host_after_is = host_is ∙ sym (ap (host_changed v.host) nothing_changes)
 
+    still_all : set_value_at v.sessions i after ≡ map (settled_entry (host_changed v.host (taking v.host s (take count piece)).change)) (map (session_becomes id (λ _. (taking v.host s (take count piece)).session)) v.sessions)
+    still_all =
+        ap (set_value_at v.sessions i) after_is
+        ∙ still_is v id i s (take count piece) server lies here (ap changes nothing_changes) (refused_stays_settled v.host s piece count refuses (settled_at v.host i v.sessions s server.settled here))
+
     pub refused_value : record v { host = host; sessions = set_value_at v.sessions i after } ≡ server_taken v id (take count piece)
-    refused_value = taken_value v id i s (take count piece) server lies here host after false _ after_is host_after_is (sym (ap changes nothing_changes)) refl
+    refused_value = becomes_value v id i s (take count piece) server lies here host _ host_after_is still_all
 
     pub refused_server : IsServer (record v { host = host; sessions = set_value_at v.sessions i after })
-    refused_server = taken_server v id i s (take count piece) server lies here host after false _ after_is host_after_is (sym (ap changes nothing_changes)) refl
+    refused_server = becomes_server v id i s (take count piece) server lies here host _ host_after_is still_all

@@ -1,7 +1,7 @@
 -- A relation between a connection before and after: where it holds of whatever happens to one, it holds across settling and
 -- across any step.
 use Rattle.std.proofs.Common.{◌≡◌, ℕ, Bool, true, false, cond, ◌++◌, [], ◌∷◌, map, Option, Some, None, refl, sym, ap, subst, ◌∙◌, ◌⊎◌, inl, inr}
-use Rattle.std.specs.Prelude.{zero, suc, length, is_none, option_map}
+use Rattle.std.specs.Prelude.{zero, suc, ◌+◌, length, is_none, option_map}
 use Rattle.std.proofs.lemmas.Bool.{cases_eq}
 use Rattle.coap_wire.specs.Message.{Message}
 use Rattle.coap_wire.specs.Stream.{StreamFault}
@@ -27,7 +27,7 @@ within_across R go (suc turns) store now s t is = within_across R go turns store
 
 pub settled_across : (R : Side → Side → Type 0) → GoesOnSettling R → (store : StoreValue) (now : ℕ) (s t : Side) → R s t → R s (settled store now t)
 unfolding settled
-settled_across R go store now s t is = within_across R go (length t.observers) store now s t is
+settled_across R go store now s t is = within_across R go (length t.history.held + length t.observers) store now s t is
 
 -- ---- a step
 

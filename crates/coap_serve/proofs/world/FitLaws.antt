@@ -1,6 +1,6 @@
 -- What a step queues on a connection stands behind what was queued, and fits the greatest message that may be sent then.
 use Rattle.std.proofs.Common.{◌≡◌, ℕ, ◌≤◌, Bool, true, false, cond, List, [], ◌∷◌, ◌++◌, length, Option, Some, None, refl, sym, ap, subst, ◌∙◌, append_assoc, inl, inr}
-use Rattle.std.specs.Prelude.{is_none, nat_le, nat_lt, unwrap_or, ◌==◌}
+use Rattle.std.specs.Prelude.{◌&&◌, is_none, nat_le, nat_lt, unwrap_or, ◌==◌}
 use Rattle.std.proofs.lemmas.Bool.{cond_both, both_ways, eqb-true, ltb-false}
 use Rattle.std.proofs.lemmas.List.{append-nil}
 use Rattle.coap_wire.specs.Message.{Message}
@@ -14,17 +14,18 @@ use Rattle.coap_conn.specs.Limits.{LimitValues, AreInRange}
 use Rattle.coap_conn.specs.Phases.{stop_of, takes_messages, answers, is_open, is_waiting}
 use Rattle.coap_conn.specs.Announced.{bad_csm_option, size_unless, csm_size, announcement, announced, size_limit}
 use Rattle.coap_conn.specs.Fit.{AllFit, bare_response}
-use Rattle.coap_conn.specs.Reaction.{Standing, Effect, Reaction, stop, abort, send, aborts, react, reaction_unless, live_reaction, open_reaction, csm_reaction, is_reserved}
+use Rattle.coap_conn.specs.Held.{HeldValue, Answer, Pong, first_due, without_due}
+use Rattle.coap_conn.specs.Reaction.{Standing, Effect, Reaction, stop, abort, send, aborts, react, reaction_unless, live_reaction, open_reaction, csm_reaction, is_reserved, due_effect}
 use Rattle.coap_conn.specs.Rejects.{reject_of, reject_reason}
 use Rattle.coap_conn.specs.Release.{release_refusal}
-use Rattle.coap_conn.specs.History.{History, limit_now, standing_now, with_effect, after_message, after_reply, after_reject, after_end, after_release, after_written, end_reason, release}
+use Rattle.coap_conn.specs.History.{History, limit_now, standing_now, with_effect, after_message, after_reply, after_reject, after_end, after_release, after_written, after_hold, after_due, may_hold, standing_due, end_reason, release}
 use Rattle.coap_conn.specs.LinkValue.{LinkValue, link_of, free_in, limit_in}
 use Rattle.coap_conn.proofs.LinkLemmas.{announced_more}
-use Rattle.coap_conn.proofs.HistoryLaws.{new_fits, reaction_fits, sent_fits, stopped_fits, released_fits}
+use Rattle.coap_conn.proofs.HistoryLaws.{new_fits, reaction_fits, sent_fits, stopped_fits, released_fits, due_fits}
 use Rattle.coap_store.specs.Store.{StoreValue}
-use Rattle.coap_store.specs.Answer.{prompt_answer}
+use Rattle.coap_store.specs.Answer.{answer_of}
 use Rattle.coap_serve.specs.world.Observers.{Observer, without_token, notification, notification_message}
-use Rattle.coap_serve.specs.world.Sides.{Side, new_side, waiting_on, handles, with_history, side_answered, asks_answer, side_handled, side_after, side_faulted, side_written, side_ended, side_released, next_due, notified, settled_once}
+use Rattle.coap_serve.specs.world.Sides.{Side, new_side, waiting_on, handles, with_history, moment_after, held_for, side_replied, asks_answer, side_handled, side_after, side_faulted, side_written, side_ended, side_released, next_due, notified, next_held, held_message, after_sent, settled_so, settled_once}
 use Rattle.coap_serve.specs.world.World.{World, Step, side_of}
 use Rattle.coap_serve.specs.world.World as world
 use Rattle.coap_serve.proofs.world.EntryLemmas.{all_append}
@@ -114,6 +115,23 @@ end_evenly h cut = effect_evenly h (stop (standing_now h) (end_reason cut) []) (
 release_evenly : (h : History) → 2 ≤ limit_now h → GrowsEvenly h (after_release h)
 release_evenly h enough = effect_evenly h (stop (standing_now h) reason.ReleasedHere (release ∷ [])) (is_open h.phase) (λ does. released_fits h enough)
 
+-- what is held counts nowhere
+held_evenly : (h : History) (held : List HeldValue) (does : Bool) → GrowsEvenly h (cond does (record h { held = held }) h)
+held_evenly h held true = record { grows = record { more = []; queued = sym (append-nil h.queued); fit = tt }; same = refl }
+held_evenly h held false = evenly_self h
+
+hold_evenly : (h : History) (token : List ℕ) (moment : ℕ) → GrowsEvenly h (after_hold h token moment)
+hold_evenly h token moment = held_evenly h (h.held ++ Answer token moment ∷ []) (is_open h.phase && may_hold h)
+
+due_evenly : (h : History) (now : ℕ) → GrowsEvenly h (after_due h now)
+due_evenly h now =
+    let rest : History = record h { held = without_due now h.held } in
+    effect_evenly h (due_effect (standing_due now (standing_now h)) (first_due now h.held)) true (λ does. due_fits rest (first_due now h.held))
+
+sent_evenly : (h : History) (now : ℕ) (e : HeldValue) → GrowsEvenly h (after_sent h now e)
+sent_evenly h now (Answer token moment) = evenly_then h (after_due h now) _ (due_evenly h now) (reply_evenly (after_due h now) (held_message token))
+sent_evenly h now (Pong token) = due_evenly h now
+
 -- a message: where it announces another size, it queues nothing
 heard_fits : (h : History) (m : Message) (said : Option ℕ) → announcement m ≡ said → AllFit (size_limit h.limits.max_sent (unwrap_or said (announced h.handled))) (react (standing_now h) m).effect.queued
 heard_fits h m None is = reaction_fits h m
@@ -146,14 +164,20 @@ if_grows : (does : Bool) (s t : Side) → SideGrows s t → SideGrows s (cond do
 if_grows true s t is = is
 if_grows false s t is = (evenly_self s.history).grows
 
-asked_grows : (store : StoreValue) (now : ℕ) (s : Side) (m : Message) (asks : Bool)
-    → SideGrows s (cond asks (side_answered store now (after_message s.history m) (without_token m.token s.observers) m (prompt_answer store now m)) (with_history s (after_message s.history m)))
-asked_grows store now s m true = grows_then s.history (after_message s.history m) _ (message_grows s.history m) (reply_evenly (after_message s.history m) _)
-asked_grows store now s m false = message_grows s.history m
+replied_evenly : (store : StoreValue) (now : ℕ) (h : History) (others : List Observer) (m : Message) (hold : Option ℕ) → GrowsEvenly h (side_replied store now h others m hold).history
+replied_evenly store now h others m None = reply_evenly h _
+replied_evenly store now h others m (Some seconds) = hold_evenly h m.token (moment_after now seconds)
+
+asked_grows : (store : StoreValue) (now : ℕ) (s : Side) (m : Message) (hold : Option ℕ) (asks : Bool)
+    → SideGrows s (cond asks (side_replied store now (after_message s.history m) (without_token m.token s.observers) m hold) (with_history s (after_message s.history m)))
+asked_grows store now s m hold true =
+    let h : History = after_message s.history m in
+    grows_then s.history h _ (message_grows s.history m) (replied_evenly store now h (without_token m.token s.observers) m hold)
+asked_grows store now s m hold false = message_grows s.history m
 
 after_grows : (store : StoreValue) (now : ℕ) (s : Side) (m : Message) → SideGrows s (side_after store now s m)
 unfolding side_after
-after_grows store now s m = if_grows (handles s) s (side_handled store now s m) (asked_grows store now s m (asks_answer s m))
+after_grows store now s m = if_grows (handles s) s (side_handled store now s m) (asked_grows store now s m (held_for (after_message s.history m) (answer_of store now m).hold) (asks_answer s m))
 
 faulted_evenly : (s : Side) (fault : StreamFault) → SideEvenly s (side_faulted s fault)
 unfolding side_faulted
@@ -189,9 +213,13 @@ notified_evenly : (store : StoreValue) (now : ℕ) (s : Side) (due : Option Obse
 notified_evenly store now s None = evenly_self s.history
 notified_evenly store now s (Some o) = reply_evenly s.history (notification_message o.token (notification store now o))
 
+once_by : (store : StoreValue) (now : ℕ) (s : Side) (e : Option HeldValue) → SideEvenly s (settled_so store now s e)
+once_by store now s None = notified_evenly store now s (next_due store now s)
+once_by store now s (Some e) = sent_evenly s.history now e
+
 once_evenly : (store : StoreValue) (now : ℕ) (s : Side) → SideEvenly s (settled_once store now s)
 unfolding settled_once
-once_evenly store now s = notified_evenly store now s (next_due store now s)
+once_evenly store now s = once_by store now s (next_held now s)
 
 -- ---- a step
 

@@ -1,7 +1,7 @@
 -- What each operation leaves of a connection: its limits and its role, that no more was written than was queued, and that one
 -- that takes no message does not take any again.
 use Rattle.std.proofs.Common.{◌≡◌, ℕ, ◌≤◌, Bool, true, false, cond, List, [], ◌∷◌, ◌++◌, length, Option, Some, None, refl, sym, ap, ◌∙◌, arith}
-use Rattle.std.specs.Prelude.{zero, suc, nat_le, is_none}
+use Rattle.std.specs.Prelude.{zero, suc, ◌+◌, ◌&&◌, nat_le, is_none}
 use Rattle.std.proofs.lemmas.Bool.{leb-true, and_parts}
 use Rattle.std.proofs.lemmas.List.{length-append, length-drop}
 use Rattle.coap_wire.specs.Message.{Message}
@@ -14,16 +14,17 @@ use Rattle.coap_conn.specs.declared.reason.Reason.TheVariants.{ReleasedHere}
 use Rattle.coap_conn.specs.Limits.{LimitValues}
 use Rattle.coap_conn.specs.Phases.{takes_messages, answers, is_open}
 use Rattle.coap_conn.specs.Fit.{fit, bare_response}
-use Rattle.coap_conn.specs.Reaction.{Standing, Effect, stop, abort, send_as, send, react}
+use Rattle.coap_conn.specs.Held.{HeldValue, Answer, Pong, first_due}
+use Rattle.coap_conn.specs.Reaction.{Standing, Effect, stop, abort, send_as, send, react, pong_with, due_effect}
 use Rattle.coap_conn.specs.Rejects.{reject_of, reject_reason}
 use Rattle.coap_conn.specs.Release.{release_refusal}
-use Rattle.coap_conn.specs.History.{History, IsHistory, bytes_of, standing_now, with_effect, after_message, after_send, after_reply, after_reject, after_end, after_release, after_written, end_reason, release}
+use Rattle.coap_conn.specs.History.{History, IsHistory, bytes_of, standing_now, with_effect, after_message, after_send, after_reply, after_reject, after_end, after_release, after_written, after_hold, after_due, may_hold, standing_due, end_reason, release}
 use Rattle.coap_conn.specs.LinkValue.{link_of, LinkShows}
 use Rattle.coap_conn.proofs.LinkLemmas.{bytes_more, new_shown}
 use Rattle.coap_store.specs.Store.{StoreValue}
-use Rattle.coap_store.specs.Answer.{Answer, prompt_answer}
+use Rattle.coap_store.specs.Answer.{answer_of}
 use Rattle.coap_serve.specs.world.Observers.{Observer, without_token, notification, notification_message}
-use Rattle.coap_serve.specs.world.Sides.{Side, new_side, waiting_on, has_room, handles, with_history, side_answered, asks_answer, side_handled, side_after, side_faulted, side_written, side_ended, side_released, next_due, notified, settled_once, settled_within, settled}
+use Rattle.coap_serve.specs.world.Sides.{Side, new_side, waiting_on, has_room, handles, with_history, moment_after, held_for, side_replied, asks_answer, side_handled, side_after, side_faulted, side_written, side_ended, side_released, next_due, notified, next_held, held_message, after_sent, settled_so, settled_once, settled_within, settled}
 
 false_not_true : false ≡ true → ⊥
 false_not_true e = cc
@@ -105,6 +106,29 @@ written_follows h n within = record {
   live = λ takes. takes;
 }
 
+-- an answer is held
+held_follows : (h : History) (held : List HeldValue) (does : Bool) → Follows h (cond does (record h { held = held }) h)
+held_follows h held true = record { is_history = λ is. is; limits = refl; role = refl; live = λ takes. takes }
+held_follows h held false = follows_self h
+
+pub hold_follows : (h : History) (token : List ℕ) (moment : ℕ) → Follows h (after_hold h token moment)
+hold_follows h token moment = held_follows h (h.held ++ Answer token moment ∷ []) (is_open h.phase && may_hold h)
+
+-- what was due first is held no more
+due_live : (s : Standing) (e : Option HeldValue) → takes_messages (due_effect s e).phase ≡ true → takes_messages s.phase ≡ true
+due_live s None takes = takes
+due_live s (Some (Answer token moment)) takes = takes
+due_live s (Some (Pong token)) takes = sent_live s (pong_with true token) (pong_with false token) (fit s.limit (pong_with true token) (pong_with false token)) takes
+
+pub due_follows : (h : History) (now : ℕ) → Follows h (after_due h now)
+due_follows h now =
+    let s : Standing = standing_due now (standing_now h) in
+    effect_follows h (due_effect s (first_due now h.held)) true (λ does takes. due_live s (first_due now h.held) takes)
+
+pub sent_follows : (h : History) (now : ℕ) (e : HeldValue) → Follows h (after_sent h now e)
+sent_follows h now (Answer token moment) = follows_then h (after_due h now) _ (due_follows h now) (reply_follows (after_due h now) (held_message token))
+sent_follows h now (Pong token) = due_follows h now
+
 -- a fault stops a connection that takes messages
 rejected_phase : (h : History) (r : Reject) (takes : Bool) → takes ≡ true → takes_messages (cond takes (with_effect h (abort (standing_now h) (reject_reason r))) h).phase ≡ false
 rejected_phase h r true e = refl
@@ -119,17 +143,20 @@ reject_stops_it h r takes = rejected_phase h r (takes_messages h.phase) takes
 abbrev pub SideFollows : Side → Side → Type 0
 SideFollows s t = Follows s.history t.history
 
-pub answered_follows : (store : StoreValue) (now : ℕ) (h : History) (others : List Observer) (m : Message) (a : Answer) → Follows h (side_answered store now h others m a).history
-answered_follows store now h others m a = reply_follows h _
+-- a request is answered at once, or its answer is held
+pub replied_follows : (store : StoreValue) (now : ℕ) (h : History) (others : List Observer) (m : Message) (hold : Option ℕ) → Follows h (side_replied store now h others m hold).history
+replied_follows store now h others m None = reply_follows h _
+replied_follows store now h others m (Some seconds) = hold_follows h m.token (moment_after now seconds)
 
-handled_by : (store : StoreValue) (now : ℕ) (s : Side) (m : Message) (asks : Bool)
-    → Follows s.history (cond asks (side_answered store now (after_message s.history m) (without_token m.token s.observers) m (prompt_answer store now m)) (with_history s (after_message s.history m))).history
-handled_by store now s m true =
-    follows_then s.history (after_message s.history m) _ (message_follows s.history m) (answered_follows store now (after_message s.history m) (without_token m.token s.observers) m (prompt_answer store now m))
-handled_by store now s m false = message_follows s.history m
+handled_by : (store : StoreValue) (now : ℕ) (s : Side) (m : Message) (hold : Option ℕ) (asks : Bool)
+    → Follows s.history (cond asks (side_replied store now (after_message s.history m) (without_token m.token s.observers) m hold) (with_history s (after_message s.history m))).history
+handled_by store now s m hold true =
+    let h : History = after_message s.history m in
+    follows_then s.history h _ (message_follows s.history m) (replied_follows store now h (without_token m.token s.observers) m hold)
+handled_by store now s m hold false = message_follows s.history m
 
 pub handled_follows : (store : StoreValue) (now : ℕ) (s : Side) (m : Message) → SideFollows s (side_handled store now s m)
-handled_follows store now s m = handled_by store now s m (asks_answer s m)
+handled_follows store now s m = handled_by store now s m (held_for (after_message s.history m) (answer_of store now m).hold) (asks_answer s m)
 
 if_follows : (does : Bool) (s t : Side) → (does ≡ true → SideFollows s t) → SideFollows s (cond does t s)
 if_follows true s t go = go refl
@@ -160,9 +187,13 @@ notified_follows : (store : StoreValue) (now : ℕ) (s : Side) (due : Option Obs
 notified_follows store now s None = follows_self s.history
 notified_follows store now s (Some o) = reply_follows s.history (notification_message o.token (notification store now o))
 
+once_by : (store : StoreValue) (now : ℕ) (s : Side) (e : Option HeldValue) → SideFollows s (settled_so store now s e)
+once_by store now s None = notified_follows store now s (next_due store now s)
+once_by store now s (Some e) = sent_follows s.history now e
+
 pub once_follows : (store : StoreValue) (now : ℕ) (s : Side) → SideFollows s (settled_once store now s)
 unfolding settled_once
-once_follows store now s = notified_follows store now s (next_due store now s)
+once_follows store now s = once_by store now s (next_held now s)
 
 within_follows : (turns : ℕ) (store : StoreValue) (now : ℕ) (s : Side) → SideFollows s (settled_within turns store now s)
 unfolding settled_within
@@ -172,7 +203,7 @@ within_follows (suc turns) store now s =
 
 pub settled_follows : (store : StoreValue) (now : ℕ) (s : Side) → SideFollows s (settled store now s)
 unfolding settled
-settled_follows store now s = within_follows (length s.observers) store now s
+settled_follows store now s = within_follows (length s.history.held + length s.observers) store now s
 
 -- a fault stops a connection that handles messages
 pub faulted_stops : (s : Side) (fault : StreamFault) → handles s ≡ true → takes_messages (side_faulted s fault).history.phase ≡ false

@@ -1,15 +1,19 @@
 -- What each call keeps of a history, and the link that shows the history after it.
-use Rattle.std.proofs.Common.{◌≡◌, ℕ, ◌≤◌, Bool, true, false, cond, length, refl, sym, ◌∙◌}
+use Rattle.std.proofs.Common.{◌≡◌, ℕ, ◌≤◌, Bool, true, false, ◌&&◌, cond, List, [], ◌∷◌, ◌++◌, length, Option, Some, None, refl, sym, ap, ◌∙◌}
 use Rattle.coap_wire.specs.Message.{Message}
 use Rattle.coap_conn.specs.declared.phase.Reject.{Reject}
 use Rattle.coap_conn.specs.declared.phase.Reply.{Reply}
 use Rattle.coap_conn.specs.declared.phase.Reply.TheVariants as reply
 use Rattle.coap_conn.specs.Phases.{takes_messages, answers, is_open}
 use Rattle.coap_conn.specs.Fit.{fit, bare_response}
-use Rattle.coap_conn.specs.Reaction.{Standing, send_as}
-use Rattle.coap_conn.specs.History.{History, IsHistory, standing_now, after_message, after_reply, after_reject, after_end, after_release, after_written}
-use Rattle.coap_conn.specs.LinkValue.{link_of, LinkShows, link_after_message, link_after_reply, link_after_reject, link_after_end, link_after_release, link_after_written}
-use Rattle.coap_conn.proofs.LinkLemmas.{message_shown, reply_shown, reject_shown, end_shown, release_shown, written_shown}
+use Rattle.coap_conn.specs.Held.{HeldValue, first_due}
+use Rattle.coap_conn.specs.Held as held
+use Rattle.coap_conn.specs.Reaction.{Standing, send_as, pong_with, due_effect}
+use Rattle.coap_conn.specs.History.{History, IsHistory, standing_now, after_message, after_reply, after_reject, after_end, after_release, after_written, may_hold, after_hold, standing_due, after_due}
+use Rattle.coap_conn.specs.LinkValue.{link_of, LinkShows, link_after_message, link_after_reply, link_after_reject, link_after_end, link_after_release, link_after_written, link_after_hold, link_after_due}
+use Rattle.coap_conn.proofs.LinkLemmas.{message_shown, reply_shown, reject_shown, end_shown, release_shown, written_shown, hold_shown, due_shown}
+use Rattle.coap_serve.specs.values.Sessions.{link_sent}
+use Rattle.coap_serve.specs.world.Sides.{held_message, after_sent}
 
 -- ---- what is kept
 
@@ -75,6 +79,31 @@ written_goes_on h n within = record {
   over = λ e. e;
 }
 
+-- an answer is held
+pub hold_goes_on : (h : History) (token : List ℕ) (moment : ℕ) → GoesOn h (after_hold h token moment)
+hold_goes_on h token moment =
+    after_if (is_open h.phase && may_hold h) h (record h { held = h.held ++ held.Answer token moment ∷ [] }) refl refl (λ holds none. none)
+    (λ is. (hold_shown (link_of h) (link_after_hold (link_of h) token moment) token moment refl h (itself h is)).is_history)
+
+due_over : (s : Standing) (first : Option HeldValue) → takes_messages s.phase ≡ false → takes_messages (due_effect s first).phase ≡ false
+due_over s None e = e
+due_over s (Some (held.Answer token moment)) e = e
+due_over s (Some (held.Pong token)) e =
+    sent_over s (pong_with true token) (pong_with false token) (fit s.limit (pong_with true token) (pong_with false token)) e
+
+-- what is due first is held no more, and is sent
+pub due_goes_on : (h : History) (now : ℕ) → GoesOn h (after_due h now)
+due_goes_on h now = record {
+  role = refl;
+  limits = refl;
+  history = λ is. (due_shown (link_of h) (link_after_due (link_of h) now) now refl h (itself h is)).is_history;
+  over = due_over (standing_due now (standing_now h)) (first_due now h.held);
+}
+
+pub sent_goes_on : (h : History) (now : ℕ) (e : HeldValue) → GoesOn h (after_sent h now e)
+sent_goes_on h now (held.Answer token moment) = further h (after_due h now) _ (due_goes_on h now) (reply_goes_on (after_due h now) (held_message token))
+sent_goes_on h now (held.Pong token) = due_goes_on h now
+
 -- ---- the link after it
 
 pub message_link : (h : History) (m : Message) → IsHistory h → link_of (after_message h m) ≡ link_after_message (link_of h) m
@@ -94,6 +123,17 @@ release_link h is = sym (release_shown (link_of h) (link_after_release (link_of 
 
 pub written_link : (h : History) (n : ℕ) → n ≤ length (link_of h).waiting → IsHistory h → link_of (after_written h n) ≡ link_after_written (link_of h) n
 written_link h n within is = sym (written_shown (link_of h) (link_after_written (link_of h) n) n within refl h (itself h is)).same
+
+pub hold_link : (h : History) (token : List ℕ) (moment : ℕ) → IsHistory h → link_of (after_hold h token moment) ≡ link_after_hold (link_of h) token moment
+hold_link h token moment is = sym (hold_shown (link_of h) (link_after_hold (link_of h) token moment) token moment refl h (itself h is)).same
+
+pub due_link : (h : History) (now : ℕ) → IsHistory h → link_of (after_due h now) ≡ link_after_due (link_of h) now
+due_link h now is = sym (due_shown (link_of h) (link_after_due (link_of h) now) now refl h (itself h is)).same
+
+pub sent_link : (h : History) (now : ℕ) (e : HeldValue) → IsHistory h → link_of (after_sent h now e) ≡ link_sent (link_of h) now e
+sent_link h now (held.Answer token moment) is =
+    reply_link (after_due h now) (held_message token) ((due_goes_on h now).history is) ∙ ap (λ l. link_after_reply l (held_message token)) (due_link h now is)
+sent_link h now (held.Pong token) is = due_link h now is
 
 -- ---- what stops
 

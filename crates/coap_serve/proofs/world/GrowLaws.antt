@@ -1,6 +1,6 @@
 -- What a connection queued stays queued, and nothing but a write counts bytes as written.
-use Rattle.std.proofs.Common.{◌≡◌, ℕ, zero, suc, Bool, true, false, cond, List, [], ◌∷◌, ◌++◌, length, take, drop, Option, Some, None, refl, sym, ap, ◌∙◌, append_assoc, arith}
-use Rattle.std.specs.Prelude.{nat_le, option_map, map}
+use Rattle.std.proofs.Common.{◌≡◌, ℕ, zero, suc, ◌+◌, Bool, true, false, cond, List, [], ◌∷◌, ◌++◌, length, take, drop, Option, Some, None, refl, sym, ap, ◌∙◌, append_assoc, arith}
+use Rattle.std.specs.Prelude.{◌&&◌, nat_le, option_map, map}
 use Rattle.std.proofs.lemmas.Bool.{le-leb}
 use Rattle.std.proofs.lemmas.List.{append-nil, take-append-le, take-append-drop}
 use Rattle.std.proofs.Math.Seq.{take-add, take-length}
@@ -8,15 +8,16 @@ use Rattle.coap_wire.specs.Message.{Message}
 use Rattle.coap_wire.specs.Stream.{StreamFault, Stream}
 use Rattle.coap_conn.specs.declared.phase.Reject.{Reject}
 use Rattle.coap_conn.specs.Limits.{LimitValues}
-use Rattle.coap_conn.specs.Phases.{takes_messages, answers}
+use Rattle.coap_conn.specs.Phases.{takes_messages, answers, is_open}
+use Rattle.coap_conn.specs.Held.{HeldValue, Answer, Pong}
 use Rattle.coap_conn.specs.Reaction.{Effect}
 use Rattle.coap_conn.specs.Rejects.{reject_of}
-use Rattle.coap_conn.specs.History.{History, IsHistory, bytes_of, with_effect, after_message, after_reply, after_reject, after_written}
+use Rattle.coap_conn.specs.History.{History, IsHistory, bytes_of, with_effect, after_message, after_reply, after_reject, after_written, after_hold, after_due, may_hold}
 use Rattle.coap_conn.proofs.LinkLemmas.{bytes_more}
 use Rattle.coap_store.specs.Store.{StoreValue}
-use Rattle.coap_store.specs.Answer.{prompt_answer}
+use Rattle.coap_store.specs.Answer.{answer_of}
 use Rattle.coap_serve.specs.world.Observers.{Observer, without_token}
-use Rattle.coap_serve.specs.world.Sides.{Side, waiting_on, handles, with_history, side_answered, asks_answer, side_handled, side_after, side_faulted, side_written, next_due, notified, settled_once, settled_within, settled}
+use Rattle.coap_serve.specs.world.Sides.{Side, waiting_on, handles, with_history, moment_after, held_for, side_replied, asks_answer, side_handled, side_after, side_faulted, side_written, next_due, notified, next_held, held_message, after_sent, settled_so, settled_once, settled_within, settled}
 use Rattle.coap_serve.specs.Configs.{ConfigValues}
 use Rattle.coap_serve.specs.world.World.{World, side_of, stored_after, after_steps}
 use Rattle.coap_serve.specs.world.World as world
@@ -56,6 +57,18 @@ reply_grows h m = grows_if (answers h.phase) h _ (effect_grows h _)
 reject_grows : (h : History) (fault : Reject) → Grows h (after_reject h fault)
 reject_grows h fault = grows_if (takes_messages h.phase) h _ (effect_grows h _)
 
+-- what is held is no matter
+held_grows : (h : History) (held : List HeldValue) (does : Bool) → Grows h (cond does (record h { held = held }) h)
+held_grows h held true = record { more = []; queued = sym (append-nil h.queued); written = refl }
+held_grows h held false = grows_self h
+
+hold_grows : (h : History) (token : List ℕ) (moment : ℕ) → Grows h (after_hold h token moment)
+hold_grows h token moment = held_grows h (h.held ++ Answer token moment ∷ []) (is_open h.phase && may_hold h)
+
+sent_grows : (h : History) (now : ℕ) (e : HeldValue) → Grows h (after_sent h now e)
+sent_grows h now (Answer token moment) = grows_then h (after_due h now) _ (effect_grows h _) (reply_grows (after_due h now) (held_message token))
+sent_grows h now (Pong token) = effect_grows h _
+
 reply_handled_by : (does : Bool) (h : History) (e : Effect) → (cond does (with_effect h e) h).handled ≡ h.handled
 reply_handled_by true h e = refl
 reply_handled_by false h e = refl
@@ -72,14 +85,20 @@ side_if : (does : Bool) (s t : Side) → SideGrows s t → SideGrows s (cond doe
 side_if true s t grows = grows
 side_if false s t grows = grows_self s.history
 
-handled_by : (store : StoreValue) (now : ℕ) (s : Side) (m : Message) (asks : Bool)
-    → SideGrows s (cond asks (side_answered store now (after_message s.history m) (without_token m.token s.observers) m (prompt_answer store now m)) (with_history s (after_message s.history m)))
-handled_by store now s m true = grows_then s.history (after_message s.history m) _ (message_grows s.history m) (reply_grows (after_message s.history m) _)
-handled_by store now s m false = message_grows s.history m
+replied_grows : (store : StoreValue) (now : ℕ) (h : History) (others : List Observer) (m : Message) (hold : Option ℕ) → Grows h (side_replied store now h others m hold).history
+replied_grows store now h others m None = reply_grows h _
+replied_grows store now h others m (Some seconds) = hold_grows h m.token (moment_after now seconds)
+
+handled_by : (store : StoreValue) (now : ℕ) (s : Side) (m : Message) (hold : Option ℕ) (asks : Bool)
+    → SideGrows s (cond asks (side_replied store now (after_message s.history m) (without_token m.token s.observers) m hold) (with_history s (after_message s.history m)))
+handled_by store now s m hold true =
+    let h : History = after_message s.history m in
+    grows_then s.history h _ (message_grows s.history m) (replied_grows store now h (without_token m.token s.observers) m hold)
+handled_by store now s m hold false = message_grows s.history m
 
 pub after_grows : (store : StoreValue) (now : ℕ) (s : Side) (m : Message) → SideGrows s (side_after store now s m)
 unfolding side_after
-after_grows store now s m = side_if (handles s) s (side_handled store now s m) (handled_by store now s m (asks_answer s m))
+after_grows store now s m = side_if (handles s) s (side_handled store now s m) (handled_by store now s m (held_for (after_message s.history m) (answer_of store now m).hold) (asks_answer s m))
 
 pub faulted_grows : (s : Side) (fault : StreamFault) → SideGrows s (side_faulted s fault)
 unfolding side_faulted
@@ -89,16 +108,24 @@ notified_grows : (store : StoreValue) (now : ℕ) (s : Side) (found : Option Obs
 notified_grows store now s None = grows_self s.history
 notified_grows store now s (Some o) = reply_grows s.history _
 
+once_by : (store : StoreValue) (now : ℕ) (s : Side) (e : Option HeldValue) → SideGrows s (settled_so store now s e)
+once_by store now s None = notified_grows store now s (next_due store now s)
+once_by store now s (Some e) = sent_grows s.history now e
+
+pub once_grows : (store : StoreValue) (now : ℕ) (s : Side) → SideGrows s (settled_once store now s)
+unfolding settled_once
+once_grows store now s = once_by store now s (next_held now s)
+
 within_grows : (turns : ℕ) (store : StoreValue) (now : ℕ) (s : Side) → SideGrows s (settled_within turns store now s)
-unfolding settled_within settled_once
+unfolding settled_within
 within_grows zero store now s = grows_self s.history
 within_grows (suc turns) store now s =
-    let once : Side = notified store now s (next_due store now s) in
-    grows_then s.history once.history _ (notified_grows store now s (next_due store now s)) (within_grows turns store now once)
+    let once : Side = settled_once store now s in
+    grows_then s.history once.history _ (once_grows store now s) (within_grows turns store now once)
 
 pub settled_grows : (store : StoreValue) (now : ℕ) (s : Side) → SideGrows s (settled store now s)
 unfolding settled
-settled_grows store now s = within_grows (length s.observers) store now s
+settled_grows store now s = within_grows (length s.history.held + length s.observers) store now s
 
 -- ---- what was written
 
@@ -181,14 +208,26 @@ notified_handled : (store : StoreValue) (now : ℕ) (s : Side) (found : Option O
 notified_handled store now s None = refl
 notified_handled store now s (Some o) = reply_handled s.history _
 
+sent_handled : (h : History) (now : ℕ) (e : HeldValue) → (after_sent h now e).handled ≡ h.handled
+sent_handled h now (Answer token moment) = reply_handled (after_due h now) (held_message token)
+sent_handled h now (Pong token) = refl
+
+once_handled_by : (store : StoreValue) (now : ℕ) (s : Side) (e : Option HeldValue) → (settled_so store now s e).history.handled ≡ s.history.handled
+once_handled_by store now s None = notified_handled store now s (next_due store now s)
+once_handled_by store now s (Some e) = sent_handled s.history now e
+
+pub once_handled : (store : StoreValue) (now : ℕ) (s : Side) → (settled_once store now s).history.handled ≡ s.history.handled
+unfolding settled_once
+once_handled store now s = once_handled_by store now s (next_held now s)
+
 within_handled : (turns : ℕ) (store : StoreValue) (now : ℕ) (s : Side) → (settled_within turns store now s).history.handled ≡ s.history.handled
-unfolding settled_within settled_once
+unfolding settled_within
 within_handled zero store now s = refl
-within_handled (suc turns) store now s = within_handled turns store now (notified store now s (next_due store now s)) ∙ notified_handled store now s (next_due store now s)
+within_handled (suc turns) store now s = within_handled turns store now (settled_once store now s) ∙ once_handled store now s
 
 pub settled_handled : (store : StoreValue) (now : ℕ) (s : Side) → (settled store now s).history.handled ≡ s.history.handled
 unfolding settled
-settled_handled store now s = within_handled (length s.observers) store now s
+settled_handled store now s = within_handled (length s.history.held + length s.observers) store now s
 
 written_handled_by : (does : Bool) (s : Side) (n : ℕ) → (cond does (record s { history = after_written s.history n }) s).history.handled ≡ s.history.handled
 written_handled_by true s n = refl

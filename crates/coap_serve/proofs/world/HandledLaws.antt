@@ -27,16 +27,13 @@ use Rattle.coap_serve.proofs.world.PlaceLaws.{nobody}
 use Rattle.coap_serve.proofs.world.WorldLaws.{OpensNext}
 use Rattle.coap_serve.proofs.world.ReachedLaws.{IsReached, accepted_is}
 use Rattle.coap_serve.proofs.world.AcrossLaws.{HoldsOf, HoldsFrom, step_across}
-use Rattle.coap_serve.proofs.world.HandlingLaws.{Rests, rests_self, rests_then, effect_rests, once_rests, TakesSo, NoStep, OneMessage, OneFault, Became, Stayed, Heard, Rejected, accepted_so, took_became, some_same}
+use Rattle.coap_serve.proofs.world.HandlingLaws.{HasStopped, Rests, rests_self, rests_then, effect_rests, open_no_stop, once_rests, TakesSo, NoStep, OneMessage, OneFault, Became, Stayed, Heard, Rejected, accepted_so, took_became, some_same}
 
 -- ---- what is no message and no fault
 
 -- a connection that takes messages has not stopped
 takes_no_stop : (p : Phase) (why : Reason) → takes_messages p ≡ true → p ≡ Stopped why → ⊥
 takes_no_stop p why does is = let bad : false ≡ true = sym (ap takes_messages is) ∙ does in cc
-
-open_no_stop : (p : Phase) (why : Reason) → is_open p ≡ true → p ≡ Stopped why → ⊥
-open_no_stop p why does is = let bad : false ≡ true = sym (ap is_open is) ∙ does in cc
 
 end_rests : (h : History) (cut : Bool) → Rests h (after_end h cut)
 end_rests h true = effect_rests h (stop (standing_now h) (end_reason true) []) (takes_messages h.phase) (λ does why is. takes_no_stop h.phase why does is) (λ is. refl)
@@ -86,7 +83,7 @@ rests_of w st id away = record {
 
 pub record Agrees (u : Stream) (s : Side) : Type 0 where
   pub handled : s.history.handled ≡ u.messages
-  pub stopped : (fault : StreamFault) → u.fault ≡ Some fault → s.history.phase ≡ Stopped (reject_reason (reject_of fault))
+  pub stopped : (fault : StreamFault) → u.fault ≡ Some fault → HasStopped s.history (reject_reason (reject_of fault))
 
 rests_agrees : (u : Stream) (s t : Side) → Agrees u s → SideRests s t → Agrees u t
 rests_agrees u s t is rests = record {
@@ -108,7 +105,7 @@ silent_agrees limits M id es none =
 became_agrees : (u v : Stream) (s t : Side) (message : Bool) → Became u v s t message → Agrees u s → Agrees v t
 became_agrees u v s t message (Stayed none same messages fault) is = record {
   handled = ap (λ (x : Side). x.history.handled) same ∙ is.handled ∙ sym messages;
-  stopped = λ f e. ap (λ (x : Side). x.history.phase) same ∙ is.stopped f (sym fault ∙ e);
+  stopped = λ f e. subst (λ (x : Side). HasStopped x.history (reject_reason (reject_of f))) (sym same) (is.stopped f (sym fault ∙ e));
 }
 became_agrees u v s t message (Heard one does m hears messages fault) is = record {
   handled = hears.handled ∙ ap (λ (ms : List Message). ms ++ m ∷ []) is.handled ∙ sym messages;
@@ -116,7 +113,7 @@ became_agrees u v s t message (Heard one does m hears messages fault) is = recor
 }
 became_agrees u v s t message (Rejected none does fault rejects messages at) is = record {
   handled = rejects.handled ∙ is.handled ∙ sym messages;
-  stopped = λ f e. (let both : Some fault ≡ Some f = sym at ∙ e in let same : fault ≡ f = cc in rejects.stopped ∙ ap (λ (x : StreamFault). Stopped (reject_reason (reject_of x))) same);
+  stopped = λ f e. (let both : Some fault ≡ Some f = sym at ∙ e in let same : fault ≡ f = cc in subst (λ (x : StreamFault). HasStopped t.history (reject_reason (reject_of x))) same rejects.stopped);
 }
 
 -- ---- after accepted events

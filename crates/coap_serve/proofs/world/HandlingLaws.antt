@@ -18,14 +18,16 @@ use Rattle.coap_conn.specs.declared.phase.Reply.TheVariants as reply
 use Rattle.coap_conn.specs.declared.phase.Role.{Role}
 use Rattle.coap_conn.specs.declared.phase.Role.TheVariants.{Server, Client}
 use Rattle.coap_conn.specs.declared.reason.Reason.{Reason}
-use Rattle.coap_conn.specs.Phases.{stop_of, takes_messages, answers, is_waiting}
+use Rattle.coap_conn.specs.Phases.{stop_of, takes_messages, answers, is_open, is_waiting}
 use Rattle.coap_conn.specs.Announced.{has_critical_option, bad_csm_option}
 use Rattle.coap_conn.specs.Fit.{fit, bare_response, without_options}
-use Rattle.coap_conn.specs.Reaction.{Standing, Effect, Reaction, abort, send_as, send, sends, react, reaction_unless, live_reaction, open_reaction, csm_reaction, request_reaction, is_reserved, is_signal, is_method, minds_critical_options, pong_of, not_implemented}
+use Rattle.coap_conn.specs.Reaction.{Standing, Effect, Reaction, abort, send_as, send, sends, react, reaction_unless, live_reaction, open_reaction, csm_reaction, request_reaction, due_effect, is_reserved, is_signal, is_method, minds_critical_options, asks_custody, pong_with, pong_of, late_pong, ping_reaction, not_implemented}
+use Rattle.coap_conn.specs.Held.{HeldValue, first_due, without_due, due_index}
+use Rattle.coap_conn.specs.Held as held
 use Rattle.coap_conn.specs.Rejects.{reject_of, reject_reason}
-use Rattle.coap_conn.specs.History.{History, standing_now, with_effect, after_message, after_reply, after_reject}
+use Rattle.coap_conn.specs.History.{History, standing_now, with_effect, after_message, after_reply, after_reject, may_hold, after_hold, standing_due, after_due}
 use Rattle.coap_store.specs.Store.{StoreValue}
-use Rattle.coap_store.specs.Answer.{prompt_answer}
+use Rattle.coap_store.specs.Answer.{answer_of}
 use Rattle.coap_serve.specs.Configs.{ConfigValues}
 use Rattle.coap_serve.specs.declared.host.Host.{Host}
 use Rattle.coap_serve.specs.declared.server.Handled.TheVariants as handled
@@ -35,7 +37,7 @@ use Rattle.coap_serve.specs.values.Sessions.{SessionValue, Taking, taking, takin
 use Rattle.coap_serve.specs.values.Servers.{ServerValue, session_of, count_taken, server_taken_on, server_taken}
 use Rattle.coap_serve.specs.values.ServerAnswers.{stop_on, handled_so, handled_on, handled_by}
 use Rattle.coap_serve.specs.world.Observers.{Observer, without_token, notification, notification_message}
-use Rattle.coap_serve.specs.world.Sides.{Side, handles, has_room, with_history, side_answered, asks_answer, side_handled, side_after, side_faulted, next_due, notified, settled_once, settled}
+use Rattle.coap_serve.specs.world.Sides.{Side, handles, has_room, with_history, moment_after, held_for, side_replied, asks_answer, side_handled, side_after, side_faulted, next_due, notified, held_message, after_sent, settled_once, settled}
 use Rattle.coap_serve.specs.world.World.{World, Step, side_of}
 use Rattle.coap_serve.specs.world.World as world
 use Rattle.coap_serve.specs.world.Events.{Event, Took, stream_on, beyond, steps_by, world_after, front_of, takes, IfSide, IsAccepted, AreAccepted}
@@ -45,6 +47,7 @@ use Rattle.coap_serve.proofs.world.StepLaws.{world_same, world_step}
 use Rattle.coap_serve.proofs.world.TookLaws.{Adds, no_bytes_stream, no_bytes_steps, piece_adds_nothing, piece_adds_message, piece_adds_bad, piece_adds_fault}
 use Rattle.coap_serve.proofs.world.WorldLaws.{side_is}
 use Rattle.coap_serve.proofs.world.ReachedLaws.{IsReached, world_is, accepted_is, handling_goes_on, takes_there, piece_accepted}
+use Rattle.coap_serve.proofs.world.SideLaws.{settled_cases, replied_cases}
 use Rattle.coap_serve.proofs.world.ShownLemmas.{taking_stopped, taking_front}
 use Rattle.coap_serve.proofs.world.ShowLaws.{sessions_shown, side_there, no_session, takes_shown, shows_taken}
 use Rattle.coap_serve.proofs.world.AcrossLaws.{settled_across, handled_there, faulted_there}
@@ -79,10 +82,16 @@ request_so : (s : Standing) (m : Message) (role : Role) → StopsAtMost s.phase 
 request_so s m Server is = is
 request_so s m Client is = sends_so s (not_implemented m) (bare_response (not_implemented m)) is
 
+late_pong_so : (s : Standing) (m : Message) → StopsAtMost s.phase → ReactsSo (late_pong s m)
+late_pong_so s m is = cond_both (nat_lt (length s.held) s.most) _ _ ReactsSo (λ e. is) (λ e. sends_so s (pong_with false m.token) (pong_with false m.token) is)
+
+ping_so : (s : Standing) (m : Message) → StopsAtMost s.phase → ReactsSo (ping_reaction s m)
+ping_so s m is = cond_both (asks_custody m && nat_lt 0 (length s.held)) _ _ ReactsSo (λ e. late_pong_so s m is) (λ e. sends_so s (pong_of m) (without_options (pong_of m)) is)
+
 open_so : (s : Standing) (m : Message) → StopsAtMost s.phase → ReactsSo (open_reaction s m)
 open_so s m is =
     cond_both (minds_critical_options m.code && has_critical_option m) _ _ ReactsSo (λ e. refl)
-    (λ e. cond_both (m.code == code.ping) _ _ ReactsSo (λ e. sends_so s (pong_of m) (without_options (pong_of m)) is)
+    (λ e. cond_both (m.code == code.ping) _ _ ReactsSo (λ e. ping_so s m is)
     (λ e. cond_both (m.code == code.release) _ _ ReactsSo (λ e. refl)
     (λ e. cond_both (m.code == code.pong) _ _ ReactsSo (λ e. is)
     (λ e. cond_both (is_signal m.code) _ _ ReactsSo (λ e. is)
@@ -111,10 +120,14 @@ live_stop (Some why) e = absurd cc
 
 -- ---- what is sent changes nothing of what was handled
 
+-- a connection that stopped for a reason holds nothing
+abbrev pub HasStopped : History → Reason → Type 0
+HasStopped h why = (h.phase ≡ phase.Stopped why) × (h.held ≡ [])
+
 -- no message was handled in between, and a stop stays
 pub record Rests (h k : History) : Type 0 where
   pub handled : k.handled ≡ h.handled
-  pub stopped : (why : Reason) → h.phase ≡ phase.Stopped why → k.phase ≡ phase.Stopped why
+  pub stopped : (why : Reason) → HasStopped h why → HasStopped k why
   pub stops : StopsAtMost h.phase → StopsAtMost k.phase
 
 pub rests_self : (h : History) → Rests h h
@@ -129,7 +142,7 @@ rests_then h k g p q = record {
 
 -- an effect where a test says so, which a stopped connection does not pass
 pub effect_rests : (h : History) (e : Effect) (does : Bool) → (does ≡ true → (why : Reason) → h.phase ≡ phase.Stopped why → ⊥) → (StopsAtMost h.phase → StopsAtMost e.phase) → Rests h (cond does (with_effect h e) h)
-effect_rests h e true live stops = record { handled = refl; stopped = λ why is. absurd (live refl why is); stops = stops }
+effect_rests h e true live stops = record { handled = refl; stopped = λ why is. absurd (live refl why is.0); stops = stops }
 effect_rests h e false live stops = rests_self h
 
 no_answers : (p : Phase) (why : Reason) → answers p ≡ true → p ≡ phase.Stopped why → ⊥
@@ -140,13 +153,51 @@ reply_rests h m =
     effect_rests h (send (standing_now h) m (bare_response m)) (answers h.phase) (λ does why is. no_answers h.phase why does is)
     (λ is. sent_stops (standing_now h) m (bare_response m) (fit (standing_now h).limit m (bare_response m)) is)
 
+-- one answer more is held only while the connection is open
+pub open_no_stop : (p : Phase) (why : Reason) → is_open p ≡ true → p ≡ phase.Stopped why → ⊥
+open_no_stop p why does is = let bad : false ≡ true = sym (ap is_open is) ∙ does in cc
+
+held_rests : (h : History) (es : List HeldValue) (does : Bool) → (does ≡ true → is_open h.phase ≡ true) → Rests h (cond does (record h { held = es }) h)
+held_rests h es true may = record { handled = refl; stopped = λ why is. absurd (open_no_stop h.phase why (may refl) is.0); stops = λ is. is }
+held_rests h es false may = rests_self h
+
+hold_rests : (h : History) (token : List ℕ) (moment : ℕ) → Rests h (after_hold h token moment)
+hold_rests h token moment = held_rests h _ (is_open h.phase && may_hold h) (λ e. (and_parts (is_open h.phase) (may_hold h) e).0)
+
+-- what is due first is taken out; where nothing is held, nothing is
+abbrev due_in : History → ℕ → List HeldValue → Effect
+due_in h now es = due_effect (standing_due now (record (standing_now h) { held = es })) (first_due now es)
+
+none_due : (h : History) (now : ℕ) → ((due_in h now []).phase ≡ h.phase) × ((due_in h now []).held ≡ [])
+unfolding first_due without_due due_index
+none_due h now = (refl, refl)
+
+due_stops : (s : Standing) (found : Option HeldValue) → StopsAtMost s.phase → StopsAtMost (due_effect s found).phase
+due_stops s None is = is
+due_stops s (Some (held.Answer token moment)) is = is
+due_stops s (Some (held.Pong token)) is = sent_stops s (pong_with true token) (pong_with false token) (fit s.limit (pong_with true token) (pong_with false token)) is
+
+due_rests : (h : History) (now : ℕ) → Rests h (after_due h now)
+due_rests h now = record {
+  handled = refl;
+  stopped = λ why is. (
+    ap (λ (es : List HeldValue). (due_in h now es).phase) is.1 ∙ (none_due h now).0 ∙ is.0,
+    ap (λ (es : List HeldValue). (due_in h now es).held) is.1 ∙ (none_due h now).1,
+  );
+  stops = due_stops (standing_due now (standing_now h)) (first_due now h.held);
+}
+
+sent_rests : (h : History) (now : ℕ) (e : HeldValue) → Rests h (after_sent h now e)
+sent_rests h now (held.Answer token moment) = rests_then h (after_due h now) _ (due_rests h now) (reply_rests (after_due h now) (held_message token))
+sent_rests h now (held.Pong token) = due_rests h now
+
 notified_rests : (store : StoreValue) (now : ℕ) (s : Side) (due : Option Observer) → Rests s.history (notified store now s due).history
 notified_rests store now s None = rests_self s.history
 notified_rests store now s (Some o) = reply_rests s.history (notification_message o.token (notification store now o))
 
 pub once_rests : (store : StoreValue) (now : ℕ) (s : Side) → Rests s.history (settled_once store now s).history
-unfolding settled_once
-once_rests store now s = notified_rests store now s (next_due store now s)
+once_rests store now s =
+    settled_cases store now s (λ t. Rests s.history t.history) (λ e is. sent_rests s.history now e) (λ is. notified_rests store now s (next_due store now s))
 
 -- settling handles nothing
 pub settled_still : (store : StoreValue) (now : ℕ) (s : Side) → Rests s.history (settled store now s).history
@@ -171,8 +222,12 @@ message_hears : (h : History) (m : Message) → takes_messages h.phase ≡ true 
 message_hears h m takes = message_by h m (takes_messages h.phase) takes (live_stop (stop_of h.phase) takes)
 
 asked_hears : (store : StoreValue) (now : ℕ) (s : Side) (m : Message) (asks : Bool) → Hears m s.history (after_message s.history m)
-    → Hears m s.history (cond asks (side_answered store now (after_message s.history m) (without_token m.token s.observers) m (prompt_answer store now m)) (with_history s (after_message s.history m))).history
-asked_hears store now s m true is = hears_then m s.history (after_message s.history m) _ is (reply_rests (after_message s.history m) _)
+    → Hears m s.history (cond asks (side_replied store now (after_message s.history m) (without_token m.token s.observers) m (held_for (after_message s.history m) (answer_of store now m).hold)) (with_history s (after_message s.history m))).history
+asked_hears store now s m true is =
+    let h : History = after_message s.history m in
+    replied_cases store now h (without_token m.token s.observers) m (answer_of store now m).hold (λ t. Hears m s.history t.history)
+    (λ seconds e. hears_then m s.history h _ is (hold_rests h m.token (moment_after now seconds)))
+    (λ e. hears_then m s.history h _ is (reply_rests h _))
 asked_hears store now s m false is = is
 
 -- a message that a connection handles
@@ -185,10 +240,10 @@ side_hears store now s m does =
 -- a fault stops the connection, and no message was handled
 pub record Rejects (fault : StreamFault) (h k : History) : Type 0 where
   pub handled : k.handled ≡ h.handled
-  pub stopped : k.phase ≡ phase.Stopped (reject_reason (reject_of fault))
+  pub stopped : HasStopped k (reject_reason (reject_of fault))
 
 rejected_by : (h : History) (fault : StreamFault) (takes : Bool) → takes ≡ true → Rejects fault h (cond takes (with_effect h (abort (standing_now h) (reject_reason (reject_of fault)))) h)
-rejected_by h fault true e = record { handled = refl; stopped = refl }
+rejected_by h fault true e = record { handled = refl; stopped = (refl, refl) }
 rejected_by h fault false e = absurd cc
 
 pub side_rejects : (s : Side) (fault : StreamFault) → handles s ≡ true → Rejects fault s.history (side_faulted s fault).history
@@ -355,7 +410,7 @@ told before after s t message (Heard one does m hears messages fault) =
     ∙ heard_told s t (stop_of t.history.phase) (one_more m s t hears)
     ∙ since s t does
 told before after s t message (Rejected none does fault rejects messages is) =
-    let why : stop_of t.history.phase ≡ Some (reject_reason (reject_of fault)) = ap stop_of rejects.stopped in
+    let why : stop_of t.history.phase ≡ Some (reject_reason (reject_of fault)) = ap stop_of rejects.stopped.0 in
     ap (λ (b : Bool). handled_so b message (stop_of t.history.phase)) does
     ∙ ap (handled_so true message) why
     ∙ ap (handled_since s t) (sym why)
@@ -442,7 +497,7 @@ counted before after s t message (Heard one does m hears messages fault) =
     let one_counted = ap count_of (sym (since s t does)) ∙ heard_count s t (stop_of t.history.phase) (one_more m s t hears) hears.stops in
     omega (arith, ap (λ (ms : List Message). length ms) hears.handled, length-append s.history.handled (m ∷ []), one_counted)
 counted before after s t message (Rejected none does fault rejects messages is) =
-    let none_counted = ap count_of (sym (since s t does) ∙ ap (λ (p : Phase). handled_since s t (stop_of p)) rejects.stopped) ∙ no_message_reason (reject_of fault) in
+    let none_counted = ap count_of (sym (since s t does) ∙ ap (λ (p : Phase). handled_since s t (stop_of p)) rejects.stopped.0) ∙ no_message_reason (reject_of fault) in
     omega (arith, ap (λ (ms : List Message). length ms) rejects.handled, none_counted)
 
 counted_there : (c : ConfigValues) (es : List Event) (id : ℕ) (e : Event) (s t : Side) → side_of id (world_after c es).sides ≡ Some s → side_of id (world_after c (es ++ e ∷ [])).sides ≡ Some t → handled_in c es e id ≡ handled_between (Some s) (Some t)

@@ -1,5 +1,5 @@
 -- What each thing that happens to a connection keeps of it.
-use Rattle.std.proofs.Common.{◌≡◌, ℕ, ◌≤◌, Bool, true, false, cond, List, length, refl, arith}
+use Rattle.std.proofs.Common.{◌≡◌, ℕ, ◌≤◌, Bool, true, false, cond, List, length, Option, Some, None, refl, arith}
 use Rattle.std.specs.Prelude.{◌&&◌, not, is_none, nat_le, nat_lt}
 use Rattle.std.proofs.lemmas.Bool.{and_parts, leb-true}
 use Rattle.coap_wire.specs.Message.{Message}
@@ -9,19 +9,19 @@ use Rattle.coap_conn.specs.Phases.{is_open}
 use Rattle.coap_conn.specs.Fit.{fit, bare_response}
 use Rattle.coap_conn.specs.Rejects.{reject_of}
 use Rattle.coap_conn.specs.Release.{release_refusal}
-use Rattle.coap_conn.specs.History.{History, IsHistory, limit_now, after_message, after_reply, after_reject, after_end, after_release, after_written}
+use Rattle.coap_conn.specs.History.{History, IsHistory, limit_now, after_message, after_reply, after_reject, after_end, after_release, after_written, after_hold}
 use Rattle.coap_conn.specs.LinkValue.{link_of}
 use Rattle.coap_store.specs.Paths.{same_bytes}
 use Rattle.coap_store.specs.Store.{StoreValue}
-use Rattle.coap_store.specs.Answer.{Change, prompt_answer, changed}
+use Rattle.coap_store.specs.Answer.{Change, answer_of, prompt_answer, changed}
 use Rattle.coap_store.specs.Messages.{response_with_observe}
 use Rattle.coap_store.specs.declared.plan.Watch.TheVariants as watch
 use Rattle.coap_serve.specs.world.Observers.{Observer, without_token, asks_entry, has_place, entry_for, is_whole, with_entry}
-use Rattle.coap_serve.specs.world.Sides.{Side, new_side, handles, waiting_on, with_history, side_answered, asks_answer, side_handled, side_after, change_after, store_after, side_faulted, side_written, side_ended, side_released}
+use Rattle.coap_serve.specs.world.Sides.{Side, new_side, handles, waiting_on, with_history, side_answered, moment_after, held_for, side_replied, asks_answer, side_handled, side_after, change_after, store_after, side_faulted, side_written, side_ended, side_released}
 use Rattle.coap_serve.proofs.world.KnownLaws.{IsKnown, IsVersioned, still_known, entry_known}
 use Rattle.coap_serve.proofs.world.EntryLemmas.{all_to, all_filter, all_if, all_entered}
-use Rattle.coap_serve.proofs.world.GoingOn.{GoesOn, as_before, further, message_goes_on, reply_goes_on, reject_goes_on, end_goes_on, release_goes_on, written_goes_on}
-use Rattle.coap_serve.proofs.world.SideLaws.{asks_to_enter, AreKnown, IsKnownSide}
+use Rattle.coap_serve.proofs.world.GoingOn.{GoesOn, as_before, further, message_goes_on, reply_goes_on, reject_goes_on, end_goes_on, release_goes_on, written_goes_on, hold_goes_on}
+use Rattle.coap_serve.proofs.world.SideLaws.{asks_to_enter, AreKnown, IsKnownSide, known_with}
 
 -- ---- histories go on
 
@@ -33,9 +33,15 @@ goes_on_if : (b : Bool) (s t : Side) → (b ≡ true → SideGoesOn s t) → Sid
 goes_on_if true s t goes = goes refl
 goes_on_if false s t goes = as_before s.history
 
+replied_goes_on : (store : StoreValue) (now : ℕ) (h : History) (others : List Observer) (m : Message) (hold : Option ℕ) → GoesOn h (side_replied store now h others m hold).history
+replied_goes_on store now h others m None = reply_goes_on h _
+replied_goes_on store now h others m (Some seconds) = hold_goes_on h m.token (moment_after now seconds)
+
 handled_by : (store : StoreValue) (now : ℕ) (s : Side) (m : Message) (asks : Bool)
-    → SideGoesOn s (cond asks (side_answered store now (after_message s.history m) (without_token m.token s.observers) m (prompt_answer store now m)) (with_history s (after_message s.history m)))
-handled_by store now s m true = further s.history (after_message s.history m) _ (message_goes_on s.history m) (reply_goes_on (after_message s.history m) _)
+    → SideGoesOn s (cond asks (side_replied store now (after_message s.history m) (without_token m.token s.observers) m (held_for (after_message s.history m) (answer_of store now m).hold)) (with_history s (after_message s.history m)))
+handled_by store now s m true =
+    let h = after_message s.history m in
+    further s.history h _ (message_goes_on s.history m) (replied_goes_on store now h (without_token m.token s.observers) m (held_for h (answer_of store now m).hold))
 handled_by store now s m false = message_goes_on s.history m
 
 pub after_goes_on : (store : StoreValue) (now : ℕ) (s : Side) (m : Message) → GoesOn s.history (side_after store now s m).history
@@ -74,9 +80,6 @@ still_known_side store change s is known = record {
 known_if : (store : StoreValue) (b : Bool) (s t : Side) → IsKnownSide store s → (b ≡ true → IsKnownSide store t) → IsKnownSide store (cond b t s)
 known_if store true s t known new = new refl
 known_if store false s t known new = known
-
-known_with : (store : StoreValue) (s : Side) (h : History) → GoesOn s.history h → IsKnownSide store s → IsKnownSide store (with_history s h)
-known_with store s h goes known = record { is_history = goes.history known.is_history; told = all_if (IsKnown store) (is_open h.phase) s.observers known.told }
 
 pub faulted_known : (store : StoreValue) (s : Side) (fault : StreamFault) → IsKnownSide store s → IsKnownSide store (side_faulted s fault)
 unfolding side_faulted
@@ -120,10 +123,17 @@ module _ (store : StoreValue) (now : ℕ) (small : now ≤ 18446744073709551615)
             (all_entered (IsKnown store) (observes && whole) os entry told (λ e. entry_known store now m small is (asked e)));
       }
 
+  replied_known : (h : History) (os : List Observer) (m : Message) (hold : Option ℕ) → IsHistory h → AreKnown store os → IsKnownSide store (side_replied store now h os m hold)
+  replied_known h os m None history told = answered_known h os m history told
+  replied_known h os m (Some seconds) history told =
+      let later = after_hold h m.token (moment_after now seconds) in
+      record { is_history = (hold_goes_on h m.token (moment_after now seconds)).history history; told = all_if (IsKnown store) (is_open later.phase) os told }
+
   known_by : (s : Side) (m : Message) (asks : Bool) → IsKnownSide store s
-      → IsKnownSide store (cond asks (side_answered store now (after_message s.history m) (without_token m.token s.observers) m (prompt_answer store now m)) (with_history s (after_message s.history m)))
+      → IsKnownSide store (cond asks (side_replied store now (after_message s.history m) (without_token m.token s.observers) m (held_for (after_message s.history m) (answer_of store now m).hold)) (with_history s (after_message s.history m)))
   known_by s m true known =
-      answered_known (after_message s.history m) (without_token m.token s.observers) m ((message_goes_on s.history m).history known.is_history) (others_known store m.token s.observers known.told)
+      let h = after_message s.history m in
+      replied_known h (without_token m.token s.observers) m (held_for h (answer_of store now m).hold) ((message_goes_on s.history m).history known.is_history) (others_known store m.token s.observers known.told)
   known_by s m false known = known_with store s (after_message s.history m) (message_goes_on s.history m) known
 
   -- a message leaves what is known, before it changes the store

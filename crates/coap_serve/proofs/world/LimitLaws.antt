@@ -1,5 +1,5 @@
--- The limits of a server hold: after any events of the bytes that wait on a connection and of its observers, and after accepted
--- events of the bytes that are kept of an unfinished frame.
+-- The limits of a server hold: after any events of the bytes that wait on a connection, of what it holds and of its observers, and
+-- after accepted events of the bytes that are kept of an unfinished frame.
 use Rattle.std.proofs.Common.{◌≡◌, ℕ, ◌+◌, ◌<◌, ◌≤◌, Bool, true, false, cond, List, [], ◌∷◌, ◌++◌, length, map, drop, Option, Some, None, refl, ap, ◌∙◌, arith}
 use Rattle.std.specs.Prelude.{zero, suc, nat_le, nat_lt, is_none, filter, find, ◌&&◌, ◌==◌}
 use Rattle.std.specs.List.{AllByRecursion}
@@ -25,27 +25,30 @@ use Rattle.coap_conn.specs.Reasons.{abort_of}
 use Rattle.coap_conn.specs.Announced.{announced, has_critical_option, bad_csm_option}
 use Rattle.coap_conn.specs.Fit.{AllFit, fit, fitted, abort_fitted, without_payload, without_options, bare_response}
 use Rattle.coap_conn.specs.Verdicts.{is_request}
-use Rattle.coap_conn.specs.Reaction.{Standing, Effect, Reaction, stop, abort, send_as, send, told_of, sends, aborts, react, reaction_unless, live_reaction, open_reaction, csm_reaction, request_reaction, is_reserved, is_signal, is_method, minds_critical_options, pong_of, not_implemented}
+use Rattle.coap_conn.specs.Held.{HeldValue, Answer, Pong, first_due, without_due}
+use Rattle.coap_conn.specs.Reaction.{Standing, Effect, Reaction, stop, abort, send_as, send, told_of, sends, aborts, react, reaction_unless, live_reaction, open_reaction, csm_reaction, request_reaction, ping_reaction, is_reserved, is_signal, is_method, minds_critical_options, asks_custody, pong_with, pong_of, not_implemented, due_effect}
 use Rattle.coap_conn.specs.Rejects.{reject_of, reject_reason}
 use Rattle.coap_conn.specs.Release.{release_refusal}
-use Rattle.coap_conn.specs.History.{History, IsHistory, bytes_of, limit_now, standing_now, with_effect, after_message, after_reply, after_reject, after_end, after_release, after_written, end_reason, release}
+use Rattle.coap_conn.specs.History.{History, IsHistory, bytes_of, limit_now, standing_now, with_effect, after_message, after_reply, after_reject, after_end, after_release, after_written, after_hold, after_due, may_hold, standing_due, end_reason, release}
 use Rattle.coap_conn.specs.LinkValue.{LinkValue, link_of, free_in, limit_in}
 use Rattle.coap_conn.proofs.LinkLemmas.{waiting_more}
 use Rattle.coap_conn.proofs.SmallLemmas.{csm_bytes_small, release_bytes_small}
+use Rattle.coap_conn.proofs.HeldLaws.{due_nothing, due_fewer, held_few}
 use Rattle.coap_conn.proofs.HistoryLaws.{reaction_fits, sent_fits, stopped_fits}
 use Rattle.coap_store.specs.Store.{StoreValue}
 use Rattle.coap_store.specs.Refusals.{put_refusal}
-use Rattle.coap_store.specs.Answer.{Answer, prompt_answer}
+use Rattle.coap_store.specs.Answer as answer
+use Rattle.coap_store.specs.Answer.{answer_of, prompt_answer}
 use Rattle.coap_store.specs.Messages.{response_with_observe}
 use Rattle.coap_serve.specs.Configs.{ConfigValues}
 use Rattle.coap_serve.specs.world.Observers.{Observer, is_due, without_token, has_place, asks_entry, entry_for, is_whole, with_entry, goes_on, notification, notification_message, left_of, first_becomes}
-use Rattle.coap_serve.specs.world.Sides.{Side, new_side, waiting_on, free_on, has_room, handles, kept_open, with_history, side_answered, asks_answer, side_handled, side_after, side_faulted, side_written, side_ended, side_released, next_due, notified, settled_once, settled_within, settled}
+use Rattle.coap_serve.specs.world.Sides.{Side, new_side, waiting_on, free_on, has_room, handles, kept_open, with_history, side_answered, moment_after, held_for, side_replied, asks_answer, side_handled, side_after, side_faulted, side_written, side_ended, side_released, next_due, notified, next_held, held_message, after_sent, settled_so, settled_once, settled_within, settled}
 use Rattle.coap_serve.specs.world.World.{Place, World, Step, new_world, side_of, changed_at, ticks, acted, settled_place, all_settled, after_steps}
 use Rattle.coap_serve.specs.world.World as world
 use Rattle.coap_serve.specs.world.Events.{Event, stream_on, steps_of, world_after, AreAccepted}
 use Rattle.coap_serve.specs.world.Shows.{kept_on}
 use Rattle.coap_serve.proofs.world.PlaceLaws.{of_number, each_mapped, each_more, each_but}
-use Rattle.coap_serve.proofs.world.FollowLaws.{Follows, IsSide, new_side_is, follower_is, message_follows, after_follows, faulted_follows, side_written_follows, side_ended_follows, side_released_follows, once_follows}
+use Rattle.coap_serve.proofs.world.FollowLaws.{Follows, IsSide, new_side_is, follower_is, message_follows, due_follows, after_follows, faulted_follows, side_written_follows, side_ended_follows, side_released_follows, once_follows}
 use Rattle.coap_serve.proofs.world.WorldLaws.{opened_world}
 use Rattle.coap_serve.proofs.world.TookLaws.{rest_unfinished}
 use Rattle.coap_serve.proofs.world.ReachedLaws.{accepted_is}
@@ -98,7 +101,7 @@ module _ (limits : LimitValues) (P : Side → Type 0) (keeps : Keeps limits P) w
 
   settled_keeps : (store : StoreValue) (now : ℕ) (s : Side) → P s → P (settled store now s)
   unfolding settled
-  settled_keeps store now s is = within_keeps (length s.observers) store now s is
+  settled_keeps store now s is = within_keeps (length s.history.held + length s.observers) store now s is
 
   step_keeps : (w : World) (s : Step) → Each w → Each (world.step limits w s)
   unfolding world.step
@@ -158,7 +161,7 @@ if_few most true s t h then = then
 if_few most false s t h then = h
 
 -- an entry is made where there is a place for it
-answered_few : (most : ℕ) (store : StoreValue) (now : ℕ) (h : History) (os : List Observer) (m : Message) (a : Answer) → h.limits.observers ≡ most → length os ≤ most → length (side_answered store now h os m a).observers ≤ most
+answered_few : (most : ℕ) (store : StoreValue) (now : ℕ) (h : History) (os : List Observer) (m : Message) (a : answer.Answer) → h.limits.observers ≡ most → length os ≤ most → length (side_answered store now h os m a).observers ≤ most
 answered_few most store now h os m a same few =
     let observes : Bool = has_place h.limits.observers os a.watch in
     let response : Message = response_with_observe m.token observes a.response in
@@ -168,14 +171,19 @@ answered_few most store now h os m a same few =
     let entered : List Observer = with_entry (observes && whole) os (entry_for store now m) in
     omega (arith, open_fewer (after_reply h response) entered, entry_few most os (entry_for store now m) (observes && whole) place few)
 
+replied_few : (most : ℕ) (store : StoreValue) (now : ℕ) (h : History) (os : List Observer) (m : Message) (hold : Option ℕ) → h.limits.observers ≡ most → length os ≤ most → length (side_replied store now h os m hold).observers ≤ most
+replied_few most store now h os m None same few = answered_few most store now h os m (prompt_answer store now m) same few
+replied_few most store now h os m (Some seconds) same few = omega (arith, few, open_fewer (after_hold h m.token (moment_after now seconds)) os)
+
 handled_few : (limits : LimitValues) (store : StoreValue) (now : ℕ) (s : Side) (m : Message) → FewObserve limits s → length (side_after store now s m).observers ≤ limits.observers
 unfolding side_after
 handled_few limits store now s m is =
     let h : History = after_message s.history m in
     let same : h.limits.observers ≡ limits.observers = ap (λ (l : LimitValues). l.observers) ((message_follows s.history m).limits ∙ is.is.same_limits) in
+    let hold : Option ℕ = held_for h (answer_of store now m).hold in
     if_few limits.observers (handles s) s (side_handled store now s m) is.few
-    (if_few limits.observers (asks_answer s m) (with_history s h) (side_answered store now h (without_token m.token s.observers) m (prompt_answer store now m)) (omega (arith, open_fewer h s.observers, is.few))
-    (answered_few limits.observers store now h (without_token m.token s.observers) m (prompt_answer store now m) same (omega (arith, token_fewer m.token s.observers, is.few))))
+    (if_few limits.observers (asks_answer s m) (with_history s h) (side_replied store now h (without_token m.token s.observers) m hold) (omega (arith, open_fewer h s.observers, is.few))
+    (replied_few limits.observers store now h (without_token m.token s.observers) m hold same (omega (arith, token_fewer m.token s.observers, is.few))))
 
 notified_few : (most : ℕ) (store : StoreValue) (now : ℕ) (s : Side) (due : Option Observer) → length s.observers ≤ most → length (notified store now s due).observers ≤ most
 notified_few most store now s None few = few
@@ -184,6 +192,10 @@ notified_few most store now s (Some o) few =
     let left : List Observer = left_of store now o (goes_on (notification store now o) && is_whole (fit (limit_now s.history) m (bare_response m))) in
     let one : length left ≤ 1 = left_one store now o (goes_on (notification store now o) && is_whole (fit (limit_now s.history) m (bare_response m))) in
     omega (arith, few, open_fewer (after_reply s.history m) (first_becomes (is_due store now) left s.observers), becomes_fewer (is_due store now) left s.observers one)
+
+once_few : (most : ℕ) (store : StoreValue) (now : ℕ) (s : Side) (e : Option HeldValue) → length s.observers ≤ most → length (settled_so store now s e).observers ≤ most
+once_few most store now s None few = notified_few most store now s (next_due store now s) few
+once_few most store now s (Some e) few = omega (arith, few, open_fewer (after_sent s.history now e) s.observers)
 
 few_keeps : (limits : LimitValues) → Keeps limits (FewObserve limits)
 unfolding side_faulted side_written side_ended side_released settled_once
@@ -203,11 +215,126 @@ few_keeps limits = record {
     is = follower_is limits s _ (side_released_follows s) is.is;
     few = if_few limits.observers (is_none (release_refusal (link_of s.history))) s (with_history s (after_release s.history)) is.few (omega (arith, open_fewer (after_release s.history) s.observers, is.few));
   };
-  told = λ store now s is. record { is = follower_is limits s _ (once_follows store now s) is.is; few = notified_few limits.observers store now s (next_due store now s) is.few };
+  told = λ store now s is. record { is = follower_is limits s _ (once_follows store now s) is.is; few = once_few limits.observers store now s (next_held now s) is.few };
 }
 
 pub observers_within : (c : ConfigValues) (es : List Event) (id : ℕ) (s : Side) → side_of id (world_after c es).sides ≡ Some s → length s.observers ≤ c.limits.observers
 observers_within c es id s there = (kept_after c (FewObserve c.limits) (few_keeps c.limits) es id s there).few
+
+-- ---- what is held
+
+-- no more is held than the limits allow
+pub record FewHeld (limits : LimitValues) (s : Side) : Type 0 where
+  pub is : IsSide limits s
+  pub few : length s.history.held ≤ limits.pending
+
+abbrev HoldsFew : ℕ → History → Type 0
+HoldsFew most h = length h.held ≤ most
+
+if_holds : (most : ℕ) (does : Bool) (h k : History) → HoldsFew most h → (does ≡ true → HoldsFew most k) → HoldsFew most (cond does k h)
+if_holds most true h k few then = then refl
+if_holds most false h k few then = few
+
+heard_holds : (h : History) (m : Message) (takes : Bool) → HoldsFew h.limits.pending h
+    → HoldsFew h.limits.pending (cond takes (record (with_effect h (react (standing_now h) m).effect) { handled = h.handled ++ m ∷ [] }) h)
+heard_holds h m true few = held_few (standing_now h) m few
+heard_holds h m false few = few
+
+message_holds : (h : History) (m : Message) → HoldsFew h.limits.pending h → HoldsFew h.limits.pending (after_message h m)
+message_holds h m few = heard_holds h m (takes_messages h.phase) few
+
+-- what is sent adds nothing to it
+sent_holds : (most : ℕ) (s : Standing) (m less : Message) (r : Reply) → length s.held ≤ most → length (send_as s m less r).held ≤ most
+sent_holds most s m less Whole few = few
+sent_holds most s m less Bare few = few
+sent_holds most s m less Stopped few = omega arith
+
+reply_holds : (most : ℕ) (h : History) (m : Message) → HoldsFew most h → HoldsFew most (after_reply h m)
+reply_holds most h m few =
+    if_holds most (answers h.phase) h (with_effect h (send (standing_now h) m (bare_response m))) few
+    (λ does. sent_holds most (standing_now h) m (bare_response m) (fit (limit_now h) m (bare_response m)) few)
+
+-- an answer is held where there is room
+hold_holds : (h : History) (token : List ℕ) (moment : ℕ) → HoldsFew h.limits.pending h → HoldsFew h.limits.pending (after_hold h token moment)
+hold_holds h token moment few =
+    if_holds h.limits.pending (is_open h.phase && may_hold h) h (record h { held = h.held ++ Answer token moment ∷ [] }) few
+    (λ does. omega (arith, ltb-true (length h.held) h.limits.pending (and_parts (is_open h.phase) (may_hold h) does).1, length-append h.held (Answer token moment ∷ [])))
+
+-- what is due is taken out
+fewer_by : (now : ℕ) (held : List HeldValue) (e : Option HeldValue) → first_due now held ≡ e → length (without_due now held) ≤ length held
+fewer_by now held None is = omega (arith, ap (λ (es : List HeldValue). length es) (due_nothing now held is).1)
+fewer_by now held (Some e) is = omega (arith, due_fewer now held e is)
+
+effect_holds : (most : ℕ) (s : Standing) (e : Option HeldValue) → length s.held ≤ most → length (due_effect s e).held ≤ most
+effect_holds most s None few = few
+effect_holds most s (Some (Answer token moment)) few = few
+effect_holds most s (Some (Pong token)) few = sent_holds most s (pong_with true token) (pong_with false token) (fit s.limit (pong_with true token) (pong_with false token)) few
+
+due_holds : (most : ℕ) (h : History) (now : ℕ) → HoldsFew most h → HoldsFew most (after_due h now)
+due_holds most h now few =
+    effect_holds most (standing_due now (standing_now h)) (first_due now h.held) (omega (arith, few, fewer_by now h.held (first_due now h.held) refl))
+
+after_sent_holds : (most : ℕ) (h : History) (now : ℕ) (e : HeldValue) → HoldsFew most h → HoldsFew most (after_sent h now e)
+after_sent_holds most h now (Answer token moment) few = reply_holds most (after_due h now) (held_message token) (due_holds most h now few)
+after_sent_holds most h now (Pong token) few = due_holds most h now few
+
+-- a stop gives up what is held
+stop_holds : (most : ℕ) (does : Bool) (h : History) (why : Reason) (ms : List Message) → HoldsFew most h → HoldsFew most (cond does (with_effect h (stop (standing_now h) why ms)) h)
+stop_holds most does h why ms few = if_holds most does h (with_effect h (stop (standing_now h) why ms)) few (λ e. omega arith)
+
+if_held : (most : ℕ) (does : Bool) (s t : Side) → HoldsFew most s.history → HoldsFew most t.history → HoldsFew most (cond does t s).history
+if_held most true s t few then = then
+if_held most false s t few then = few
+
+replied_held : (most : ℕ) (store : StoreValue) (now : ℕ) (h : History) (os : List Observer) (m : Message) (hold : Option ℕ) → h.limits.pending ≡ most → HoldsFew most h → HoldsFew most (side_replied store now h os m hold).history
+replied_held most store now h os m None same few = reply_holds most h _ few
+replied_held most store now h os m (Some seconds) same few = omega (arith, same, hold_holds h m.token (moment_after now seconds) (omega (arith, same, few)))
+
+handled_held : (limits : LimitValues) (store : StoreValue) (now : ℕ) (s : Side) (m : Message) → FewHeld limits s → HoldsFew limits.pending (side_after store now s m).history
+unfolding side_after
+handled_held limits store now s m is =
+    let h : History = after_message s.history m in
+    let most : s.history.limits.pending ≡ limits.pending = ap (λ (l : LimitValues). l.pending) is.is.same_limits in
+    let same : h.limits.pending ≡ limits.pending = ap (λ (l : LimitValues). l.pending) ((message_follows s.history m).limits ∙ is.is.same_limits) in
+    let few : HoldsFew limits.pending h = omega (arith, most, message_holds s.history m (omega (arith, most, is.few))) in
+    let hold : Option ℕ = held_for h (answer_of store now m).hold in
+    if_held limits.pending (handles s) s (side_handled store now s m) is.few
+    (if_held limits.pending (asks_answer s m) (with_history s h) (side_replied store now h (without_token m.token s.observers) m hold) few
+    (replied_held limits.pending store now h (without_token m.token s.observers) m hold same few))
+
+notified_held : (most : ℕ) (store : StoreValue) (now : ℕ) (s : Side) (due : Option Observer) → HoldsFew most s.history → HoldsFew most (notified store now s due).history
+notified_held most store now s None few = few
+notified_held most store now s (Some o) few = reply_holds most s.history (notification_message o.token (notification store now o)) few
+
+once_held : (most : ℕ) (store : StoreValue) (now : ℕ) (s : Side) (e : Option HeldValue) → HoldsFew most s.history → HoldsFew most (settled_so store now s e).history
+once_held most store now s None few = notified_held most store now s (next_due store now s) few
+once_held most store now s (Some e) few = after_sent_holds most s.history now e few
+
+held_keeps : (limits : LimitValues) → Keeps limits (FewHeld limits)
+unfolding side_faulted side_written side_ended side_released settled_once
+held_keeps limits = record {
+  first = record { is = new_side_is limits; few = omega arith };
+  handled = λ store now s m is. record { is = follower_is limits s _ (after_follows store now s m) is.is; few = handled_held limits store now s m is };
+  faulted = λ s fault is. record {
+    is = follower_is limits s _ (faulted_follows s fault) is.is;
+    few = if_held limits.pending (handles s) s (with_history s (after_reject s.history (reject_of fault))) is.few
+        (stop_holds limits.pending (takes_messages s.history.phase) s.history (reject_reason (reject_of fault)) (abort_fitted (limit_now s.history) (abort_of (reject_reason (reject_of fault)))) is.few);
+  };
+  written = λ s n is. record {
+    is = follower_is limits s _ (side_written_follows s n) is.is;
+    few = if_held limits.pending (nat_le n (length (waiting_on s))) s (record s { history = after_written s.history n }) is.few is.few;
+  };
+  ended = λ s cut is. record { is = follower_is limits s _ (side_ended_follows s cut) is.is; few = stop_holds limits.pending (takes_messages s.history.phase) s.history (end_reason cut) [] is.few };
+  released = λ s is. record {
+    is = follower_is limits s _ (side_released_follows s) is.is;
+    few = if_held limits.pending (is_none (release_refusal (link_of s.history))) s (with_history s (after_release s.history)) is.few
+        (stop_holds limits.pending (is_open s.history.phase) s.history reason.ReleasedHere (release ∷ []) is.few);
+  };
+  told = λ store now s is. record { is = follower_is limits s _ (once_follows store now s) is.is; few = once_held limits.pending store now s (next_held now s) is.few };
+}
+
+pub held_within : (c : ConfigValues) (es : List Event) (id : ℕ) (s : Side) → side_of id (world_after c es).sides ≡ Some s → length s.history.held ≤ c.limits.pending
+held_within c es id s there = (kept_after c (FewHeld c.limits) (held_keeps c.limits) es id s there).few
 
 -- ---- how many bytes are queued
 
@@ -261,6 +388,12 @@ csm_sparing : (s : Standing) (bad : Option ℕ) → IsSparing (csm_reaction s ba
 csm_sparing s None = (omega arith, λ e. refl)
 csm_sparing s (Some number) = aborts_sparing s (reason.BadCsm number)
 
+ping_sparing : (s : Standing) (m : Message) → IsSparing (ping_reaction s m)
+ping_sparing s m =
+    cond_both (asks_custody m && nat_lt 0 (length s.held)) _ _ IsSparing
+    (λ e. cond_both (nat_lt (length s.held) s.most) _ _ IsSparing (λ f. (omega arith, λ e. refl)) (λ f. sends_sparing s (pong_with false m.token) (pong_with false m.token)))
+    (λ e. sends_sparing s (pong_of m) (without_options (pong_of m)))
+
 request_sparing : (s : Standing) (m : Message) (role : Role) → IsSparing (request_reaction s m role)
 request_sparing s m Server = (omega arith, λ e. refl)
 request_sparing s m Client = sends_sparing s (not_implemented m) (bare_response (not_implemented m))
@@ -268,7 +401,7 @@ request_sparing s m Client = sends_sparing s (not_implemented m) (bare_response 
 open_sparing : (s : Standing) (m : Message) → IsSparing (open_reaction s m)
 open_sparing s m =
     cond_both (minds_critical_options m.code && has_critical_option m) _ _ IsSparing (λ e. aborts_sparing s reason.BadSignalOption)
-    (λ e. cond_both (m.code == code.ping) _ _ IsSparing (λ e. sends_sparing s (pong_of m) (without_options (pong_of m)))
+    (λ e. cond_both (m.code == code.ping) _ _ IsSparing (λ e. ping_sparing s m)
     (λ e. cond_both (m.code == code.release) _ _ IsSparing (λ e. (omega arith, λ e. refl))
     (λ e. cond_both (m.code == code.pong) _ _ IsSparing (λ e. (omega arith, λ e. refl))
     (λ e. cond_both (is_signal m.code) _ _ IsSparing (λ e. (omega arith, λ e. refl))
@@ -326,6 +459,34 @@ reply_waits h m is =
     let small : size sent.queued ≤ limit_now h = one_small (limit_now h) sent.queued (sent_one (standing_now h) m (bare_response m) (fit (limit_now h) m (bare_response m))) (sent_fits h m (bare_response m)) in
     omega (arith, effect_waits h sent (answers h.phase) is, small, limit_within h)
 
+-- what is held is not queued
+held_waits : (h : History) (held : List HeldValue) (does : Bool) → wait (cond does (record h { held = held }) h) ≤ wait h
+held_waits h held true = omega arith
+held_waits h held false = omega arith
+
+hold_waits : (h : History) (token : List ℕ) (moment : ℕ) → wait (after_hold h token moment) ≤ wait h
+hold_waits h token moment = held_waits h (h.held ++ Answer token moment ∷ []) (is_open h.phase && may_hold h)
+
+-- what is due first queues one message at most
+due_waits : (h : History) (now : ℕ) (e : Option HeldValue) → first_due now h.held ≡ e → IsHistory h
+    → wait (after_due h now) ≤ wait h + size (due_effect (standing_due now (standing_now h)) e).queued
+due_waits h now e due is =
+    omega (
+      arith,
+      effect_waits h (due_effect (standing_due now (standing_now h)) (first_due now h.held)) true is,
+      ap (λ (found : Option HeldValue). size (due_effect (standing_due now (standing_now h)) found).queued) due,
+    )
+
+after_sent_waits : (h : History) (now : ℕ) (e : HeldValue) → first_due now h.held ≡ Some e → IsHistory h → wait (after_sent h now e) ≤ wait h + h.limits.max_sent
+after_sent_waits h now (Answer token moment) due is =
+    omega (arith, due_waits h now (Some (Answer token moment)) due is, reply_waits (after_due h now) (held_message token) ((due_follows h now).is_history is))
+after_sent_waits h now (Pong token) due is =
+    let s : Standing = standing_due now (standing_now h) in
+    let sent : Effect = send s (pong_with true token) (pong_with false token) in
+    let small : size sent.queued ≤ limit_now h = one_small (limit_now h) sent.queued (sent_one s (pong_with true token) (pong_with false token) (fit (limit_now h) (pong_with true token) (pong_with false token)))
+    (sent_fits (record h { held = without_due now h.held }) (pong_with true token) (pong_with false token)) in
+    omega (arith, due_waits h now (Some (Pong token)) due is, small, limit_within h)
+
 reject_waits : (h : History) (r : Reject) → IsHistory h → wait (after_reject h r) ≤ wait h + h.limits.max_sent
 reject_waits h r is =
     let stopped : Effect = abort (standing_now h) (reject_reason r) in
@@ -357,23 +518,27 @@ if_wait : (most : ℕ) (does : Bool) (s t : Side) → length (waiting_on s) ≤ 
 if_wait most true s t h then = then refl
 if_wait most false s t h then = h
 
-answered_wait : (most : ℕ) (store : StoreValue) (now : ℕ) (h : History) (os : List Observer) (m : Message) (a : Answer) → IsHistory h → wait h + h.limits.max_sent ≤ most → length (waiting_on (side_answered store now h os m a)) ≤ most
+answered_wait : (most : ℕ) (store : StoreValue) (now : ℕ) (h : History) (os : List Observer) (m : Message) (a : answer.Answer) → IsHistory h → wait h + h.limits.max_sent ≤ most → length (waiting_on (side_answered store now h os m a)) ≤ most
 answered_wait most store now h os m a is room =
     omega (arith, room, reply_waits h (response_with_observe m.token (has_place h.limits.observers os a.watch) a.response) is)
 
-handled_by_wait : (limits : LimitValues) (store : StoreValue) (now : ℕ) (s : Side) (m : Message) (asks : Bool) → FewWait limits s → has_room s ≡ true → asks_answer s m ≡ asks
-    → length (waiting_on (cond asks (side_answered store now (after_message s.history m) (without_token m.token s.observers) m (prompt_answer store now m)) (with_history s (after_message s.history m)))) ≤ limits.queue
-handled_by_wait limits store now s m true is room asks =
+replied_wait : (most : ℕ) (store : StoreValue) (now : ℕ) (h : History) (os : List Observer) (m : Message) (hold : Option ℕ) → IsHistory h → wait h + h.limits.max_sent ≤ most → length (waiting_on (side_replied store now h os m hold)) ≤ most
+replied_wait most store now h os m None is room = answered_wait most store now h os m (prompt_answer store now m) is room
+replied_wait most store now h os m (Some seconds) is room = omega (arith, room, hold_waits h m.token (moment_after now seconds))
+
+handled_by_wait : (limits : LimitValues) (store : StoreValue) (now : ℕ) (s : Side) (m : Message) (hold : Option ℕ) (asks : Bool) → FewWait limits s → has_room s ≡ true → asks_answer s m ≡ asks
+    → length (waiting_on (cond asks (side_replied store now (after_message s.history m) (without_token m.token s.observers) m hold) (with_history s (after_message s.history m)))) ≤ limits.queue
+handled_by_wait limits store now s m hold true is room asks =
     let follows : Follows s.history (after_message s.history m) = message_follows s.history m in
-    answered_wait limits.queue store now (after_message s.history m) (without_token m.token s.observers) m (prompt_answer store now m) (follows.is_history is.is.is_history)
+    replied_wait limits.queue store now (after_message s.history m) (without_token m.token s.observers) m hold (follows.is_history is.is.is_history)
     (omega (arith, room_fits limits s is room, asked_waits s.history m is.is.is_history asks, ap (λ (l : LimitValues). l.max_sent) follows.limits))
-handled_by_wait limits store now s m false is room asks = omega (arith, room_fits limits s is room, handled_waits s.history m is.is.is_history)
+handled_by_wait limits store now s m hold false is room asks = omega (arith, room_fits limits s is room, handled_waits s.history m is.is.is_history)
 
 handled_wait : (limits : LimitValues) (store : StoreValue) (now : ℕ) (s : Side) (m : Message) → FewWait limits s → length (waiting_on (side_after store now s m)) ≤ limits.queue
 unfolding side_after
 handled_wait limits store now s m is =
     if_wait limits.queue (handles s) s (side_handled store now s m) is.few
-    (λ does. handled_by_wait limits store now s m (asks_answer s m) is (and_parts (takes_messages s.history.phase) (has_room s) does).1 refl)
+    (λ does. handled_by_wait limits store now s m (held_for (after_message s.history m) (answer_of store now m).hold) (asks_answer s m) is (and_parts (takes_messages s.history.phase) (has_room s) does).1 refl)
 
 faulted_wait : (limits : LimitValues) (s : Side) (fault : StreamFault) → FewWait limits s → length (waiting_on (side_faulted s fault)) ≤ limits.queue
 unfolding side_faulted
@@ -411,15 +576,25 @@ notified_wait limits store now s None is room = is.few
 notified_wait limits store now s (Some o) is room =
     omega (arith, room_fits limits s is (room refl), reply_waits s.history (notification_message o.token (notification store now o)) is.is.is_history)
 
--- the first observer that is due is notified where there is room
+-- the first observer that is due is notified where there is room, and what is due first is sent so
 room_due : (room : Bool) (found : Option Observer) → is_none (cond room found None) ≡ false → room ≡ true
 room_due true found e = refl
 room_due false found e = absurd cc
 
+room_held : (room : Bool) (found : Option HeldValue) (e : HeldValue) → cond room found None ≡ Some e → (room ≡ true) × (found ≡ Some e)
+room_held true found e is = (refl, is)
+room_held false found e is = absurd cc
+
+once_wait : (limits : LimitValues) (store : StoreValue) (now : ℕ) (s : Side) (e : Option HeldValue) → FewWait limits s → next_held now s ≡ e → length (waiting_on (settled_so store now s e)) ≤ limits.queue
+once_wait limits store now s None is held =
+    notified_wait limits store now s (next_due store now s) is (λ e. room_due (has_room s) (find (is_due store now) s.observers) e)
+once_wait limits store now s (Some e) is held =
+    let both : (has_room s ≡ true) × (first_due now s.history.held ≡ Some e) = room_held (has_room s) (first_due now s.history.held) e held in
+    omega (arith, room_fits limits s is both.0, after_sent_waits s.history now e both.1 is.is.is_history)
+
 told_wait : (limits : LimitValues) (store : StoreValue) (now : ℕ) (s : Side) → FewWait limits s → length (waiting_on (settled_once store now s)) ≤ limits.queue
 unfolding settled_once
-told_wait limits store now s is =
-    notified_wait limits store now s (next_due store now s) is (λ e. room_due (has_room s) (find (is_due store now) s.observers) e)
+told_wait limits store now s is = once_wait limits store now s (next_held now s) is refl
 
 new_wait : (limits : LimitValues) → AreInRange limits → length (waiting_on (new_side limits)) ≤ limits.queue
 new_wait limits ranges = omega (arith, csm_bytes_small limits.max_message, ranges.sent_low, ranges.queue_low)

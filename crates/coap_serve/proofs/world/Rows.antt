@@ -12,6 +12,7 @@ use Rattle.coap_wire.specs.Frames.{frames_of, frames_within}
 use Rattle.coap_wire.specs.Stream.{split}
 use Rattle.coap_frame.specs.Framing.{framing}
 use Rattle.coap_conn.specs.Announced.{announced}
+use Rattle.coap_conn.specs.Held.{due_index, first_due, without_due}
 use Rattle.coap_conn.specs.Reaction.{react, live_reaction}
 use Rattle.coap_conn.specs.declared.phase.Phase.{Phase}
 use Rattle.coap_store.specs.Paths.{Path, is_path}
@@ -62,13 +63,13 @@ pub data Call : Type 0 where
 
 -- What is told: how many bytes of a piece were taken, the bytes that were drained, the version of the last representation
 -- stored, how a connection stands, or that it is not there. A connection stands with so many bytes that are left of its stream
--- (an unfinished frame, or a fault), so many that wait, and so many observers.
+-- (an unfinished frame, or a fault), so many that wait, so many answers and Pongs that are held, and so many observers.
 pub data Told : Type 0 where
   Done : Told
   Taken : (bytes : ℕ) → Told
   Out : (bytes : List ℕ) → Told
   Version : (version : ℕ) → Told
-  Stands : (phase : Phase) (left waiting observers : ℕ) → Told
+  Stands : (phase : Phase) (left waiting held observers : ℕ) → Told
   Absent : Told
 
 pub record Row : Type 0 where
@@ -118,7 +119,7 @@ events_by c events (Look id) = []
 
 abbrev look_at : ℕ → Option Side → Told
 look_at left None = Absent
-look_at left (Some s) = Stands s.history.phase left (length (waiting_on s)) (length s.observers)
+look_at left (Some s) = Stands s.history.phase left (length (waiting_on s)) (length s.history.held) (length s.observers)
 
 abbrev told_by : ConfigValues → List Event → List Event → Call → Told
 told_by c events new (Open id) = Done
@@ -151,7 +152,7 @@ answers_computed = tt
 
 -- what happens on a connection, and to a server
 worlds_computed : Unit {0}
-unfolding announced react live_reaction is_due without_token first_becomes side_after change_after side_faulted side_written side_ended side_released settled_once settled_within settled side_of acted step after_steps taken_on steps_by steps_behind steps_of world_after takes
+unfolding announced react live_reaction due_index first_due without_due is_due without_token first_becomes side_after change_after side_faulted side_written side_ended side_released settled_once settled_within settled side_of acted step after_steps taken_on steps_by steps_behind steps_of world_after takes
 worlds_computed = tt
 
 -- ---- what rows say

@@ -1,24 +1,30 @@
 -- How a connection settles: its value does the same, what is known of it stays known, and no change is lost.
-use Rattle.std.proofs.Common.{◌≡◌, ℕ, zero, suc, ◌+◌, ◌≤◌, Bool, true, false, cond, List, [], ◌∷◌, length, map, Option, Some, None, refl, sym, ap, ◌∙◌, arith}
-use Rattle.std.specs.Prelude.{◌&&◌, find, option_map, if◌then◌else◌}
-use Rattle.std.specs.List.{AllByRecursion}
+use Rattle.std.proofs.Common.{◌≡◌, ℕ, zero, suc, ◌+◌, ◌≤◌, Bool, true, false, cond, List, [], ◌∷◌, length, map, Option, Some, None, refl, sym, ap, subst, ◌∙◌, arith}
+use Rattle.std.specs.Prelude.{◌&&◌, find, min, option_map, if◌then◌else◌}
+use Rattle.std.specs.List.{AllByRecursion, filter_map, reduce}
 use Rattle.std.proofs.lemmas.Bool.{and_parts}
 use Rattle.std.proofs.lemmas.List.{length-map}
 use Rattle.coap_wire.specs.Message.{Message}
 use Rattle.coap_conn.specs.Phases.{is_open}
 use Rattle.coap_conn.specs.Fit.{fit, bare_response}
+use Rattle.coap_conn.specs.Held.{HeldValue, come, answer_index, pong_index, else_index, held_at, due_index, first_due, HoldsNothingDue}
 use Rattle.coap_conn.specs.History.{limit_now, after_reply}
 use Rattle.coap_conn.specs.LinkValue.{link_of, link_after_reply}
+use Rattle.coap_conn.proofs.HeldLaws.{due_nothing, due_fewer}
 use Rattle.coap_store.specs.Store.{StoreValue}
 use Rattle.coap_store.specs.State.{state_of}
-use Rattle.coap_serve.specs.values.Sessions.{session_with, is_stale, next_stale, entry_left, session_notified_so, session_notified, session_settled_once, session_settled_within, session_settled, IsSettled}
+use Rattle.coap_serve.specs.values.Sessions.{session_with, is_stale, next_stale, entry_left, session_notified_so, session_notified, next_held_in, session_settled_so, session_settled_once, session_settled_within, session_settled, IsSettled}
 use Rattle.coap_serve.specs.world.Observers.{Observer, is_due, is_whole, goes_on, notification, notification_message, left_of, first_becomes}
-use Rattle.coap_serve.specs.world.Sides.{Side, has_room, next_due, notified_so, notified, settled_once, settled_within, settled, HearsAll}
+use Rattle.coap_serve.specs.world.Sides.{Side, has_room, next_due, notified_so, notified, next_held, after_sent, settled_so, settled_once, settled_within, settled, HearsAll}
 use Rattle.coap_serve.specs.world.Shows.{observer_shown, kept_on, session_shown}
 use Rattle.coap_serve.proofs.world.KnownLaws.{IsKnown, IsVersioned, due_is_stale, told_now, not_due, mark_now, left_watchable, left_known, left_format}
 use Rattle.coap_serve.proofs.world.EntryLemmas.{all_to, all_if, all_become, found_all, none_due, TellTheSame, found_shown, become_shown, count_due, count_within, none_counted, count_less}
-use Rattle.coap_serve.proofs.world.GoingOn.{GoesOn, as_before, further, reply_goes_on, reply_link}
-use Rattle.coap_serve.proofs.world.SideLaws.{host_of, AreKnown, IsKnownSide, shown_with, kept_frame}
+use Rattle.coap_serve.proofs.world.GoingOn.{GoesOn, as_before, further, reply_goes_on, sent_goes_on, reply_link, sent_link}
+use Rattle.coap_serve.proofs.world.SideLaws.{host_of, AreKnown, IsKnownSide, known_with, shown_with, kept_frame, settled_cases, held_room, reply_leaves, sent_held}
+
+-- nothing is left to settle: nothing that is held is due and no observer is, or there is no room
+abbrev pub IsAtRest : StoreValue → ℕ → Side → Type 0
+IsAtRest store now s = (next_held now s ≡ None) × (next_due store now s ≡ None)
 
 -- ---- one turn
 
@@ -27,8 +33,8 @@ notified_goes_on store now s None = as_before s.history
 notified_goes_on store now s (Some o) = reply_goes_on s.history (notification_message o.token (notification store now o))
 
 once_goes_on : (store : StoreValue) (now : ℕ) (s : Side) → GoesOn s.history (settled_once store now s).history
-unfolding settled_once
-once_goes_on store now s = notified_goes_on store now s (next_due store now s)
+once_goes_on store now s =
+    settled_cases store now s (λ t. GoesOn s.history t.history) (λ e is. sent_goes_on s.history now e) (λ none. notified_goes_on store now s (next_due store now s))
 
 within_goes_on : (turns : ℕ) (store : StoreValue) (now : ℕ) (s : Side) → GoesOn s.history (settled_within turns store now s).history
 unfolding settled_within
@@ -38,7 +44,7 @@ within_goes_on (suc turns) store now s = further s.history (settled_once store n
 -- settling keeps the role and the limits, and makes no connection live that was not
 pub settled_goes_on : (store : StoreValue) (now : ℕ) (s : Side) → GoesOn s.history (settled store now s).history
 unfolding settled
-settled_goes_on store now s = within_goes_on (length s.observers) store now s
+settled_goes_on store now s = within_goes_on (length s.history.held + length s.observers) store now s
 
 -- the first that is due is among the observers
 next_all : (P : Observer → Type 0) (store : StoreValue) (now : ℕ) (s : Side) (o : Observer) → AllByRecursion P s.observers → next_due store now s ≡ Some o → P o
@@ -90,11 +96,25 @@ module _ (store : StoreValue) (now : ℕ) (small : now ≤ 18446744073709551615)
   notified_shown rest s None known told = refl
   notified_shown rest s (Some o) known told = notified_so_shown rest s o (notification_message o.token (notification store now o)) (goes_on (notification store now o)) known (told o refl) (λ e. e)
 
-  once_shown : (rest : List ℕ) (s : Side) → IsKnownSide store s → session_shown rest (settled_once store now s) ≡ session_settled_once (host_of store now) (session_shown rest s)
-  unfolding settled_once session_settled_once
-  once_shown rest s known =
+  -- what is held and due is the same
+  held_shown : (rest : List ℕ) (s : Side) → next_held now s ≡ next_held_in now (session_shown rest s)
+  unfolding next_held_in
+  held_shown rest s = refl
+
+  so_shown : (rest : List ℕ) (s : Side) (found : Option HeldValue) → IsKnownSide store s → session_shown rest (settled_so store now s found) ≡ session_settled_so (host_of store now) (session_shown rest s) found
+  so_shown rest s None known =
       notified_shown rest s (next_due store now s) known (λ o e. next_all (IsKnown store) store now s o known.told e)
       ∙ ap (session_notified (host_of store now) (session_shown rest s)) (next_shown rest s known)
+  so_shown rest s (Some e) known =
+      let h = after_sent s.history now e in
+      let vs = map observer_shown s.observers in
+      shown_with rest h s.observers
+      ∙ kept_frame s rest (link_of h) vs (sent_goes_on s.history now e).over
+      ∙ ap (λ l. session_with (kept_on s rest) l vs) (sent_link s.history now e known.is_history)
+
+  once_shown : (rest : List ℕ) (s : Side) → IsKnownSide store s → session_shown rest (settled_once store now s) ≡ session_settled_once (host_of store now) (session_shown rest s)
+  unfolding settled_once session_settled_once
+  once_shown rest s known = so_shown rest s (next_held now s) known ∙ ap (session_settled_so (host_of store now) (session_shown rest s)) (held_shown rest s)
 
   notified_known : (s : Side) (found : Option Observer) → IsKnownSide store s → ((o : Observer) → found ≡ Some o → IsKnown store o) → IsKnownSide store (notified store now s found)
   notified_known s None known told = known
@@ -111,8 +131,9 @@ module _ (store : StoreValue) (now : ℕ) (small : now ≤ 18446744073709551615)
       }
 
   once_known : (s : Side) → IsKnownSide store s → IsKnownSide store (settled_once store now s)
-  unfolding settled_once
-  once_known s known = notified_known s (next_due store now s) known (λ o e. next_all (IsKnown store) store now s o known.told e)
+  once_known s known =
+      settled_cases store now s (IsKnownSide store) (λ e is. known_with store s (after_sent s.history now e) (sent_goes_on s.history now e) known)
+      (λ none. notified_known s (next_due store now s) known (λ o e. next_all (IsKnown store) store now s o known.told e))
 
   within_known : (turns : ℕ) (s : Side) → IsKnownSide store s → IsKnownSide store (settled_within turns store now s)
   unfolding settled_within
@@ -127,18 +148,18 @@ module _ (store : StoreValue) (now : ℕ) (small : now ≤ 18446744073709551615)
 
   pub settled_known : (s : Side) → IsKnownSide store s → IsKnownSide store (settled store now s)
   unfolding settled
-  settled_known s known = within_known (length s.observers) s known
+  settled_known s known = within_known (length s.history.held + length s.observers) s known
 
   -- a connection settles as its value does
   pub settled_shown : (rest : List ℕ) (s : Side) → IsKnownSide store s → session_shown rest (settled store now s) ≡ session_settled (host_of store now) (session_shown rest s)
   unfolding settled session_settled
   settled_shown rest s known =
-      within_shown (length s.observers) rest s known
-      ∙ ap (λ turns. session_settled_within turns (host_of store now) (session_shown rest s)) (sym (length-map s.observers observer_shown))
+      within_shown (length s.history.held + length s.observers) rest s known
+      ∙ ap (λ more. session_settled_within (length s.history.held + more) (host_of store now) (session_shown rest s)) (sym (length-map s.observers observer_shown))
 
-  -- where nothing is due, the value is settled
-  pub rest_shown : (rest : List ℕ) (s : Side) → IsKnownSide store s → next_due store now s ≡ None → IsSettled (host_of store now) (session_shown rest s)
-  rest_shown rest s known none = sym (next_shown rest s known) ∙ ap (option_map observer_shown) none
+  -- where nothing is left to settle, the value is settled
+  pub rest_shown : (rest : List ℕ) (s : Side) → IsKnownSide store s → next_held now s ≡ None → next_due store now s ≡ None → IsSettled (host_of store now) (session_shown rest s)
+  rest_shown rest s known sent told = (sym (held_shown rest s) ∙ sent, sym (next_shown rest s known) ∙ ap (option_map observer_shown) told)
 
 -- ---- nothing is left that is due
 
@@ -169,31 +190,82 @@ notified_less store now s o e =
     let os = first_becomes (is_due store now) left s.observers in
     omega (arith, count_if (is_due store now) (is_open h.phase) os, count_less (is_due store now) s.observers o left (left_quiet store now o (goes_on (notification store now o) && is_whole (fit (limit_now s.history) m (bare_response m)))) e)
 
--- turns change nothing where none is due
-pub at_rest : (turns : ℕ) (store : StoreValue) (now : ℕ) (s : Side) → next_due store now s ≡ None → settled_within turns store now s ≡ s
-unfolding settled_within settled_once
-at_rest zero store now s none = refl
-at_rest (suc turns) store now s none = ap (λ found. settled_within turns store now (notified store now s found)) none ∙ at_rest turns store now s none
+-- what is held and due leaves less that is held, and no observer more that is due
+sent_less : (store : StoreValue) (now : ℕ) (s : Side) (e : HeldValue) → next_held now s ≡ Some e
+    → length (settled_once store now s).history.held + count_due (is_due store now) (settled_once store now s).observers + 1 ≤ length s.history.held + count_due (is_due store now) s.observers
+sent_less store now s e is =
+    let fewer : count_due (is_due store now) (settled_once store now s).observers ≤ count_due (is_due store now) s.observers =
+    settled_cases store now s (λ t. next_held now s ≡ Some e → count_due (is_due store now) t.observers ≤ count_due (is_due store now) s.observers)
+    (λ other found held. count_if (is_due store now) (is_open (after_sent s.history now other).phase) s.observers)
+    (λ none held. absurd cc) is in
+    omega (arith, fewer, sent_held store now s e is)
 
-rests_by : (turns : ℕ) (store : StoreValue) (now : ℕ) (s : Side) → count_due (is_due store now) s.observers ≤ turns → next_due store now (settled_within turns store now s) ≡ None
-unfolding settled_within settled_once
-rests_by zero store now s few = next_none store now s (none_counted (is_due store now) s.observers (omega arith))
-rests_by (suc turns) store now s few =
-    elim (next_due store now s) as (λ found. next_due store now s ≡ found → next_due store now (settled_within turns store now (notified store now s found)) ≡ None) [
-      | None ↦ λ e. ap (next_due store now) (at_rest turns store now s e) ∙ e
-      | Some o ↦ λ e. rests_by turns store now (notified store now s (Some o)) (omega (arith, notified_less store now s o (next_found store now s o e)))
+-- turns change nothing where nothing is left to settle
+once_at_rest : (store : StoreValue) (now : ℕ) (s : Side) → IsAtRest store now s → settled_once store now s ≡ s
+unfolding settled_once
+once_at_rest store now s rests = ap (settled_so store now s) rests.0 ∙ ap (notified store now s) rests.1
+
+pub at_rest : (turns : ℕ) (store : StoreValue) (now : ℕ) (s : Side) → IsAtRest store now s → settled_within turns store now s ≡ s
+unfolding settled_within
+at_rest zero store now s rests = refl
+at_rest (suc turns) store now s rests = ap (settled_within turns store now) (once_at_rest store now s rests) ∙ at_rest turns store now s rests
+
+-- where nothing is held, nothing is sent
+none_held : (now : ℕ) (s : Side) → length s.history.held ≡ 0 → next_held now s ≡ None
+none_held now s none =
+    elim (next_held now s) as (λ found. next_held now s ≡ found → found ≡ None) [
+      | None ↦ λ is. refl
+      | Some e ↦ λ is. absurd (omega (arith, due_fewer now s.history.held e (held_room now s e is).1))
     ] refl
 
--- each turn leaves fewer that are due, so that none is in the end, or there is no room
-pub settled_rests : (store : StoreValue) (now : ℕ) (s : Side) → next_due store now (settled store now s) ≡ None
-unfolding settled
-settled_rests store now s = rests_by (length s.observers) store now s (count_within (is_due store now) s.observers)
+-- an observer that is told leaves one fewer that is due, and no more that is held
+told_less : (store : StoreValue) (now : ℕ) (s : Side) (o : Observer) → next_due store now s ≡ Some o
+    → length (notified store now s (Some o)).history.held + count_due (is_due store now) (notified store now s (Some o)).observers + 1 ≤ length s.history.held + count_due (is_due store now) s.observers
+told_less store now s o is =
+    omega (arith, reply_leaves s.history (notification_message o.token (notification store now o)), notified_less store now s o (next_found store now s o is))
 
--- No change is lost: where there is room, each observer was told the state that its path has now.
-hears_where_none : (store : StoreValue) (now : ℕ) (s : Side) → next_due store now s ≡ None → HearsAll store now s
-hears_where_none store now s none room =
-    all_to (λ o. is_due store now o ≡ false) (λ o. o.told ≡ state_of store now o.path) (told_now store now) s.observers
-    (none_due (is_due store now) s.observers (sym (ap (λ b. if b then find (is_due store now) s.observers else None) room) ∙ none))
+rests_by : (turns : ℕ) (store : StoreValue) (now : ℕ) (s : Side) → length s.history.held + count_due (is_due store now) s.observers ≤ turns → IsAtRest store now (settled_within turns store now s)
+unfolding settled_within settled_once
+rests_by zero store now s few = (none_held now s (omega arith), next_none store now s (none_counted (is_due store now) s.observers (omega arith)))
+rests_by (suc turns) store now s few =
+    elim (next_held now s) as (λ found. next_held now s ≡ found → IsAtRest store now (settled_within turns store now (settled_so store now s found))) [
+      | Some e ↦ λ is. subst (λ t. IsAtRest store now (settled_within turns store now t)) (ap (settled_so store now s) is)
+          (rests_by turns store now (settled_once store now s) (omega (arith, sent_less store now s e is)))
+      | None ↦ λ held. elim (next_due store now s) as (λ found. next_due store now s ≡ found → IsAtRest store now (settled_within turns store now (notified store now s found))) [
+        | None ↦ λ is. subst (IsAtRest store now) (sym (at_rest turns store now s (held, is))) (held, is)
+        | Some o ↦ λ is. rests_by turns store now (notified store now s (Some o)) (omega (arith, told_less store now s o is))
+      ] refl
+    ] refl
+
+-- each turn leaves less that is held, or fewer that are due, so that nothing is left to settle in the end
+pub settled_rests : (store : StoreValue) (now : ℕ) (s : Side) → IsAtRest store now (settled store now s)
+unfolding settled
+settled_rests store now s = rests_by (length s.history.held + length s.observers) store now s (omega (arith, count_within (is_due store now) s.observers))
+
+-- No change is lost: where there is room, each observer was told the state that its path has now, and what was due was sent.
+hears_at_rest : (store : StoreValue) (now : ℕ) (s : Side) → IsAtRest store now s → HearsAll store now s
+hears_at_rest store now s rests = record {
+  told = λ room. all_to (λ o. is_due store now o ≡ false) (λ o. o.told ≡ state_of store now o.path) (told_now store now) s.observers
+      (none_due (is_due store now) s.observers (sym (ap (λ b. if b then find (is_due store now) s.observers else None) room) ∙ rests.1));
+  sent = λ room. (due_nothing now s.history.held (sym (ap (λ b. if b then first_due now s.history.held else None) room) ∙ rests.0)).0;
+}
 
 pub settled_hears : (store : StoreValue) (now : ℕ) (s : Side) → HearsAll store now (settled store now s)
-settled_hears store now s = hears_where_none store now (settled store now s) (settled_rests store now s)
+settled_hears store now s = hears_at_rest store now (settled store now s) (settled_rests store now s)
+
+-- what holds nothing that is due has nothing to send
+none_come : (now : ℕ) (held : List HeldValue) → AllByRecursion (λ e. come now e ≡ None) held → filter_map (come now) held ≡ []
+none_come now [] none = refl
+none_come now (e ∷ held) none = rw none.0 (none_come now held none.1)
+
+nothing_first : (now : ℕ) (held : List HeldValue) → HoldsNothingDue now held → first_due now held ≡ None
+unfolding first_due due_index
+nothing_first now held none =
+    ap (λ moments. held_at held (else_index (answer_index (reduce min moments) held) (pong_index held))) (none_come now held none.0) ∙ ap (held_at held) none.1
+
+pub hears_sent : (store : StoreValue) (now : ℕ) (s : Side) → HearsAll store now s → next_held now s ≡ None
+hears_sent store now s hears =
+    elim (has_room s) as (λ b. has_room s ≡ b → (if b then first_due now s.history.held else None) ≡ None) [
+      | true ↦ λ room. nothing_first now s.history.held (hears.sent room)
+      | false ↦ λ room. refl
+    ] refl

@@ -22,12 +22,11 @@ use Rattle.coap_serve.specs.declared.host.Host.{Host}
 use Rattle.coap_serve.specs.values.Sessions.{SessionValue, session_max, session_takes, session_handled, session_rejected, change_by, Taking, taking_read, taking_found, taking}
 use Rattle.coap_serve.specs.values.Servers.{session_of, session_becomes, on_session, settled_entry, server_settled, server_taken_so}
 use Rattle.coap_serve.specs.world.Observers.{Observer, is_due}
-use Rattle.coap_serve.specs.world.Sides.{Side, has_room, handles, side_after, side_faulted, next_due, HearsAll}
+use Rattle.coap_serve.specs.world.Sides.{Side, has_room, handles, side_after, side_faulted, next_due, settled, HearsAll}
 use Rattle.coap_serve.specs.world.World.{Place, World, Step, side_of, changed_at, on_side, stored_after, acted, settled_place, all_settled}
 use Rattle.coap_serve.specs.world.World as world
 use Rattle.coap_serve.specs.world.Events.{Event, Took, taken_in, stream_on, steps_by, world_after, front_of}
 use Rattle.coap_serve.specs.world.Shows.{session_shown, place_shown, server_shown, server_of}
-use Rattle.coap_serve.proofs.values.SettleLemmas.{settled_stays}
 use Rattle.coap_serve.proofs.world.StepLaws.{world_same, world_step, streams_same, stream_elsewhere}
 use Rattle.coap_serve.proofs.world.TookLaws.{rest_unfinished, Adds, nothing_kept, front_framing, no_bytes_stream, no_bytes_steps, piece_adds_nothing, piece_adds_message, piece_adds_bad, piece_adds_fault, but_last_whole}
 use Rattle.coap_serve.proofs.world.PlaceLaws.{but, AreDistinct, of_number, of_each}
@@ -35,7 +34,7 @@ use Rattle.coap_serve.proofs.world.WorldLaws.{side_is}
 use Rattle.coap_serve.proofs.world.ReachedLaws.{IsReached, world_is, handling_goes_on}
 use Rattle.coap_serve.proofs.world.KnownLaws.{IsVersioned, not_due}
 use Rattle.coap_serve.proofs.world.SideLaws.{host_of, IsKnownSide, handles_parts, faulted_shown, handled_shown, change_shown}
-use Rattle.coap_serve.proofs.world.SettleLaws.{settled_shown, rest_shown}
+use Rattle.coap_serve.proofs.world.SettleLaws.{settled_shown, at_rest, hears_sent}
 use Rattle.coap_serve.proofs.world.HearingLaws.{IsKnownPlace, IsKnownWorld, acted_known, world_known, world_hears}
 
 -- ---- connections by their numbers
@@ -134,7 +133,11 @@ hears_rests store now s hears =
     elim (has_room s) as (λ b. (b ≡ true → AllByRecursion (λ o. o.told ≡ state_of store now o.path) s.observers) → (if b then find (is_due store now) s.observers else None) ≡ None) [
       | true ↦ λ told. none_found (is_due store now) s.observers (all_quiet store now s.observers (told refl))
       | false ↦ λ told. refl
-    ] hears
+    ] hears.told
+
+stays_settled : (store : StoreValue) (now : ℕ) (s : Side) → HearsAll store now s → settled store now s ≡ s
+unfolding settled
+stays_settled store now s hears = at_rest (length s.history.held + length s.observers) store now s (hears_sent store now s hears, hears_rests store now s hears)
 
 resting_places : (M : ℕ) (es : List Event) (store : StoreValue) (now : ℕ) (ps : List Place) → now ≤ 18446744073709551615 → IsVersioned store → AllByRecursion (IsKnownPlace store) ps → AllByRecursion (λ p. HearsAll store now p.side) ps
     → map (settled_entry (host_of store now)) (map (place_shown M es) ps) ≡ map (place_shown M es) ps
@@ -142,7 +145,7 @@ resting_places M es store now [] small is known hear = refl
 resting_places M es store now (p ∷ ps) small is known hear =
     let rest : List ℕ = (stream_on M p.id es).rest in
     ap (λ (v : SessionValue). (p.id, v) ∷ map (settled_entry (host_of store now)) (map (place_shown M es) ps))
-    (settled_stays (host_of store now) (session_shown rest p.side) (rest_shown store now small is rest p.side known.0 (hears_rests store now p.side hear.0)))
+    (sym (settled_shown store now small is rest p.side known.0) ∙ ap (session_shown rest) (stays_settled store now p.side hear.0))
     ∙ ap (λ (os : List (ℕ × SessionValue)). place_shown M es p ∷ os) (resting_places M es store now ps small is known.1 hear.1)
 
 -- the server of any world that was reached is settled, whatever is left of the bytes

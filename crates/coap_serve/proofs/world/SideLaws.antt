@@ -1,33 +1,39 @@
 -- A connection of the world and the code's value of it do the same.
-use Rattle.std.proofs.Common.{◌≡◌, ℕ, ◌≤◌, Bool, true, false, cond, List, [], length, map, Option, None, refl, sym, ap, ◌∙◌}
-use Rattle.std.specs.Prelude.{◌&&◌, is_none, nat_le, nat_lt}
+use Rattle.std.proofs.Common.{◌≡◌, ℕ, ◌+◌, ◌≤◌, Bool, true, false, cond, List, [], length, map, Option, Some, None, refl, sym, ap, ◌∙◌, arith}
+use Rattle.std.specs.Prelude.{◌&&◌, is_none, nat_le, nat_lt, if◌then◌else◌}
 use Rattle.std.specs.List.{AllByRecursion}
 use Rattle.std.proofs.lemmas.Bool.{and_parts, cond-true, le-leb}
 use Rattle.std.proofs.lemmas.List.{length-map}
 use Rattle.coap_wire.specs.Message.{Message}
 use Rattle.coap_wire.specs.Stream.{StreamFault}
 use Rattle.coap_conn.specs.declared.phase.SendFault.{SendFault}
-use Rattle.coap_conn.specs.Phases.{takes_messages, is_open}
+use Rattle.coap_conn.specs.Phases.{takes_messages, answers, is_open}
 use Rattle.coap_conn.specs.Fit.{fit, bare_response}
 use Rattle.coap_conn.specs.Rejects.{reject_of}
 use Rattle.coap_conn.specs.Release.{release_refusal}
-use Rattle.coap_conn.specs.History.{History, IsHistory, limit_now, after_message, after_reply, after_reject, after_end, after_release, after_written}
+use Rattle.coap_conn.specs.declared.phase.Reply.{Reply}
+use Rattle.coap_conn.specs.declared.phase.Reply.TheVariants as reply
+use Rattle.coap_conn.specs.Held.{HeldValue, first_due, without_due}
+use Rattle.coap_conn.specs.Held as held
+use Rattle.coap_conn.specs.Reaction.{Standing, send, send_as, pong_with, due_effect}
+use Rattle.coap_conn.specs.History.{History, IsHistory, limit_now, standing_now, with_effect, after_message, after_reply, after_reject, after_end, after_release, after_written, after_hold, standing_due, after_due}
 use Rattle.coap_conn.specs.LinkValue.{LinkValue, link_of, link_after_message, link_after_reply, link_after_end}
+use Rattle.coap_conn.proofs.HeldLaws.{due_fewer}
 use Rattle.coap_store.specs.Store.{StoreValue}
 use Rattle.coap_store.specs.Requests.{path_of}
-use Rattle.coap_store.specs.Answer.{Answer, Nothing, prompt_answer}
+use Rattle.coap_store.specs.Answer.{Answer, Nothing, answer_of, prompt_answer}
 use Rattle.coap_store.specs.Messages.{response_with_observe}
 use Rattle.coap_store.specs.declared.plan.Watch.{Watch}
 use Rattle.coap_store.specs.declared.plan.Watch.TheVariants as watch
 use Rattle.coap_serve.specs.declared.host.Host.{Host}
 use Rattle.coap_serve.specs.world.Sides.{is_cut}
-use Rattle.coap_serve.specs.values.Sessions.{ObserverValue, session_takes, session_with, new_entry, session_answered, session_answered_as, session_handled, change_by, session_rejected, session_written, session_ended, session_released, without_entry}
+use Rattle.coap_serve.specs.values.Sessions.{ObserverValue, session_takes, session_with, new_entry, session_answered, session_answered_as, held_in, session_replied, session_handled, change_by, session_rejected, session_written, session_ended, session_released, without_entry}
 use Rattle.coap_serve.specs.world.Observers.{Observer, without_token, asks_entry, has_place, entry_for, is_whole, with_entry}
-use Rattle.coap_serve.specs.world.Sides.{Side, handles, waiting_on, has_room, side_with, with_history, answered_among, side_answered, asks_answer, side_handled, side_after, change_after, side_faulted, side_written, side_ended, side_released}
+use Rattle.coap_serve.specs.world.Sides.{Side, handles, waiting_on, has_room, side_with, with_history, answered_among, side_answered, moment_after, held_for, side_replied, asks_answer, side_handled, side_after, change_after, side_faulted, side_written, side_ended, side_released, next_due, notified, next_held, held_message, after_sent, settled_so, settled_once}
 use Rattle.coap_serve.specs.world.Shows.{observer_shown, kept_on, session_shown}
 use Rattle.coap_serve.proofs.world.KnownLaws.{IsKnown, IsVersioned, IsWatchable, mark_now, entry_watchable}
-use Rattle.coap_serve.proofs.world.EntryLemmas.{without_shown, entered_shown}
-use Rattle.coap_serve.proofs.world.GoingOn.{end_goes_on, release_goes_on, message_goes_on, message_link, reply_link, reject_link, end_link, release_link, written_link, rejected_over}
+use Rattle.coap_serve.proofs.world.EntryLemmas.{all_if, without_shown, entered_shown}
+use Rattle.coap_serve.proofs.world.GoingOn.{GoesOn, end_goes_on, release_goes_on, message_goes_on, message_link, reply_link, reject_link, end_link, release_link, written_link, hold_link, rejected_over}
 
 -- what a host holds
 abbrev pub host_of : StoreValue → ℕ → Host
@@ -41,6 +47,10 @@ AreKnown store observers = AllByRecursion (IsKnown store) observers
 pub record IsKnownSide (store : StoreValue) (s : Side) : Type 0 where
   pub is_history : IsHistory s.history
   pub told : AreKnown store s.observers
+
+-- a history that went on, with the observers that were known
+pub known_with : (store : StoreValue) (s : Side) (h : History) → GoesOn s.history h → IsKnownSide store s → IsKnownSide store (with_history s h)
+known_with store s h goes known = record { is_history = goes.history known.is_history; told = all_if (IsKnown store) (is_open h.phase) s.observers known.told }
 
 -- ---- what is kept where the connection is open, or takes messages
 
@@ -160,15 +170,29 @@ module _ (store : StoreValue) (now : ℕ) (small : now ≤ 18446744073709551615)
       (λ e. can (asks_to_enter a.watch (and_parts (asks_entry a.watch) (nat_lt (length os) h.limits.observers) e).0))
       ∙ ap (λ n. session_answered_as (host_of store now) (link_of h) (map observer_shown os) m a (asks_entry a.watch && nat_lt n h.limits.observers)) (sym (length-map os observer_shown))
 
+  -- it is held where there is room
+  held_shown : (h : History) (hold : Option ℕ) → held_for h hold ≡ held_in (link_of h) hold
+  held_shown h None = refl
+  held_shown h (Some seconds) = refl
+
+  replied_shown : (h : History) (os : List Observer) (m : Message) (hold : Option ℕ) → IsHistory h
+      → session_shown [] (side_replied store now h os m hold) ≡ session_replied (host_of store now) (link_of h) (map observer_shown os) m hold
+  replied_shown h os m None history = answered_shown h os m (prompt_answer store now m) history (entry_watchable store now m)
+  replied_shown h os m (Some seconds) history =
+      shown_with [] (after_hold h m.token (moment_after now seconds)) os
+      ∙ ap (λ l. session_with [] l (map observer_shown os)) (hold_link h m.token (moment_after now seconds) history)
+
   handled_by : (rest : List ℕ) (s : Side) (m : Message) (asks : Bool) → IsHistory s.history
-      → session_shown [] (cond asks (side_answered store now (after_message s.history m) (without_token m.token s.observers) m (prompt_answer store now m)) (with_history s (after_message s.history m)))
-      ≡ cond asks (session_answered (host_of store now) (link_after_message (link_of s.history) m) (without_entry m.token (map observer_shown s.observers)) m (prompt_answer store now m)) (session_with [] (link_after_message (link_of s.history) m) (map observer_shown s.observers))
+      → session_shown [] (cond asks (side_replied store now (after_message s.history m) (without_token m.token s.observers) m (held_for (after_message s.history m) (answer_of store now m).hold)) (with_history s (after_message s.history m)))
+      ≡ cond asks (session_replied (host_of store now) (link_after_message (link_of s.history) m) (without_entry m.token (map observer_shown s.observers)) m (held_in (link_after_message (link_of s.history) m) (answer_of store now m).hold)) (session_with [] (link_after_message (link_of s.history) m) (map observer_shown s.observers))
   handled_by rest s m true history =
       let h = after_message s.history m in
-      let a = prompt_answer store now m in
-      answered_shown h (without_token m.token s.observers) m a ((message_goes_on s.history m).history history) (entry_watchable store now m)
-      ∙ ap (λ vs. session_answered (host_of store now) (link_of h) vs m a) (without_shown m.token s.observers)
-      ∙ ap (λ l. session_answered (host_of store now) l (without_entry m.token (map observer_shown s.observers)) m a) (message_link s.history m history)
+      let hold = (answer_of store now m).hold in
+      let vs = without_entry m.token (map observer_shown s.observers) in
+      replied_shown h (without_token m.token s.observers) m (held_for h hold) ((message_goes_on s.history m).history history)
+      ∙ ap (λ others. session_replied (host_of store now) (link_of h) others m (held_for h hold)) (without_shown m.token s.observers)
+      ∙ ap (session_replied (host_of store now) (link_of h) vs m) (held_shown h hold)
+      ∙ ap (λ l. session_replied (host_of store now) l vs m (held_in l hold)) (message_link s.history m history)
   handled_by rest s m false history =
       shown_with [] (after_message s.history m) s.observers ∙ ap (λ l. session_with [] l (map observer_shown s.observers)) (message_link s.history m history)
 
@@ -181,3 +205,66 @@ module _ (store : StoreValue) (now : ℕ) (small : now ≤ 18446744073709551615)
 pub change_shown : (store : StoreValue) (now : ℕ) (s : Side) (m : Message) → handles s ≡ true → change_after store now s m ≡ change_by (host_of store now) (link_of s.history) m
 unfolding change_after
 change_shown store now s m e = ap (λ b. cond (b && asks_answer s m) (prompt_answer store now m).change Nothing) e
+
+-- a request whose answer is held, and one that is answered at once
+pub replied_cases : (store : StoreValue) (now : ℕ) (h : History) (others : List Observer) (m : Message) (hold : Option ℕ) (P : Side → Type 0)
+    → ((seconds : ℕ) → held_for h hold ≡ Some seconds → P (side_with (after_hold h m.token (moment_after now seconds)) others))
+    → (held_for h hold ≡ None → P (side_answered store now h others m (prompt_answer store now m)))
+    → P (side_replied store now h others m (held_for h hold))
+replied_cases store now h others m hold P held prompt =
+    elim (held_for h hold) as (λ found. held_for h hold ≡ found → P (side_replied store now h others m found)) [
+      | None ↦ λ e. prompt e
+      | Some seconds ↦ λ e. held seconds e
+    ] refl
+
+-- ---- one turn of settling
+
+-- what is held and due goes first, and else an observer is told
+pub settled_cases : (store : StoreValue) (now : ℕ) (s : Side) (P : Side → Type 0)
+    → ((e : HeldValue) → next_held now s ≡ Some e → P (with_history s (after_sent s.history now e)))
+    → (next_held now s ≡ None → P (notified store now s (next_due store now s)))
+    → P (settled_once store now s)
+unfolding settled_once
+settled_cases store now s P sends tells =
+    elim (next_held now s) as (λ found. next_held now s ≡ found → P (settled_so store now s found)) [
+      | None ↦ λ is. tells is
+      | Some e ↦ λ is. sends e is
+    ] refl
+
+pub held_room : (now : ℕ) (s : Side) (e : HeldValue) → next_held now s ≡ Some e → (has_room s ≡ true) × (first_due now s.history.held ≡ Some e)
+held_room now s e is =
+    elim (has_room s) as (λ b. has_room s ≡ b → (if b then first_due now s.history.held else None) ≡ Some e → (has_room s ≡ true) × (first_due now s.history.held ≡ Some e)) [
+      | true ↦ λ room found. (room, found)
+      | false ↦ λ room found. absurd cc
+    ] refl is
+
+-- what is sent leaves what is held, or gives it up
+send_leaves : (s : Standing) (m less : Message) (r : Reply) → length (send_as s m less r).held ≤ length s.held
+send_leaves s m less reply.Whole = omega arith
+send_leaves s m less reply.Bare = omega arith
+send_leaves s m less reply.Stopped = omega arith
+
+leaves_if : (b : Bool) (h : History) (m less : Message) → length (cond b (with_effect h (send (standing_now h) m less)) h).held ≤ length h.held
+leaves_if true h m less = send_leaves (standing_now h) m less (fit (limit_now h) m less)
+leaves_if false h m less = omega arith
+
+pub reply_leaves : (h : History) (m : Message) → length (after_reply h m).held ≤ length h.held
+reply_leaves h m = leaves_if (answers h.phase) h m (bare_response m)
+
+effect_leaves : (s : Standing) (first : Option HeldValue) → length (due_effect s first).held ≤ length s.held
+effect_leaves s None = omega arith
+effect_leaves s (Some (held.Answer token moment)) = omega arith
+effect_leaves s (Some (held.Pong token)) = send_leaves s (pong_with true token) (pong_with false token) (fit s.limit (pong_with true token) (pong_with false token))
+
+due_leaves : (h : History) (now : ℕ) → length (after_due h now).held ≤ length (without_due now h.held)
+due_leaves h now = effect_leaves (standing_due now (standing_now h)) (first_due now h.held)
+
+sent_leaves : (h : History) (now : ℕ) (e : HeldValue) → length (after_sent h now e).held ≤ length (without_due now h.held)
+sent_leaves h now (held.Answer token moment) = omega (arith, reply_leaves (after_due h now) (held_message token), due_leaves h now)
+sent_leaves h now (held.Pong token) = due_leaves h now
+
+-- each turn that sends leaves less that is held
+pub sent_held : (store : StoreValue) (now : ℕ) (s : Side) (e : HeldValue) → next_held now s ≡ Some e → length (settled_once store now s).history.held + 1 ≤ length s.history.held
+unfolding settled_once
+sent_held store now s e is =
+    omega (arith, ap (λ found. length (settled_so store now s found).history.held) is, sent_leaves s.history now e, due_fewer now s.history.held e (held_room now s e is).1)

@@ -1,9 +1,9 @@
 -- The last response with a token: what is queued behind it leaves it, unless it is a response with that token too. And what each
 -- thing that happens to a connection queues.
 use Rattle.std.proofs.Common.{◌≡◌, ◌≢◌, ℕ, Bool, true, false, cond, List, [], ◌∷◌, ◌++◌, Option, Some, None, refl, sym, ap, ◌∙◌}
-use Rattle.std.specs.Prelude.{reverse, find, ◌&&◌, ◌==◌}
+use Rattle.std.specs.Prelude.{length, nat_lt, reverse, find, ◌&&◌, ◌==◌}
 use Rattle.std.specs.List.{AllByRecursion}
-use Rattle.std.proofs.lemmas.Bool.{cond_both, cond-true, cond-false, false_from_ne_true}
+use Rattle.std.proofs.lemmas.Bool.{cond_both, cond-true, cond-false, false_from_ne_true, and_parts}
 use Rattle.std.proofs.lemmas.List.{append-nil, append_assoc, reverse-append}
 use lib.Pointwise.{bytes_decides}
 use Rattle.coap_wire.specs.Message.{Message}
@@ -21,12 +21,14 @@ use Rattle.coap_conn.specs.Phases.{stop_of, takes_messages, answers, is_open, is
 use Rattle.coap_conn.specs.Reasons.{abort_of, abort_text, abort_with, abort_options, number_told}
 use Rattle.coap_conn.specs.Announced.{has_critical_option, bad_csm_option}
 use Rattle.coap_conn.specs.Fit.{fit, fitted, abort_fitted, without_payload, without_options, bare_response}
-use Rattle.coap_conn.specs.Reaction.{Standing, Effect, Reaction, stop, abort, send_as, send, react, reaction_unless, live_reaction, open_reaction, csm_reaction, request_reaction, is_reserved, is_signal, is_method, minds_critical_options, pong_of}
+use Rattle.coap_conn.specs.Held.{HeldValue, Answer, Pong, first_due}
+use Rattle.coap_conn.specs.Reaction.{Standing, Effect, Reaction, stay, stop, abort, send_as, send, holds, react, reaction_unless, live_reaction, open_reaction, csm_reaction, request_reaction, ping_reaction, due_effect, is_reserved, is_signal, is_method, minds_critical_options, asks_custody, is_custody_pong, pong_with, pong_of, not_implemented}
 use Rattle.coap_conn.specs.Rejects.{reject_reason}
-use Rattle.coap_conn.specs.History.{History, limit_now, standing_now, with_effect, after_message, after_reply, after_reject, after_end, after_release, end_reason, release}
+use Rattle.coap_conn.specs.History.{History, limit_now, standing_now, with_effect, after_message, after_reply, after_reject, after_end, after_release, end_reason, release, may_hold, after_hold, standing_due, after_due}
 use Rattle.coap_store.specs.Paths.{same_bytes}
 use Rattle.coap_serve.specs.world.Observers.{is_whole}
 use Rattle.coap_serve.specs.world.Told.{is_response, responds, last_response}
+use Rattle.coap_serve.proofs.world.EntryLemmas.{all_to, all_append}
 
 -- ---- tokens
 
@@ -54,100 +56,184 @@ last_stays token queued (m ∷ ms) none =
 
 -- ---- what is queued
 
--- one history goes on to another, and queues messages that are all such
+-- one history goes on to another: it queues messages that are all such, and these are handled on the way
 pub record Queues (P : Message → Type 0) (h k : History) : Type 0 where
   pub more : List Message
   pub same : k.queued ≡ h.queued ++ more
   pub such : AllByRecursion P more
+  pub heard : List Message
+  pub handled : k.handled ≡ h.handled ++ heard
 
 abbrev pub IsNoResponse : Message → Type 0
 IsNoResponse m = is_response m ≡ false
 
-queues_none : (P : Message → Type 0) (h : History) → Queues P h h
-queues_none P h = record { more = []; same = sym (append-nil h.queued); such = tt }
+-- neither a response nor a Pong with Custody
+abbrev pub IsPlain : Message → Type 0
+IsPlain m = IsNoResponse m × (is_custody_pong m ≡ false)
 
-queues_effect : (P : Message → Type 0) (h : History) (e : Effect) (does : Bool) → AllByRecursion P e.queued → Queues P h (cond does (with_effect h e) h)
-queues_effect P h e true such = record { more = e.queued; same = refl; such = such }
+pub queues_none : (P : Message → Type 0) (h : History) → Queues P h h
+queues_none P h = record { more = []; same = sym (append-nil h.queued); such = tt; heard = []; handled = sym (append-nil h.handled) }
+
+pub queues_effect : (P : Message → Type 0) (h : History) (e : Effect) (does : Bool) → AllByRecursion P e.queued → Queues P h (cond does (with_effect h e) h)
+queues_effect P h e true such = record { more = e.queued; same = refl; such = such; heard = []; handled = sym (append-nil h.handled) }
 queues_effect P h e false such = queues_none P h
 
--- ---- Signalling Messages
+pub queues_to : (P Q : Message → Type 0) → ((m : Message) → P m → Q m) → (h k : History) → Queues P h k → Queues Q h k
+queues_to P Q to h k queues = record { more = queues.more; same = queues.same; such = all_to P Q to queues.more queues.such; heard = queues.heard; handled = queues.handled }
 
-abbrev AreSignals : List Message → Type 0
-AreSignals ms = AllByRecursion IsNoResponse ms
+pub queues_then : (P : Message → Type 0) (h k g : History) → Queues P h k → Queues P k g → Queues P h g
+queues_then P h k g one two = record {
+  more = one.more ++ two.more;
+  same = two.same ∙ ap (λ ms. ms ++ two.more) one.same ∙ append_assoc h.queued one.more two.more;
+  such = all_append P one.more two.more one.such two.such;
+  heard = one.heard ++ two.heard;
+  handled = two.handled ∙ ap (λ ms. ms ++ two.heard) one.handled ∙ append_assoc h.handled one.heard two.heard;
+}
 
-abort_signals : (limit : ℕ) (options : Option (List ℕ)) (why : Reason) → abort_text why ≡ options → AreSignals (abort_fitted limit (abort_of why))
-abort_signals limit None why e = rw e tt
-abort_signals limit (Some text) why e =
-    rw e (fitted_signals (abort_with (abort_options (number_told why)) text) (without_payload (abort_with (abort_options (number_told why)) text)) (fit limit _ _) refl refl)
+-- ---- Aborts
+
+abbrev ArePlain : List Message → Type 0
+ArePlain ms = AllByRecursion IsPlain ms
+
+abort_plain : (limit : ℕ) (options : Option (List ℕ)) (why : Reason) → abort_text why ≡ options → ArePlain (abort_fitted limit (abort_of why))
+abort_plain limit None why e = rw e tt
+abort_plain limit (Some text) why e =
+    rw e (fitted_plain (abort_with (abort_options (number_told why)) text) (without_payload (abort_with (abort_options (number_told why)) text)) (fit limit _ _) (refl, refl) (refl, refl))
   where
-    fitted_signals : (m less : Message) (r : Reply) → is_response m ≡ false → is_response less ≡ false → AreSignals (fitted m less r)
-    fitted_signals m less Whole e f = (e, tt)
-    fitted_signals m less Bare e f = (f, tt)
-    fitted_signals m less Stopped e f = tt
+    fitted_plain : (m less : Message) (r : Reply) → IsPlain m → IsPlain less → ArePlain (fitted m less r)
+    fitted_plain m less Whole e f = (e, tt)
+    fitted_plain m less Bare e f = (f, tt)
+    fitted_plain m less Stopped e f = tt
 
-sent_signals : (s : Standing) (m less : Message) (r : Reply) → is_response m ≡ false → is_response less ≡ false → AreSignals (send_as s m less r).queued
-sent_signals s m less Whole e f = (e, tt)
-sent_signals s m less Bare e f = (f, tt)
-sent_signals s m less Stopped e f = tt
+-- ---- what a message does
 
--- a reaction queues no response
-abbrev Signals : Reaction → Type 0
-Signals r = AreSignals r.effect.queued
+-- What holds of each effect that a message may have: the server's own answers come from the caller, and a Ping that asks for Custody
+-- may be held.
+pub record ReactionCases (s : Standing) (m : Message) (P : Effect → Type 0) : Type 0 where
+  pub stays : P (stay s)
+  pub stands : (now : Phase) → P (record (stay s) { phase = now })
+  pub stops : (why : Reason) (farewell : List Message) → AllByRecursion IsPlain farewell → P (stop s why farewell)
+  pub queues : (n : Message) → (s.role ≡ Server → IsNoResponse n) → P (record (stay s) { queued = n ∷ [] })
+  pub keeps : (m.code == code.ping) ≡ true → asks_custody m ≡ true → P (holds s (Pong m.token)).effect
 
-csm_signals : (s : Standing) (bad : Option ℕ) → Signals (csm_reaction s bad)
-csm_signals s None = tt
-csm_signals s (Some number) = abort_signals s.limit (abort_text (reason.BadCsm number)) (reason.BadCsm number) refl
+module _ (s : Standing) (m : Message) (P : Effect → Type 0) (cases : ReactionCases s m P) where
+  abbrev Does : Reaction → Type 0
+  Does r = P r.effect
 
--- the server's own answers come from the caller
-request_signals : (s : Standing) (m : Message) (role : Role) → role ≡ Server → Signals (request_reaction s m role)
-request_signals s m Server e = tt
-request_signals s m Client e = absurd cc
+  aborts_so : (why : Reason) → P (abort s why)
+  aborts_so why = cases.stops why (abort_fitted s.limit (abort_of why)) (abort_plain s.limit (abort_text why) why refl)
 
-open_signals : (s : Standing) (m : Message) → s.role ≡ Server → Signals (open_reaction s m)
-open_signals s m server =
-    cond_both (minds_critical_options m.code && has_critical_option m) _ _ Signals (λ e. abort_signals s.limit (abort_text reason.BadSignalOption) reason.BadSignalOption refl)
-    (λ e. cond_both (m.code == code.ping) _ _ Signals (λ e. sent_signals s (pong_of m) (without_options (pong_of m)) (fit s.limit (pong_of m) (without_options (pong_of m))) refl refl)
-    (λ e. cond_both (m.code == code.release) _ _ Signals (λ e. tt)
-    (λ e. cond_both (m.code == code.pong) _ _ Signals (λ e. tt)
-    (λ e. cond_both (is_signal m.code) _ _ Signals (λ e. tt)
-    (λ e. cond_both (is_method m.code) _ _ Signals (λ e. request_signals s m s.role server) (λ e. tt))))))
+  sends_so : (n less : Message) (r : Reply) → (s.role ≡ Server → IsNoResponse n) → (s.role ≡ Server → IsNoResponse less) → P (send_as s n less r)
+  sends_so n less Whole whole bare = cases.queues n whole
+  sends_so n less Bare whole bare = cases.queues less bare
+  sends_so n less Stopped whole bare = cases.stops reason.PeerTooSmall [] tt
 
-live_signals : (s : Standing) (m : Message) → s.role ≡ Server → Signals (live_reaction s m)
-unfolding live_reaction
-live_signals s m server =
-    cond_both (is_reserved m.code) _ _ Signals (λ e. abort_signals s.limit (abort_text reason.ReservedCode) reason.ReservedCode refl)
-    (λ e. cond_both (m.code == code.empty) _ _ Signals (λ e. tt)
-    (λ e. cond_both (m.code == code.abort) _ _ Signals (λ e. tt)
-    (λ e. cond_both (m.code == code.csm) _ _ Signals (λ e. csm_signals s (bad_csm_option m))
-    (λ e. cond_both (is_waiting s.phase) _ _ Signals (λ e. abort_signals s.limit (abort_text reason.CsmExpected) reason.CsmExpected refl) (λ e. open_signals s m server)))))
+  csm_so : (bad : Option ℕ) → Does (csm_reaction s bad)
+  csm_so None = cases.stands phase.Open
+  csm_so (Some number) = aborts_so (reason.BadCsm number)
 
-unless_signals : (s : Standing) (m : Message) (over : Option Reason) → s.role ≡ Server → Signals (reaction_unless s m over)
-unless_signals s m None server = live_signals s m server
-unless_signals s m (Some why) server = tt
+  request_so : (role : Role) → s.role ≡ role → Does (request_reaction s m role)
+  request_so Server is = cases.stays
+  request_so Client is =
+      let answer : Message = not_implemented m in
+      sends_so answer (bare_response answer) (fit s.limit answer (bare_response answer)) (λ server. absurd (no_client server)) (λ server. absurd (no_client server))
+    where
+      no_client : s.role ≡ Server → ⊥
+      no_client server = let bad : ◌≡◌ {A = Role} Client Server = sym is ∙ server in cc
 
-react_signals : (s : Standing) (m : Message) → s.role ≡ Server → Signals (react s m)
-unfolding react
-react_signals s m server = unless_signals s m (stop_of s.phase) server
+  ping_so : (m.code == code.ping) ≡ true → Does (ping_reaction s m)
+  ping_so ping =
+      let late : Message = pong_with false m.token in
+      let now : Message = pong_of m in
+      cond_both (asks_custody m && nat_lt 0 (length s.held)) _ _ Does
+      (λ e. cond_both (nat_lt (length s.held) s.most) _ _ Does
+      (λ f. cases.keeps ping (and_parts (asks_custody m) (nat_lt 0 (length s.held)) e).0)
+      (λ f. sends_so late late (fit s.limit late late) (λ server. refl) (λ server. refl)))
+      (λ e. sends_so now (without_options now) (fit s.limit now (without_options now)) (λ server. refl) (λ server. refl))
+
+  open_so : Does (open_reaction s m)
+  open_so =
+      cond_both (minds_critical_options m.code && has_critical_option m) _ _ Does (λ e. aborts_so reason.BadSignalOption)
+      (λ e. cond_both (m.code == code.ping) _ _ Does (λ ping. ping_so ping)
+      (λ e. cond_both (m.code == code.release) _ _ Does (λ e. cases.stands (phase.Releasing reason.PeerRelease))
+      (λ e. cond_both (m.code == code.pong) _ _ Does (λ e. cases.stays)
+      (λ e. cond_both (is_signal m.code) _ _ Does (λ e. cases.stays)
+      (λ e. cond_both (is_method m.code) _ _ Does (λ e. request_so s.role refl) (λ e. cases.stays))))))
+
+  live_so : Does (live_reaction s m)
+  unfolding live_reaction
+  live_so =
+      cond_both (is_reserved m.code) _ _ Does (λ e. aborts_so reason.ReservedCode)
+      (λ e. cond_both (m.code == code.empty) _ _ Does (λ e. cases.stays)
+      (λ e. cond_both (m.code == code.abort) _ _ Does (λ e. aborts_so reason.PeerAbort)
+      (λ e. cond_both (m.code == code.csm) _ _ Does (λ e. csm_so (bad_csm_option m))
+      (λ e. cond_both (is_waiting s.phase) _ _ Does (λ e. aborts_so reason.CsmExpected) (λ e. open_so)))))
+
+  unless_so : (over : Option Reason) → Does (reaction_unless s m over)
+  unless_so None = live_so
+  unless_so (Some why) = cases.stays
+
+  -- what holds of each effect that a message may have holds of its effect
+  pub react_so : P (react s m).effect
+  unfolding react
+  react_so = unless_so (stop_of s.phase)
+
+-- a server's reaction queues no response
+abbrev AreNoResponses : List Message → Type 0
+AreNoResponses ms = AllByRecursion IsNoResponse ms
+
+react_signals : (s : Standing) (m : Message) → s.role ≡ Server → AreNoResponses (react s m).effect.queued
+react_signals s m server = react_so s m (λ e. AreNoResponses e.queued) (record {
+  stays = tt;
+  stands = λ now. tt;
+  stops = λ why farewell plain. all_to IsPlain IsNoResponse (λ n is. is.0) farewell plain;
+  queues = λ n is. (is server, tt);
+  keeps = λ ping custody. tt;
+})
 
 -- ---- what happens to a history
 
-heard_queues : (h : History) (m : Message) (e : Effect) (takes : Bool) → AreSignals e.queued → Queues IsNoResponse h (cond takes (record (with_effect h e) { handled = h.handled ++ m ∷ [] }) h)
-heard_queues h m e true such = record { more = e.queued; same = refl; such = such }
-heard_queues h m e false such = queues_none IsNoResponse h
+pub heard_queues : (P : Message → Type 0) (h : History) (m : Message) (e : Effect) (takes : Bool) → AllByRecursion P e.queued → Queues P h (cond takes (record (with_effect h e) { handled = h.handled ++ m ∷ [] }) h)
+heard_queues P h m e true such = record { more = e.queued; same = refl; such = such; heard = m ∷ []; handled = refl }
+heard_queues P h m e false such = queues_none P h
 
 -- a message that is handled
 pub message_queues : (h : History) (m : Message) → h.role ≡ Server → Queues IsNoResponse h (after_message h m)
-message_queues h m server = heard_queues h m (react (standing_now h) m).effect (takes_messages h.phase) (react_signals (standing_now h) m server)
+message_queues h m server = heard_queues IsNoResponse h m (react (standing_now h) m).effect (takes_messages h.phase) (react_signals (standing_now h) m server)
 
-pub reject_queues : (h : History) (r : Reject) → Queues IsNoResponse h (after_reject h r)
+pub reject_queues : (h : History) (r : Reject) → Queues IsPlain h (after_reject h r)
 reject_queues h r =
-    queues_effect IsNoResponse h (abort (standing_now h) (reject_reason r)) (takes_messages h.phase) (abort_signals (limit_now h) (abort_text (reject_reason r)) (reject_reason r) refl)
+    queues_effect IsPlain h (abort (standing_now h) (reject_reason r)) (takes_messages h.phase) (abort_plain (limit_now h) (abort_text (reject_reason r)) (reject_reason r) refl)
 
-pub end_queues : (h : History) (cut : Bool) → Queues IsNoResponse h (after_end h cut)
-end_queues h cut = queues_effect IsNoResponse h (stop (standing_now h) (end_reason cut) []) (takes_messages h.phase) tt
+pub end_queues : (h : History) (cut : Bool) → Queues IsPlain h (after_end h cut)
+end_queues h cut = queues_effect IsPlain h (stop (standing_now h) (end_reason cut) []) (takes_messages h.phase) tt
 
-pub release_queues : (h : History) → Queues IsNoResponse h (after_release h)
-release_queues h = queues_effect IsNoResponse h (stop (standing_now h) reason.ReleasedHere (release ∷ [])) (is_open h.phase) (refl, tt)
+pub release_queues : (h : History) → Queues IsPlain h (after_release h)
+release_queues h = queues_effect IsPlain h (stop (standing_now h) reason.ReleasedHere (release ∷ [])) (is_open h.phase) ((refl, refl), tt)
+
+-- ---- what is held
+
+-- nothing is queued where an answer is held
+pub hold_queues : (P : Message → Type 0) (h : History) (token : List ℕ) (moment : ℕ) → Queues P h (after_hold h token moment)
+hold_queues P h token moment = held_by (is_open h.phase && may_hold h)
+  where
+    held_by : (does : Bool) → Queues P h (cond does (record h { held = h.held ++ Answer token moment ∷ [] }) h)
+    held_by true = record { more = []; same = sym (append-nil h.queued); such = tt; heard = []; handled = sym (append-nil h.handled) }
+    held_by false = queues_none P h
+
+sent_pong : (s : Standing) (m less : Message) (r : Reply) → IsNoResponse m → IsNoResponse less → AreNoResponses (send_as s m less r).queued
+sent_pong s m less Whole e f = (e, tt)
+sent_pong s m less Bare e f = (f, tt)
+sent_pong s m less Stopped e f = tt
+
+due_signals : (s : Standing) (found : Option HeldValue) → AreNoResponses (due_effect s found).queued
+due_signals s None = tt
+due_signals s (Some (Answer token moment)) = tt
+due_signals s (Some (Pong token)) = sent_pong s (pong_with true token) (pong_with false token) (fit s.limit (pong_with true token) (pong_with false token)) refl refl
+
+-- of what is held a Pong alone is queued at its turn
+pub due_queues : (h : History) (now : ℕ) → Queues IsNoResponse h (after_due h now)
+due_queues h now = queues_effect IsNoResponse h (due_effect (standing_due now (standing_now h)) (first_due now h.held)) true (due_signals (standing_due now (standing_now h)) (first_due now h.held))
 
 -- ---- responses
 

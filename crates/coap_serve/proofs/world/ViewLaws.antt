@@ -1,5 +1,5 @@
 -- A connection sees the others through the store alone: after the steps that it sees, it is as it is after all steps.
-use Rattle.std.proofs.Common.{◌≡◌, ◌≢◌, ℕ, Bool, true, false, ◌&&◌, cond, List, [], ◌∷◌, length, map, Option, Some, None, refl, sym, ap, subst, ◌∙◌}
+use Rattle.std.proofs.Common.{◌≡◌, ◌≢◌, ℕ, ◌+◌, Bool, true, false, ◌&&◌, cond, List, [], ◌∷◌, length, map, Option, Some, None, refl, sym, ap, subst, ◌∙◌}
 use Rattle.std.specs.Prelude.{is_none, nat_le, option_map, ◌==◌, if◌then◌else◌}
 use Rattle.std.proofs.lemmas.Bool.{eqb-true, eqb-false}
 use Rattle.coap_wire.specs.Message.{Message}
@@ -12,7 +12,7 @@ use Rattle.coap_store.specs.Answer.{Answer, Change, Nothing, Put, Delete, change
 use Rattle.coap_store.specs.Refusals.{put_refusal}
 use Rattle.coap_store.proofs.AnswerLaws.{answer_cases, get_cases, store_cases, CanStore, key_is, state_dynamic, change_finally, change_unheld}
 use Rattle.coap_serve.specs.Configs.{ConfigValues}
-use Rattle.coap_serve.specs.world.Sides.{Side, new_side, handles, asks_answer, side_after, change_after, side_faulted, side_written, side_ended, side_released, next_due, settled}
+use Rattle.coap_serve.specs.world.Sides.{Side, new_side, handles, asks_answer, side_after, change_after, side_faulted, side_written, side_ended, side_released, settled}
 use Rattle.coap_serve.specs.world.World.{World, Step, new_world, side_of, changed_at, stored_after, ticks, acted, all_settled, after_steps}
 use Rattle.coap_serve.specs.world.World as world
 use Rattle.coap_serve.specs.world.Events.{Event, steps_of, world_after}
@@ -21,7 +21,7 @@ use Rattle.coap_serve.proofs.world.StepLaws.{steps_then}
 use Rattle.coap_serve.proofs.world.PlaceLaws.{first_there, later_there, nobody, all_there, changed_here, changed_elsewhere, still_there, new_there, dropped_here, dropped_elsewhere}
 use Rattle.coap_serve.proofs.world.WorldLaws.{opened_world}
 use Rattle.coap_serve.proofs.world.EntryLemmas.{all_append}
-use Rattle.coap_serve.proofs.world.SettleLaws.{at_rest, settled_rests}
+use Rattle.coap_serve.proofs.world.SettleLaws.{IsAtRest, at_rest, settled_rests}
 
 -- ---- the store refuses nothing that a message puts
 
@@ -122,9 +122,9 @@ settled_share x = record x { side = option_map (settled x.store x.now) x.side }
 all_settled_share : (id : ℕ) (w : World) → share_of id (all_settled w) ≡ settled_share (share_of id w)
 all_settled_share id w = ap (share w.store w.now) (all_there id (settled w.store w.now) w.sides)
 
-settled_same : (store : StoreValue) (now : ℕ) (s : Side) → next_due store now s ≡ None → settled store now s ≡ s
+settled_same : (store : StoreValue) (now : ℕ) (s : Side) → IsAtRest store now s → settled store now s ≡ s
 unfolding settled
-settled_same store now s none = at_rest (length s.observers) store now s none
+settled_same store now s rests = at_rest (length s.history.held + length s.observers) store now s rests
 
 settled_again : (store : StoreValue) (now : ℕ) (there : Option Side) → option_map (settled store now) (option_map (settled store now) there) ≡ option_map (settled store now) there
 settled_again store now None = refl

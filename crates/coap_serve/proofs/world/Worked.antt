@@ -73,7 +73,7 @@ root = refl
 empty_first : Plays usual (opened 1
     ++ In 1 (hex "0000") => Taken 2
     ∷ In 1 (hex "00e1") => Taken 2
-    ∷ Look 1 => Stands phase.Open 0 0 0
+    ∷ Look 1 => Stands phase.Open 0 0 0 0
     ∷ [])
 unfolding told
 empty_first = refl
@@ -115,7 +115,7 @@ announced_sizes : Plays one_resource (opened 1
     ∷ Drain 1 => Out (hex "d15b4502410180ff" ++ replicate 100 0x41)
     ∷ In 1 (hex "10e120") => Taken 3
     ∷ In 1 (hex "210103b161") => Taken 5
-    ∷ Look 1 => Stands (phase.Stopped reason.PeerTooSmall) 0 0 0
+    ∷ Look 1 => Stands (phase.Stopped reason.PeerTooSmall) 0 0 0 0
     ∷ Drain 1 => Out []
     ∷ [])
 unfolding told
@@ -161,7 +161,7 @@ last_notifications : Plays one_resource (opened 1 ++ (stored_x ++ (observed 1
     ∷ Drain 1 => Out (hex "61450241032060ff7c")
     ∷ Remove path_a => Done
     ∷ Drain 1 => Out (hex "018402")
-    ∷ Look 1 => Stands phase.Open 0 0 0
+    ∷ Look 1 => Stands phase.Open 0 0 0 0
     ∷ [])))
 unfolding told
 last_notifications = refl
@@ -175,7 +175,7 @@ one_place : Plays (config_with (limits_with 65536 65536 131072 1) 1) (opened 1 +
     ∷ Drain 1 => Out (hex "514502410180ff78")
     ∷ In 1 (hex "310101605161") => Taken 6
     ∷ Drain 1 => Out (hex "61450141012060ff78")
-    ∷ Look 1 => Stands phase.Open 0 0 1
+    ∷ Look 1 => Stands phase.Open 0 0 0 1
     ∷ []))
 unfolding told
 one_place = refl
@@ -193,9 +193,9 @@ one_by_one : Plays (config_with (narrow_limits 65536) 1) (opened 1 ++ (stored_x 
     ++ In 1 (hex "310102605161") => Taken 6
     ∷ Drain 1 => Out (hex "61450241012060ff78")
     ∷ Put path_a (Some 0) (hex "79") => Version 2
-    ∷ Look 1 => Stands phase.Open 0 9 2
+    ∷ Look 1 => Stands phase.Open 0 9 0 2
     ∷ Drain 1 => Out (hex "61450141022060ff79")
-    ∷ Look 1 => Stands phase.Open 0 9 2
+    ∷ Look 1 => Stands phase.Open 0 9 0 2
     ∷ Drain 1 => Out (hex "61450241022060ff79")
     ∷ Drain 1 => Out []
     ∷ [])))
@@ -240,9 +240,9 @@ one_at_a_time = refl
 -- the input ends within a frame
 cut : Plays usual (opened 1
     ++ In 1 (hex "00e13101") => Taken 4
-    ∷ Look 1 => Stands phase.Open 2 0 0
+    ∷ Look 1 => Stands phase.Open 2 0 0 0
     ∷ End 1 => Done
-    ∷ Look 1 => Stands (phase.Stopped reason.Cut) 2 0 0
+    ∷ Look 1 => Stands (phase.Stopped reason.Cut) 2 0 0 0
     ∷ [])
 unfolding told
 cut = refl
@@ -262,7 +262,7 @@ released : Plays usual (opened 1
     ++ In 1 (hex "00e1") => Taken 2
     ∷ Release 1 => Done
     ∷ Drain 1 => Out (hex "00e4")
-    ∷ Look 1 => Stands (phase.Stopped reason.ReleasedHere) 0 0 0
+    ∷ Look 1 => Stands (phase.Stopped reason.ReleasedHere) 0 0 0 0
     ∷ Drop 1 => Done
     ∷ Look 1 => Absent
     ∷ [])

@@ -12,7 +12,7 @@ bad_token : Plays usual (opened 1
     ++ In 1 (hex "00e1") => Taken 2
     ∷ In 1 (hex "0901") => Taken 1
     ∷ Drain 1 => Out (hex "d004e5ff" ++ codes "bad token length")
-    ∷ Look 1 => Stands (phase.Stopped reason.TokenLength) 1 0 0
+    ∷ Look 1 => Stands (phase.Stopped reason.TokenLength) 1 0 0 0
     ∷ In 1 (hex "01") => Taken 0
     ∷ [])
 unfolding told
@@ -20,9 +20,9 @@ bad_token = refl
 
 -- the input ends between frames: the observers go, and no notification follows
 ended : Plays one_resource (opened 1 ++ (stored_x ++ (observed 1
-    ++ Look 1 => Stands phase.Open 0 0 1
+    ++ Look 1 => Stands phase.Open 0 0 0 1
     ∷ End 1 => Done
-    ∷ Look 1 => Stands (phase.Stopped reason.Ended) 0 0 0
+    ∷ Look 1 => Stands (phase.Stopped reason.Ended) 0 0 0 0
     ∷ Put path_a (Some 0) (hex "79") => Version 2
     ∷ Drain 1 => Out []
     ∷ [])))
@@ -32,7 +32,7 @@ ended = refl
 -- the peer releases the connection: the same, and nothing more is taken
 released_by_peer : Plays one_resource (opened 1 ++ (stored_x ++ (observed 1
     ++ In 1 (hex "00e4010101") => Taken 2
-    ∷ Look 1 => Stands (phase.Releasing reason.PeerRelease) 0 0 0
+    ∷ Look 1 => Stands (phase.Releasing reason.PeerRelease) 0 0 0 0
     ∷ Put path_a (Some 0) (hex "79") => Version 2
     ∷ Drain 1 => Out []
     ∷ [])))
@@ -57,7 +57,7 @@ interleaved = refl
 one_dropped : Plays usual (opened 1 ++ (opened 2
     ++ Drop 1 => Done
     ∷ Look 1 => Absent
-    ∷ Look 2 => Stands phase.Waiting 0 0 0
+    ∷ Look 2 => Stands phase.Waiting 0 0 0 0
     ∷ []))
 unfolding told
 one_dropped = refl
@@ -70,7 +70,7 @@ told_in_order : Plays one_resource (opened 1 ++ (stored_x ++ (observed 1
     ∷ Drain 1 => Out (hex "61450241012060ff78")
     ∷ Put path_a (Some 0) (hex "79") => Version 2
     ∷ Drain 1 => Out (hex "61450141022060ff7961450241022060ff79")
-    ∷ Look 1 => Stands phase.Open 0 0 2
+    ∷ Look 1 => Stands phase.Open 0 0 0 2
     ∷ [])))
 unfolding told
 told_in_order = refl
@@ -101,7 +101,7 @@ stored_again = refl
 deregistered : Plays one_resource (opened 1 ++ (stored_x ++ (observed 1
     ++ In 1 (hex "41010161015161") => Taken 7
     ∷ Drain 1 => Out (hex "514501410180ff78")
-    ∷ Look 1 => Stands phase.Open 0 0 0
+    ∷ Look 1 => Stands phase.Open 0 0 0 0
     ∷ [])))
 unfolding told
 deregistered = refl
@@ -110,7 +110,7 @@ deregistered = refl
 token_used_again : Plays one_resource (opened 1 ++ (stored_x ++ (observed 1
     ++ In 1 (hex "010101") => Taken 3
     ∷ Drain 1 => Out (hex "a14501c0ff636f61702b746370")
-    ∷ Look 1 => Stands phase.Open 0 0 0
+    ∷ Look 1 => Stands phase.Open 0 0 0 0
     ∷ [])))
 unfolding told
 token_used_again = refl
@@ -119,7 +119,7 @@ token_used_again = refl
 absent_path : Plays one_resource (opened 1
     ++ In 1 (hex "00e1310101605161") => Taken 8
     ∷ Drain 1 => Out (hex "018401")
-    ∷ Look 1 => Stands phase.Open 0 0 0
+    ∷ Look 1 => Stands phase.Open 0 0 0 0
     ∷ [])
 unfolding told
 absent_path = refl
@@ -128,7 +128,7 @@ absent_path = refl
 bare_answer : Plays one_resource (opened 1 ++ (stored_x
     ++ In 1 (hex "20e12108310101605161") => Taken 10
     ∷ Drain 1 => Out (hex "01a001")
-    ∷ Look 1 => Stands phase.Open 0 0 0
+    ∷ Look 1 => Stands phase.Open 0 0 0 0
     ∷ []))
 unfolding told
 bare_answer = refl
@@ -138,7 +138,7 @@ bare_notification : Plays one_resource (opened 1 ++ (stored_x ++ (observed 1
     ++ In 1 (hex "20e12109") => Taken 4
     ∷ Put path_a (Some 0) (hex "7980") => Version 2
     ∷ Drain 1 => Out (hex "01a001")
-    ∷ Look 1 => Stands phase.Open 0 0 0
+    ∷ Look 1 => Stands phase.Open 0 0 0 0
     ∷ Put path_a (Some 0) (hex "79") => Version 3
     ∷ Drain 1 => Out []
     ∷ [])))
@@ -149,7 +149,7 @@ bare_notification = refl
 no_notification : Plays one_resource (opened 1 ++ (stored_x ++ (observed 1
     ++ In 1 (hex "10e120") => Taken 3
     ∷ Put path_a (Some 0) (hex "79") => Version 2
-    ∷ Look 1 => Stands (phase.Stopped reason.PeerTooSmall) 0 0 0
+    ∷ Look 1 => Stands (phase.Stopped reason.PeerTooSmall) 0 0 0 0
     ∷ [])))
 unfolding told
 no_notification = refl
@@ -168,7 +168,7 @@ validated = refl
 removed_by_observer : Plays one_resource (opened 1 ++ (stored_x ++ (observed 1
     ++ In 1 (hex "210402b161") => Taken 5
     ∷ Drain 1 => Out (hex "014202018401")
-    ∷ Look 1 => Stands phase.Open 0 0 0
+    ∷ Look 1 => Stands phase.Open 0 0 0 0
     ∷ [])))
 unfolding told
 removed_by_observer = refl
@@ -222,7 +222,7 @@ release_too_long : Plays usual (opened 1
     ++ In 1 (hex "20e12101") => Taken 4
     ∷ Release 1 => Done
     ∷ Drain 1 => Out []
-    ∷ Look 1 => Stands phase.Open 0 0 0
+    ∷ Look 1 => Stands phase.Open 0 0 0 0
     ∷ [])
 unfolding told
 release_too_long = refl

@@ -112,9 +112,8 @@ drained (Some most) waiting = take most waiting
 abbrev pub drain_ran : ServerValue → ℕ → List ℕ → Ran
 drain_ran v id bytes = comes_to (server_written v id (length bytes)) (out_line id bytes)
 
--- no request is pending yet
 abbrev pub status_ran : ServerValue → ℕ → SessionValue → Ran
-status_ran v id s = comes_to v (status_line id s.link.phase (length s.frame) (length s.link.waiting) 0 (length s.observers))
+status_ran v id s = comes_to v (status_line id s.link.phase (length s.frame) (length s.link.waiting) (length s.link.held) (length s.observers))
 
 -- ---- events
 

@@ -7,7 +7,6 @@ use Rattle.coap_conn.specs.Limits.{LimitValues}
 use Rattle.coap_conn.specs.Phases.{stop_of}
 use Rattle.coap_conn.specs.History.{bytes_of}
 use Rattle.coap_serve.specs.Configs.{ConfigValues}
-use Rattle.coap_serve.specs.world.Observers.{Observer}
 use Rattle.coap_serve.specs.world.Sides.{Side, waiting_on}
 use Rattle.coap_serve.specs.world.World.{World, Step, new_world, side_of, step}
 use Rattle.coap_serve.specs.world.World as step
@@ -15,14 +14,14 @@ use Rattle.coap_serve.specs.world.Events.{Opened, Took, steps_of}
 
 -- ---- a flush
 
--- the bytes that wait on a connection, and its observers
+-- the bytes that wait on a connection, and how much it holds and how many observers it has
 abbrev pub waiting_of : Option Side → List ℕ
 waiting_of None = []
 waiting_of (Some s) = waiting_on s
 
-abbrev pub observers_of : Option Side → List Observer
-observers_of None = []
-observers_of (Some s) = s.observers
+abbrev pub more_of : Option Side → ℕ
+more_of None = 0
+more_of (Some s) = length s.history.held + length s.observers
 
 -- all that waits on a connection is written; what there is room for then comes to wait
 abbrev pub written_once : LimitValues → ℕ → World → World
@@ -32,10 +31,10 @@ unfoldable pub written_times : LimitValues → ℕ → ℕ → World → World
 written_times limits id zero w = w
 written_times limits id (suc turns) w = written_once limits id (written_times limits id turns w)
 
--- A flush: all that waits is written, until nothing waits. What comes to wait within it tells an observer of the state now, so no
--- more turns are needed than there are observers, and one.
+-- A flush: all that waits is written, until nothing waits. What comes to wait within it was held, or tells an observer of the state
+-- now, so no more turns are needed than there are of both, and one.
 unfoldable pub flushed : LimitValues → ℕ → World → World
-flushed limits id w = written_times limits id (suc (length (observers_of (side_of id w.sides)))) w
+flushed limits id w = written_times limits id (suc (more_of (side_of id w.sides))) w
 
 -- each of these steps, and a flush behind it
 unfoldable pub flushed_after : LimitValues → ℕ → World → List Step → World

@@ -1,15 +1,16 @@
 -- How the code finds and changes the entries of a connection's observers, and what its framer becomes where it stops.
-use Rattle.std.specs.Prelude.{ℕ, Bool, ◌&&◌, List, [], ◌∷◌, Option, Some, None, option_map, suc, if◌then◌else◌}
+use Rattle.std.specs.Prelude.{ℕ, Bool, ◌&&◌, List, [], ◌∷◌, length, Option, Some, None, option_map, suc, ◌==◌, if◌then◌else◌}
 use Rattle.coap_wire.specs.Message.{Message}
 use Rattle.coap_frame.specs.Framing.{FramerValue}
 use Rattle.coap_conn.specs.Phases.{takes_messages}
 use Rattle.coap_conn.specs.Fit.{fit, bare_response}
-use Rattle.coap_conn.specs.LinkValue.{LinkValue, limit_in}
+use Rattle.coap_conn.specs.LinkValue.{LinkValue, limit_in, link_after_reply, link_after_hold}
 use Rattle.coap_store.specs.Messages.{response_with_observe}
 use Rattle.coap_store.specs.Notifications.{notification_of}
 use Rattle.coap_serve.specs.declared.host.Host.{Host}
+use Rattle.coap_serve.specs.world.Sides.{moment_after}
 use Rattle.coap_serve.specs.world.Observers.{has_place, is_whole, with_entry, goes_on, first_becomes}
-use Rattle.coap_serve.specs.values.Sessions.{ObserverValue, new_entry, answer_on, entry_left, is_stale, notification_on}
+use Rattle.coap_serve.specs.values.Sessions.{ObserverValue, SessionValue, new_entry, answer_on, entry_left, is_stale, notification_on, session_settled}
 
 -- the index of the first element of which this holds
 unfoldable pub first_index : {O : Type 0} → (O → Bool) → List O → Option ℕ
@@ -34,12 +35,27 @@ abbrev pub entries_asked : Host → LinkValue → ℕ → List ObserverValue →
 entries_asked host l room others m =
     with_entry (is_observed host room others m && is_sent l (response_on host room others m)) others (new_entry host m)
 
+-- the link and the entries after a request that was answered at once, or whose answer is held for so many seconds
+abbrev pub link_replied : Host → LinkValue → ℕ → List ObserverValue → Message → Option ℕ → LinkValue
+link_replied host l room others m None = link_after_reply l (response_on host room others m)
+link_replied host l room others m (Some seconds) = link_after_hold l m.token (moment_after host.now seconds)
+
+abbrev pub entries_replied : Host → LinkValue → ℕ → List ObserverValue → Message → Option ℕ → List ObserverValue
+entries_replied host l room others m None = entries_asked host l room others m
+entries_replied host l room others m (Some seconds) = others
+
 -- ---- a notification (RFC 7641 section 4.2)
 
 -- the entries once this one, the first that is stale, was notified
 abbrev pub entries_notified : Host → LinkValue → List ObserverValue → ObserverValue → List ObserverValue
 entries_notified host l entries o =
     first_becomes (is_stale host) (entry_left host o (goes_on (notification_of host.store host.now o.path o.format) && is_sent l (notification_on host o))) entries
+
+-- ---- what is held
+
+-- a connection that holds something settles
+abbrev pub settled_held : Host → SessionValue → SessionValue
+settled_held host v = if length v.link.held == 0 then v else session_settled host v
 
 -- ---- a stop
 

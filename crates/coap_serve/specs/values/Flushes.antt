@@ -1,5 +1,5 @@
 -- What a flush does to a server as the code holds it: all that waits on a connection is written, until nothing waits.
-use Rattle.std.specs.Prelude.{◌≡◌, ◌≤◌, ◌⊎◌, ℕ, zero, suc, Bool, true, false, List, [], ◌++◌, length, Option, Some, None}
+use Rattle.std.specs.Prelude.{◌≡◌, ◌≤◌, ◌⊎◌, ℕ, zero, suc, ◌+◌, Bool, true, false, List, [], ◌++◌, length, Option, Some, None}
 use Rattle.coap_serve.specs.values.Sessions.{SessionValue, session_written, session_settled}
 use Rattle.coap_serve.specs.values.Servers.{ServerValue, session_of, changed_at, server_written}
 use Rattle.coap_serve.specs.declared.host.Host.{Host}
@@ -17,13 +17,13 @@ waiting_in (Some s) = s.link.waiting
 abbrev pub waiting_at : ℕ → ServerValue → List ℕ
 waiting_at id v = waiting_in (session_of id v.sessions)
 
--- how many observers it has
-abbrev pub observers_in : Option SessionValue → ℕ
-observers_in None = 0
-observers_in (Some s) = length s.observers
+-- how much it holds, and how many observers it has, together
+abbrev pub more_in : Option SessionValue → ℕ
+more_in None = 0
+more_in (Some s) = length s.link.held + length s.observers
 
-abbrev pub observers_at : ℕ → ServerValue → ℕ
-observers_at id v = observers_in (session_of id v.sessions)
+abbrev pub more_at : ℕ → ServerValue → ℕ
+more_at id v = more_in (session_of id v.sessions)
 
 -- one turn more
 abbrev pub flush_more : ℕ → List ℕ → Flush → Flush
@@ -51,13 +51,13 @@ IsFlushedAt at host s sessions after wrote true =
 -- nothing waits.
 pub record IsFlushed (id : ℕ) (v after : ServerValue) (wrote : List ℕ → Type 0) : Type 0 where
   pub turns : ℕ
-  pub within : turns ≤ suc (observers_at id v)
-  pub done : (waiting_at id after ≡ []) ⊎ (turns ≡ suc (observers_at id v))
+  pub within : turns ≤ suc (more_at id v)
+  pub done : (waiting_at id after ≡ []) ⊎ (turns ≡ suc (more_at id v))
   pub server : after ≡ (flush_turns turns id v).server
   pub written : wrote (flush_turns turns id v).text
 
 -- A write failed: a part was written of what so many turns write.
 pub record IsPartFlushed (id : ℕ) (v : ServerValue) (wrote_part : List ℕ → Type 0) : Type 0 where
   pub turns : ℕ
-  pub within : turns ≤ suc (observers_at id v)
+  pub within : turns ≤ suc (more_at id v)
   pub part : wrote_part (flush_turns turns id v).text

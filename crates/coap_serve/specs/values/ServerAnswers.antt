@@ -106,13 +106,12 @@ front_of v id = option_map (λ s. s.link.waiting) (session_of id v.sessions)
 
 -- ---- status
 
--- no answer is held yet
 abbrev pub session_status : SessionValue → Status
 session_status s = record {
   phase = s.link.phase;
   kept = length s.frame;
   waiting = length s.link.waiting;
-  pending = 0;
+  pending = length s.link.held;
   observers = length s.observers;
   peer_max = s.link.peer_max;
   finished = is_finished s.link;

@@ -14,17 +14,19 @@ use Rattle.coap_conn.specs.Verdicts.{is_request}
 use Rattle.coap_conn.specs.Reaction.{react}
 use Rattle.coap_conn.specs.Fit.{fit, bare_response}
 use Rattle.coap_conn.specs.Rejects.{reject_of}
-use Rattle.coap_conn.specs.LinkValue.{LinkValue, new_link, free_in, limit_in, standing_in, link_after_message, link_after_reply, link_after_reject, link_after_end, link_after_release, link_after_written}
+use Rattle.coap_conn.specs.Held.{HeldValue, first_due}
+use Rattle.coap_conn.specs.Held as held
+use Rattle.coap_conn.specs.LinkValue.{LinkValue, new_link, free_in, limit_in, standing_in, link_after_message, link_after_reply, link_after_reject, link_after_end, link_after_release, link_after_written, can_hold, link_after_hold, link_after_due}
 use Rattle.coap_store.specs.Paths.{Path, same_bytes}
 use Rattle.coap_store.specs.Store.{Representation}
 use Rattle.coap_store.specs.State.{state_of}
 use Rattle.coap_store.specs.Requests.{path_of}
-use Rattle.coap_store.specs.Answer.{Answer, Change, prompt_answer, changed}
+use Rattle.coap_store.specs.Answer.{Answer, Change, answer_of, prompt_answer, changed}
 use Rattle.coap_store.specs.Changes.{IsPut}
 use Rattle.coap_store.specs.Messages.{response_with_observe}
 use Rattle.coap_store.specs.Notifications.{notification_of}
 use Rattle.coap_serve.specs.declared.host.Host.{Host}
-use Rattle.coap_serve.specs.world.Sides.{is_cut}
+use Rattle.coap_serve.specs.world.Sides.{is_cut, moment_after, held_message}
 use Rattle.coap_serve.specs.world.Observers.{format_of, has_place, is_whole, with_entry, goes_on, notification_message, first_becomes}
 
 -- an observer: the format that it was told, and the mark of the state that it was told
@@ -125,6 +127,20 @@ session_answered host l others m a = session_answered_as host l others m a (has_
 abbrev pub answer_on : Host → Message → Answer
 answer_on host m = prompt_answer host.store host.now m
 
+-- for how many seconds the answer to a request asks to be held
+abbrev pub hold_on : Host → Message → Option ℕ
+hold_on host m = (answer_of host.store host.now m).hold
+
+-- it is where there is room
+abbrev pub held_in : LinkValue → Option ℕ → Option ℕ
+held_in l None = None
+held_in l (Some seconds) = if can_hold l then Some seconds else None
+
+-- a request's answer is held for so many seconds, or it was answered at once
+abbrev pub session_replied : Host → LinkValue → List ObserverValue → Message → Option ℕ → SessionValue
+session_replied host l others m None = session_answered host l others m (answer_on host m)
+session_replied host l others m (Some seconds) = session_with [] (link_after_hold l m.token (moment_after host.now seconds)) others
+
 -- it is a request to this connection
 abbrev pub asks_this : LinkValue → Message → Bool
 asks_this l m = is_request (react (standing_in l) m).verdict
@@ -132,7 +148,7 @@ asks_this l m = is_request (react (standing_in l) m).verdict
 -- the connection, and what is stored, after a message that is handled
 unfoldable pub session_handled : Host → SessionValue → Message → SessionValue
 session_handled host v m =
-    if asks_this v.link m then session_answered host (link_after_message v.link m) (without_entry m.token v.observers) m (answer_on host m)
+    if asks_this v.link m then session_replied host (link_after_message v.link m) (without_entry m.token v.observers) m (held_in (link_after_message v.link m) (hold_on host m))
     else session_with [] (link_after_message v.link m) v.observers
 
 abbrev pub change_by : Host → LinkValue → Message → Change
@@ -211,16 +227,30 @@ session_notified host v None = v
 session_notified host v (Some o) =
     session_notified_so host v o (notification_on host o) (goes_on (notification_of host.store host.now o.path o.format))
 
+-- what is held and due first, where it can be sent
+unfoldable pub next_held_in : ℕ → SessionValue → Option HeldValue
+next_held_in now v = if session_ready v then first_due now v.link.held else None
+
+-- what was due first is held no more: an answer was sent, or a Pong with Custody was queued
+abbrev pub link_sent : LinkValue → ℕ → HeldValue → LinkValue
+link_sent l now (held.Answer token moment) = link_after_reply (link_after_due l now) (held_message token)
+link_sent l now (held.Pong token) = link_after_due l now
+
+-- what is held comes before what observers are told
+abbrev pub session_settled_so : Host → SessionValue → Option HeldValue → SessionValue
+session_settled_so host v None = session_notified host v (next_stale host v)
+session_settled_so host v (Some e) = session_with v.frame (link_sent v.link host.now e) v.observers
+
 unfoldable pub session_settled_once : Host → SessionValue → SessionValue
-session_settled_once host v = session_notified host v (next_stale host v)
+session_settled_once host v = session_settled_so host v (next_held_in host.now v)
 
 unfoldable pub session_settled_within : ℕ → Host → SessionValue → SessionValue
 session_settled_within zero host v = v
 session_settled_within (suc turns) host v = session_settled_within turns host (session_settled_once host v)
 
 unfoldable pub session_settled : Host → SessionValue → SessionValue
-session_settled host v = session_settled_within (length v.observers) host v
+session_settled host v = session_settled_within (length v.link.held + length v.observers) host v
 
--- nothing is left to settle: no observer is stale, or there is no room
+-- nothing is left to settle: nothing that is held is due and no observer is stale, or there is no room
 abbrev pub IsSettled : Host → SessionValue → Type 0
-IsSettled host v = next_stale host v ≡ None
+IsSettled host v = (next_held_in host.now v ≡ None) × (next_stale host v ≡ None)

@@ -1,6 +1,6 @@
--- One connection of a server that may hold no answer: all that happened on it, and its observers; what a message does to it and
--- to the store, and how it settles (RFC 8323 sections 3.3, 3.4, 5 and 7).
-use Rattle.std.specs.Prelude.{◌≡◌, ℕ, zero, suc, Bool, true, ◌&&◌, List, [], length, Option, Some, None, find, nat_le, nat_lt, is_none, if◌then◌else◌}
+-- One connection of a server: all that happened on it, and its observers; what a message does to it and to the store, and how it
+-- settles (RFC 8323 sections 3.3, 3.4, 5 and 7).
+use Rattle.std.specs.Prelude.{◌≡◌, ℕ, zero, suc, ◌+◌, Bool, true, ◌&&◌, List, [], length, Option, Some, None, find, min, nat_le, nat_lt, is_none, if◌then◌else◌}
 use Rattle.std.specs.List.{AllByRecursion}
 use Rattle.coap_wire.specs.Message.{Message}
 use Rattle.coap_wire.specs.Stream.{StreamFault}
@@ -13,11 +13,13 @@ use Rattle.coap_conn.specs.Fit.{fit, bare_response}
 use Rattle.coap_conn.specs.Rejects.{reject_of}
 use Rattle.coap_conn.specs.Release.{release_refusal}
 use Rattle.coap_conn.specs.LinkValue.{link_of, free_in}
-use Rattle.coap_conn.specs.History.{History, new_history, limit_now, standing_now, after_message, after_reply, after_reject, after_end, after_release, after_written}
+use Rattle.coap_conn.specs.Held.{HeldValue, HoldsNothingDue, first_due}
+use Rattle.coap_conn.specs.Held as held
+use Rattle.coap_conn.specs.History.{History, new_history, limit_now, standing_now, after_message, after_reply, after_reject, after_end, after_release, after_written, may_hold, after_hold, after_due}
 use Rattle.coap_store.specs.Store.{StoreValue}
 use Rattle.coap_store.specs.State.{state_of}
-use Rattle.coap_store.specs.Answer.{Answer, Change, Nothing, prompt_answer, changed}
-use Rattle.coap_store.specs.Messages.{response_with_observe}
+use Rattle.coap_store.specs.Answer.{Answer, Change, Nothing, held_response, answer_of, prompt_answer, changed}
+use Rattle.coap_store.specs.Messages.{response_with_observe, response_message}
 use Rattle.coap_serve.specs.world.Observers.{Observer, is_due, without_token, has_place, entry_for, is_whole, with_entry, goes_on, notification, notification_message, left_of, first_becomes}
 
 pub record Side : Type 0 where
@@ -65,10 +67,24 @@ abbrev pub answered_among : StoreValue → ℕ → History → List Observer →
 answered_among store now h others m a observes =
     responded h others (entry_for store now m) observes (response_with_observe m.token observes a.response)
 
--- a request was answered so
+-- a request was answered at once
 abbrev pub side_answered : StoreValue → ℕ → History → List Observer → Message → Answer → Side
 side_answered store now h others m a =
     answered_among store now h others m a (has_place h.limits.observers others a.watch)
+
+-- so many seconds after a moment, which is a number of 64 bits
+abbrev pub moment_after : ℕ → ℕ → ℕ
+moment_after now seconds = min (now + seconds) 18446744073709551615
+
+-- for how many seconds an answer that asks it is held: it is where there is room
+abbrev pub held_for : History → Option ℕ → Option ℕ
+held_for h None = None
+held_for h (Some seconds) = if may_hold h then Some seconds else None
+
+-- a request's answer is held for so many seconds, or it was answered at once
+abbrev pub side_replied : StoreValue → ℕ → History → List Observer → Message → Option ℕ → Side
+side_replied store now h others m None = side_answered store now h others m (prompt_answer store now m)
+side_replied store now h others m (Some seconds) = side_with (after_hold h m.token (moment_after now seconds)) others
 
 -- it is a request to this side
 abbrev pub asks_answer : Side → Message → Bool
@@ -77,7 +93,7 @@ asks_answer s m = is_request (react (standing_now s.history) m).verdict
 -- the side after a message that is handled
 abbrev pub side_handled : StoreValue → ℕ → Side → Message → Side
 side_handled store now s m =
-    if asks_answer s m then side_answered store now (after_message s.history m) (without_token m.token s.observers) m (prompt_answer store now m)
+    if asks_answer s m then side_replied store now (after_message s.history m) (without_token m.token s.observers) m (held_for (after_message s.history m) (answer_of store now m).hold)
     else with_history s (after_message s.history m)
 
 -- the side after a message
@@ -129,17 +145,37 @@ abbrev pub notified : StoreValue → ℕ → Side → Option Observer → Side
 notified store now s None = s
 notified store now s (Some o) = notified_so store now s o (notification_message o.token (notification store now o)) (goes_on (notification store now o))
 
+-- what is held and due first, where it can be sent
+abbrev pub next_held : ℕ → Side → Option HeldValue
+next_held now s = if has_room s then first_due now s.history.held else None
+
+-- the response to a request whose answer was held
+abbrev pub held_message : List ℕ → Message
+held_message token = response_message token held_response
+
+-- what was due first is held no more: an answer was sent, or a Pong with Custody was queued
+abbrev pub after_sent : History → ℕ → HeldValue → History
+after_sent h now (held.Answer token moment) = after_reply (after_due h now) (held_message token)
+after_sent h now (held.Pong token) = after_due h now
+
+-- what is held comes before what observers are told
+abbrev pub settled_so : StoreValue → ℕ → Side → Option HeldValue → Side
+settled_so store now s None = notified store now s (next_due store now s)
+settled_so store now s (Some e) = with_history s (after_sent s.history now e)
+
 unfoldable pub settled_once : StoreValue → ℕ → Side → Side
-settled_once store now s = notified store now s (next_due store now s)
+settled_once store now s = settled_so store now s (next_held now s)
 
 unfoldable pub settled_within : ℕ → StoreValue → ℕ → Side → Side
 settled_within zero store now s = s
 settled_within (suc turns) store now s = settled_within turns store now (settled_once store now s)
 
--- Each turn leaves fewer observers that are due, so no more turns are needed than there are observers.
+-- Each turn leaves less that is held, or fewer observers that are due, so no more turns are needed than there are of both.
 unfoldable pub settled : StoreValue → ℕ → Side → Side
-settled store now s = settled_within (length s.observers) store now s
+settled store now s = settled_within (length s.history.held + length s.observers) store now s
 
--- no change is lost: where there is room, each observer was told the state of its path
-abbrev pub HearsAll : StoreValue → ℕ → Side → Type 0
-HearsAll store now s = has_room s ≡ true → AllByRecursion (λ o. o.told ≡ state_of store now o.path) s.observers
+-- no change is lost: where there is room, each observer was told the state of its path, every answer that is due was sent, and no
+-- Pong is held that nothing stands before
+pub record HearsAll (store : StoreValue) (now : ℕ) (s : Side) : Type 0 where
+  pub told : has_room s ≡ true → AllByRecursion (λ o. o.told ≡ state_of store now o.path) s.observers
+  pub sent : has_room s ≡ true → HoldsNothingDue now s.history.held

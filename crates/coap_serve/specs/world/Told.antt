@@ -1,7 +1,7 @@
 -- What the observers of a connection were told last, seen in all that was ever queued on it (RFC 7252 section 5.9.1, RFC 7641
 -- section 4.2).
 use Rattle.std.specs.Prelude.{◌≡◌, ◌≢◌, ◌⊎◌, ℕ, Bool, true, ◌&&◌, ◌||◌, List, [], ◌∷◌, reverse, find, Option, Some, None, ◌==◌}
-use Rattle.std.specs.List.{AllByRecursion}
+use Rattle.std.specs.List.{AllByRecursion, list_any}
 use Rattle.coap_wire.specs.Message.{Message}
 use Rattle.coap_wire.specs.Codes as code
 use Rattle.coap_wire.specs.Codes.{class_of}
@@ -9,7 +9,7 @@ use Rattle.coap_store.specs.Paths.{same_bytes}
 use Rattle.coap_store.specs.Store.{Representation}
 use Rattle.coap_store.specs.State.{place_of, is_dynamic}
 use Rattle.coap_store.specs.Requests.{etag_of}
-use Rattle.coap_store.specs.Answer.{Response, only, content}
+use Rattle.coap_store.specs.Answer.{Response, only, content, asks_late}
 use Rattle.coap_store.specs.Messages.{response_with_observe}
 use Rattle.coap_serve.specs.world.Observers.{Observer}
 
@@ -47,6 +47,10 @@ etag_message o r = response_with_observe o.token true (etag_of_state r)
 abbrev pub TellsState : Observer → Option Representation → Message → Type 0
 TellsState o None m = ⊥
 TellsState o (Some r) m = (m ≡ state_message o r) ⊎ ((m ≡ etag_message o r) × (is_dynamic (place_of o.path) ≡ true))
+
+-- one of these messages is a request that is answered late, with this token
+abbrev pub asked_late : List ℕ → List Message → Bool
+asked_late token messages = list_any (λ m. asks_late m && same_bytes m.token token) messages
 
 -- of all responses with the observer's token, the last one tells it the state that it was told last
 abbrev pub WasToldLast : List Message → Observer → Type 0

@@ -125,12 +125,15 @@ d1040106bb'.well-known'04'core' => d1264506c128ff'</>;ct=0,</time>;ct=0;obs,</as
 = dynamic 0
 00e1 => 40e123010000
 410301b1'a'ff'x' => 018401
-# The moment, the listing, what answers late: nothing is held.
+# The moment, the listing; what would be answered later is not.
 = dynamic 0
 00e1 => 40e123010000
 510107b4'time' => 514507c02101ff'0'
 d1040106bb'.well-known'04'core' => d11d4506c128ff'</>;ct=0,</time>;ct=0;obs,</async>;ct=0'
-610105b5'async' => 01a305
+610105b5'async' => -
+810102b5'async'4130 => 614502c0ff'done'
+11e20620 => -
+01e207 => 01e307
 b10101b5'async'44'3601' => 018001
 # POST of a new resource says where; a GET with Observe is answered with it.
 = dynamic 1

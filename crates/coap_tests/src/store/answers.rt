@@ -51,7 +51,7 @@ make 41 03 01 b1 'a ff 'x => 01 41 01
 make 21 01 01 b1 'a => b1 45 01 48 8*ff ff 'x
 make 41 03 01 b1 'a ff 'x => 01 a3 01
 = 1 65000 0
-make 61 01 05 b5 'async => 01 a3 05
+make 61 01 05 b5 'async => 61 45 05 c0 ff 'done
 make b1 01 01 b5 'async 44 '3601 => 01 80 01";
 
 #[test]
@@ -134,10 +134,11 @@ GET /async query='9999 => 4.00
 GET /async query='-1 => 4.00
 GET /async query='5/ => 4.00
 GET /async query=':5 => 4.00
-GET /async query='3600 => 5.03
-GET /async query='0 => 5.03
-GET /async query='0009 query='x => 5.03
-GET /async => 5.03
+GET /async query='3600 => 2.05 held=3600 format=0 | 'done
+GET /async query='3601 => 4.00
+GET /async query='0 => 2.05 held=0 format=0 | 'done
+GET /async query='0009 query='x => 2.05 held=9 format=0 | 'done
+GET /async => 2.05 held=5 format=0 | 'done
 GET /time query='x => 2.05 format=0 max-age=1 | '0
 GET /a accept=32 => 2.05 etag=01 format=50 | 'x
 PUT if-none-match=- /a | 'yyyy => 4.12
@@ -229,7 +230,8 @@ GET observe=0100 /a => 2.05 etag=01 format=50 | 'x
 GET observe=00000001 /a => 2.05 etag=01 format=50 | 'x
 GET observe=- => 2.05 format=0 | 'coap+tcp
 GET observe=- /.well-known /core => 2.05 format=40 | '</>;ct=0,</time>;ct=0;obs,</async>;ct=0,</a>;ct=50;obs
-GET observe=- /async => 5.03
+GET observe=- /async => 2.05 held=5 format=0 | 'done
+GET observe=01 /async => 2.05 Drop held=5 format=0 | 'done
 GET observe=- /b => 4.04
 GET if-match=09 observe=- /a => 4.12
 GET observe=- /a accept=29 => 4.06

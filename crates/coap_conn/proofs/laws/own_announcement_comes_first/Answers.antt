@@ -1,5 +1,6 @@
-use Rattle.std.proofs.Common.{[], refl}
+use Rattle.std.proofs.Common.{◌&&◌, [], refl}
 use Rattle.coap_conn.specs.Phases.{takes_messages, answers, is_open}
+use Rattle.coap_conn.specs.History.{may_hold}
 use Rattle.coap_conn.proofs.FirstLaws.{first_stays, guarded_first}
 use Rattle.coap_conn.proofs.laws.own_announcement_comes_first.Goals as goal
 
@@ -23,3 +24,9 @@ returns-clause-released c = λ h first. guarded_first (is_open h.phase) h _ (fir
 
 pub returns-clause-written : goal.returns-clause-written
 returns-clause-written c = λ h n first. first
+
+pub returns-clause-held : goal.returns-clause-held
+returns-clause-held c = λ h token moment first. guarded_first (is_open h.phase && may_hold h) h _ first first
+
+pub returns-clause-due : goal.returns-clause-due
+returns-clause-due c = λ h now first. first_stays h _ first

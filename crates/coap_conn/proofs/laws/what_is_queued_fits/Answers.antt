@@ -1,4 +1,4 @@
-use Rattle.coap_conn.proofs.HistoryLaws.{new_fits, reaction_fits, sent_fits, stopped_fits, released_fits}
+use Rattle.coap_conn.proofs.HistoryLaws.{new_fits, reaction_fits, sent_fits, stopped_fits, released_fits, due_fits}
 use Rattle.coap_conn.proofs.laws.what_is_queued_fits.Goals as goal
 
 pub returns-clause-new : goal.returns-clause-new
@@ -15,3 +15,6 @@ returns-clause-stopped c = stopped_fits
 
 pub returns-clause-released : goal.returns-clause-released
 returns-clause-released c = released_fits
+
+pub returns-clause-due : goal.returns-clause-due
+returns-clause-due c = due_fits

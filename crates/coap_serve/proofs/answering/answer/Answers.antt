@@ -1,45 +1,167 @@
-use Rattle.std.proofs.Common.{◌≡◌, Bool, true, false, List, ℕ, [], sym, ap, subst, ◌∙◌}
-use Rattle.coap_conn.specs.LinkValue.{link_after_reply}
+use Rattle.std.proofs.Common.{◌≡◌, ◌+◌, Bool, true, false, ◌&&◌, List, ℕ, [], ◌∷◌, ◌++◌, min, Some, None, sym, ap, subst, ◌∙◌}
+use Rattle.std.specs.Prelude.{not, nat_lt, length, if◌then◌else◌}
+use Rattle.coap_conn.specs.Fit.{fit, bare_response}
+use Rattle.coap_conn.specs.LinkValue.{limit_in, can_hold, link_after_hold, link_after_reply}
 use Rattle.coap_store.specs.Store.{StoreValue}
-use Rattle.coap_store.specs.Answer.{Answer, changed}
-use Rattle.coap_store.specs.Changes.{changes}
-use Rattle.coap_store.specs.Messages.{response_with_observe}
-use Rattle.coap_serve.specs.world.Observers.{asks_entry}
-use Rattle.coap_serve.specs.values.Sessions.{ObserverValue, without_entry}
-use Rattle.coap_serve.proofs.values.AnsweringLemmas.{may_watch, is_change, response_unobserved, entries_unobserved}
-use Rattle.coap_serve.proofs.answering.answer.Goals.{then-asks_entry, else-asks_entry}
+use Rattle.coap_store.specs.Answer.{Answer, unheld, changed}
+use Rattle.coap_store.specs.Changes.{IsPut, changes}
+use Rattle.coap_store.specs.Messages.{response_message, response_with_observe}
+use Rattle.coap_store.specs.PlanViews.{change_value}
+use Rattle.coap_serve.specs.world.Observers.{asks_entry, is_whole, with_entry}
+use Rattle.coap_serve.specs.values.Sessions.{ObserverValue, ObserversValue, hold_on, host_changed, new_entry, without_entry}
+use Rattle.coap_serve.specs.values.Entries.{is_observed}
+use Rattle.coap_serve.proofs.values.AnsweringLemmas.{is_change, response_unobserved, late_changes, late_host, late_link, late_entries, prompt_is, prompt_link, prompt_entries, change_link, change_entries, observed_where_asked, observed_where_unasked, may_watch}
+use Rattle.coap_serve.proofs.values.FlushLemmas.{on_any_fault}
+use Rattle.coap_serve.proofs.answering.answer.Goals.{then-asks_entry, else-asks_entry, else-observes-via-then-observes+else-is_whole, else-observes-via-else-observes}
 use Rattle.coap_serve.proofs.answering.answer.Goals as goal
 
+-- an answer that asks to be held
+pub returns-in-Some : goal.returns-in-Some
+returns-in-Some c =
+    let host = c.args.host.now in
+    let m = c.args.request.now in
+    let l = c.args.link.now in
+    let room = c.args.observers.now.room in
+    let seconds = c.in-Some.seconds in
+    let moment = c.saturating_add-moment.result in
+    let others : List ObserverValue = without_entry m.token c.args.observers.now.entries in
+    let holds : hold_on host m ≡ Some seconds = ap (λ (a : Answer). a.hold) (sym c.answer-plan.ensures.answer) ∙ sym c.in-Some.ensures.seconds in
+    let at = c.saturating_add-moment.ensures ∙ ap (λ (n : ℕ). min (host.now + n) 18446744073709551615) c.from.ensures in
+    record {
+      changed = late_changes host m seconds holds;
+      link =
+          c.answer_late.ensures.link
+          ∙ ap (λ (a : Answer). if can_hold l then link_after_hold l m.token moment else link_after_reply l (response_message m.token (unheld a).response)) c.answer-plan.ensures.answer
+          ∙ late_link host m l seconds moment room others holds at;
+      entries = c.answer_late.ensures.entries ∙ ap (λ (os : List ObserverValue). record c.args.observers.now { entries = os }) (late_entries host m l seconds room others holds);
+      host = late_host host m seconds holds;
+      put = tt;
+      unchanged = tt;
+      silent = tt;
+      kept = tt;
+    }
+
+-- a request that changes nothing
 pub enter-requires-clause-watched : goal.enter-requires-clause-watched
 enter-requires-clause-watched c =
+    let host = c.args.host.now in
+    let m = c.args.request.now in
+    let none : hold_on host m ≡ None = ap (λ (a : Answer). a.hold) (sym c.answer-plan.ensures.answer) ∙ sym c.hold.ensures.seconds ∙ c.in_default.is in
+    let answer = prompt_is host m c.answer-plan.result c.answer-plan.ensures.answer none in
     elim c.if-asks_entry.branch [
-      | then-asks_entry w ↦ may_watch c.args.host.now c.args.request.now (ap (λ (a : Answer). asks_entry a.watch) (sym c.answer-plan.ensures.answer) ∙ ap asks_entry (sym c.watch.ensures) ∙ sym c.asks_entry.ensures ∙ w.if-asks_entry.true)
+      | then-asks_entry w ↦ may_watch host m (ap (λ (a : Answer). asks_entry a.watch) (sym answer) ∙ ap asks_entry (sym c.watch.ensures) ∙ sym c.asks_entry.ensures ∙ w.if-asks_entry.true)
       | else-asks_entry w ↦ absurd (let bad : ◌≡◌ {A = Bool} false true = cc (w.if-asks_entry.false) in cc)
     ]
+
+pub returns-then-is_whole : goal.returns-then-is_whole
+returns-then-is_whole c =
+    let host = c.args.host.now in
+    let m = c.args.request.now in
+    let l = c.args.link.now in
+    let before = c.args.observers.now in
+    let room = before.room in
+    let plan = c.answer-plan.result in
+    let reply = c.respond-reply.result in
+    let observes = c.if-asks_entry.observes in
+    let others : List ObserverValue = without_entry m.token before.entries in
+    let none : hold_on host m ≡ None = ap (λ (a : Answer). a.hold) (sym c.answer-plan.ensures.answer) ∙ sym c.hold.ensures.seconds ∙ c.in_default.is in
+    let answer = prompt_is host m plan c.answer-plan.ensures.answer none in
+    let quiet = ap (λ (a : Answer). a.change) (sym answer) ∙ sym c.change-change.ensures ∙ ap change_value c.in-Nothing.is in
+    let forgotten = c.forget.ensures ∙ ap (λ (t : List ℕ). record before { entries = without_entry t before.entries }) c.token.ensures in
+    let asks = c.asks_entry.ensures ∙ ap asks_entry c.watch.ensures ∙ ap (λ (a : Answer). asks_entry a.watch) answer in
+    let observed : observes ≡ is_observed host room others m = elim c.if-asks_entry.branch [
+      | then-asks_entry w ↦ observed_where_asked host m room others _ _ _ asks w.if-asks_entry.true (w.is_full.ensures ∙ ap (λ (o : ObserversValue). not (nat_lt (length o.entries) o.room)) forgotten) w.observes-is
+      | else-asks_entry w ↦ observed_where_unasked host m room others _ _ asks w.if-asks_entry.false (w.observes-is ∙ w.if-asks_entry.false)
+    ] in
+    let sent = c.respond-reply.ensures.reply ∙ ap (λ (t : List ℕ). fit (limit_in l) (response_with_observe t observes plan.response) (bare_response (response_with_observe t observes plan.response))) c.token-in-Nothing.ensures in
+    let enters : (observes && is_whole reply) ≡ true = ap (λ (b : Bool). b && is_whole reply) c.if-observes.true ∙ sym c.is_whole.ensures ∙ c.if-is_whole.true in
+    record {
+      changed = ap changes (sym quiet);
+      link = c.respond-reply.ensures.after ∙ ap (λ (t : List ℕ). link_after_reply l (response_with_observe t observes plan.response)) c.token-in-Nothing.ensures ∙ prompt_link host m l room others plan observes none answer observed;
+      entries =
+          c.enter.ensures ∙ ap (λ (o : ObserversValue). record o { entries = o.entries ++ new_entry host m ∷ [] }) forgotten
+          ∙ ap (λ (b : Bool). record before { entries = with_entry b others (new_entry host m) }) (sym enters)
+          ∙ ap (λ (os : List ObserverValue). record before { entries = os }) (prompt_entries host m l room others plan observes none answer observed reply sent);
+      host = ap (host_changed host) (sym quiet);
+      put = tt;
+      unchanged = tt;
+      silent = tt;
+      kept = tt;
+    }
+
+pub returns-else-observes : goal.returns-else-observes
+returns-else-observes c =
+    let host = c.args.host.now in
+    let m = c.args.request.now in
+    let l = c.args.link.now in
+    let before = c.args.observers.now in
+    let room = before.room in
+    let plan = c.answer-plan.result in
+    let reply = c.respond-reply.result in
+    let observes = c.if-asks_entry.observes in
+    let others : List ObserverValue = without_entry m.token before.entries in
+    let none : hold_on host m ≡ None = ap (λ (a : Answer). a.hold) (sym c.answer-plan.ensures.answer) ∙ sym c.hold.ensures.seconds ∙ c.in_default.is in
+    let answer = prompt_is host m plan c.answer-plan.ensures.answer none in
+    let quiet = ap (λ (a : Answer). a.change) (sym answer) ∙ sym c.change-change.ensures ∙ ap change_value c.in-Nothing.is in
+    let forgotten = c.forget.ensures ∙ ap (λ (t : List ℕ). record before { entries = without_entry t before.entries }) c.token.ensures in
+    let asks = c.asks_entry.ensures ∙ ap asks_entry c.watch.ensures ∙ ap (λ (a : Answer). asks_entry a.watch) answer in
+    let observed : observes ≡ is_observed host room others m = elim c.if-asks_entry.branch [
+      | then-asks_entry w ↦ observed_where_asked host m room others _ _ _ asks w.if-asks_entry.true (w.is_full.ensures ∙ ap (λ (o : ObserversValue). not (nat_lt (length o.entries) o.room)) forgotten) w.observes-is
+      | else-asks_entry w ↦ observed_where_unasked host m room others _ _ asks w.if-asks_entry.false (w.observes-is ∙ w.if-asks_entry.false)
+    ] in
+    let sent = c.respond-reply.ensures.reply ∙ ap (λ (t : List ℕ). fit (limit_in l) (response_with_observe t observes plan.response) (bare_response (response_with_observe t observes plan.response))) c.token-in-Nothing.ensures in
+    let misses : (observes && is_whole reply) ≡ false = elim c.else-observes.branch [
+      | else-observes-via-then-observes+else-is_whole w ↦ ap (λ (b : Bool). b && is_whole reply) w.if-observes.true ∙ sym w.is_whole.ensures ∙ w.if-is_whole.false
+      | else-observes-via-else-observes w ↦ ap (λ (b : Bool). b && is_whole reply) w.if-observes.false
+    ] in
+    record {
+      changed = ap changes (sym quiet);
+      link = c.respond-reply.ensures.after ∙ ap (λ (t : List ℕ). link_after_reply l (response_with_observe t observes plan.response)) c.token-in-Nothing.ensures ∙ prompt_link host m l room others plan observes none answer observed;
+      entries =
+          forgotten
+          ∙ ap (λ (b : Bool). record before { entries = with_entry b others (new_entry host m) }) (sym misses)
+          ∙ ap (λ (os : List ObserverValue). record before { entries = os }) (prompt_entries host m l room others plan observes none answer observed reply sent);
+      host = ap (host_changed host) (sym quiet);
+      put = tt;
+      unchanged = tt;
+      silent = tt;
+      kept = tt;
+    }
+
+-- a change whose memory was refused, and one that was made
+pub returns-in_err-apply-clause-put : goal.returns-in_err-apply-clause-put
+returns-in_err-apply-clause-put c =
+    let host = c.args.host.now in
+    let m = c.args.request.now in
+    let none : hold_on host m ≡ None = ap (λ (a : Answer). a.hold) (sym c.answer-plan.ensures.answer) ∙ sym c.hold.ensures.seconds ∙ c.in_default.is in
+    let answer = prompt_is host m c.answer-plan.result c.answer-plan.ensures.answer none in
+    on_any_fault c.from_residual.result _ (subst IsPut (c.change-change.ensures ∙ ap (λ (a : Answer). a.change) answer) c.in_err-apply.ensures.put)
 
 pub returns-in_ok-apply : goal.returns-in_ok-apply
 returns-in_ok-apply c =
     let host = c.args.host.now in
     let m = c.args.request.now in
+    let l = c.args.link.now in
     let room = c.args.observers.now.room in
     let others : List ObserverValue = without_entry m.token c.args.observers.now.entries in
-    let answer = c.answer-plan.ensures.answer in
+    let none : hold_on host m ≡ None = ap (λ (a : Answer). a.hold) (sym c.answer-plan.ensures.answer) ∙ sym c.hold.ensures.seconds ∙ c.in_default.is in
+    let answer = prompt_is host m c.answer-plan.result c.answer-plan.ensures.answer none in
     let change = c.change-change.ensures ∙ ap (λ (a : Answer). a.change) answer in
-    let does = sym (is_change c.change-change.result c.in_default.not-Nothing ∙ ap changes change) in
+    let does = sym (is_change c.change-change.result c.in_default-change.not-Nothing ∙ ap changes change) in
     let bare = subst (λ (a : Answer). changes a.change ≡ true → a.response.payload ≡ []) answer c.answer-plan.ensures.bare in
     record {
       changed = sym does;
       link =
           c.respond.ensures.after
-          ∙ ap (link_after_reply c.args.link.now) (
-          ap (λ (t : List ℕ). response_with_observe t false c.without_payload-plan.result.response) c.token-in_default-2.ensures
+          ∙ change_link host m l room others _ none (
+          ap (λ (t : List ℕ). response_with_observe t false c.without_payload-plan.result.response) c.token-in_default-change-2.ensures
           ∙ ap (λ (a : Answer). response_with_observe m.token false a.response) c.without_payload-plan.ensures
           ∙ ap (λ (a : Answer). response_with_observe m.token false (record a.response { payload = [] })) answer
           ∙ response_unobserved host m room others does (bare does));
       entries =
-          c.forget-in_default.ensures
-          ∙ ap (λ (t : List ℕ). record c.args.observers.now { entries = without_entry t c.args.observers.now.entries }) c.token-in_default.ensures
-          ∙ ap (λ (os : List ObserverValue). record c.args.observers.now { entries = os }) (entries_unobserved host c.args.link.now m room others does);
+          c.forget-in_default-change.ensures
+          ∙ ap (λ (t : List ℕ). record c.args.observers.now { entries = without_entry t c.args.observers.now.entries }) c.token-in_default-change.ensures
+          ∙ ap (λ (os : List ObserverValue). record c.args.observers.now { entries = os }) (change_entries host m l room others none does);
       host = ap (λ (s : StoreValue). record host { store = s }) (c.in_ok-apply.ensures.ok ∙ ap (changed host.store) change);
       put = tt;
       unchanged = tt;

@@ -16,13 +16,13 @@ loop-init g c = record {
 pub returns-in_err-last-clause-part : goal.returns-in_err-last-clause-part
 returns-in_err-last-clause-part g c =
     let so_far = goes_on_so c.args.id c.args.server.now (c.loop.counter + 1) c.loop.server _ _ c.loop.last.waited c.if-not-last.false c.loop.invariant.flushing in
-    on_any_fault c.from_residual-in_err-last.result _ (flush_cut c.args.id c.args.server.now (c.loop.counter + 1) c.loop.server _ _ _ so_far _ (omega (arith, c.in_ok-first.ensures.observers, c.loop-test.true)) refl c.in_err-last.ensures.part)
+    on_any_fault c.from_residual-in_err-last.result _ (flush_cut c.args.id c.args.server.now (c.loop.counter + 1) c.loop.server _ _ _ so_far _ (omega (arith, c.in_ok-first.ensures.more, c.loop-test.true)) refl c.in_err-last.ensures.part)
 
 pub loop-preserved : goal.loop-preserved
 loop-preserved g c =
     let so_far = goes_on_so c.args.id c.args.server.now (c.loop.counter + 1) c.loop.server _ _ c.loop.last.waited c.if-not-last.false c.loop.invariant.flushing in
     record {
-      flushing = turned c.args.id c.args.server.now (c.loop.counter + 1) c.loop.server _ _ _ c.flush_once-in-loop.new.self _ c.in_ok-last.last.waited so_far (omega (arith, c.in_ok-first.ensures.observers, c.loop-test.true)) (omega arith) c.in_ok-last.ensures.ok;
+      flushing = turned c.args.id c.args.server.now (c.loop.counter + 1) c.loop.server _ _ _ c.flush_once-in-loop.new.self _ c.in_ok-last.last.waited so_far (omega (arith, c.in_ok-first.ensures.more, c.loop-test.true)) (omega arith) c.in_ok-last.ensures.ok;
       stop = c.in_ok-last.ensures.stop;
       works = c.in_ok-last.ensures.failure;
     }

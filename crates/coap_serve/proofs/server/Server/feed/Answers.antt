@@ -1,9 +1,10 @@
-use Rattle.std.proofs.Common.{◌≡◌, sym, ap, subst, ◌∙◌, take}
+use Rattle.std.proofs.Common.{◌≡◌, sym, ap, subst, ◌∙◌, take, arith}
 use Rattle.coap_conn.specs.Phases.{stop_of}
 use Rattle.coap_serve.specs.values.Sessions.{session_takes}
 use Rattle.coap_serve.specs.values.Servers.{ServerValue, session_of, count_taken, server_taken}
 use Rattle.coap_serve.specs.values.ServerAnswers.{handled_by, RefusesPieceOn}
 use Rattle.coap_serve.specs.views.ServerViews.{server_value}
+use Rattle.coap_serve.proofs.values.ServerLemmas.{length-written}
 use Rattle.coap_serve.proofs.values.TakenLemmas.{count_is, taken_value, taken_server, taken_lies, taken_handled, refuses_on, refused_value, refused_server}
 use Rattle.coap_serve.proofs.server.Server.feed.Goals as goal
 
@@ -22,15 +23,18 @@ returns-in-Err-clause-refused c =
           ∙ ap (λ w. server_taken w c.args.id (take c.in-Err.bytes c.args.piece.now)) c.self.view_is,
     )
 
+pub settle_after-requires : goal.settle_after-requires
+settle_after-requires c = omega (arith, c.in-Some.ensures.some.within, length-written c.self.inside.sessions.entries c.in-Some.at c.take.new.self)
+
 pub index-requires-in-Ok : goal.index-requires-in-Ok
 index-requires-in-Ok c =
     let e = c.in-Ok.ensures in
-    (taken_lies (server_value c.self.inside) c.args.id c.in-Some.at _ c.args.piece.now c.self.invariant c.in-Some.ensures.some c.index_mut.ensures.value _ _ _ _ e.after e.host e.changed c.settle_where.ensures).within
+    (taken_lies (server_value c.self.inside) c.args.id c.in-Some.at _ c.args.piece.now c.self.invariant c.in-Some.ensures.some c.index_mut.ensures.value _ _ _ _ e.after e.host e.changed c.settle_after.ensures).within
 
 pub invariant_of-self-in-Ok : goal.invariant_of-self-in-Ok
 invariant_of-self-in-Ok c =
     let e = c.in-Ok.ensures in
-    taken_server (server_value c.self.inside) c.args.id c.in-Some.at _ c.args.piece.now c.self.invariant c.in-Some.ensures.some c.index_mut.ensures.value _ _ _ _ e.after e.host e.changed c.settle_where.ensures
+    taken_server (server_value c.self.inside) c.args.id c.in-Some.at _ c.args.piece.now c.self.invariant c.in-Some.ensures.some c.index_mut.ensures.value _ _ _ _ e.after e.host e.changed c.settle_after.ensures
 
 pub returns-in-Ok-clause-count : goal.returns-in-Ok-clause-count
 returns-in-Ok-clause-count c =
@@ -43,12 +47,12 @@ returns-in-Ok-clause-handled c =
     let e = c.in-Ok.ensures in
     let same : c.index.result.now ≡ c.index_mut.result.now = (let some = sym c.index.ensures ∙ c.index_mut.ensures.value in cc) in
     c.what_was_handled.ensures
-    ∙ taken_handled (server_value c.self.inside) c.args.id c.in-Some.at _ c.args.piece.now c.self.invariant c.in-Some.ensures.some c.index_mut.ensures.value _ _ _ _ e.after e.host e.changed c.settle_where.ensures
+    ∙ taken_handled (server_value c.self.inside) c.args.id c.in-Some.at _ c.args.piece.now c.self.invariant c.in-Some.ensures.some c.index_mut.ensures.value _ _ _ _ e.after e.host e.changed c.settle_after.ensures
     _ _ _ _ (c.takes-takes.ensures ∙ ap session_takes same) e.handled c.index-in-Ok.ensures (c.stop-stop.ensures ∙ ap stop_of c.phase.ensures)
     ∙ ap (λ w. handled_by w c.args.id c.args.piece.now) c.self.view_is
 
 pub returns-in-Ok-clause-ok : goal.returns-in-Ok-clause-ok
 returns-in-Ok-clause-ok c =
     let e = c.in-Ok.ensures in
-    taken_value (server_value c.self.inside) c.args.id c.in-Some.at _ c.args.piece.now c.self.invariant c.in-Some.ensures.some c.index_mut.ensures.value _ _ _ _ e.after e.host e.changed c.settle_where.ensures
+    taken_value (server_value c.self.inside) c.args.id c.in-Some.at _ c.args.piece.now c.self.invariant c.in-Some.ensures.some c.index_mut.ensures.value _ _ _ _ e.after e.host e.changed c.settle_after.ensures
     ∙ ap (λ w. server_taken w c.args.id c.args.piece.now) c.self.view_is

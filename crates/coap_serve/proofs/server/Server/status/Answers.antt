@@ -9,5 +9,5 @@ returns-in_err-session c =
 
 pub returns : goal.returns
 returns c =
-    rw (c.phase.ensures, c.kept.ensures, c.waiting.ensures, c.observers.ensures, c.peer_max.ensures, c.finished.ensures)
+    rw (c.phase.ensures, c.kept.ensures, c.waiting.ensures, c.pending.ensures, c.observers.ensures, c.peer_max.ensures, c.finished.ensures)
     (status_found c.args.id c.self.inside.sessions.entries (Some c.in_ok-session.session.now) c.in_ok-session.ensures.value ∙ ap (λ v. status_of v c.args.id) c.self.view_is)

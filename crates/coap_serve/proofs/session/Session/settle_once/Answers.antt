@@ -1,9 +1,11 @@
 use Rattle.std.proofs.Common.{refl, sym, ap, ◌∙◌}
-use Rattle.std.specs.Prelude.{Option, find, is_some}
-use Rattle.coap_serve.specs.values.Sessions.{ObserverValue, SessionValue, is_stale, next_stale, session_ready, session_settled_once}
-use Rattle.coap_serve.proofs.values.EntryLemmas.{none_found}
+use Rattle.std.specs.Prelude.{◌||◌, Option, is_some}
+use Rattle.coap_conn.specs.Held.{HeldValue, first_due}
+use Rattle.coap_conn.specs.LinkValue.{LinkValue}
+use Rattle.coap_serve.specs.values.Sessions.{ObserverValue, SessionValue, next_held_in, next_stale, session_ready, session_notified, session_settled_once}
+use Rattle.coap_serve.specs.views.SessionViews.{session_value}
 use Rattle.coap_serve.proofs.values.SettleLemmas.{stays_once}
-use Rattle.coap_serve.proofs.values.SessionLemmas.{given_up, ready_is, next_unready, next_ready, IsNotified, next_found, notified_limits, notified_room, settled_once}
+use Rattle.coap_serve.proofs.values.SessionLemmas.{given_up, ready_is, settled_unready, held_ready, there_is_none, IsSent, held_found, due_limits, sent_once, settles_by_notice}
 use Rattle.coap_serve.proofs.session.Session.settle_once.Goals as goal
 
 pub returns-then-not-ready : goal.returns-then-not-ready
@@ -11,49 +13,56 @@ returns-then-not-ready c =
     let host = c.args.host.now in
     let v = c.args.self.now in
     let unready = ap session_ready (sym c.self.view_is) ∙ ready_is c.self.inside.link c.ready.result c.ready.ensures ∙ c.if-not-ready.true in
-    let settled = next_unready host v unready in
-    record { after = sym (stays_once host v settled); found = ap (λ (o : Option ObserverValue). is_some o) (sym settled) }
+    let settled = settled_unready host v unready in
+    record {
+      after = sym (stays_once host v settled);
+      found = ap (λ (o : Option ObserverValue). is_some o) (sym settled.1) ∙ ap (λ (e : Option HeldValue). is_some e || is_some (next_stale host v)) (sym settled.0);
+    }
 
-pub returns-in_default : goal.returns-in_default
-returns-in_default c =
+pub returns-then-send_due : goal.returns-then-send_due
+returns-then-send_due c =
     let host = c.args.host.now in
-    let v = c.args.self.now in
-    let ready = ap session_ready (sym c.self.view_is) ∙ ready_is c.self.inside.link c.ready.result c.ready.ensures ∙ c.if-not-ready.false in
-    let none = none_found (is_stale host) c.self.inside.observers.entries (sym c.first_stale.ensures.first ∙ c.in_default.is) in
-    let settled = next_ready host v ready ∙ ap (λ (w : SessionValue). find (is_stale host) w.observers) (sym c.self.view_is) ∙ none in
-    record { after = sym (stays_once host v settled); found = ap (λ (o : Option ObserverValue). is_some o) (sym settled) }
+    let s = c.self.inside in
+    let is : IsSent host s c.send_due.new.link = record {
+      ready = ready_is s.link c.ready.result c.ready.ensures ∙ c.if-not-ready.false;
+      some = sym c.send_due.ensures.found ∙ c.if-send_due.true;
+      link = c.send_due.ensures.sent;
+    } in
+    record {
+      after = sent_once host s c.send_due.new.link is c.give_up.new.framer c.give_up.new.observers c.give_up.ensures.framer c.give_up.ensures.observers ∙ ap (session_settled_once host) c.self.view_is;
+      found = held_found host s c.send_due.new.link is ∙ ap (λ (v : SessionValue). is_some (next_held_in host.now v) || is_some (next_stale host v)) c.self.view_is;
+    }
 
 pub invariant_of-self : goal.invariant_of-self
 invariant_of-self c =
     let host = c.args.host.now in
     let s = c.self.inside in
-    let is : IsNotified host s c.in-Some.index c.notify.new.link c.notify.new.observers = record {
+    let is : IsSent host s c.send_due.new.link = record {
       ready = ready_is s.link c.ready.result c.ready.ensures ∙ c.if-not-ready.false;
-      first = c.in-Some.ensures.first;
-      link = c.notify.ensures.link;
-      entries = c.notify.ensures.entries;
+      some = sym c.send_due.ensures.found ∙ c.if-send_due.true;
+      link = c.send_due.ensures.sent;
     } in
-    given_up s c.notify.new.link s.framer c.give_up.new.framer c.notify.new.observers c.give_up.new.observers c.self.invariant
-    (notified_limits host s c.in-Some.index c.notify.new.link c.notify.new.observers is)
-    refl c.self.invariant.framer
-    (notified_room host s c.in-Some.index c.notify.new.link c.notify.new.observers is)
-    c.give_up.ensures.framer c.give_up.ensures.observers
+    given_up s c.send_due.new.link s.framer c.give_up.new.framer s.observers c.give_up.new.observers c.self.invariant (due_limits host s c.send_due.new.link is) refl c.self.invariant.framer refl c.give_up.ensures.framer c.give_up.ensures.observers
 
+-- nothing that is held is due
 pub returns : goal.returns
 returns c =
     let host = c.args.host.now in
     let s = c.self.inside in
-    let is : IsNotified host s c.in-Some.index c.notify.new.link c.notify.new.observers = record {
-      ready = ready_is s.link c.ready.result c.ready.ensures ∙ c.if-not-ready.false;
-      first = c.in-Some.ensures.first;
-      link = c.notify.ensures.link;
-      entries = c.notify.ensures.entries;
-    } in
+    let v : SessionValue = session_value s in
+    let ready = ready_is s.link c.ready.result c.ready.ensures ∙ c.if-not-ready.false in
+    let quiet = there_is_none (first_due host.now s.link.held) (sym c.send_due.ensures.found ∙ c.if-send_due.false) in
+    let none = held_ready host.now v ready ∙ quiet in
+    let same = c.send_due.ensures.silent quiet in
     record {
       after =
-          settled_once host s c.in-Some.index c.notify.new.link c.notify.new.observers is c.give_up.new.framer c.give_up.new.observers c.give_up.ensures.framer c.give_up.ensures.observers
+          c.notify_once.ensures.after
+          ∙ ap (λ (l : LinkValue). session_notified host (record v { link = l }) (next_stale host (record v { link = l }))) same
+          ∙ sym (settles_by_notice host v none)
           ∙ ap (session_settled_once host) c.self.view_is;
       found =
-          next_found host s c.in-Some.index c.notify.new.link c.notify.new.observers is
-          ∙ ap (λ (v : SessionValue). is_some (next_stale host v)) c.self.view_is;
+          c.notify_once.ensures.found
+          ∙ ap (λ (l : LinkValue). is_some (next_stale host (record v { link = l }))) same
+          ∙ ap (λ (e : Option HeldValue). is_some e || is_some (next_stale host v)) (sym none)
+          ∙ ap (λ (w : SessionValue). is_some (next_held_in host.now w) || is_some (next_stale host w)) c.self.view_is;
     }

@@ -1,8 +1,8 @@
 use Rattle.std.proofs.Common.{◌≡◌, ◌≤◌, true, length, [], sym, ap, ◌∙◌, subst}
-use Rattle.coap_store.specs.Answer.{Answer, prompt_answer}
+use Rattle.coap_store.specs.Answer.{Answer, answer_of}
 use Rattle.coap_store.specs.Changes.{TakesChange, changes}
 use Rattle.coap_store.specs.declared.plan.Watch.TheVariants.{Drop}
-use Rattle.coap_store.proofs.AnswerLaws.{taken, bare, short}
+use Rattle.coap_store.proofs.AnswerLaws.{taken_of, bare_of, short_of}
 use Rattle.coap_store.proofs.StoreLemmas.{listing_short, stored_small}
 use Rattle.coap_store.proofs.AnswerLemmas.{answer_removes, answer_leaves}
 use Rattle.coap_store.proofs.store.Store.answer.Goals as goal
@@ -10,41 +10,41 @@ use Rattle.coap_store.proofs.store.Store.answer.Goals as goal
 abbrev without_watch : Answer → Answer
 without_watch a = record a { watch = Drop }
 
-removed : (c : goal.After-with_watch) → c.with_watch.result ≡ prompt_answer c.args.self.now c.args.now c.args.request.now
+removed : (c : goal.After-with_watch) → c.with_watch.result ≡ answer_of c.args.self.now c.args.now c.args.request.now
 removed c =
     c.with_watch.ensures ∙ ap without_watch c.checked-plan.ensures
     ∙ answer_removes _ _ _ (sym c.removes_watch.ensures ∙ c.if-removes_watch.true)
-    ∙ ap (prompt_answer c.args.self.now c.args.now) c.by-asked.ensures
+    ∙ ap (answer_of c.args.self.now c.args.now) c.by-asked.ensures
 
 pub returns-then-removes_watch-clause-answer : goal.returns-then-removes_watch-clause-answer
 returns-then-removes_watch-clause-answer c = removed c
 
 pub returns-then-removes_watch-clause-taken : goal.returns-then-removes_watch-clause-taken
 returns-then-removes_watch-clause-taken c =
-    subst (λ a. TakesChange c.args.self.now a.change) (sym (removed c)) (taken _ _ _ (c.is_kept.ensures.store).versions)
+    subst (λ a. TakesChange c.args.self.now a.change) (sym (removed c)) (taken_of _ _ _ (c.is_kept.ensures.store).versions)
 
 pub returns-then-removes_watch-clause-bare : goal.returns-then-removes_watch-clause-bare
 returns-then-removes_watch-clause-bare c =
-    subst (λ a. changes a.change ≡ true → a.response.payload ≡ []) (sym (removed c)) (bare _ _ _)
+    subst (λ a. changes a.change ≡ true → a.response.payload ≡ []) (sym (removed c)) (bare_of _ _ _)
 
 pub returns-then-removes_watch-clause-short : goal.returns-then-removes_watch-clause-short
 returns-then-removes_watch-clause-short c =
-    subst (λ a. length a.response.payload ≤ 1048576) (sym (removed c)) (short _ _ _ (listing_short _ c.is_kept.ensures.store) (stored_small _ c.is_kept.ensures.store) c.ranges.now.fits)
+    subst (λ a. length a.response.payload ≤ 1048576) (sym (removed c)) (short_of _ _ _ (listing_short _ c.is_kept.ensures.store) (stored_small _ c.is_kept.ensures.store) c.ranges.now.fits)
 
-left : (c : goal.Else-removes_watch) → c.checked-plan.result ≡ prompt_answer c.args.self.now c.args.now c.args.request.now
-left c = c.checked-plan.ensures ∙ answer_leaves _ _ _ (sym c.removes_watch.ensures ∙ c.if-removes_watch.false) ∙ ap (prompt_answer c.args.self.now c.args.now) c.by-asked.ensures
+left : (c : goal.Else-removes_watch) → c.checked-plan.result ≡ answer_of c.args.self.now c.args.now c.args.request.now
+left c = c.checked-plan.ensures ∙ answer_leaves _ _ _ (sym c.removes_watch.ensures ∙ c.if-removes_watch.false) ∙ ap (answer_of c.args.self.now c.args.now) c.by-asked.ensures
 
 pub returns-else-removes_watch-clause-answer : goal.returns-else-removes_watch-clause-answer
 returns-else-removes_watch-clause-answer c = left c
 
 pub returns-else-removes_watch-clause-taken : goal.returns-else-removes_watch-clause-taken
 returns-else-removes_watch-clause-taken c =
-    subst (λ a. TakesChange c.args.self.now a.change) (sym (left c)) (taken _ _ _ (c.is_kept.ensures.store).versions)
+    subst (λ a. TakesChange c.args.self.now a.change) (sym (left c)) (taken_of _ _ _ (c.is_kept.ensures.store).versions)
 
 pub returns-else-removes_watch-clause-bare : goal.returns-else-removes_watch-clause-bare
 returns-else-removes_watch-clause-bare c =
-    subst (λ a. changes a.change ≡ true → a.response.payload ≡ []) (sym (left c)) (bare _ _ _)
+    subst (λ a. changes a.change ≡ true → a.response.payload ≡ []) (sym (left c)) (bare_of _ _ _)
 
 pub returns-else-removes_watch-clause-short : goal.returns-else-removes_watch-clause-short
 returns-else-removes_watch-clause-short c =
-    subst (λ a. length a.response.payload ≤ 1048576) (sym (left c)) (short _ _ _ (listing_short _ c.is_kept.ensures.store) (stored_small _ c.is_kept.ensures.store) c.ranges.now.fits)
+    subst (λ a. length a.response.payload ≤ 1048576) (sym (left c)) (short_of _ _ _ (listing_short _ c.is_kept.ensures.store) (stored_small _ c.is_kept.ensures.store) c.ranges.now.fits)

@@ -1,0 +1,62 @@
+use Rattle.std.proofs.Common.{true, sym, ap, ◌∙◌}
+use Rattle.coap_wire.specs.Message.{Message}
+use Rattle.coap_conn.specs.Held.{Answer, Pong, PendingValue, due_told, first_due}
+use Rattle.coap_conn.specs.LinkValue.{LinkValue, link_with, link_after_due, standing_in}
+use Rattle.coap_conn.specs.LinkViews.{link_value}
+use Rattle.coap_conn.specs.Reaction.{send, pong_with}
+use Rattle.coap_conn.proofs.LinkLemmas.{due_shown}
+use Rattle.coap_conn.proofs.PendingLemmas.{first_at_index, nothing_first, nothing_due, answer_due, pong_due, link_sent}
+use Rattle.coap_conn.proofs.link.Link.due.Goals as goal
+
+-- ---- nothing is due
+
+pub returns-in_default-clause-due : goal.returns-in_default-clause-due
+returns-in_default-clause-due c =
+    ap due_told (sym (nothing_first c.args.now c.self.inside.pending.held (sym c.in_default.ensures.first)))
+    ∙ ap (λ (v : LinkValue). due_told (first_due c.args.now v.held)) c.self.view_is
+
+pub returns-in_default-clause-after : goal.returns-in_default-clause-after
+returns-in_default-clause-after c =
+    sym c.self.view_is ∙ nothing_due (link_value c.self.inside) c.args.now (sym c.in_default.ensures.first)
+    ∙ ap (λ (v : LinkValue). link_after_due v c.args.now) c.self.view_is
+
+pub returns-in_default-clause-shows : goal.returns-in_default-clause-shows
+returns-in_default-clause-shows c = due_shown c.args.self.now _ c.args.now (returns-in_default-clause-after c)
+
+-- ---- an answer is due
+
+pub returns-in-Answer-clause-due : goal.returns-in-Answer-clause-due
+returns-in-Answer-clause-due c =
+    ap due_told (sym (first_at_index c.args.now c.self.inside.pending.held c.in-Some.index (Answer c.in-Answer.token.items c.in-Answer.moment) (sym c.in-Some.ensures.first) c.in-Answer.ensures.taken))
+    ∙ ap (λ (v : LinkValue). due_told (first_due c.args.now v.held)) c.self.view_is
+
+pub returns-in-Answer-clause-after : goal.returns-in-Answer-clause-after
+returns-in-Answer-clause-after c =
+    ap (λ (p : PendingValue). record (link_value c.self.inside) { held = p.held }) c.take.ensures.rest
+    ∙ answer_due (link_value c.self.inside) c.args.now c.in-Some.index c.in-Answer.token.items c.in-Answer.moment (sym c.in-Some.ensures.first) c.in-Answer.ensures.taken
+    ∙ ap (λ (v : LinkValue). link_after_due v c.args.now) c.self.view_is
+
+pub returns-in-Answer-clause-shows : goal.returns-in-Answer-clause-shows
+returns-in-Answer-clause-shows c = due_shown c.args.self.now _ c.args.now (returns-in-Answer-clause-after c)
+
+-- ---- a Pong is due
+
+pub returns-in-Pong-clause-due : goal.returns-in-Pong-clause-due
+returns-in-Pong-clause-due c =
+    ap due_told (sym (first_at_index c.args.now c.self.inside.pending.held c.in-Some.index (Pong c.in-Pong.token.items) (sym c.in-Some.ensures.first) c.in-Pong.ensures.taken))
+    ∙ ap (λ (v : LinkValue). due_told (first_due c.args.now v.held)) c.self.view_is
+
+abbrev sent_by : LinkValue → Message → Message → LinkValue
+sent_by v m less = link_with v (send (standing_in v) m less)
+
+pub returns-in-Pong-clause-after : goal.returns-in-Pong-clause-after
+returns-in-Pong-clause-after c =
+    c.send.ensures.after
+    ∙ ap (λ (m : Message). sent_by (record (link_value c.self.inside) { held = c.take.new.self.held }) m c.pong_to-in-Pong.result) c.pong_to.ensures
+    ∙ ap (λ (less : Message). sent_by (record (link_value c.self.inside) { held = c.take.new.self.held }) (pong_with true c.in-Pong.token.items) less) c.pong_to-in-Pong.ensures
+    ∙ ap (λ (p : PendingValue). link_sent (record (link_value c.self.inside) { held = p.held }) c.in-Pong.token.items) c.take.ensures.rest
+    ∙ pong_due (link_value c.self.inside) c.args.now c.in-Some.index c.in-Pong.token.items (sym c.in-Some.ensures.first) c.in-Pong.ensures.taken
+    ∙ ap (λ (v : LinkValue). link_after_due v c.args.now) c.self.view_is
+
+pub returns-in-Pong-clause-shows : goal.returns-in-Pong-clause-shows
+returns-in-Pong-clause-shows c = due_shown c.args.self.now _ c.args.now (returns-in-Pong-clause-after c)

@@ -1,0 +1,460 @@
+-- What is held stands in the order of the messages that asked for it, and a Pong with Custody is queued only where nothing that is
+-- held came before its Ping.
+use Rattle.std.proofs.Common.{◌≡◌, ℕ, zero, suc, Bool, true, false, cond, ◌&&◌, ◌||◌, ◌==◌, List, [], ◌∷◌, ◌++◌, length, Option, Some, None, refl, sym, ap, subst, ◌∙◌, inl, inr}
+use Rattle.std.specs.Prelude.{is_none, nat_le}
+use Rattle.std.specs.List.{AllByRecursion, list_any, remove}
+use Rattle.std.proofs.lemmas.Bool.{and_parts, and_right, or_cases}
+use Rattle.std.proofs.lemmas.List.{append_cancel_left}
+use lib.Pointwise.{bytes_decides}
+use Rattle.coap_wire.specs.Message.{CoapOption, Message}
+use Rattle.coap_wire.specs.Stream.{StreamFault}
+use Rattle.coap_wire.specs.Codes as code
+use Rattle.coap_wire.specs.OptionNumbers as numbers
+use Rattle.coap_conn.specs.SignalOptions as option
+use Rattle.coap_conn.specs.declared.phase.Reject.{Reject}
+use Rattle.coap_conn.specs.declared.phase.Reply.{Reply}
+use Rattle.coap_conn.specs.declared.phase.Reply.TheVariants.{Whole, Bare, Stopped}
+use Rattle.coap_conn.specs.declared.reason.Reason.TheVariants.{ReleasedHere}
+use Rattle.coap_conn.specs.Limits.{LimitValues}
+use Rattle.coap_conn.specs.Phases.{takes_messages, answers, is_open}
+use Rattle.coap_conn.specs.Verdicts.{VerdictValue, is_request}
+use Rattle.coap_conn.specs.Verdicts as verdict
+use Rattle.coap_conn.specs.Fit.{fit, bare_response}
+use Rattle.coap_conn.specs.Rejects.{reject_of, reject_reason}
+use Rattle.coap_conn.specs.Release.{release_refusal}
+use Rattle.coap_conn.specs.Held.{HeldValue, Answer, Pong, without_at, due_index, first_due, without_due}
+use Rattle.coap_conn.specs.Reaction.{Standing, Effect, stop, abort, send_as, send, react, due_effect, asks_custody, is_custody_pong, pong_with}
+use Rattle.coap_conn.specs.History.{History, limit_now, standing_now, with_effect, after_message, after_reply, after_reject, after_end, after_release, after_written, end_reason, release, may_hold, after_hold, standing_due, after_due}
+use Rattle.coap_conn.specs.LinkValue.{link_of}
+use Rattle.coap_conn.proofs.HeldLaws.{custody_at_once, due_pong}
+use Rattle.coap_conn.proofs.RequestLemmas.{react_asks}
+use Rattle.coap_store.specs.Store.{StoreValue}
+use Rattle.coap_store.specs.Answer.{Response, held_response, asks_late, answer_of, prompt_answer}
+use Rattle.coap_store.specs.Messages.{option_at, number_at, each_at, empty_at, options_with_observe, response_with_observe}
+use Rattle.coap_store.proofs.HoldLaws.{held_of}
+use Rattle.coap_serve.specs.Configs.{ConfigValues}
+use Rattle.coap_serve.specs.world.Observers.{Observer, without_token, has_place, notification, notification_message, goes_on}
+use Rattle.coap_serve.specs.world.Sides.{Side, waiting_on, has_room, handles, with_history, side_replied, held_for, moment_after, asks_answer, side_handled, side_after, side_faulted, side_written, side_ended, side_released, next_due, notified, next_held, held_message, after_sent, settled_so, settled_once}
+use Rattle.coap_serve.specs.world.World.{side_of}
+use Rattle.coap_serve.specs.world.Events.{Event, world_after}
+use Rattle.coap_serve.specs.world.Custody.{asks_held, StandFor, QueuesCustody, IsFirstHeld}
+use Rattle.coap_serve.proofs.world.EntryLemmas.{all_append}
+use Rattle.coap_serve.proofs.world.LimitLaws.{Keeps, kept_after}
+use Rattle.coap_serve.proofs.world.ToldMessages.{Queues, queues_none, queues_effect, queues_to, queues_then, heard_queues, IsPlain, reject_queues, end_queues, release_queues, hold_queues, react_so}
+
+-- the second of two tests
+or_later : (a b : Bool) → b ≡ true → (a || b) ≡ true
+or_later true b e = refl
+or_later false b e = e
+
+-- ---- a Pong with Custody among what is queued
+
+-- such a Pong gives this
+abbrev Gives : Type 0 → Message → Type 0
+Gives G m = is_custody_pong m ≡ true → G
+
+gives_any : (G : Type 0) (ms : List Message) → AllByRecursion (Gives G) ms → list_any is_custody_pong ms ≡ true → G
+gives_any G [] each e = absurd cc
+gives_any G (m ∷ ms) each e = elim (or_cases (is_custody_pong m) (list_any is_custody_pong ms) e) [ inl is ↦ each.0 is | inr later ↦ gives_any G ms each.1 later ]
+
+any_gives : (G : Type 0) (ms : List Message) → (list_any is_custody_pong ms ≡ true → G) → AllByRecursion (Gives G) ms
+any_gives G [] gives = tt
+any_gives G (m ∷ ms) gives = (λ is. gives (rw is refl), any_gives G ms (λ later. gives (or_later (is_custody_pong m) (list_any is_custody_pong ms) later)))
+
+-- where it holds anyway
+gives_all : (G : Type 0) (ms : List Message) → G → AllByRecursion (Gives G) ms
+gives_all G [] is = tt
+gives_all G (m ∷ ms) is = (λ pong. is, gives_all G ms is)
+
+no_pong : (G : Type 0) (m : Message) → is_custody_pong m ≡ false → Gives G m
+no_pong G m other is = absurd cc
+
+plain_gives : (G : Type 0) (h k : History) → Queues IsPlain h k → Queues (Gives G) h k
+plain_gives G h k queues = queues_to IsPlain (Gives G) (λ m is. no_pong G m is.1) h k queues
+
+-- so it holds where one is queued between two moments
+custody_gives : (G : Type 0) (s t : Side) → Queues (Gives G) s.history t.history → QueuesCustody s t → G
+custody_gives G s t queues custody =
+    let same : custody.more ≡ queues.more = append_cancel_left s.history.queued custody.more queues.more (sym custody.queued ∙ queues.same) in
+    gives_any G queues.more queues.such (subst (λ ms. list_any is_custody_pong ms ≡ true) same custody.pong)
+
+if_gives : (G : Type 0) (does : Bool) (s t : Side) → (does ≡ true → Queues (Gives G) s.history t.history) → Queues (Gives G) s.history (cond does t s).history
+if_gives G true s t go = go refl
+if_gives G false s t go = queues_none (Gives G) s.history
+
+-- ---- responses
+
+-- no option of a response has the number of Custody
+abbrev IsOther : CoapOption → Type 0
+IsOther o = (o.number == option.custody) ≡ false
+
+abbrev AreOther : List CoapOption → Type 0
+AreOther os = AllByRecursion IsOther os
+
+other_options : (os : List CoapOption) → AreOther os → list_any (λ o. o.number == option.custody && length o.value == 0) os ≡ false
+other_options [] others = refl
+other_options (o ∷ os) others = rw (others.0, other_options os others.1) refl
+
+option_other : (number : ℕ) (value : Option (List ℕ)) → (number == option.custody) ≡ false → AreOther (option_at number value)
+option_other number None other = tt
+option_other number (Some value) other = (other, tt)
+
+number_other : (number : ℕ) (n : Option ℕ) → (number == option.custody) ≡ false → AreOther (number_at number n)
+number_other number None other = tt
+number_other number (Some n) other = (other, tt)
+
+each_other : (number : ℕ) (values : List (List ℕ)) → (number == option.custody) ≡ false → AreOther (each_at number values)
+each_other number [] other = tt
+each_other number (value ∷ values) other = (other, each_other number values other)
+
+empty_other : (number : ℕ) (there : Bool) → (number == option.custody) ≡ false → AreOther (empty_at number there)
+empty_other number false other = tt
+empty_other number true other = (other, tt)
+
+response_other : (observe : Bool) (r : Response) → AreOther (options_with_observe observe r)
+response_other observe r =
+    all_append IsOther (option_at numbers.etag r.etag) _ (option_other numbers.etag r.etag refl)
+    (all_append IsOther (empty_at numbers.observe observe) _ (empty_other numbers.observe observe refl)
+    (all_append IsOther (each_at numbers.location_path r.location) _ (each_other numbers.location_path r.location refl)
+    (all_append IsOther (number_at numbers.content_format r.format) _ (number_other numbers.content_format r.format refl)
+    (all_append IsOther (number_at numbers.max_age r.max_age) _ (number_other numbers.max_age r.max_age refl) (number_other numbers.size1 r.size1 refl)))))
+
+response_no_pong : (token : List ℕ) (observe : Bool) (r : Response) → is_custody_pong (response_with_observe token observe r) ≡ false
+response_no_pong token observe r =
+    and_right (r.code == code.pong) (asks_custody (response_with_observe token observe r)) (other_options (options_with_observe observe r) (response_other observe r))
+
+bare_no_pong : (m : Message) → is_custody_pong (bare_response m) ≡ false
+bare_no_pong m = and_right ((bare_response m).code == code.pong) false refl
+
+sent_gives : (G : Type 0) (s : Standing) (m : Message) (r : Reply) → is_custody_pong m ≡ false → AllByRecursion (Gives G) (send_as s m (bare_response m) r).queued
+sent_gives G s m Whole other = (no_pong G m other, tt)
+sent_gives G s m Bare other = (no_pong G (bare_response m) (bare_no_pong m), tt)
+sent_gives G s m Stopped other = tt
+
+-- a response is no Pong with Custody
+reply_gives : (G : Type 0) (h : History) (token : List ℕ) (observe : Bool) (r : Response) → Queues (Gives G) h (after_reply h (response_with_observe token observe r))
+reply_gives G h token observe r =
+    let m : Message = response_with_observe token observe r in
+    queues_effect (Gives G) h (send (standing_now h) m (bare_response m)) (answers h.phase) (sent_gives G (standing_now h) m (fit (limit_now h) m (bare_response m)) (response_no_pong token observe r))
+
+-- ---- a message
+
+message_gives : (h : History) (m : Message) → Queues (Gives (h.held ≡ [])) h (after_message h m)
+message_gives h m =
+    let e : Effect = (react (standing_now h) m).effect in
+    heard_queues (Gives (h.held ≡ [])) h m e (takes_messages h.phase) (any_gives (h.held ≡ []) e.queued (custody_at_once (standing_now h) m))
+
+replied_gives : (G : Type 0) (store : StoreValue) (now : ℕ) (h : History) (others : List Observer) (m : Message) (hold : Option ℕ) → Queues (Gives G) h (side_replied store now h others m hold).history
+replied_gives G store now h others m None = reply_gives G h m.token (has_place h.limits.observers others (prompt_answer store now m).watch) (prompt_answer store now m).response
+replied_gives G store now h others m (Some seconds) = hold_queues (Gives G) h m.token (moment_after now seconds)
+
+handled_by_gives : (store : StoreValue) (now : ℕ) (s : Side) (m : Message) (others : List Observer) (hold : Option ℕ) (asks : Bool)
+    → Queues (Gives (s.history.held ≡ [])) s.history (cond asks (side_replied store now (after_message s.history m) others m hold) (with_history s (after_message s.history m))).history
+handled_by_gives store now s m others hold true =
+    let G : Type 0 = s.history.held ≡ [] in
+    let h : History = after_message s.history m in
+    queues_then (Gives G) s.history h (side_replied store now h others m hold).history (message_gives s.history m) (replied_gives G store now h others m hold)
+handled_by_gives store now s m others hold false = message_gives s.history m
+
+handled_gives : (store : StoreValue) (now : ℕ) (s : Side) (m : Message) → Queues (Gives (s.history.held ≡ [])) s.history (side_handled store now s m).history
+handled_gives store now s m =
+    handled_by_gives store now s m (without_token m.token s.observers) (held_for (after_message s.history m) (answer_of store now m).hold) (asks_answer s m)
+
+pub custody_waits : (store : StoreValue) (now : ℕ) (s : Side) (m : Message) → QueuesCustody s (side_after store now s m) → s.history.held ≡ []
+unfolding side_after
+custody_waits store now s m =
+    custody_gives (s.history.held ≡ []) s (side_after store now s m) (if_gives (s.history.held ≡ []) (handles s) s (side_handled store now s m) (λ does. handled_gives store now s m))
+
+-- ---- all else but settling
+
+pub faulted_no_custody : (s : Side) (fault : StreamFault) → QueuesCustody s (side_faulted s fault) → ⊥
+unfolding side_faulted
+faulted_no_custody s fault =
+    let h : History = after_reject s.history (reject_of fault) in
+    custody_gives ⊥ s (side_faulted s fault) (if_gives ⊥ (handles s) s (with_history s h) (λ does. plain_gives ⊥ s.history h (reject_queues s.history (reject_of fault))))
+
+pub ended_no_custody : (s : Side) (cut : Bool) → QueuesCustody s (side_ended s cut) → ⊥
+unfolding side_ended
+ended_no_custody s cut = custody_gives ⊥ s (side_ended s cut) (plain_gives ⊥ s.history (after_end s.history cut) (end_queues s.history cut))
+
+pub released_no_custody : (s : Side) → QueuesCustody s (side_released s) → ⊥
+unfolding side_released
+released_no_custody s =
+    let h : History = after_release s.history in
+    custody_gives ⊥ s (side_released s) (if_gives ⊥ (is_none (release_refusal (link_of s.history))) s (with_history s h) (λ does. plain_gives ⊥ s.history h (release_queues s.history)))
+
+written_gives : (h : History) (n : ℕ) → Queues (Gives ⊥) h (after_written h n)
+written_gives h n = let same : Queues (Gives ⊥) h h = queues_none (Gives ⊥) h in record { more = same.more; same = same.same; such = same.such; heard = same.heard; handled = same.handled }
+
+pub written_no_custody : (s : Side) (n : ℕ) → QueuesCustody s (side_written s n) → ⊥
+unfolding side_written
+written_no_custody s n =
+    custody_gives ⊥ s (side_written s n) (if_gives ⊥ (nat_le n (length (waiting_on s))) s (record s { history = after_written s.history n }) (λ does. written_gives s.history n))
+
+-- ---- settling
+
+-- the first that is held is a Pong
+abbrev PongFirst : Side → Type 0
+PongFirst s = (token : List ℕ) × IsFirstHeld s token
+
+due_gives : (s : Side) (now : ℕ) (found : Option HeldValue) → first_due now s.history.held ≡ found → AllByRecursion (Gives (PongFirst s)) (due_effect (standing_due now (standing_now s.history)) found).queued
+due_gives s now None e = tt
+due_gives s now (Some (Answer token moment)) e = tt
+due_gives s now (Some (Pong token)) e =
+    gives_all (PongFirst s) (due_effect (standing_due now (standing_now s.history)) (Some (Pong token))).queued
+    (token, record { rest = without_due now s.history.held; first = due_pong now s.history.held token e })
+
+taken_gives : (s : Side) (now : ℕ) → Queues (Gives (PongFirst s)) s.history (after_due s.history now)
+taken_gives s now =
+    let found : Option HeldValue = first_due now s.history.held in
+    queues_effect (Gives (PongFirst s)) s.history (due_effect (standing_due now (standing_now s.history)) found) true (due_gives s now found refl)
+
+sent_held_gives : (s : Side) (now : ℕ) (e : HeldValue) → Queues (Gives (PongFirst s)) s.history (after_sent s.history now e)
+sent_held_gives s now (Answer token moment) =
+    queues_then (Gives (PongFirst s)) s.history (after_due s.history now) (after_reply (after_due s.history now) (held_message token)) (taken_gives s now)
+    (reply_gives (PongFirst s) (after_due s.history now) token false held_response)
+sent_held_gives s now (Pong token) = taken_gives s now
+
+notified_gives : (G : Type 0) (store : StoreValue) (now : ℕ) (s : Side) (found : Option Observer) → Queues (Gives G) s.history (notified store now s found).history
+notified_gives G store now s None = queues_none (Gives G) s.history
+notified_gives G store now s (Some o) = reply_gives G s.history o.token (goes_on (notification store now o)) (notification store now o)
+
+settled_gives : (store : StoreValue) (now : ℕ) (s : Side) (found : Option HeldValue) → Queues (Gives (PongFirst s)) s.history (settled_so store now s found).history
+settled_gives store now s None = notified_gives (PongFirst s) store now s (next_due store now s)
+settled_gives store now s (Some e) = sent_held_gives s now e
+
+pub custody_comes_first : (store : StoreValue) (now : ℕ) (s : Side) → QueuesCustody s (settled_once store now s) → (token : List ℕ) × IsFirstHeld s token
+unfolding settled_once
+custody_comes_first store now s = custody_gives (PongFirst s) s (settled_once store now s) (settled_gives store now s (next_held now s))
+
+-- ---- the order of what is held
+
+stand_none : (ms : List Message) → StandFor ms []
+unfolding StandFor
+stand_none [] = tt
+stand_none (m ∷ ms) = tt
+
+-- a message more
+stand_skip : (m : Message) (ms : List Message) (es : List HeldValue) → StandFor ms es → StandFor (m ∷ ms) es
+unfolding StandFor
+stand_skip m ms [] stand = tt
+stand_skip m ms (e ∷ es) stand = inr stand
+
+stand_more : (m : Message) (ms : List Message) (es : List HeldValue) → StandFor ms es → StandFor (ms ++ m ∷ []) es
+unfolding StandFor
+stand_more m [] [] stand = tt
+stand_more m [] (e ∷ es) stand = absurd stand
+stand_more m (n ∷ ms) [] stand = tt
+stand_more m (n ∷ ms) (e ∷ es) (inl here) = inl (here.0, stand_more m ms es here.1)
+stand_more m (n ∷ ms) (e ∷ es) (inr later) = inr (stand_more m ms (e ∷ es) later)
+
+-- a message that asks for one more
+stand_last : (m : Message) (x : HeldValue) (ms : List Message) (es : List HeldValue) → asks_held m x ≡ true → StandFor ms es → StandFor (ms ++ m ∷ []) (es ++ x ∷ [])
+unfolding StandFor
+stand_last m x [] [] asks stand = inl (asks, tt)
+stand_last m x [] (e ∷ es) asks stand = absurd stand
+stand_last m x (n ∷ ms) [] asks stand = inr (stand_last m x ms [] asks (stand_none ms))
+stand_last m x (n ∷ ms) (e ∷ es) asks (inl here) = inl (here.0, stand_last m x ms es asks here.1)
+stand_last m x (n ∷ ms) (e ∷ es) asks (inr later) = inr (stand_last m x ms (e ∷ es) asks later)
+
+-- without the first of what is held, and without any of it
+stand_tail : (ms : List Message) (e : HeldValue) (es : List HeldValue) → StandFor ms (e ∷ es) → StandFor ms es
+unfolding StandFor
+stand_tail [] e es stand = absurd stand
+stand_tail (m ∷ ms) e es (inl here) = stand_skip m ms es here.1
+stand_tail (m ∷ ms) e es (inr later) = stand_skip m ms es (stand_tail ms e es later)
+
+stand_removed : (ms : List Message) (es : List HeldValue) (i : ℕ) → StandFor ms es → StandFor ms (remove es i)
+unfolding StandFor
+stand_removed ms [] zero stand = stand
+stand_removed ms [] (suc i) stand = stand
+stand_removed ms (e ∷ es) zero stand = stand_tail ms e es stand
+stand_removed [] (e ∷ es) (suc i) stand = absurd stand
+stand_removed (m ∷ ms) (e ∷ es) (suc i) (inl here) = inl (here.0, stand_removed ms es i here.1)
+stand_removed (m ∷ ms) (e ∷ es) (suc i) (inr later) = inr (stand_removed ms (e ∷ es) (suc i) later)
+
+stand_at : (ms : List Message) (es : List HeldValue) (index : Option ℕ) → StandFor ms es → StandFor ms (without_at es index)
+stand_at ms es None stand = stand
+stand_at ms es (Some i) stand = stand_removed ms es i stand
+
+stand_due : (ms : List Message) (now : ℕ) (es : List HeldValue) → StandFor ms es → StandFor ms (without_due now es)
+unfolding without_due
+stand_due ms now es stand = stand_at ms es (due_index now es) stand
+
+-- each was asked for
+pub stand_asked : (ms : List Message) (before : List HeldValue) (e : HeldValue) (after : List HeldValue) → StandFor ms (before ++ e ∷ after) → list_any (λ m. asks_held m e) ms ≡ true
+unfolding StandFor
+stand_asked [] [] e after stand = absurd stand
+stand_asked [] (b ∷ before) e after stand = absurd stand
+stand_asked (m ∷ ms) [] e after (inl here) = rw here.0 refl
+stand_asked (m ∷ ms) [] e after (inr later) = or_later (asks_held m e) (list_any (λ n. asks_held n e) ms) (stand_asked ms [] e after later)
+stand_asked (m ∷ ms) (b ∷ before) e after (inl here) = or_later (asks_held m e) (list_any (λ n. asks_held n e) ms) (stand_asked ms before e after here.1)
+stand_asked (m ∷ ms) (b ∷ before) e after (inr later) = or_later (asks_held m e) (list_any (λ n. asks_held n e) ms) (stand_asked ms (b ∷ before) e after later)
+
+-- ---- histories
+
+abbrev pub Stands : History → Type 0
+Stands h = StandFor h.handled h.held
+
+stands_effect : (h : History) (e : Effect) (does : Bool) → StandFor h.handled e.held → Stands h → Stands (cond does (with_effect h e) h)
+stands_effect h e true then stand = then
+stands_effect h e false then stand = stand
+
+sent_stands : (ms : List Message) (s : Standing) (m less : Message) (r : Reply) → StandFor ms s.held → StandFor ms (send_as s m less r).held
+sent_stands ms s m less Whole stand = stand
+sent_stands ms s m less Bare stand = stand
+sent_stands ms s m less Stopped stand = stand_none ms
+
+pub reply_stands : (h : History) (m : Message) → Stands h → Stands (after_reply h m)
+reply_stands h m stand =
+    stands_effect h (send (standing_now h) m (bare_response m)) (answers h.phase) (sent_stands h.handled (standing_now h) m (bare_response m) (fit (limit_now h) m (bare_response m)) stand) stand
+
+reject_stands : (h : History) (r : Reject) → Stands h → Stands (after_reject h r)
+reject_stands h r stand = stands_effect h (abort (standing_now h) (reject_reason r)) (takes_messages h.phase) (stand_none h.handled) stand
+
+end_stands : (h : History) (cut : Bool) → Stands h → Stands (after_end h cut)
+end_stands h cut stand = stands_effect h (stop (standing_now h) (end_reason cut) []) (takes_messages h.phase) (stand_none h.handled) stand
+
+release_stands : (h : History) → Stands h → Stands (after_release h)
+release_stands h stand = stands_effect h (stop (standing_now h) ReleasedHere (release ∷ [])) (is_open h.phase) (stand_none h.handled) stand
+
+due_stands : (ms : List Message) (s : Standing) (found : Option HeldValue) → StandFor ms s.held → StandFor ms (due_effect s found).held
+due_stands ms s None stand = stand
+due_stands ms s (Some (Answer token moment)) stand = stand
+due_stands ms s (Some (Pong token)) stand = sent_stands ms s (pong_with true token) (pong_with false token) (fit s.limit (pong_with true token) (pong_with false token)) stand
+
+pub taken_stands : (h : History) (now : ℕ) → Stands h → Stands (after_due h now)
+taken_stands h now stand = due_stands h.handled (standing_due now (standing_now h)) (first_due now h.held) (stand_due h.handled now h.held stand)
+
+-- a Ping with Custody may be held
+message_held : (ms : List Message) (s : Standing) (m : Message) → StandFor ms s.held → StandFor (ms ++ m ∷ []) (react s m).effect.held
+message_held ms s m stand =
+    let still : StandFor (ms ++ m ∷ []) s.held = stand_more m ms s.held stand in
+    react_so s m (λ e. StandFor (ms ++ m ∷ []) e.held) (record {
+      stays = still;
+      stands = λ now. still;
+      stops = λ why farewell plain. stand_none (ms ++ m ∷ []);
+      queues = λ n is. still;
+      keeps = λ ping custody. stand_last m (Pong m.token) ms s.held (rw (ping, custody, (bytes_decides m.token m.token).1 refl) refl) stand;
+    })
+
+heard_stands : (h : History) (m : Message) (e : Effect) (takes : Bool) → StandFor (h.handled ++ m ∷ []) e.held → Stands h → Stands (cond takes (record (with_effect h e) { handled = h.handled ++ m ∷ [] }) h)
+heard_stands h m e true then stand = then
+heard_stands h m e false then stand = stand
+
+message_stands : (h : History) (m : Message) → Stands h → Stands (after_message h m)
+message_stands h m stand = heard_stands h m (react (standing_now h) m).effect (takes_messages h.phase) (message_held h.handled (standing_now h) m stand) stand
+
+-- ---- a request whose answer is held
+
+asked_at_all : (h : History) (hold : Option ℕ) (seconds : ℕ) → held_for h hold ≡ Some seconds → hold ≡ Some seconds
+asked_at_all h None seconds e = e
+asked_at_all h (Some n) seconds e = elim (may_hold h) as (λ b. cond b (Some n) None ≡ Some seconds → Some n ≡ Some seconds) [ true ↦ λ is. is | false ↦ λ is. absurd cc ] e
+
+said_request : (v : VerdictValue) → is_request v ≡ true → v ≡ verdict.Request
+said_request verdict.Opened e = absurd cc
+said_request verdict.Done e = absurd cc
+said_request verdict.Request e = refl
+said_request (verdict.Answer token last) e = absurd cc
+said_request (verdict.Pong token custody) e = absurd cc
+said_request verdict.Stranger e = absurd cc
+said_request (verdict.Stopped why) e = absurd cc
+
+-- what is held after it, and the request behind it
+heard_one_more : (h : History) (m : Message) (e : Effect) (takes : Bool) (x : HeldValue) → takes ≡ true → e.held ≡ h.held → asks_held m x ≡ true → Stands h
+    → StandFor (cond takes (record (with_effect h e) { handled = h.handled ++ m ∷ [] }) h).handled ((cond takes (record (with_effect h e) { handled = h.handled ++ m ∷ [] }) h).held ++ x ∷ [])
+heard_one_more h m e true x takes kept asks stand = subst (λ es. StandFor (h.handled ++ m ∷ []) (es ++ x ∷ [])) (sym kept) (stand_last m x h.handled h.held asks stand)
+heard_one_more h m e false x takes kept asks stand = absurd cc
+
+one_more : (s : Side) (m : Message) (moment : ℕ) → takes_messages s.history.phase ≡ true → asks_answer s m ≡ true → asks_late m ≡ true → Stands s.history
+    → StandFor (after_message s.history m).handled ((after_message s.history m).held ++ Answer m.token moment ∷ [])
+one_more s m moment takes asks late stand =
+    let quiet = react_asks (standing_now s.history) m (said_request (react (standing_now s.history) m).verdict asks) in
+    heard_one_more s.history m (react (standing_now s.history) m).effect (takes_messages s.history.phase) (Answer m.token moment) takes quiet.kept (rw (late, (bytes_decides m.token m.token).1 refl) refl) stand
+
+hold_stands : (h : History) (token : List ℕ) (moment : ℕ) (does : Bool) → StandFor h.handled (h.held ++ Answer token moment ∷ []) → Stands h → Stands (cond does (record h { held = h.held ++ Answer token moment ∷ [] }) h)
+hold_stands h token moment true then stand = then
+hold_stands h token moment false then stand = stand
+
+replied_stands : (store : StoreValue) (now : ℕ) (h : History) (others : List Observer) (m : Message) (hold : Option ℕ) → ((seconds moment : ℕ) → hold ≡ Some seconds → StandFor h.handled (h.held ++ Answer m.token moment ∷ [])) → Stands h
+    → Stands (side_replied store now h others m hold).history
+replied_stands store now h others m None then stand = reply_stands h _ stand
+replied_stands store now h others m (Some seconds) then stand = hold_stands h m.token (moment_after now seconds) (is_open h.phase && may_hold h) (then seconds (moment_after now seconds) refl) stand
+
+-- ---- connections
+
+if_stands : (does : Bool) (s t : Side) → Stands s.history → (does ≡ true → Stands t.history) → Stands (cond does t s).history
+if_stands true s t stand then = then refl
+if_stands false s t stand then = stand
+
+handled_stands : (store : StoreValue) (now : ℕ) (s : Side) (m : Message) → takes_messages s.history.phase ≡ true → Stands s.history → Stands (side_handled store now s m).history
+handled_stands store now s m takes stand =
+    let h : History = after_message s.history m in
+    let others : List Observer = without_token m.token s.observers in
+    let hold : Option ℕ = (answer_of store now m).hold in
+    if_stands (asks_answer s m) (with_history s h) (side_replied store now h others m (held_for h hold)) (message_stands s.history m stand)
+    (λ asks. replied_stands store now h others m (held_for h hold)
+    (λ seconds moment e. one_more s m moment takes asks (held_of store now m seconds (asked_at_all h hold seconds e)).asked stand) (message_stands s.history m stand))
+
+pub after_stands : (store : StoreValue) (now : ℕ) (s : Side) (m : Message) → Stands s.history → Stands (side_after store now s m).history
+unfolding side_after
+after_stands store now s m stand =
+    if_stands (handles s) s (side_handled store now s m) stand (λ does. handled_stands store now s m (and_parts (takes_messages s.history.phase) (has_room s) does).0 stand)
+
+faulted_stands : (s : Side) (fault : StreamFault) → Stands s.history → Stands (side_faulted s fault).history
+unfolding side_faulted
+faulted_stands s fault stand = if_stands (handles s) s (with_history s (after_reject s.history (reject_of fault))) stand (λ does. reject_stands s.history (reject_of fault) stand)
+
+written_stands : (s : Side) (n : ℕ) → Stands s.history → Stands (side_written s n).history
+unfolding side_written
+written_stands s n stand = if_stands (nat_le n (length (waiting_on s))) s (record s { history = after_written s.history n }) stand (λ does. stand)
+
+ended_stands : (s : Side) (cut : Bool) → Stands s.history → Stands (side_ended s cut).history
+unfolding side_ended
+ended_stands s cut stand = end_stands s.history cut stand
+
+released_stands : (s : Side) → Stands s.history → Stands (side_released s).history
+unfolding side_released
+released_stands s stand = if_stands (is_none (release_refusal (link_of s.history))) s (with_history s (after_release s.history)) stand (λ does. release_stands s.history stand)
+
+notified_stands : (store : StoreValue) (now : ℕ) (s : Side) (found : Option Observer) → Stands s.history → Stands (notified store now s found).history
+notified_stands store now s None stand = stand
+notified_stands store now s (Some o) stand = reply_stands s.history (notification_message o.token (notification store now o)) stand
+
+sent_held_stands : (h : History) (now : ℕ) (e : HeldValue) → Stands h → Stands (after_sent h now e)
+sent_held_stands h now (Answer token moment) stand = reply_stands (after_due h now) (held_message token) (taken_stands h now stand)
+sent_held_stands h now (Pong token) stand = taken_stands h now stand
+
+settled_stands : (store : StoreValue) (now : ℕ) (s : Side) (found : Option HeldValue) → Stands s.history → Stands (settled_so store now s found).history
+settled_stands store now s None stand = notified_stands store now s (next_due store now s) stand
+settled_stands store now s (Some e) stand = sent_held_stands s.history now e stand
+
+once_stands : (store : StoreValue) (now : ℕ) (s : Side) → Stands s.history → Stands (settled_once store now s).history
+unfolding settled_once
+once_stands store now s stand = settled_stands store now s (next_held now s) stand
+
+pub stands_keeps : (limits : LimitValues) → Keeps limits (λ s. Stands s.history)
+stands_keeps limits = record {
+  first = stand_none [];
+  handled = after_stands;
+  faulted = faulted_stands;
+  written = written_stands;
+  ended = ended_stands;
+  released = released_stands;
+  told = once_stands;
+}
+
+-- what is held stands in the order of the messages that asked for it, after any events
+pub held_in_order : (c : ConfigValues) (es : List Event) (id : ℕ) (s : Side) → side_of id (world_after c es).sides ≡ Some s → StandFor s.history.handled s.history.held
+held_in_order c es id s there = kept_after c (λ s. Stands s.history) (stands_keeps c.limits) es id s there
+
+-- ---- what is held was asked for, and is sent when it is due
+
+pub held_when_asked : (store : StoreValue) (now : ℕ) (s : Side) (m : Message) (seconds : ℕ) → handles s ≡ true → asks_answer s m ≡ true → held_for (after_message s.history m) (answer_of store now m).hold ≡ Some seconds → (side_after store now s m).history ≡ after_hold (after_message s.history m) m.token (moment_after now seconds)
+unfolding side_after
+held_when_asked store now s m seconds does asks is =
+    rw does (rw asks (ap (λ (o : Option ℕ). (side_replied store now (after_message s.history m) (without_token m.token s.observers) m o).history) is))
+
+pub sent_when_due : (store : StoreValue) (now : ℕ) (s : Side) (token : List ℕ) (moment : ℕ) → next_held now s ≡ Some (Answer token moment) → (settled_once store now s).history ≡ after_reply (after_due s.history now) (held_message token)
+unfolding settled_once
+sent_when_due store now s token moment is = ap (λ (o : Option HeldValue). (settled_so store now s o).history) is

@@ -1,0 +1,130 @@
+-- What holds of an answer that is held, and of one that cannot be.
+use Rattle.std.proofs.Common.{◌≡◌, ◌≢◌, ℕ, ◌≤◌, Bool, true, false, List, [], length, Option, Some, None, refl, ap, subst, arith}
+use Rattle.std.proofs.lemmas.Bool.{and_parts, leb-true}
+use Rattle.coap_wire.specs.Message.{Message}
+use Rattle.coap_wire.specs.Codes as code
+use Rattle.coap_wire.specs.OptionNumbers as numbers
+use Rattle.coap_store.specs.Paths.{Path}
+use Rattle.coap_store.specs.Store.{Representation, StoreValue}
+use Rattle.coap_store.specs.State.{is_async, place_of, state_at, target_of}
+use Rattle.coap_store.specs.Requests.{is_get, path_of, value_of, digits_mean, is_seconds, is_good_query, seconds_of}
+use Rattle.coap_store.specs.Answer.{Answer, Nothing, only, content, late, held_response, asks_late, stored_under, answer_at, removes_watch, finally, answer_of, unheld_by, unheld, prompt_answer}
+use Rattle.coap_store.specs.Changes.{changes}
+use Rattle.coap_store.specs.declared.place.Place.{Place}
+use Rattle.coap_store.specs.declared.place.Place.TheVariants.{Root, Time, Async, Listing, Dynamic}
+use Rattle.coap_store.specs.declared.plan.Watch.TheVariants.{Add}
+use Rattle.coap_store.proofs.AnswerLaws.{known_get_cases, known_answer_cases, store_cases, change_unheld}
+use Rattle.coap_store.proofs.WatchLaws.{watched_at_once}
+
+-- ---- which answers are held, and what they say
+
+-- no more than an hour
+hour : (bytes : List ℕ) → is_seconds bytes ≡ true → digits_mean bytes ≤ 3600
+unfolding is_seconds
+hour bytes good = leb-true (digits_mean bytes) 3600 (and_parts _ _ good).1
+
+seconds_fit : (query : Option (List ℕ)) → is_good_query query ≡ true → seconds_of query ≤ 3600
+seconds_fit None good = omega arith
+seconds_fit (Some bytes) good = hour bytes good
+
+-- the state of the place that answers late is always the same
+late_content : (s : StoreValue) (now : ℕ) (key : Option Path) (place : Place) (r : Representation) → is_async place ≡ true → state_at s now key place ≡ Some r → content place r ≡ held_response
+unfolding state_at
+late_content s now key Root r waits is = absurd cc
+late_content s now key Time r waits is = absurd cc
+late_content s now key Async r waits is = cc
+late_content s now key Listing r waits is = absurd cc
+late_content s now key Dynamic r waits is = absurd cc
+
+pub record IsHeld (m : Message) (a : Answer) (seconds : ℕ) : Type 0 where
+  pub asked : asks_late m ≡ true
+  pub response : a.response ≡ held_response
+  pub change : a.change ≡ Nothing
+  pub short : seconds ≤ 3600
+
+abbrev HoldsWell : Message → Answer → Type 0
+HoldsWell m a = (seconds : ℕ) → a.hold ≡ Some seconds → IsHeld m a seconds
+
+at_once : (m : Message) (a : Answer) → a.hold ≡ None → HoldsWell m a
+at_once m a none seconds e = absurd cc
+
+stored_at_once : (key : Option Path) (state : Option Representation) (m : Message) → (stored_under key state m).hold ≡ None
+stored_at_once None state m = refl
+stored_at_once (Some path) None m = refl
+stored_at_once (Some path) (Some r) m = refl
+
+late_holds : (s : StoreValue) (now : ℕ) (m : Message) (r : Representation) → is_get m ≡ true → (target_of s now (path_of m)).state ≡ Some r → is_async (place_of (path_of m)) ≡ true → is_good_query (value_of numbers.uri_query m) ≡ true → HoldsWell m (late (place_of (path_of m)) r m)
+late_holds s now m r get is waits good seconds e =
+    let same : seconds_of (value_of numbers.uri_query m) ≡ seconds = cc in
+    record {
+      asked = rw (get, waits) refl;
+      response = late_content s now (target_of s now (path_of m)).key (place_of (path_of m)) r waits is;
+      change = refl;
+      short = subst (λ n. n ≤ 3600) same (seconds_fit (value_of numbers.uri_query m) good);
+    }
+
+held_at : (s : StoreValue) (now : ℕ) (m : Message) → HoldsWell m (answer_at s (target_of s now (path_of m)) m)
+held_at s now m =
+    let t = target_of s now (path_of m) in
+    let P : Answer → Type 0 = HoldsWell m in
+    known_answer_cases P s t m (λ c e. at_once m _ refl) (record {
+      read = λ get r is. known_get_cases P t.place r m (λ c e. at_once m _ refl) (record {
+        valid = λ among. at_once m _ refl;
+        late = late_holds s now m r get is;
+        content = at_once m _ refl;
+      });
+      deleted = λ dynamic other. at_once m _ refl;
+      stored = λ dynamic other. store_cases P s t m (λ c e. at_once m _ refl) (at_once m _ refl) (λ can. at_once m _ (stored_at_once t.key t.state m));
+    })
+
+-- what becomes of an observer is no matter
+held_finally : (m : Message) (b : Bool) (a : Answer) → HoldsWell m a → HoldsWell m (finally b a)
+held_finally m true a holds seconds e = let is = holds seconds e in record { asked = is.asked; response = is.response; change = is.change; short = is.short }
+held_finally m false a holds seconds e = holds seconds e
+
+pub held_of : (s : StoreValue) (now : ℕ) (m : Message) (seconds : ℕ) → (answer_of s now m).hold ≡ Some seconds → IsHeld m (answer_of s now m) seconds
+unfolding answer_of
+held_of s now m = held_finally m (removes_watch m) (answer_at s (target_of s now (path_of m)) m) (held_at s now m)
+
+-- it asks for no observer
+pub held_unwatched : (s : StoreValue) (now : ℕ) (m : Message) (seconds : ℕ) → (answer_of s now m).hold ≡ Some seconds → (answer_of s now m).watch ≢ Add
+held_unwatched s now m seconds e = λ adds. (let none = watched_at_once s now m adds in absurd cc)
+
+-- ---- where it cannot be held
+
+pub unheld_held : (a : Answer) (seconds : ℕ) → a.hold ≡ Some seconds → (unheld a).response ≡ only code.service_unavailable
+unheld_held a seconds e = ap (λ hold. (unheld_by hold a).response) e
+
+pub unheld_prompt : (a : Answer) → a.hold ≡ None → unheld a ≡ a
+unheld_prompt a e = ap (λ hold. unheld_by hold a) e
+
+pub unheld_change : (a : Answer) → (unheld a).change ≡ a.change
+unheld_change a = change_unheld a.hold a
+
+pub refused_for_now : (s : StoreValue) (now : ℕ) (m : Message) (seconds : ℕ) → (answer_of s now m).hold ≡ Some seconds → (prompt_answer s now m).response ≡ only code.service_unavailable
+unfolding prompt_answer
+refused_for_now s now m seconds e = unheld_held (answer_of s now m) seconds e
+
+pub same_change : (s : StoreValue) (now : ℕ) (m : Message) → (prompt_answer s now m).change ≡ (answer_of s now m).change
+unfolding prompt_answer
+same_change s now m = unheld_change (answer_of s now m)
+
+pub same_at_once : (s : StoreValue) (now : ℕ) (m : Message) → (answer_of s now m).hold ≡ None → prompt_answer s now m ≡ answer_of s now m
+unfolding prompt_answer
+same_at_once s now m e = unheld_prompt (answer_of s now m) e
+
+-- it is no longer than the answer was, and a change has no payload beside it where it had none
+
+short_by : (hold : Option ℕ) (a : Answer) → length a.response.payload ≤ 1048576 → length (unheld_by hold a).response.payload ≤ 1048576
+short_by None a short = short
+short_by (Some seconds) a short = omega arith
+
+pub unheld_short : (a : Answer) → length a.response.payload ≤ 1048576 → length (unheld a).response.payload ≤ 1048576
+unheld_short a short = short_by a.hold a short
+
+bare_by : (hold : Option ℕ) (a : Answer) → (changes a.change ≡ true → a.response.payload ≡ []) → changes (unheld_by hold a).change ≡ true → (unheld_by hold a).response.payload ≡ []
+bare_by None a bare e = bare e
+bare_by (Some seconds) a bare e = refl
+
+pub unheld_bare : (a : Answer) → (changes a.change ≡ true → a.response.payload ≡ []) → changes (unheld a).change ≡ true → (unheld a).response.payload ≡ []
+unheld_bare a bare e = bare_by a.hold a bare e
