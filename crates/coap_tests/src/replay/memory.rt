@@ -141,6 +141,7 @@ fn act(rt: &impl Abort, server: &mut Server, event: &str, line: &str) -> Result<
         }
         "drain" => drain(rt, server, text.parse::<u64>()?, line)?,
         "put" => put(rt, server, text, line)?,
+        "tick" => assert!(rt; server.tick(text.parse::<u64>()?) == Ok(()) && line == event),
         "remove" => assert!(rt; server.remove(&path_of(rt, text)) == Ok(()) && line == event),
         _ => strange(rt, event),
     }
@@ -222,6 +223,25 @@ drain 2 => out 2 018402";
 #[test]
 fn notifies_without_memory(rt: HostRuntime) -> Result<(), Fail> {
     play(&rt, OBSERVERS)
+}
+
+/// Answers and a Pong that are held, one more than may be, and what is sent of them once the peer has released the connection.
+const HELD: &str = "pending=2
+open => open 1
+drain 1 => out 1 40e123010000
+in 1 00e1810105b56173796e634133 => in 1 13
+in 1 11e20620 => in 1 4
+in 1 610107b56173796e63 => in 1 9
+drain 1 => out 1 01a307
+in 1 00e4 => in 1 2
+tick 2 => tick 2
+drain 1 => out 1 -
+tick 3 => tick 3
+drain 1 => out 1 614505c0ff646f6e6511e30620";
+
+#[test]
+fn holds_without_memory(rt: HostRuntime) -> Result<(), Fail> {
+    play(&rt, HELD)
 }
 
 /// A script in which the last byte of a message that is stored is an event of its own.
