@@ -266,7 +266,7 @@ impl Link {
         match self.pending.take(index) {
             Held::Answer { token, .. } => Due::Answer(token),
             Held::Pong(token) => {
-                self.send(&pong_to(&token, true), &pong_to(&token, false));
+                self.pong(&token, true);
                 Due::Pong
             }
         }
@@ -468,23 +468,23 @@ impl Link {
     {
         let custody = asks_custody(message);
         if !custody || self.pending.is_empty() {
-            return self.pong(message, custody);
+            return self.pong(message.token(), custody);
         }
         if self.pending.is_full() {
-            return self.pong(message, false);
+            return self.pong(message.token(), false);
         }
         self.pending.hold(Held::Pong(copy_of(message.token())));
         Verdict::Done
     }
 
-    /// Answers a Ping. (Apart from `on_ping`, since a function clears all its locals.)
-    fn pong(&mut self, message: &MessageRef, custody: bool) -> Verdict
+    /// Sends a Pong to the Ping with this token, with Custody or not. (Apart from its callers, since a function clears all its locals.)
+    fn pong(&mut self, token: &Token, custody: bool) -> Verdict
         requires { IsReady self.old }
-        ensures verdict { verdict_value result ≡ (sends (standing_in self.old) (pong_with custody message.now.token) (pong_with false message.now.token)).verdict }
-        ensures after { self.new ≡ link_with self.old (sends (standing_in self.old) (pong_with custody message.now.token) (pong_with false message.now.token)).effect }
+        ensures verdict { verdict_value result ≡ (sends (standing_in self.old) (pong_with custody token.now.items) (pong_with false token.now.items)).verdict }
+        ensures after { self.new ≡ link_with self.old (sends (standing_in self.old) (pong_with custody token.now.items) (pong_with false token.now.items)).effect }
     {
-        let pong = pong_to(message.token(), custody);
-        self.answer(&pong, &pong_to(message.token(), false))
+        let pong = pong_to(token, custody);
+        self.answer(&pong, &Builder::new(Code::PONG, token))
     }
 
     /// Handles a request: the caller answers it at the server, and at the client it is not implemented.

@@ -32,5 +32,6 @@ pub mod FitLaws
 pub mod RefusedLaws
 pub mod ToldMessages
 pub mod CustodyLaws
+pub mod HeldLaws
 pub mod ToldAnswers
 pub mod ToldLaws

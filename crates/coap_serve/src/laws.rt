@@ -6,16 +6,18 @@ ghost use Rattle.coap_wire.specs.Message.{Message};
 ghost use Rattle.coap_wire.specs.Stream.{StreamFault};
 ghost use Rattle.coap_conn.specs.declared.phase.Phase.TheVariants.{Stopped};
 ghost use Rattle.coap_conn.specs.Limits.{LimitValues, AreInRange};
-ghost use Rattle.coap_conn.specs.Fit.{AllFit};
+ghost use Rattle.coap_conn.specs.Fit.{AllFit, bare_response};
 ghost use Rattle.coap_conn.specs.Rejects.{reject_of, reject_reason};
-ghost use Rattle.coap_conn.specs.Held.{Answer};
-ghost use Rattle.coap_conn.specs.History.{limit_now, after_message, after_reply, after_hold, after_due};
+ghost use Rattle.coap_conn.specs.Held.{HeldValue, Answer, Pong, without_due};
+ghost use Rattle.coap_conn.specs.Phases.{answers};
+ghost use Rattle.coap_conn.specs.Reaction.{send, pong_with};
+ghost use Rattle.coap_conn.specs.History.{limit_now, standing_now, standing_due, after_message, after_reply, after_hold, after_due};
 ghost use Rattle.coap_store.specs.Store.{StoreValue};
 ghost use Rattle.coap_store.specs.Answer.{answer_of};
 ghost use Rattle.coap_serve.specs.Configs.{ConfigValues};
 ghost use Rattle.coap_serve.specs.values.Servers.{ServerValue};
 ghost use Rattle.coap_serve.specs.world.Sides.{Side, waiting_on, HearsAll, handles, asks_answer, held_for, moment_after, held_message, next_held, side_after, side_faulted, side_written, side_ended, side_released, settled_once};
-ghost use Rattle.coap_serve.specs.world.Custody.{StandFor, QueuesCustody, IsFirstHeld};
+ghost use Rattle.coap_serve.specs.world.Custody.{StandFor, QueuesCustody, IsFirstHeld, KeepsHeld};
 ghost use Rattle.coap_serve.specs.world.World.{World, Step, Opened, new_world, side_of, step, after_steps};
 ghost use Rattle.coap_serve.specs.world.Events.{Event, Took, stream_on, steps_of, world_after, AreAccepted};
 ghost use Rattle.coap_serve.specs.world.Shows.{Shows, kept_on};
@@ -98,4 +100,20 @@ pub fn custody_comes_last()
     ensures ended { (s : Side) (cut : Bool) → QueuesCustody s (side_ended s cut) → ⊥ }
     ensures released { (s : Side) → QueuesCustody s (side_released s) → ⊥ }
     ensures written { (s : Side) (n : ℕ) → QueuesCustody s (side_written s n) → ⊥ }
+{}
+
+/// What is held is lost by nothing: it stays, in its place and with more behind it, over each message, over a fault, the end of input,
+/// the own Release and what was written, and while observers are told, unless the connection stops; and where something held is due
+/// first and there is room, exactly this is held no more: an answer is sent as it fits the peer, a Pong is queued with Custody as it
+/// fits. So, by `custody_comes_last`, an answer that is held before a Pong with Custody is queued before it, unless the connection stops.
+pub fn what_is_held_is_sent()
+    ensures message { (store : StoreValue) (now : ℕ) (s : Side) (m : Message) → KeepsHeld s (side_after store now s m) }
+    ensures faulted { (s : Side) (fault : StreamFault) → KeepsHeld s (side_faulted s fault) }
+    ensures ended { (s : Side) (cut : Bool) → KeepsHeld s (side_ended s cut) }
+    ensures released { (s : Side) → KeepsHeld s (side_released s) }
+    ensures written { (s : Side) (n : ℕ) → KeepsHeld s (side_written s n) }
+    ensures told { (store : StoreValue) (now : ℕ) (s : Side) → next_held now s ≡ None → KeepsHeld s (settled_once store now s) }
+    ensures taken { (store : StoreValue) (now : ℕ) (s : Side) (e : HeldValue) → next_held now s ≡ Some e → answers s.history.phase ≡ true → (settled_once store now s).history.phase ≡ s.history.phase → (settled_once store now s).history.held ≡ without_due now s.history.held }
+    ensures answer { (store : StoreValue) (now : ℕ) (s : Side) (token : List ℕ) (moment : ℕ) → next_held now s ≡ Some (Answer token moment) → answers s.history.phase ≡ true → (settled_once store now s).history.queued ≡ s.history.queued ++ (send (standing_due now (standing_now s.history)) (held_message token) (bare_response (held_message token))).queued }
+    ensures pong { (store : StoreValue) (now : ℕ) (s : Side) (token : List ℕ) → next_held now s ≡ Some (Pong token) → (settled_once store now s).history.queued ≡ s.history.queued ++ (send (standing_due now (standing_now s.history)) (pong_with true token) (pong_with false token)).queued }
 {}

@@ -351,7 +351,7 @@ asked_at_all : (h : History) (hold : Option ℕ) (seconds : ℕ) → held_for h 
 asked_at_all h None seconds e = e
 asked_at_all h (Some n) seconds e = elim (may_hold h) as (λ b. cond b (Some n) None ≡ Some seconds → Some n ≡ Some seconds) [ true ↦ λ is. is | false ↦ λ is. absurd cc ] e
 
-said_request : (v : VerdictValue) → is_request v ≡ true → v ≡ verdict.Request
+pub said_request : (v : VerdictValue) → is_request v ≡ true → v ≡ verdict.Request
 said_request verdict.Opened e = absurd cc
 said_request verdict.Done e = absurd cc
 said_request verdict.Request e = refl

@@ -4,6 +4,8 @@ use Rattle.std.specs.Prelude.{◌≡◌, ◌⊎◌, ℕ, Bool, true, ◌&&◌, L
 use Rattle.std.specs.List.{list_any}
 use Rattle.coap_wire.specs.Message.{Message}
 use Rattle.coap_wire.specs.Codes as code
+use Rattle.coap_conn.specs.declared.reason.Reason.{Reason}
+use Rattle.coap_conn.specs.declared.phase.Phase.TheVariants.{Stopped}
 use Rattle.coap_conn.specs.Held.{HeldValue, Answer, Pong}
 use Rattle.coap_conn.specs.Reaction.{asks_custody, is_custody_pong}
 use Rattle.coap_store.specs.Paths.{same_bytes}
@@ -31,3 +33,7 @@ pub record QueuesCustody (before after : Side) : Type 0 where
 pub record IsFirstHeld (s : Side) (token : List ℕ) : Type 0 where
   pub rest : List HeldValue
   pub first : s.history.held ≡ Pong token ∷ rest
+
+-- what was held stays held, in its place and with more behind it, unless the connection stopped
+abbrev pub KeepsHeld : Side → Side → Type 0
+KeepsHeld before after = ((more : List HeldValue) × (after.history.held ≡ before.history.held ++ more)) ⊎ ((why : Reason) × (after.history.phase ≡ Stopped why))

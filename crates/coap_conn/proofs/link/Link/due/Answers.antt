@@ -1,9 +1,7 @@
-use Rattle.std.proofs.Common.{true, sym, ap, ◌∙◌}
-use Rattle.coap_wire.specs.Message.{Message}
+use Rattle.std.proofs.Common.{sym, ap, ◌∙◌}
 use Rattle.coap_conn.specs.Held.{Answer, Pong, PendingValue, due_told, first_due}
-use Rattle.coap_conn.specs.LinkValue.{LinkValue, link_with, link_after_due, standing_in}
+use Rattle.coap_conn.specs.LinkValue.{LinkValue, link_after_due}
 use Rattle.coap_conn.specs.LinkViews.{link_value}
-use Rattle.coap_conn.specs.Reaction.{send, pong_with}
 use Rattle.coap_conn.proofs.LinkLemmas.{due_shown}
 use Rattle.coap_conn.proofs.PendingLemmas.{first_at_index, nothing_first, nothing_due, answer_due, pong_due, link_sent}
 use Rattle.coap_conn.proofs.link.Link.due.Goals as goal
@@ -46,14 +44,9 @@ returns-in-Pong-clause-due c =
     ap due_told (sym (first_at_index c.args.now c.self.inside.pending.held c.in-Some.index (Pong c.in-Pong.token.items) (sym c.in-Some.ensures.first) c.in-Pong.ensures.taken))
     ∙ ap (λ (v : LinkValue). due_told (first_due c.args.now v.held)) c.self.view_is
 
-abbrev sent_by : LinkValue → Message → Message → LinkValue
-sent_by v m less = link_with v (send (standing_in v) m less)
-
 pub returns-in-Pong-clause-after : goal.returns-in-Pong-clause-after
 returns-in-Pong-clause-after c =
-    c.send.ensures.after
-    ∙ ap (λ (m : Message). sent_by (record (link_value c.self.inside) { held = c.take.new.self.held }) m c.pong_to-in-Pong.result) c.pong_to.ensures
-    ∙ ap (λ (less : Message). sent_by (record (link_value c.self.inside) { held = c.take.new.self.held }) (pong_with true c.in-Pong.token.items) less) c.pong_to-in-Pong.ensures
+    c.pong.ensures.after
     ∙ ap (λ (p : PendingValue). link_sent (record (link_value c.self.inside) { held = p.held }) c.in-Pong.token.items) c.take.ensures.rest
     ∙ pong_due (link_value c.self.inside) c.args.now c.in-Some.index c.in-Pong.token.items (sym c.in-Some.ensures.first) c.in-Pong.ensures.taken
     ∙ ap (λ (v : LinkValue). link_after_due v c.args.now) c.self.view_is
