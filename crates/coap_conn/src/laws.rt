@@ -78,8 +78,8 @@ pub fn what_is_due_comes_first()
     ensures fewer { (now : ℕ) (held : List HeldValue) (e : HeldValue) → first_due now held ≡ Some e → length held ≡ 1 + length (without_due now held) }
 {}
 
-/// A Pong with Custody is queued only where nothing is held that came before its Ping (RFC 8323 section 5.4.1): at once where nothing
-/// is held, and else it is the first of what is held. No more is held than may be, and a stop gives up what is held.
+/// A message has a Pong with Custody queued at once only where nothing is held (RFC 8323 section 5.4.1); else its Pong waits for what
+/// is held. No more is held than may be, a message leaves what is held in place, and where it stops the connection gives it up.
 pub fn custody_waits_for_what_is_held()
     ensures at_once { (s : Standing) (m : Message) → list_any is_custody_pong (react s m).effect.queued ≡ true → s.held ≡ [] }
     ensures few { (s : Standing) (m : Message) → length s.held ≤ s.most → length (react s m).effect.held ≤ s.most }

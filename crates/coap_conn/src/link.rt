@@ -176,8 +176,8 @@ impl Link {
     }
 
     /// Handles a message (RFC 8323 sections 3.3, 3.4 and 5). There must be room for the greatest message sent, and the
-    /// connection must take messages. Where it is a request, the caller answers it by `reply` before it hands over the next
-    /// message.
+    /// connection must take messages. Where it is a request, the caller answers it by `reply` or holds its answer by `hold`
+    /// before it hands over the next message.
     pub fn on(&mut self, message: &MessageRef) -> Verdict
         requires ready { IsReady self.old }
         requires live { IsLive self.old.phase }

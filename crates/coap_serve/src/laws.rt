@@ -11,13 +11,13 @@ ghost use Rattle.coap_conn.specs.Rejects.{reject_of, reject_reason};
 ghost use Rattle.coap_conn.specs.Held.{HeldValue, Answer, Pong, without_due};
 ghost use Rattle.coap_conn.specs.Phases.{answers};
 ghost use Rattle.coap_conn.specs.Reaction.{send, pong_with};
-ghost use Rattle.coap_conn.specs.History.{limit_now, standing_now, standing_due, after_message, after_reply, after_hold, after_due};
+ghost use Rattle.coap_conn.specs.History.{limit_now, standing_now, standing_due, after_message, after_reply, after_due};
 ghost use Rattle.coap_store.specs.Store.{StoreValue};
 ghost use Rattle.coap_store.specs.Answer.{answer_of};
 ghost use Rattle.coap_serve.specs.Configs.{ConfigValues};
 ghost use Rattle.coap_serve.specs.values.Servers.{ServerValue};
 ghost use Rattle.coap_serve.specs.world.Sides.{Side, waiting_on, HearsAll, handles, asks_answer, held_for, moment_after, held_message, next_held, side_after, side_faulted, side_written, side_ended, side_released, settled_once};
-ghost use Rattle.coap_serve.specs.world.Custody.{StandFor, QueuesCustody, IsFirstHeld, KeepsHeld};
+ghost use Rattle.coap_serve.specs.world.Custody.{StandFor, QueuesCustody, IsFirstHeld, KeepsHeld, KeepsHeldOver};
 ghost use Rattle.coap_serve.specs.world.World.{World, Step, Opened, new_world, side_of, step, after_steps};
 ghost use Rattle.coap_serve.specs.world.Events.{Event, Took, stream_on, steps_of, world_after, AreAccepted};
 ghost use Rattle.coap_serve.specs.world.Shows.{Shows, kept_on};
@@ -86,15 +86,15 @@ pub fn observers_were_told_last()
     ensures tokens { (c : ConfigValues) (events : List Event) (id : ℕ) (s : Side) → side_of id (world_after c events).sides ≡ Some s → HaveOwnTokens s.observers }
 {}
 
-/// A Pong with Custody comes after every response to a request that was handled before its Ping (RFC 8323 section 5.4.1): after any
-/// events what is held stands in the order of the messages that asked for it, and such a Pong is queued at once only where nothing is
-/// held, later only where it is the first that is held, and by nothing else that happens to a connection. An answer that a message
-/// asks to be held is held, where there is room, and when it is due first it is sent.
+/// A Pong with Custody says that every request handled before its Ping was answered (RFC 8323 section 5.4.1): after any events what is
+/// held stands in the order of the messages that asked for it, and such a Pong is queued at once only where nothing is held, later only
+/// where it is the first that is held, and by nothing else that happens to a connection. An answer that a message asks to be held is
+/// held behind the others, where there is room, and when it is due first it is sent.
 pub fn custody_comes_last()
     ensures order { (c : ConfigValues) (events : List Event) (id : ℕ) (s : Side) → side_of id (world_after c events).sides ≡ Some s → StandFor s.history.handled s.history.held }
     ensures at_once { (store : StoreValue) (now : ℕ) (s : Side) (m : Message) → QueuesCustody s (side_after store now s m) → s.history.held ≡ [] }
     ensures later { (store : StoreValue) (now : ℕ) (s : Side) → QueuesCustody s (settled_once store now s) → (token : List ℕ) × IsFirstHeld s token }
-    ensures held { (store : StoreValue) (now : ℕ) (s : Side) (m : Message) (seconds : ℕ) → handles s ≡ true → asks_answer s m ≡ true → held_for (after_message s.history m) (answer_of store now m).hold ≡ Some seconds → (side_after store now s m).history ≡ after_hold (after_message s.history m) m.token (moment_after now seconds) }
+    ensures held { (store : StoreValue) (now : ℕ) (s : Side) (m : Message) (seconds : ℕ) → handles s ≡ true → asks_answer s m ≡ true → held_for (after_message s.history m) (answer_of store now m).hold ≡ Some seconds → (side_after store now s m).history.held ≡ s.history.held ++ Answer m.token (moment_after now seconds) ∷ [] }
     ensures sent { (store : StoreValue) (now : ℕ) (s : Side) (token : List ℕ) (moment : ℕ) → next_held now s ≡ Some (Answer token moment) → (settled_once store now s).history ≡ after_reply (after_due s.history now) (held_message token) }
     ensures faulted { (s : Side) (fault : StreamFault) → QueuesCustody s (side_faulted s fault) → ⊥ }
     ensures ended { (s : Side) (cut : Bool) → QueuesCustody s (side_ended s cut) → ⊥ }
@@ -102,16 +102,17 @@ pub fn custody_comes_last()
     ensures written { (s : Side) (n : ℕ) → QueuesCustody s (side_written s n) → ⊥ }
 {}
 
-/// What is held is lost by nothing: it stays, in its place and with more behind it, over each message, over a fault, the end of input,
-/// the own Release and what was written, and while observers are told, unless the connection stops; and where something held is due
-/// first and there is room, exactly this is held no more: an answer is sent as it fits the peer, a Pong is queued with Custody as it
-/// fits. So, by `custody_comes_last`, an answer that is held before a Pong with Custody is queued before it, unless the connection stops.
+/// What is held is lost by nothing: it stays in its place over each message, which adds at most one entry behind it that it asks for,
+/// over a fault, the end of input, the own Release and what was written, and while observers are told, unless the connection stops; and
+/// where something held is due first and there is room, exactly this is held no more: an answer is sent as it fits the peer, a Pong is
+/// queued with Custody as it fits. So, by `custody_comes_last`, an answer that is held before a Pong with Custody is queued before it,
+/// unless the connection stops.
 pub fn what_is_held_is_sent()
-    ensures message { (store : StoreValue) (now : ℕ) (s : Side) (m : Message) → KeepsHeld s (side_after store now s m) }
+    ensures message { (store : StoreValue) (now : ℕ) (s : Side) (m : Message) → KeepsHeldOver m s (side_after store now s m) }
     ensures faulted { (s : Side) (fault : StreamFault) → KeepsHeld s (side_faulted s fault) }
     ensures ended { (s : Side) (cut : Bool) → KeepsHeld s (side_ended s cut) }
     ensures released { (s : Side) → KeepsHeld s (side_released s) }
-    ensures written { (s : Side) (n : ℕ) → KeepsHeld s (side_written s n) }
+    ensures written { (s : Side) (n : ℕ) → (side_written s n).history.held ≡ s.history.held }
     ensures told { (store : StoreValue) (now : ℕ) (s : Side) → next_held now s ≡ None → KeepsHeld s (settled_once store now s) }
     ensures taken { (store : StoreValue) (now : ℕ) (s : Side) (e : HeldValue) → next_held now s ≡ Some e → answers s.history.phase ≡ true → (settled_once store now s).history.phase ≡ s.history.phase → (settled_once store now s).history.held ≡ without_due now s.history.held }
     ensures answer { (store : StoreValue) (now : ℕ) (s : Side) (token : List ℕ) (moment : ℕ) → next_held now s ≡ Some (Answer token moment) → answers s.history.phase ≡ true → (settled_once store now s).history.queued ≡ s.history.queued ++ (send (standing_due now (standing_now s.history)) (held_message token) (bare_response (held_message token))).queued }

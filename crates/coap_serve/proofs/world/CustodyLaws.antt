@@ -11,12 +11,14 @@ use Rattle.coap_wire.specs.Stream.{StreamFault}
 use Rattle.coap_wire.specs.Codes as code
 use Rattle.coap_wire.specs.OptionNumbers as numbers
 use Rattle.coap_conn.specs.SignalOptions as option
+use Rattle.coap_conn.specs.declared.phase.Phase.{Phase}
+use Rattle.coap_conn.specs.declared.phase.Phase.TheVariants as phase
 use Rattle.coap_conn.specs.declared.phase.Reject.{Reject}
 use Rattle.coap_conn.specs.declared.phase.Reply.{Reply}
 use Rattle.coap_conn.specs.declared.phase.Reply.TheVariants.{Whole, Bare, Stopped}
 use Rattle.coap_conn.specs.declared.reason.Reason.TheVariants.{ReleasedHere}
 use Rattle.coap_conn.specs.Limits.{LimitValues}
-use Rattle.coap_conn.specs.Phases.{takes_messages, answers, is_open}
+use Rattle.coap_conn.specs.Phases.{takes_messages, answers, is_open, is_waiting}
 use Rattle.coap_conn.specs.Verdicts.{VerdictValue, is_request}
 use Rattle.coap_conn.specs.Verdicts as verdict
 use Rattle.coap_conn.specs.Fit.{fit, bare_response}
@@ -347,7 +349,7 @@ message_stands h m stand = heard_stands h m (react (standing_now h) m).effect (t
 
 -- ---- a request whose answer is held
 
-asked_at_all : (h : History) (hold : Option ℕ) (seconds : ℕ) → held_for h hold ≡ Some seconds → hold ≡ Some seconds
+pub asked_at_all : (h : History) (hold : Option ℕ) (seconds : ℕ) → held_for h hold ≡ Some seconds → hold ≡ Some seconds
 asked_at_all h None seconds e = e
 asked_at_all h (Some n) seconds e = elim (may_hold h) as (λ b. cond b (Some n) None ≡ Some seconds → Some n ≡ Some seconds) [ true ↦ λ is. is | false ↦ λ is. absurd cc ] e
 
@@ -450,10 +452,54 @@ held_in_order c es id s there = kept_after c (λ s. Stands s.history) (stands_ke
 
 -- ---- what is held was asked for, and is sent when it is due
 
-pub held_when_asked : (store : StoreValue) (now : ℕ) (s : Side) (m : Message) (seconds : ℕ) → handles s ≡ true → asks_answer s m ≡ true → held_for (after_message s.history m) (answer_of store now m).hold ≡ Some seconds → (side_after store now s m).history ≡ after_hold (after_message s.history m) m.token (moment_after now seconds)
+held_at_all : (h : History) (hold : Option ℕ) (seconds : ℕ) → held_for h hold ≡ Some seconds → may_hold h ≡ true
+held_at_all h None seconds e = absurd cc
+held_at_all h (Some n) seconds e = elim (may_hold h) as (λ b. cond b (Some n) None ≡ Some seconds → b ≡ true) [ true ↦ λ is. refl | false ↦ λ is. absurd cc ] e
+
+-- a request leaves what is held as it is, and the connection open
+heard_held : (h : History) (m : Message) (e : Effect) (takes : Bool) → e.held ≡ h.held → (cond takes (record (with_effect h e) { handled = h.handled ++ m ∷ [] }) h).held ≡ h.held
+heard_held h m e true same = same
+heard_held h m e false same = refl
+
+pub asked_same : (s : Side) (m : Message) → asks_answer s m ≡ true → (after_message s.history m).held ≡ s.history.held
+asked_same s m asks =
+    let quiet = react_asks (standing_now s.history) m (said_request (react (standing_now s.history) m).verdict asks) in
+    heard_held s.history m (react (standing_now s.history) m).effect (takes_messages s.history.phase) quiet.kept
+
+heard_phase : (h : History) (m : Message) (e : Effect) (takes : Bool) → e.phase ≡ h.phase → (cond takes (record (with_effect h e) { handled = h.handled ++ m ∷ [] }) h).phase ≡ h.phase
+heard_phase h m e true same = same
+heard_phase h m e false same = refl
+
+open_at : (p : Phase) → takes_messages p ≡ true → is_waiting p ≡ false → is_open p ≡ true
+open_at phase.Waiting takes now = absurd cc
+open_at phase.Open takes now = refl
+open_at (phase.Releasing why) takes now = absurd cc
+open_at (phase.Stopped why) takes now = absurd cc
+
+asked_open : (s : Side) (m : Message) → takes_messages s.history.phase ≡ true → asks_answer s m ≡ true → is_open (after_message s.history m).phase ≡ true
+asked_open s m takes asks =
+    let quiet = react_asks (standing_now s.history) m (said_request (react (standing_now s.history) m).verdict asks) in
+    ap is_open (heard_phase s.history m (react (standing_now s.history) m).effect (takes_messages s.history.phase) quiet.same) ∙ open_at s.history.phase takes quiet.not_waiting
+
+-- so its answer is held behind what was
+held_after : (store : StoreValue) (now : ℕ) (s : Side) (m : Message) (seconds : ℕ) → handles s ≡ true → asks_answer s m ≡ true → held_for (after_message s.history m) (answer_of store now m).hold ≡ Some seconds → (side_after store now s m).history ≡ after_hold (after_message s.history m) m.token (moment_after now seconds)
 unfolding side_after
-held_when_asked store now s m seconds does asks is =
+held_after store now s m seconds does asks is =
     rw does (rw asks (ap (λ (o : Option ℕ). (side_replied store now (after_message s.history m) (without_token m.token s.observers) m o).history) is))
+
+held_behind : (h : History) (e : HeldValue) (does : Bool) → does ≡ true → (cond does (record h { held = h.held ++ e ∷ [] }) h).held ≡ h.held ++ e ∷ []
+held_behind h e true is = refl
+held_behind h e false is = absurd cc
+
+pub held_when_asked : (store : StoreValue) (now : ℕ) (s : Side) (m : Message) (seconds : ℕ) → handles s ≡ true → asks_answer s m ≡ true → held_for (after_message s.history m) (answer_of store now m).hold ≡ Some seconds → (side_after store now s m).history.held ≡ s.history.held ++ Answer m.token (moment_after now seconds) ∷ []
+held_when_asked store now s m seconds does asks is =
+    let h : History = after_message s.history m in
+    let e : HeldValue = Answer m.token (moment_after now seconds) in
+    let opens : is_open h.phase ≡ true = asked_open s m (and_parts (takes_messages s.history.phase) (has_room s) does).0 asks in
+    let room : may_hold h ≡ true = held_at_all h (answer_of store now m).hold seconds is in
+    ap (λ (k : History). k.held) (held_after store now s m seconds does asks is)
+    ∙ held_behind h e (is_open h.phase && may_hold h) (rw (opens, room) refl)
+    ∙ ap (λ (es : List HeldValue). es ++ e ∷ []) (asked_same s m asks)
 
 pub sent_when_due : (store : StoreValue) (now : ℕ) (s : Side) (token : List ℕ) (moment : ℕ) → next_held now s ≡ Some (Answer token moment) → (settled_once store now s).history ≡ after_reply (after_due s.history now) (held_message token)
 unfolding settled_once

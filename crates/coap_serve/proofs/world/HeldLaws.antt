@@ -1,8 +1,9 @@
 -- What is held stays held in its place over all that happens to a connection, unless it stops; and what is due first is held no more,
 -- and sent as it fits.
-use Rattle.std.proofs.Common.{◌≡◌, ◌⊎◌, ℕ, Bool, true, false, cond, List, [], ◌∷◌, ◌++◌, length, Option, Some, None, refl, sym, ap, subst, ◌∙◌, inl, inr}
+use Rattle.std.proofs.Common.{◌≡◌, ◌⊎◌, ℕ, Bool, true, false, cond, List, [], ◌∷◌, ◌++◌, length, Option, Some, None, refl, sym, ap, subst, ◌∙◌, arith, inl, inr}
 use Rattle.std.specs.Prelude.{is_none, nat_le, ◌&&◌}
 use Rattle.std.proofs.lemmas.List.{append-nil}
+use lib.Pointwise.{bytes_decides}
 use Rattle.coap_wire.specs.Message.{Message}
 use Rattle.coap_wire.specs.Stream.{StreamFault}
 use Rattle.coap_conn.specs.declared.phase.Phase.TheVariants.{Stopped}
@@ -19,134 +20,153 @@ use Rattle.coap_conn.specs.Held.{HeldValue, Answer, Pong, first_due, without_due
 use Rattle.coap_conn.specs.Reaction.{Standing, Effect, stay, stop, abort, send_as, send, react, due_effect, pong_with}
 use Rattle.coap_conn.specs.History.{History, limit_now, standing_now, with_effect, after_message, after_reply, after_reject, after_end, after_release, after_written, end_reason, release, may_hold, standing_due, after_due}
 use Rattle.coap_conn.specs.LinkValue.{link_of}
-use Rattle.coap_conn.proofs.HeldLaws.{react_does}
-use Rattle.coap_conn.proofs.RequestLemmas.{react_asks}
 use Rattle.coap_store.specs.Store.{StoreValue}
-use Rattle.coap_store.specs.Answer.{answer_of}
+use Rattle.coap_store.specs.Answer.{asks_late, answer_of}
+use Rattle.coap_store.proofs.HoldLaws.{held_of}
 use Rattle.coap_serve.specs.world.Observers.{Observer, without_token, notification, notification_message}
 use Rattle.coap_serve.specs.world.Sides.{Side, waiting_on, handles, with_history, moment_after, held_for, side_replied, asks_answer, side_handled, side_after, side_faulted, side_written, side_ended, side_released, next_due, notified, next_held, held_message, after_sent, settled_so, settled_once}
-use Rattle.coap_serve.specs.world.Custody.{KeepsHeld}
+use Rattle.coap_serve.specs.world.Custody.{asks_held, KeepsHeld, AddsAsked, KeepsHeldOver}
 use Rattle.coap_serve.proofs.world.SideLaws.{held_room}
-use Rattle.coap_serve.proofs.world.CustodyLaws.{said_request, sent_when_due}
+use Rattle.coap_serve.proofs.world.CustodyLaws.{asked_at_all, asked_same, sent_when_due}
+use Rattle.coap_serve.proofs.world.ToldMessages.{react_so}
 
--- ---- effects
+-- ---- what leaves what is held as it is
 
--- an effect leaves what is held, with more behind it, or it stops the connection
-abbrev Leaves : Standing → Effect → Type 0
-Leaves s e = ((more : List HeldValue) × (e.held ≡ s.held ++ more)) ⊎ ((why : Reason) × (e.phase ≡ Stopped why))
+-- what is held is the same, or the connection stopped
+abbrev Leaves : History → History → Type 0
+Leaves h k = (k.held ≡ h.held) ⊎ ((why : Reason) × (k.phase ≡ Stopped why))
 
-leaves_same : (s : Standing) (e : Effect) → e.held ≡ s.held → Leaves s e
-leaves_same s e same = inl ([], same ∙ sym (append-nil s.held))
+left_effect : (h : History) (e : Effect) (does : Bool) → (e.held ≡ h.held) ⊎ ((why : Reason) × (e.phase ≡ Stopped why)) → Leaves h (cond does (with_effect h e) h)
+left_effect h e true leaves = leaves
+left_effect h e false leaves = inl refl
 
-sent_leaves : (s : Standing) (m less : Message) (r : Reply) → Leaves s (send_as s m less r)
-sent_leaves s m less reply.Whole = leaves_same s (send_as s m less reply.Whole) refl
-sent_leaves s m less reply.Bare = leaves_same s (send_as s m less reply.Bare) refl
+sent_leaves : (s : Standing) (m less : Message) (r : Reply) → ((send_as s m less r).held ≡ s.held) ⊎ ((why : Reason) × ((send_as s m less r).phase ≡ Stopped why))
+sent_leaves s m less reply.Whole = inl refl
+sent_leaves s m less reply.Bare = inl refl
 sent_leaves s m less reply.Stopped = inr (PeerTooSmall, refl)
 
-react_leaves : (s : Standing) (m : Message) → Leaves s (react s m).effect
-react_leaves s = react_does s (Leaves s) (record {
-  stays = inl ([], sym (append-nil s.held));
-  opens = inl ([], sym (append-nil s.held));
-  releases = inl ([], sym (append-nil s.held));
-  stops = λ why farewell other. inr (why, refl);
-  queues = λ m may. inl ([], sym (append-nil s.held));
-  keeps = λ token room. inl (Pong token ∷ [], refl);
-})
+reply_leaves : (h : History) (m : Message) → Leaves h (after_reply h m)
+reply_leaves h m = left_effect h (send (standing_now h) m (bare_response m)) (answers h.phase) (sent_leaves (standing_now h) m (bare_response m) (fit (limit_now h) m (bare_response m)))
 
--- ---- histories
+reject_leaves : (h : History) (r : Reject) → Leaves h (after_reject h r)
+reject_leaves h r = left_effect h (abort (standing_now h) (reject_reason r)) (takes_messages h.phase) (inr (reject_reason r, refl))
 
--- the same of what happens to a history
-abbrev Kept : History → History → Type 0
-Kept h k = ((more : List HeldValue) × (k.held ≡ h.held ++ more)) ⊎ ((why : Reason) × (k.phase ≡ Stopped why))
+end_leaves : (h : History) (cut : Bool) → Leaves h (after_end h cut)
+end_leaves h cut = left_effect h (stop (standing_now h) (end_reason cut) []) (takes_messages h.phase) (inr (end_reason cut, refl))
 
-kept_self : (h : History) → Kept h h
-kept_self h = inl ([], sym (append-nil h.held))
+release_leaves : (h : History) → Leaves h (after_release h)
+release_leaves h = left_effect h (stop (standing_now h) ReleasedHere (release ∷ [])) (is_open h.phase) (inr (ReleasedHere, refl))
+
+-- so what is held stays
+left_kept : (s t : Side) → Leaves s.history t.history → KeepsHeld s t
+left_kept s t (inl same) = inl ([], same ∙ sym (append-nil s.history.held))
+left_kept s t (inr stopped) = inr stopped
+
+if_kept : (does : Bool) (s t : Side) → Leaves s.history t.history → KeepsHeld s (cond does t s)
+if_kept true s t leaves = left_kept s t leaves
+if_kept false s t leaves = left_kept s s (inl refl)
+
+-- ---- a message
+
+-- more is held, each of it asked for by a message
+abbrev Adds : Message → List HeldValue → List HeldValue → Type 0
+Adds m before after = (more : List HeldValue) × (after ≡ before ++ more) × AddsAsked m more
+
+adds_none : (m : Message) (before after : List HeldValue) → after ≡ before → Adds m before after
+adds_none m before after same = ([], same ∙ sym (append-nil before), record { few = omega arith; asked = tt })
+
+adds_one : (m : Message) (before : List HeldValue) (e : HeldValue) → asks_held m e ≡ true → Adds m before (before ++ e ∷ [])
+adds_one m before e asks = (e ∷ [], refl, record { few = omega arith; asked = (asks, tt) })
+
+abbrev Over : Message → History → History → Type 0
+Over m h k = Adds m h.held k.held ⊎ ((why : Reason) × (k.phase ≡ Stopped why))
+
+over_self : (m : Message) (h : History) → Over m h h
+over_self m h = inl (adds_none m h.held h.held refl)
+
+left_over : (m : Message) (h k : History) → Leaves h k → Over m h k
+left_over m h k (inl same) = inl (adds_none m h.held k.held same)
+left_over m h k (inr stopped) = inr stopped
 
 -- behind a history that holds the same
-kept_from : (h k g : History) → k.held ≡ h.held → Kept k g → Kept h g
-kept_from h k g same (inl kept) = inl (kept.0, kept.1 ∙ ap (λ (es : List HeldValue). es ++ kept.0) same)
-kept_from h k g same (inr stopped) = inr stopped
+over_from : (m : Message) (h k g : History) → k.held ≡ h.held → Over m k g → Over m h g
+over_from m h k g same = subst (λ (es : List HeldValue). Adds m es g.held ⊎ ((why : Reason) × (g.phase ≡ Stopped why))) same
 
-kept_effect : (h : History) (e : Effect) (does : Bool) → Leaves (standing_now h) e → Kept h (cond does (with_effect h e) h)
-kept_effect h e true leaves = leaves
-kept_effect h e false leaves = kept_self h
+-- a Ping with Custody asks for its Pong
+react_over : (s : Standing) (m : Message) → Adds m s.held (react s m).effect.held ⊎ ((why : Reason) × ((react s m).effect.phase ≡ Stopped why))
+react_over s m =
+    let still : Adds m s.held s.held = adds_none m s.held s.held refl in
+    react_so s m (λ e. Adds m s.held e.held ⊎ ((why : Reason) × (e.phase ≡ Stopped why))) (record {
+      stays = inl still;
+      stands = λ now. inl still;
+      stops = λ why farewell plain. inr (why, refl);
+      queues = λ n is. inl still;
+      keeps = λ ping custody. inl (adds_one m s.held (Pong m.token) (rw (ping, custody, (bytes_decides m.token m.token).1 refl) refl));
+    })
 
-reply_kept : (h : History) (m : Message) → Kept h (after_reply h m)
-reply_kept h m = kept_effect h (send (standing_now h) m (bare_response m)) (answers h.phase) (sent_leaves (standing_now h) m (bare_response m) (fit (limit_now h) m (bare_response m)))
+heard_over : (h : History) (m : Message) (e : Effect) (takes : Bool) → Adds m h.held e.held ⊎ ((why : Reason) × (e.phase ≡ Stopped why)) → Over m h (cond takes (record (with_effect h e) { handled = h.handled ++ m ∷ [] }) h)
+heard_over h m e true over = over
+heard_over h m e false over = over_self m h
 
-reject_kept : (h : History) (r : Reject) → Kept h (after_reject h r)
-reject_kept h r = kept_effect h (abort (standing_now h) (reject_reason r)) (takes_messages h.phase) (inr (reject_reason r, refl))
+message_over : (h : History) (m : Message) → Over m h (after_message h m)
+message_over h m = heard_over h m (react (standing_now h) m).effect (takes_messages h.phase) (react_over (standing_now h) m)
 
-end_kept : (h : History) (cut : Bool) → Kept h (after_end h cut)
-end_kept h cut = kept_effect h (stop (standing_now h) (end_reason cut) []) (takes_messages h.phase) (inr (end_reason cut, refl))
+-- a request that is answered late asks for its answer
+hold_over : (m : Message) (h : History) (moment : ℕ) (does : Bool) → asks_late m ≡ true → Over m h (cond does (record h { held = h.held ++ Answer m.token moment ∷ [] }) h)
+hold_over m h moment true late = inl (adds_one m h.held (Answer m.token moment) (rw (late, (bytes_decides m.token m.token).1 refl) refl))
+hold_over m h moment false late = over_self m h
 
-release_kept : (h : History) → Kept h (after_release h)
-release_kept h = kept_effect h (stop (standing_now h) ReleasedHere (release ∷ [])) (is_open h.phase) (inr (ReleasedHere, refl))
+replied_over : (store : StoreValue) (now : ℕ) (h : History) (others : List Observer) (m : Message) (hold : Option ℕ) → ((seconds : ℕ) → hold ≡ Some seconds → asks_late m ≡ true) → Over m h (side_replied store now h others m hold).history
+replied_over store now h others m None late = left_over m h (side_replied store now h others m None).history (reply_leaves h _)
+replied_over store now h others m (Some seconds) late = hold_over m h (moment_after now seconds) (is_open h.phase && may_hold h) (late seconds refl)
 
--- an answer more is held
-hold_kept : (h : History) (e : HeldValue) (does : Bool) → Kept h (cond does (record h { held = h.held ++ e ∷ [] }) h)
-hold_kept h e true = inl (e ∷ [], refl)
-hold_kept h e false = kept_self h
-
-heard_kept : (h : History) (m : Message) (e : Effect) (takes : Bool) → Leaves (standing_now h) e → Kept h (cond takes (record (with_effect h e) { handled = h.handled ++ m ∷ [] }) h)
-heard_kept h m e true leaves = leaves
-heard_kept h m e false leaves = kept_self h
-
-message_kept : (h : History) (m : Message) → Kept h (after_message h m)
-message_kept h m = heard_kept h m (react (standing_now h) m).effect (takes_messages h.phase) (react_leaves (standing_now h) m)
-
--- a request leaves what is held as it is
-heard_same : (h : History) (m : Message) (e : Effect) (takes : Bool) → e.held ≡ h.held → (cond takes (record (with_effect h e) { handled = h.handled ++ m ∷ [] }) h).held ≡ h.held
-heard_same h m e true same = same
-heard_same h m e false same = refl
-
-asked_same : (s : Side) (m : Message) → asks_answer s m ≡ true → (after_message s.history m).held ≡ s.history.held
-asked_same s m asks =
-    let quiet = react_asks (standing_now s.history) m (said_request (react (standing_now s.history) m).verdict asks) in
-    heard_same s.history m (react (standing_now s.history) m).effect (takes_messages s.history.phase) quiet.kept
-
--- ---- connections
-
-if_kept : (does : Bool) (s t : Side) → (does ≡ true → KeepsHeld s t) → KeepsHeld s (cond does t s)
-if_kept true s t go = go refl
-if_kept false s t go = kept_self s.history
-
-replied_kept : (store : StoreValue) (now : ℕ) (h : History) (others : List Observer) (m : Message) (hold : Option ℕ) → Kept h (side_replied store now h others m hold).history
-replied_kept store now h others m None = reply_kept h _
-replied_kept store now h others m (Some seconds) = hold_kept h (Answer m.token (moment_after now seconds)) (is_open h.phase && may_hold h)
-
-handled_by_kept : (store : StoreValue) (now : ℕ) (s : Side) (m : Message) (hold : Option ℕ) (asks : Bool) → asks_answer s m ≡ asks
-    → KeepsHeld s (cond asks (side_replied store now (after_message s.history m) (without_token m.token s.observers) m hold) (with_history s (after_message s.history m)))
-handled_by_kept store now s m hold true asks =
+handled_by_over : (store : StoreValue) (now : ℕ) (s : Side) (m : Message) (hold : Option ℕ) (asks : Bool) → asks_answer s m ≡ asks → ((seconds : ℕ) → hold ≡ Some seconds → asks_late m ≡ true)
+    → KeepsHeldOver m s (cond asks (side_replied store now (after_message s.history m) (without_token m.token s.observers) m hold) (with_history s (after_message s.history m)))
+handled_by_over store now s m hold true asks late =
     let h : History = after_message s.history m in
     let others : List Observer = without_token m.token s.observers in
-    kept_from s.history h (side_replied store now h others m hold).history (asked_same s m asks) (replied_kept store now h others m hold)
-handled_by_kept store now s m hold false asks = message_kept s.history m
+    over_from m s.history h (side_replied store now h others m hold).history (asked_same s m asks) (replied_over store now h others m hold late)
+handled_by_over store now s m hold false asks late = message_over s.history m
 
-pub message_keeps : (store : StoreValue) (now : ℕ) (s : Side) (m : Message) → KeepsHeld s (side_after store now s m)
+handled_over : (store : StoreValue) (now : ℕ) (s : Side) (m : Message) → KeepsHeldOver m s (side_handled store now s m)
+handled_over store now s m =
+    let h : History = after_message s.history m in
+    let hold : Option ℕ = (answer_of store now m).hold in
+    handled_by_over store now s m (held_for h hold) (asks_answer s m) refl (λ seconds is. (held_of store now m seconds (asked_at_all h hold seconds is)).asked)
+
+if_over : (m : Message) (does : Bool) (s t : Side) → KeepsHeldOver m s t → KeepsHeldOver m s (cond does t s)
+if_over m true s t over = over
+if_over m false s t over = over_self m s.history
+
+pub message_keeps : (store : StoreValue) (now : ℕ) (s : Side) (m : Message) → KeepsHeldOver m s (side_after store now s m)
 unfolding side_after
-message_keeps store now s m =
-    if_kept (handles s) s (side_handled store now s m) (λ does. handled_by_kept store now s m (held_for (after_message s.history m) (answer_of store now m).hold) (asks_answer s m) refl)
+message_keeps store now s m = if_over m (handles s) s (side_handled store now s m) (handled_over store now s m)
+
+-- ---- all else that happens
 
 pub faulted_keeps : (s : Side) (fault : StreamFault) → KeepsHeld s (side_faulted s fault)
 unfolding side_faulted
-faulted_keeps s fault = if_kept (handles s) s (with_history s (after_reject s.history (reject_of fault))) (λ does. reject_kept s.history (reject_of fault))
+faulted_keeps s fault = if_kept (handles s) s (with_history s (after_reject s.history (reject_of fault))) (reject_leaves s.history (reject_of fault))
 
 pub ended_keeps : (s : Side) (cut : Bool) → KeepsHeld s (side_ended s cut)
 unfolding side_ended
-ended_keeps s cut = end_kept s.history cut
+ended_keeps s cut = left_kept s (with_history s (after_end s.history cut)) (end_leaves s.history cut)
 
 pub released_keeps : (s : Side) → KeepsHeld s (side_released s)
 unfolding side_released
-released_keeps s = if_kept (is_none (release_refusal (link_of s.history))) s (with_history s (after_release s.history)) (λ does. release_kept s.history)
+released_keeps s = if_kept (is_none (release_refusal (link_of s.history))) s (with_history s (after_release s.history)) (release_leaves s.history)
 
-pub written_keeps : (s : Side) (n : ℕ) → KeepsHeld s (side_written s n)
+if_same : (does : Bool) (s t : Side) → t.history.held ≡ s.history.held → (cond does t s).history.held ≡ s.history.held
+if_same true s t same = same
+if_same false s t same = refl
+
+pub written_same : (s : Side) (n : ℕ) → (side_written s n).history.held ≡ s.history.held
 unfolding side_written
-written_keeps s n = if_kept (nat_le n (length (waiting_on s))) s (record s { history = after_written s.history n }) (λ does. kept_self s.history)
+written_same s n = if_same (nat_le n (length (waiting_on s))) s (record s { history = after_written s.history n }) refl
 
 notified_kept : (store : StoreValue) (now : ℕ) (s : Side) (found : Option Observer) → KeepsHeld s (notified store now s found)
-notified_kept store now s None = kept_self s.history
-notified_kept store now s (Some o) = reply_kept s.history (notification_message o.token (notification store now o))
+notified_kept store now s None = left_kept s s (inl refl)
+notified_kept store now s (Some o) = left_kept s (notified store now s (Some o)) (reply_leaves s.history (notification_message o.token (notification store now o)))
 
 -- where nothing that is held is due, an observer is told
 pub told_keeps : (store : StoreValue) (now : ℕ) (s : Side) → next_held now s ≡ None → KeepsHeld s (settled_once store now s)

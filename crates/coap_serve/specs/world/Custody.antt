@@ -1,7 +1,7 @@
 -- What a connection holds, seen in all that was handled and queued on it: a Pong with Custody tells that every request before its
 -- Ping was answered (RFC 8323 section 5.4.1).
-use Rattle.std.specs.Prelude.{◌≡◌, ◌⊎◌, ℕ, Bool, true, ◌&&◌, List, [], ◌∷◌, ◌++◌, ◌==◌}
-use Rattle.std.specs.List.{list_any}
+use Rattle.std.specs.Prelude.{◌≡◌, ◌≤◌, ◌⊎◌, ℕ, Bool, true, ◌&&◌, List, [], ◌∷◌, ◌++◌, length, ◌==◌}
+use Rattle.std.specs.List.{AllByRecursion, list_any}
 use Rattle.coap_wire.specs.Message.{Message}
 use Rattle.coap_wire.specs.Codes as code
 use Rattle.coap_conn.specs.declared.reason.Reason.{Reason}
@@ -37,3 +37,11 @@ pub record IsFirstHeld (s : Side) (token : List ℕ) : Type 0 where
 -- what was held stays held, in its place and with more behind it, unless the connection stopped
 abbrev pub KeepsHeld : Side → Side → Type 0
 KeepsHeld before after = ((more : List HeldValue) × (after.history.held ≡ before.history.held ++ more)) ⊎ ((why : Reason) × (after.history.phase ≡ Stopped why))
+
+-- the same over a message, which adds at most one that it asks for
+pub record AddsAsked (m : Message) (more : List HeldValue) : Type 0 where
+  pub few : length more ≤ 1
+  pub asked : AllByRecursion (λ e. asks_held m e ≡ true) more
+
+abbrev pub KeepsHeldOver : Message → Side → Side → Type 0
+KeepsHeldOver m before after = ((more : List HeldValue) × (after.history.held ≡ before.history.held ++ more) × AddsAsked m more) ⊎ ((why : Reason) × (after.history.phase ≡ Stopped why))

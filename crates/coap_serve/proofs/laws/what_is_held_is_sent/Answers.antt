@@ -1,4 +1,4 @@
-use Rattle.coap_serve.proofs.world.HeldLaws.{message_keeps, faulted_keeps, ended_keeps, released_keeps, written_keeps, told_keeps, taken_out, answer_sent, pong_sent}
+use Rattle.coap_serve.proofs.world.HeldLaws.{message_keeps, faulted_keeps, ended_keeps, released_keeps, written_same, told_keeps, taken_out, answer_sent, pong_sent}
 use Rattle.coap_serve.proofs.laws.what_is_held_is_sent.Goals as goal
 
 pub returns-clause-message : goal.returns-clause-message
@@ -14,7 +14,7 @@ pub returns-clause-released : goal.returns-clause-released
 returns-clause-released c = released_keeps
 
 pub returns-clause-written : goal.returns-clause-written
-returns-clause-written c = written_keeps
+returns-clause-written c = written_same
 
 pub returns-clause-told : goal.returns-clause-told
 returns-clause-told c = told_keeps
