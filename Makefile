@@ -3,13 +3,13 @@
 
 .PHONY: all run test try clean
 
-# Proves every crate and builds the program.
-all: bin/coap-server
+# Proves every crate and builds the programs.
+all: bin/coap-server bin/coap-client
 
 SOURCES := $(shell find crates -name out -prune -o -type f -print) crates.txt
 
-bin/coap-server: $(SOURCES)
-	tests/build coap_server
+bin/coap-server bin/coap-client &: $(SOURCES)
+	tests/build coap_server coap_client_main
 
 # Runs the main job on a short recorded stream, and tells what each message means.
 run: bin/coap-server

@@ -1,9 +1,8 @@
 """Counts what the built programs allocate, by valgrind: what no contract sees.
 
-    tests/memory.py bin/coap-server bin/coap-probe
+    tests/memory.py bin/coap-server
 
-`coap-probe` serves standard streams as `coap-server --stdio` does, replays scripts as `coap-server --script -` does, and stores
-up to 1,000 resources. No message but one that stores a representation allocates anything; a replacing PUT allocates the room of
+No message but one that stores a representation allocates anything; a replacing PUT allocates the room of
 its bytes alone; nothing is lost.
 
 Of a script, its events and the lines that need memory are allocated too. So two scripts are compared that are read alike and
@@ -82,10 +81,10 @@ def flat(checks, command, before, kind):
     checks.same("allocations of %s, 3,000 times and 1,000" % name, many, few)
 
 
-def replacing(checks, probe):
+def replacing(checks, storing):
     """Each replacing PUT allocates once."""
     counts = [
-        counted(checks, "%d PUTs" % (2 * pairs), [probe], "00e1" + STORED[0] + REPLACING[0] * pairs, STORED[1] + REPLACING[1] * pairs)
+        counted(checks, "%d PUTs" % (2 * pairs), storing + ["--stdio"], "00e1" + STORED[0] + REPLACING[0] * pairs, STORED[1] + REPLACING[1] * pairs)
         for pairs in (0, 500, 1000, 1500)
     ]
     first, second, third = (after - before for before, after in zip(counts, counts[1:]))
@@ -150,22 +149,22 @@ def changes(word, times):
     return "put /a - 79\n" * times, "".join("put %d\n" % it for it in range(2, times + 2))
 
 
-def telling(checks, probe, word, request):
+def telling(checks, storing, word, request):
     """What changes is told an observer without any allocation."""
     for times in (1000, 3000):
         told, untold = (
-            replayed(checks, "%d times %s, observed on %d" % (times, word, on), [probe, "--script"], STORED_BEFORE, OPENED, arriving(on, request, 1), changes(word, times))
+            replayed(checks, "%d times %s, observed on %d" % (times, word, on), storing + ["--script", "-"], STORED_BEFORE, OPENED, arriving(on, request, 1), changes(word, times))
             for on in (1, 7)
         )
         checks.same("allocations of telling %d times %s" % (times, word), told, untold)
 
 
-def putting(checks, server, probe):
+def putting(checks, server, storing):
     """What the program itself puts allocates once, its bytes: the server refuses the same script, since nothing may be stored."""
 
     def more(times):
         text, lines = changes("put", times)
-        put = replayed(checks, "%d puts" % times, [probe, "--script"], STORED_BEFORE, (text, lines))
+        put = replayed(checks, "%d puts" % times, storing + ["--script", "-"], STORED_BEFORE, (text, lines))
         refused = replayed(checks, "%d refused puts" % times, [server, "--script", "-"], ("put /a - 78\n", "put fault 3\n"), (text, "put fault 3\n" * times))
         return put - refused
 
@@ -173,7 +172,7 @@ def putting(checks, server, probe):
 
 
 def main(programs):
-    server, probe = programs
+    server, storing = programs[0], [programs[0], "-d", "1000"]
     checks = Checks()
     if not install(PACKAGES):
         print("FAILED memory: valgrind cannot be installed")
@@ -181,16 +180,16 @@ def main(programs):
     for kind in KINDS:
         flat(checks, [server, "--stdio"], ("", ""), kind)
     for kind in STORED_KINDS:
-        flat(checks, [probe], STORED, kind)
-    replacing(checks, probe)
+        flat(checks, storing + ["--stdio"], STORED, kind)
+    replacing(checks, storing)
     for kind in KINDS:
         scripted(checks, [server, "--script", "-"], ("", ""), kind)
     for kind in STORED_KINDS:
-        scripted(checks, [probe, "--script"], STORED_BEFORE, kind)
+        scripted(checks, storing + ["--script", "-"], STORED_BEFORE, kind)
     drained(checks, [server, "--script", "-"])
     for word, request in OBSERVING:
-        telling(checks, probe, word, request)
-    putting(checks, server, probe)
+        telling(checks, storing, word, request)
+    putting(checks, server, storing)
     print("memory: %d passed, %d failed" % (checks.passed, checks.failed))
     return 1 if checks.failed else 0
 

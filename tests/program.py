@@ -1,4 +1,7 @@
-"""Runs the built program from outside: its words, its bytes, its fault lines and its statuses."""
+"""Runs the built programs from outside: their words, their bytes, their fault lines and their statuses.
+
+    tests/program.py bin/coap-server bin/coap-client
+"""
 
 import os
 import subprocess
@@ -128,10 +131,48 @@ BAD_SCRIPTS = [
     ("open\n" * 1000 + "é\n", 1001),
 ]
 
-# words that are not understood
-OTHER_WORDS = [
-    [], ["--stdio", "--stdio"], ["--script"], ["--stdio=1"], ["-"], ["stdio"], [""],
-    ["--script", "-", "-"], ["--script", "-", "--stdio"], ["--stdio", "--script", "-"], ["--script=-"], ["-", "--script"], ["--script", "-", ""],
+# the words of coap-server and of coap-client, the status, and what is told behind the program's name; None is a text of clap's
+SERVER_WORDS = [
+    (["--stdio", "--stdio"], 1, None), (["--script"], 1, None), (["--stdio=1"], 1, None), (["-"], 1, None), (["stdio"], 1, None), ([""], 1, None),
+    (["--script", "-", "-"], 1, None), (["-", "--script"], 1, None), (["-x"], 1, None), (["--stdio", "--Queue", "70000"], 1, None), (["-d"], 1, None),
+    (["--script", "-", "--stdio"], 1, "options exclude each other"), (["--stdio", "--script", "-"], 1, "options exclude each other"),
+    (["-A", "localhost", "--stdio"], 1, "bad value for -A"), (["-A", "1.2.3", "--stdio"], 1, "bad value for -A"), (["-A", "::1::"], 1, "bad value for -A"),
+    (["-p", "0"], 1, "bad value for -p"), (["-p", "65536"], 1, "bad value for -p"), (["-p", "+1"], 1, "bad value for -p"), (["-p", ""], 1, "bad value for -p"),
+    (["-d", "1001", "--stdio"], 1, "bad value for -d"), (["-d", "a"], 1, "bad value for -d"),
+    (["--max-message", "1151"], 1, "bad value for --max-message"), (["--max-message", "1048577"], 1, "bad value for --max-message"),
+    (["--max-sent", "1151"], 1, "bad value for --max-sent"), (["--max-sent", "65537"], 1, "bad value for --max-sent"),
+    (["--queue", "65535"], 1, "bad value for --queue"), (["--queue", "4194305"], 1, "bad value for --queue"),
+    (["--max-sent", "1152", "--queue", "1151"], 1, "bad value for --queue"),
+    (["--pending", "257"], 1, "bad value for --pending"), (["--observers", "257"], 1, "bad value for --observers"),
+    (["--connections", "0"], 1, "bad value for --connections"), (["--connections", "257"], 1, "bad value for --connections"),
+    (["--turns", "0"], 1, "bad value for --turns"), (["--turns", "1000000000001"], 1, "bad value for --turns"),
+    (["--turns", "0", "-p", "0", "--script", "-", "--stdio"], 1, "bad value for -p"),
+    (["--queue", "1000", "--stdio"], 1, "bad value for --queue"),
+    ([], 3, "cannot listen"), (["-A", "::1", "-p", "0005683"], 3, "cannot listen"), (["-A", "127.0.0.1", "--turns", "1"], 3, "cannot listen"),
+]
+
+CLIENT_WORDS = [
+    (["x"], 1, "bad target 1"), (["coap://h/"], 1, "bad target 2"), (["coap+tcp:///"], 1, "bad target 3"), (["coap+tcp://u@h/"], 1, "bad target 4"),
+    (["coap+tcp://h/#f"], 1, "bad target 5"), (["coap+tcp://h/" + "a" * 256], 1, "bad target 6"), (["coap+tcp://h" + "/a" * 17], 1, "bad target 7"),
+    ([], 1, None), (["coap+tcp://h/", "coap+tcp://h/"], 1, None), (["-x", "coap+tcp://h/"], 1, None), (["-O", "1,a", "-O", "2,b", "coap+tcp://h/"], 1, None),
+    (["-m", "GET", "coap+tcp://h/"], 1, "bad value for -m"), (["-B", "0", "coap+tcp://h/"], 1, "bad value for -B"),
+    (["-B", "4294967296", "coap+tcp://h/"], 1, "bad value for -B"), (["-s", "4294967296", "coap+tcp://h/"], 1, "bad value for -s"),
+    (["-t", "65536", "coap+tcp://h/"], 1, "bad value for -t"), (["-A", "json", "coap+tcp://h/"], 1, "bad value for -A"),
+    (["-O", "1", "coap+tcp://h/"], 1, "bad value for -O"), (["-O", "65536,a", "coap+tcp://h/"], 1, "bad value for -O"),
+    (["-O", "1,0x0", "coap+tcp://h/"], 1, "bad value for -O"), (["-O", "1," + "a" * 1035, "coap+tcp://h/"], 1, "bad value for -O"),
+    (["-s", "1", "-m", "put", "coap+tcp://h/"], 1, "options exclude each other"), (["-e", "x", "-f", "y", "coap+tcp://h/"], 1, "options exclude each other"),
+    (["-e", "x", "-f", "y", "-B", "0", "coap+tcp://h/"], 1, "bad value for -B"), (["-B", "0", "coap://h/"], 1, "bad target 2"),
+    (["-f", "/nothing/here", "-m", "put", "coap+tcp://h/"], 3, "cannot open /nothing/here"), (["-f", "/", "coap+tcp://h/"], 3, "cannot read"),
+    (["-o", "/nothing/here", "coap+tcp://h/"], 3, "cannot open /nothing/here"), (["-f", "/dev/zero", "coap+tcp://h/"], 1, "bad value for -f"),
+    (["coap+tcp://127.0.0.1/"], 3, "cannot connect"), (["-f", "-", "-m", "put", "-t", "application/cbor", "coap+tcp://[::1]/a"], 3, "cannot connect"),
+]
+
+# the words before --stdio, what is sent, and what is answered behind the own Capabilities and Settings
+STDIO_WORDS = [
+    (["--max-message", "1152"], "00e1", "30e1220480", ""),
+    (["-d", "1"], "00e1410301b161ff78210102b161", CSM, "0141014145024101ff78"),
+    (["--pending", "0"], "00e1610105b56173796e63", CSM, "01a305"),
+    (["--observers", "0", "-d", "1"], "00e1410301b161ff78310102605161", CSM, "0141014145024101ff78"),
 ]
 
 
@@ -171,6 +212,15 @@ def check_scripts(program, checks):
     checks.same("script with a closed pipe", (done.returncode, done.stderr), (3, b"coap-server: cannot write\n"))
 
 
+def check_words(program, name, rows, checks):
+    """What words come to that ask for nothing that the program does."""
+    for words, status, told in rows:
+        done = run(program, words, b"open\n")
+        # clap's own text is some lines, whatever they say
+        wanted = (done.stderr or None) if told is None else b"%s: %s\n" % (name.encode(), told.encode())
+        checks.same("%s %r" % (name, words), (done.returncode, done.stdout, done.stderr), (status, b"", wanted))
+
+
 def main(words):
     program = os.path.abspath(words[0])
     checks = Checks()
@@ -179,9 +229,13 @@ def main(words):
         checks.same("bytes for %r" % sent, done.stdout.hex(), CSM + answered)
         checks.same("status for %r" % sent, (done.returncode, done.stderr), (0, b""))
     check_scripts(program, checks)
-    for other in OTHER_WORDS:
-        done = run(program, other, b"open\n")
-        checks.same("other words %r" % other, (done.returncode, done.stdout, done.stderr), (1, b"", b""))
+    check_words(program, "coap-server", SERVER_WORDS, checks)
+    check_words(os.path.abspath(words[1]), "coap-client", CLIENT_WORDS, checks)
+    for said, sent, greeting, answered in STDIO_WORDS:
+        done = run(program, said + ["--stdio"], bytes.fromhex(sent))
+        checks.same("bytes for %r" % said, (done.returncode, done.stdout.hex()), (0, greeting + answered))
+    done = run(program, ["--turns", "1", "--stdio"], bytes.fromhex("00e1"))
+    checks.same("too many turns", (done.returncode, done.stderr), (3, b"coap-server: too many turns\n"))
     with open("/dev/full", "wb") as full:
         done = run(program, ["--stdio"], stdout=full)
         checks.same("writing fails", (done.returncode, done.stderr), (3, b"coap-server: cannot write\n"))

@@ -1,6 +1,6 @@
 -- What is due comes first, and a Pong with Custody waits for what is held.
 use Rattle.std.proofs.Common.{◌≡◌, ℕ, zero, suc, ◌+◌, ◌<◌, ◌≤◌, Bool, true, false, cond, ◌&&◌, ◌==◌, List, [], ◌∷◌, ◌++◌, length, get_or, take, drop, min, Option, Some, None, refl, sym, ap, subst, ◌∙◌, arith, inl, inr}
-use Rattle.std.specs.Prelude.{slice_get, nat_le, nat_lt, option_map}
+use Rattle.std.specs.Prelude.{slice_get, nat_le, nat_lt, option_map, not, filter, find}
 use Rattle.std.specs.List.{AllByRecursion, list_any, filter_map, cons_option, fold, reduce, position, position_from, remove}
 use Rattle.std.proofs.lemmas.Bool.{cond_both, cases_lt, leb-true, ltb-true, ltb-false, eqb-true, eq-eqb, or_cases}
 use Rattle.std.proofs.lemmas.List.{append-nil, length-append}
@@ -22,7 +22,8 @@ use Rattle.coap_conn.specs.Phases.{stop_of, is_waiting}
 use Rattle.coap_conn.specs.Reasons.{abort_text, number_told, abort_options, abort_with, abort_of}
 use Rattle.coap_conn.specs.Announced.{has_critical_option, bad_csm_option}
 use Rattle.coap_conn.specs.Fit.{fit, fitted, abort_fitted, bare_response, without_options, without_payload}
-use Rattle.coap_conn.specs.Reaction.{Standing, Effect, Reaction, stay, stop, abort, send_as, holds, ping_reaction, csm_reaction, request_reaction, open_reaction, live_reaction, reaction_unless, react, is_reserved, is_signal, is_method, minds_critical_options, asks_custody, pong_with, pong_of, is_custody_pong, not_implemented}
+use Rattle.coap_conn.specs.Outstanding.{OutstandingValue, is_asked, is_last, is_pinged, without_asked, without_pinged}
+use Rattle.coap_conn.specs.Reaction.{Standing, Effect, Reaction, stay, stop, abort, send_as, holds, ping_reaction, pong_reaction, csm_reaction, request_reaction, answered, open_reaction, live_reaction, reaction_unless, react, is_reserved, is_signal, is_method, minds_critical_options, asks_custody, pong_with, pong_of, is_custody_pong, not_implemented}
 use Rattle.coap_conn.specs.Held.{HeldValue, Answer, Pong, come, least_come, is_answer_at, answer_index, pong_index, else_index, due_index, held_at, without_at, first_due, without_due, HoldsNothingDue, IsDueFirst}
 
 -- ---- what is made of the moments
@@ -231,10 +232,11 @@ MayQueue s m = is_custody_pong m ≡ true → s.held ≡ []
 pub record EffectCases (s : Standing) (P : Effect → Type 0) : Type 0 where
   pub stays : P (stay s)
   pub opens : P (record (stay s) { phase = phase.Open })
-  pub releases : P (record (stay s) { phase = phase.Releasing reason.PeerRelease })
+  pub releases : P (record (stay s) { phase = phase.Releasing reason.PeerRelease; outstanding = [] })
   pub stops : (why : Reason) (farewell : List Message) → list_any is_custody_pong farewell ≡ false → P (stop s why farewell)
   pub queues : (m : Message) → MayQueue s m → P (record (stay s) { queued = m ∷ [] })
   pub keeps : (token : List ℕ) → length s.held < s.most → P (holds s (Pong token)).effect
+  pub ends : (rest : List OutstandingValue) → length rest ≤ length s.outstanding → P (record (stay s) { outstanding = rest })
 
 -- the same of a reaction
 abbrev Does : (Effect → Type 0) → Reaction → Type 0
@@ -290,14 +292,31 @@ ping_does s P cases m =
     (λ f. sends_does s P cases late late (fit s.limit late late) (no_custody s late refl) (no_custody s late refl)))
     (λ e. sends_does s P cases (pong_of m) (without_options (pong_of m)) (fit s.limit (pong_of m) (without_options (pong_of m))) (pong_may s (asks_custody m) m.token e) (no_custody s (without_options (pong_of m)) refl))
 
+fewer_left : (p : OutstandingValue → Bool) (entries : List OutstandingValue) → length (filter p entries) ≤ length entries
+fewer_left p [] = omega arith
+fewer_left p (e ∷ entries) =
+    let fewer = fewer_left p entries in
+    cond_both (p e) (e ∷ filter p entries) (filter p entries) (λ l. length l ≤ length (e ∷ entries)) (λ f. omega (arith, fewer)) (λ f. omega (arith, fewer))
+
+answered_does : (s : Standing) (P : Effect → Type 0) → EffectCases s P → (m : Message) (e : Option OutstandingValue) → Does P (answered s m e)
+answered_does s P cases m None = cases.stays
+answered_does s P cases m (Some e) =
+    cond_both (is_last m e) _ _ (Does P) (λ f. cases.ends (without_asked m.token s.outstanding) (fewer_left (λ e. not (is_asked m.token e)) s.outstanding)) (λ f. cases.stays)
+
+pong_does : (s : Standing) (P : Effect → Type 0) → EffectCases s P → (m : Message) → Does P (pong_reaction s m)
+pong_does s P cases m =
+    cond_both (list_any (is_pinged m.token) s.outstanding) _ _ (Does P)
+    (λ f. cases.ends (without_pinged m.token s.outstanding) (fewer_left (λ e. not (is_pinged m.token e)) s.outstanding)) (λ f. cases.stays)
+
 open_does : (s : Standing) (P : Effect → Type 0) → EffectCases s P → (m : Message) → Does P (open_reaction s m)
 open_does s P cases m =
     cond_both (minds_critical_options m.code && has_critical_option m) _ _ (Does P) (λ e. aborts_does s P cases reason.BadSignalOption)
     (λ e. cond_both (m.code == code.ping) _ _ (Does P) (λ e. ping_does s P cases m)
     (λ e. cond_both (m.code == code.release) _ _ (Does P) (λ e. cases.releases)
-    (λ e. cond_both (m.code == code.pong) _ _ (Does P) (λ e. cases.stays)
+    (λ e. cond_both (m.code == code.pong) _ _ (Does P) (λ e. pong_does s P cases m)
     (λ e. cond_both (is_signal m.code) _ _ (Does P) (λ e. cases.stays)
-    (λ e. cond_both (is_method m.code) _ _ (Does P) (λ e. request_does s P cases m s.role) (λ e. cases.stays))))))
+    (λ e. cond_both (is_method m.code) _ _ (Does P) (λ e. request_does s P cases m s.role)
+    (λ e. answered_does s P cases m (find (is_asked m.token) s.outstanding)))))))
 
 live_does : (s : Standing) (P : Effect → Type 0) → EffectCases s P → (m : Message) → Does P (live_reaction s m)
 unfolding live_reaction
@@ -330,6 +349,7 @@ custody_at_once s = react_does s (λ e. list_any is_custody_pong e.queued ≡ tr
   stops = λ why farewell other is. absurd cc;
   queues = λ m may is. may (custody_only m is);
   keeps = λ token room is. absurd cc;
+  ends = λ rest fewer is. absurd cc;
 })
 
 pub held_few : (s : Standing) (m : Message) → length s.held ≤ s.most → length (react s m).effect.held ≤ s.most
@@ -340,6 +360,7 @@ held_few s m few = react_does s (λ e. length e.held ≤ s.most) (record {
   stops = λ why farewell other. omega arith;
   queues = λ m may. few;
   keeps = λ token room. omega (arith, room, length-append s.held (Pong token ∷ []));
+  ends = λ rest fewer. few;
 }) m
 
 -- what is held stays, and more may come behind it
@@ -354,6 +375,7 @@ held_more s m = react_does s (λ e. stop_of e.phase ≡ None → Keeps s e) (rec
   stops = λ why farewell other live. absurd cc;
   queues = λ m may live. ([], sym (append-nil s.held));
   keeps = λ token room live. (Pong token ∷ [], refl);
+  ends = λ rest fewer live. ([], sym (append-nil s.held));
 }) m
 
 open_not_released : (p : Phase) (why : Reason) → p ≡ phase.Open → p ≡ phase.Releasing why → ⊥
@@ -368,6 +390,7 @@ held_released s m why opened = react_does s (λ e. e.phase ≡ phase.Releasing w
   stops = λ because farewell other is. absurd cc;
   queues = λ m may is. refl;
   keeps = λ token room is. absurd (open_not_released s.phase why opened is);
+  ends = λ rest fewer is. refl;
 }) m
 
 live_not_stopped : (p : Phase) (why : Reason) → stop_of p ≡ None → p ≡ phase.Stopped why → ⊥
@@ -382,4 +405,5 @@ held_given_up s m why live = react_does s (λ e. e.phase ≡ phase.Stopped why �
   stops = λ because farewell other is. refl;
   queues = λ m may is. absurd (live_not_stopped s.phase why live is);
   keeps = λ token room is. absurd (live_not_stopped s.phase why live is);
+  ends = λ rest fewer is. absurd (live_not_stopped s.phase why live is);
 }) m

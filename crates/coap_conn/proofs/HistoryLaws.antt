@@ -1,7 +1,7 @@
 -- What was announced last counts, and whatever is queued fits.
 use Rattle.std.proofs.Common.{◌≡◌, ℕ, ◌≤◌, true, false, ◌&&◌, ◌==◌, List, [], ◌∷◌, ◌++◌, length, min, Option, Some, None, refl, ap, ◌∙◌, arith}
-use Rattle.std.specs.Prelude.{nat_le, nat_lt}
-use Rattle.std.specs.List.{AllByRecursion, filter_map}
+use Rattle.std.specs.Prelude.{nat_le, nat_lt, find}
+use Rattle.std.specs.List.{AllByRecursion, filter_map, list_any}
 use Rattle.std.proofs.lemmas.Bool.{cond_both, leb-true}
 use Rattle.std.proofs.lemmas.List.Elements.{filter_map-append}
 use Rattle.coap_wire.specs.Message.{Message}
@@ -19,8 +19,11 @@ use Rattle.coap_conn.specs.Announced.{announcement, announced, last_or, has_crit
 use Rattle.coap_conn.specs.Fit.{AllFit, fit, fitted, abort_fitted, without_payload, without_options, bare_response}
 use Rattle.coap_conn.specs.Limits.{LimitValues, AreInRange}
 use Rattle.coap_conn.specs.Held.{HeldValue, Answer, Pong}
-use Rattle.coap_conn.specs.Reaction.{Standing, Reaction, react, reaction_unless, live_reaction, open_reaction, csm_reaction, request_reaction, send, send_as, abort, is_reserved, is_signal, is_method, minds_critical_options, asks_custody, pong_with, pong_of, ping_reaction, not_implemented, due_effect}
-use Rattle.coap_conn.specs.History.{History, new_history, limit_now, standing_now, release}
+use Rattle.coap_conn.specs.Outstanding.{OutstandingValue, is_asked, is_last, is_pinged}
+use Rattle.coap_conn.specs.Asking.{asking_refusal, cancel_refusal}
+use Rattle.coap_conn.specs.Reaction.{Standing, Reaction, react, reaction_unless, live_reaction, open_reaction, csm_reaction, request_reaction, send, send_as, abort, is_reserved, is_signal, is_method, minds_critical_options, asks_custody, pong_with, pong_of, ping_reaction, pong_reaction, answered, response_reaction, not_implemented, due_effect}
+use Rattle.coap_conn.specs.History.{History, new_history, limit_now, standing_now, asking_now, release}
+use Rattle.coap_conn.proofs.AskingLaws.{asked_size, cancel_size}
 use Rattle.coap_conn.proofs.LinkLemmas.{announced_none}
 use Rattle.coap_conn.proofs.SmallLemmas.{csm_small, release_small}
 
@@ -81,6 +84,16 @@ request_fit : (s : Standing) (m : Message) (role : Role) → Fits s (request_rea
 request_fit s m Server = tt
 request_fit s m Client = send_fit s (not_implemented m) (bare_response (not_implemented m))
 
+answered_fit : (s : Standing) (m : Message) (e : Option OutstandingValue) → Fits s (answered s m e)
+answered_fit s m None = tt
+answered_fit s m (Some e) = cond_both (is_last m e) _ _ (Fits s) (λ f. tt) (λ f. tt)
+
+response_fit : (s : Standing) (m : Message) → Fits s (response_reaction s m)
+response_fit s m = answered_fit s m (find (is_asked m.token) s.outstanding)
+
+pong_fit : (s : Standing) (m : Message) → Fits s (pong_reaction s m)
+pong_fit s m = cond_both (list_any (is_pinged m.token) s.outstanding) _ _ (Fits s) (λ e. tt) (λ e. tt)
+
 ping_fit : (s : Standing) (m : Message) → Fits s (ping_reaction s m)
 ping_fit s m =
     cond_both (asks_custody m && nat_lt 0 (length s.held)) _ _ (Fits s)
@@ -92,9 +105,9 @@ open_fit s m =
     cond_both (minds_critical_options m.code && has_critical_option m) _ _ (Fits s) (λ e. aborted_fit s reason.BadSignalOption)
     (λ e. cond_both (m.code == code.ping) _ _ (Fits s) (λ e. ping_fit s m)
     (λ e. cond_both (m.code == code.release) _ _ (Fits s) (λ e. tt)
-    (λ e. cond_both (m.code == code.pong) _ _ (Fits s) (λ e. tt)
+    (λ e. cond_both (m.code == code.pong) _ _ (Fits s) (λ e. pong_fit s m)
     (λ e. cond_both (is_signal m.code) _ _ (Fits s) (λ e. tt)
-    (λ e. cond_both (is_method m.code) _ _ (Fits s) (λ e. request_fit s m s.role) (λ e. tt))))))
+    (λ e. cond_both (is_method m.code) _ _ (Fits s) (λ e. request_fit s m s.role) (λ e. response_fit s m))))))
 
 live_fit : (s : Standing) (m : Message) → Fits s (live_reaction s m)
 unfolding live_reaction
@@ -137,3 +150,9 @@ due_fit s (Some (Pong token)) = send_fit s (pong_with true token) (pong_with fal
 
 pub due_fits : (h : History) (e : Option HeldValue) → AllFit (limit_now h) (due_effect (standing_now h) e).queued
 due_fits h e = due_fit (standing_now h) e
+
+pub asked_fits : (h : History) (m : Message) → asking_refusal (asking_now h) m ≡ None → AllFit (limit_now h) (m ∷ [])
+asked_fits h m may = ((asked_size (asking_now h) m may).within, tt)
+
+pub cancelled_fits : (h : History) (token : List ℕ) (m : Message) → cancel_refusal (asking_now h) token m ≡ None → AllFit (limit_now h) (m ∷ [])
+cancelled_fits h token m may = ((cancel_size (asking_now h) token m may).within, tt)

@@ -1,5 +1,7 @@
+pub mod AskingLaws
 pub mod LinkLemmas
 pub mod PendingLemmas
+pub mod AskedLemmas
 pub mod SmallLemmas
 pub mod CsmLemmas
 pub mod HistoryLaws
@@ -7,4 +9,5 @@ pub mod RequestLemmas
 pub mod FirstLaws
 pub mod StopLaws
 pub mod HeldLaws
+pub mod AskedLaws
 mod Worked

@@ -1,6 +1,7 @@
 -- A request changes nothing, and can be answered at once.
 use Rattle.std.proofs.Common.{◌≡◌, ℕ, Bool, true, false, ◌&&◌, ◌==◌, cond, List, [], ◌++◌, Option, Some, None, refl, ap, ◌∙◌}
-use Rattle.std.specs.Prelude.{if◌then◌else◌, length, nat_lt, unwrap_or, is_none}
+use Rattle.std.specs.Prelude.{if◌then◌else◌, length, nat_lt, unwrap_or, is_none, find}
+use Rattle.std.specs.List.{list_any}
 use Rattle.std.proofs.lemmas.Bool.{cond_both}
 use Rattle.std.proofs.lemmas.List.{append-nil}
 use Rattle.coap_wire.specs.Message.{Message}
@@ -16,8 +17,9 @@ use Rattle.coap_conn.specs.Phases.{stop_of, takes_messages, IsLive, IsAnswering,
 use Rattle.coap_conn.specs.Announced.{has_critical_option, bad_csm_option, csm_size, announcement}
 use Rattle.coap_conn.specs.Fit.{fit, bare_response, without_options}
 use Rattle.coap_conn.specs.Held.{HeldValue}
+use Rattle.coap_conn.specs.Outstanding.{OutstandingValue, is_asked, is_last, is_pinged}
 use Rattle.coap_conn.specs.Verdicts as verdict
-use Rattle.coap_conn.specs.Reaction.{Standing, Effect, Reaction, react, reaction_unless, live_reaction, open_reaction, csm_reaction, request_reaction, told_of, becomes, is_reserved, is_signal, is_method, minds_critical_options, asks_custody, pong_with, pong_of, late_pong, ping_reaction, not_implemented}
+use Rattle.coap_conn.specs.Reaction.{Standing, Effect, Reaction, react, reaction_unless, live_reaction, open_reaction, csm_reaction, request_reaction, told_of, becomes, is_reserved, is_signal, is_method, minds_critical_options, asks_custody, pong_with, pong_of, late_pong, ping_reaction, not_implemented, answered, pong_reaction}
 use Rattle.coap_conn.specs.History.{bytes_of}
 use Rattle.coap_conn.specs.LinkValue.{LinkValue, standing_in, link_with, link_after_message, link_handled}
 
@@ -34,11 +36,13 @@ handled_is v m live =
 
 -- ---- requests
 
--- where it is a request, nothing is queued, the connection is open as before, what is held stays, and nothing is announced
+-- where it is a request, nothing is queued, the connection is open as before, what is held or outstanding stays, and nothing is
+-- announced
 pub record IsQuiet (s : Standing) (m : Message) (e : Effect) : Type 0 where
   pub nothing : e.queued ≡ []
   pub same : e.phase ≡ s.phase
   pub kept : e.held ≡ s.held
+  pub kept_asked : e.outstanding ≡ s.outstanding
   pub not_waiting : is_waiting s.phase ≡ false
   pub announces : announcement m ≡ None
 
@@ -60,7 +64,7 @@ csm_no_request s None e = opened_no_request (is_waiting s.phase) s e
 csm_no_request s (Some number) e = cc
 
 request_asks : (s : Standing) (m : Message) (role : Role) → is_waiting s.phase ≡ false → (m.code == code.csm) ≡ false → Asks s m (request_reaction s m role)
-request_asks s m Server now other e = record { nothing = refl; same = refl; kept = refl; not_waiting = now; announces = ap (λ (b : Bool). if b then csm_size m else None) other }
+request_asks s m Server now other e = record { nothing = refl; same = refl; kept = refl; kept_asked = refl; not_waiting = now; announces = ap (λ (b : Bool). if b then csm_size m else None) other }
 request_asks s m Client now other e = absurd (told_no_request (fit s.limit (not_implemented m) (bare_response (not_implemented m))) e)
 
 late_pong_asks : (s : Standing) (m : Message) → Asks s m (late_pong s m)
@@ -71,14 +75,23 @@ ping_asks : (s : Standing) (m : Message) → Asks s m (ping_reaction s m)
 ping_asks s m =
     cond_both (asks_custody m && nat_lt 0 (length s.held)) _ _ (Asks s m) (λ e. late_pong_asks s m) (λ e is. absurd (told_no_request (fit s.limit (pong_of m) (without_options (pong_of m))) is))
 
+-- a response is none
+answered_asks : (s : Standing) (m : Message) (e : Option OutstandingValue) → Asks s m (answered s m e)
+answered_asks s m None = λ is. absurd cc
+answered_asks s m (Some e) = cond_both (is_last m e) _ _ (Asks s m) (λ e is. absurd cc) (λ e is. absurd cc)
+
+-- nor is a Pong
+pong_asks : (s : Standing) (m : Message) → Asks s m (pong_reaction s m)
+pong_asks s m = cond_both (list_any (is_pinged m.token) s.outstanding) _ _ (Asks s m) (λ e is. absurd cc) (λ e is. absurd cc)
+
 open_asks : (s : Standing) (m : Message) → is_waiting s.phase ≡ false → (m.code == code.csm) ≡ false → Asks s m (open_reaction s m)
 open_asks s m now other =
     cond_both (minds_critical_options m.code && has_critical_option m) _ _ (Asks s m) (λ e is. absurd cc)
     (λ e. cond_both (m.code == code.ping) _ _ (Asks s m) (λ e. ping_asks s m)
     (λ e. cond_both (m.code == code.release) _ _ (Asks s m) (λ e is. absurd cc)
-    (λ e. cond_both (m.code == code.pong) _ _ (Asks s m) (λ e is. absurd cc)
+    (λ e. cond_both (m.code == code.pong) _ _ (Asks s m) (λ e. pong_asks s m)
     (λ e. cond_both (is_signal m.code) _ _ (Asks s m) (λ e is. absurd cc)
-    (λ e. cond_both (is_method m.code) _ _ (Asks s m) (λ e. request_asks s m s.role now other) (λ e is. absurd cc))))))
+    (λ e. cond_both (is_method m.code) _ _ (Asks s m) (λ e. request_asks s m s.role now other) (λ e. answered_asks s m (find (is_asked m.token) s.outstanding)))))))
 
 live_asks : (s : Standing) (m : Message) → Asks s m (live_reaction s m)
 unfolding live_reaction
@@ -99,9 +112,10 @@ react_asks s m = unless_asks s m (stop_of s.phase)
 
 stays_by : (v : LinkValue) (m : Message) (e : Effect) (takes : Bool) → IsQuiet (standing_in v) m e → cond takes (record (link_with v e) { peer_max = unwrap_or (announcement m) v.peer_max }) v ≡ v
 stays_by v m e true quiet =
-    ap (λ (w : List ℕ). record v { waiting = w; phase = e.phase; held = e.held; peer_max = unwrap_or (announcement m) v.peer_max }) (ap (λ (ms : List Message). v.waiting ++ bytes_of ms) quiet.nothing ∙ append-nil v.waiting)
-    ∙ ap (λ (p : Phase). record v { phase = p; held = e.held; peer_max = unwrap_or (announcement m) v.peer_max }) quiet.same
-    ∙ ap (λ (held : List HeldValue). record v { held = held; peer_max = unwrap_or (announcement m) v.peer_max }) quiet.kept
+    ap (λ (w : List ℕ). record v { waiting = w; phase = e.phase; held = e.held; outstanding = e.outstanding; peer_max = unwrap_or (announcement m) v.peer_max }) (ap (λ (ms : List Message). v.waiting ++ bytes_of ms) quiet.nothing ∙ append-nil v.waiting)
+    ∙ ap (λ (p : Phase). record v { phase = p; held = e.held; outstanding = e.outstanding; peer_max = unwrap_or (announcement m) v.peer_max }) quiet.same
+    ∙ ap (λ (held : List HeldValue). record v { held = held; outstanding = e.outstanding; peer_max = unwrap_or (announcement m) v.peer_max }) quiet.kept
+    ∙ ap (λ (outstanding : List OutstandingValue). record v { outstanding = outstanding; peer_max = unwrap_or (announcement m) v.peer_max }) quiet.kept_asked
     ∙ ap (λ (n : Option ℕ). record v { peer_max = unwrap_or n v.peer_max }) quiet.announces
 stays_by v m e false quiet = refl
 

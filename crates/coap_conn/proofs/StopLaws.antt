@@ -1,5 +1,5 @@
 -- Nothing follows a stop.
-use Rattle.std.proofs.Common.{◌≡◌, Bool, false, ◌&&◌, cond, Option, Some, refl, ap}
+use Rattle.std.proofs.Common.{◌≡◌, ℕ, Bool, false, List, ◌&&◌, cond, Option, Some, refl, ap}
 use Rattle.std.specs.Prelude.{is_none}
 use Rattle.coap_wire.specs.Message.{Message}
 use Rattle.coap_conn.specs.declared.reason.Reason.{Reason}
@@ -8,7 +8,9 @@ use Rattle.coap_conn.specs.declared.phase.Phase.TheVariants as phase
 use Rattle.coap_conn.specs.Phases.{stop_of, answers, is_open}
 use Rattle.coap_conn.specs.Verdicts as verdict
 use Rattle.coap_conn.specs.Reaction.{Standing, reaction_unless, react}
-use Rattle.coap_conn.specs.History.{History}
+use Rattle.coap_conn.specs.Asking.{asking_refusal, cancel_refusal}
+use Rattle.coap_conn.specs.History.{History, asking_now}
+use Rattle.coap_conn.proofs.AskingLaws.{not_asked, not_cancelled}
 
 -- what messages, faults and the end of input do where none is taken
 pub stays_over : (h after : History) (why : Reason) → stop_of h.phase ≡ Some why → cond (is_none (stop_of h.phase)) after h ≡ h
@@ -33,3 +35,10 @@ stays_unheld h after may why over = ap (λ (b : Bool). cond (b && may) after h) 
 
 pub stays_stopped : (h after : History) (why : Reason) → h.phase ≡ phase.Stopped why → cond (answers h.phase) after h ≡ h
 stays_stopped h after why stopped = ap (λ (p : Phase). cond (answers p) after h) stopped
+
+-- the same of what would be asked, and of an observation that would be cancelled
+pub stays_unasked : (h after : History) (m : Message) (why : Reason) → stop_of h.phase ≡ Some why → cond (is_none (asking_refusal (asking_now h) m)) after h ≡ h
+stays_unasked h after m why over = ap (λ (b : Bool). cond b after h) (not_asked (asking_now h) m (not_open h.phase why over))
+
+pub stays_uncancelled : (h after : History) (token : List ℕ) (m : Message) (why : Reason) → stop_of h.phase ≡ Some why → cond (is_none (cancel_refusal (asking_now h) token m)) after h ≡ h
+stays_uncancelled h after token m why over = ap (λ (b : Bool). cond b after h) (not_cancelled (asking_now h) token m (not_open h.phase why over))

@@ -1,11 +1,17 @@
--- What the words for what is held give on plain values.
-use Rattle.std.proofs.Common.{◌≡◌, ℕ, List, [], ◌∷◌, Some, None, refl}
-use Rattle.coap_wire.specs.Message.{Message}
+-- What the words for what is held and what is outstanding give on plain values.
+use Rattle.std.proofs.Common.{◌≡◌, ℕ, true, false, List, [], ◌∷◌, Some, None, refl}
+use Rattle.coap_wire.specs.Message.{CoapOption, Message}
 use Rattle.coap_wire.specs.Spelling.{spelling}
+use Rattle.coap_wire.specs.Uint.{bytes_of_uint}
+use Rattle.coap_wire.specs.Recognition.{known_behind, is_recognised, kind_of, first_critical_behind}
 use Rattle.coap_conn.specs.declared.reason.Reason.TheVariants as reason
 use Rattle.coap_conn.specs.declared.phase.Phase.TheVariants as phase
-use Rattle.coap_conn.specs.declared.phase.Role.TheVariants.{Server}
+use Rattle.coap_conn.specs.declared.phase.Role.TheVariants.{Server, Client}
+use Rattle.coap_conn.specs.declared.phase.RequestFault.TheVariants.{TooMany, TooBig, NoRoom, TokensSpent, NoSuchToken}
 use Rattle.coap_conn.specs.Held.{HeldValue, Answer, Pong, due_index, first_due, without_due}
+use Rattle.coap_conn.specs.Outstanding.{OutstandingValue, Request, Observation, Ping, is_notification, with_cancelled}
+use Rattle.coap_conn.specs.Asking.{Asking, new_refusal, asking_refusal, cancel_refusal, next_token}
+use Rattle.coap_conn.specs.Verdicts.{VerdictValue}
 use Rattle.coap_conn.specs.Verdicts as verdict
 use Rattle.coap_conn.specs.Reaction.{Standing, Effect, Reaction, live_reaction, react, due_effect}
 
@@ -60,7 +66,7 @@ not_before a = refl
 
 -- a server that is open to messages of 1,152 bytes
 abbrev server : List HeldValue → ℕ → Standing
-server held most = record { role = Server; phase = phase.Open; limit = 1152; held = held; most = most }
+server held most = record { role = Server; phase = phase.Open; limit = 1152; held = held; most = most; outstanding = [] }
 
 -- a Ping with the token 7 and an empty Custody
 abbrev custody_ping : Message
@@ -76,22 +82,22 @@ abbrev is_done : Effect → Reaction
 is_done e = record { effect = e; verdict = verdict.Done }
 
 -- with nothing held the Pong has Custody
-pong_at_once : react (server [] 2) custody_ping ≡ is_done (record { queued = custody_pong ∷ []; phase = phase.Open; held = [] })
+pong_at_once : react (server [] 2) custody_ping ≡ is_done (record { queued = custody_pong ∷ []; phase = phase.Open; held = []; outstanding = [] })
 unfolding react live_reaction spelling
 pong_at_once = refl
 
 -- with one held and room for two it is held
-pong_held : (a : List ℕ) (moment : ℕ) → react (server (Answer a moment ∷ []) 2) custody_ping ≡ is_done (record { queued = []; phase = phase.Open; held = Answer a moment ∷ Pong (7 ∷ []) ∷ [] })
+pong_held : (a : List ℕ) (moment : ℕ) → react (server (Answer a moment ∷ []) 2) custody_ping ≡ is_done (record { queued = []; phase = phase.Open; held = Answer a moment ∷ Pong (7 ∷ []) ∷ []; outstanding = [] })
 unfolding react live_reaction spelling
 pong_held a moment = refl
 
 -- with one held and room for no more it has no Custody
-pong_without_custody : (a : List ℕ) (moment : ℕ) → react (server (Answer a moment ∷ []) 1) custody_ping ≡ is_done (record { queued = plain_pong ∷ []; phase = phase.Open; held = Answer a moment ∷ [] })
+pong_without_custody : (a : List ℕ) (moment : ℕ) → react (server (Answer a moment ∷ []) 1) custody_ping ≡ is_done (record { queued = plain_pong ∷ []; phase = phase.Open; held = Answer a moment ∷ []; outstanding = [] })
 unfolding react live_reaction spelling
 pong_without_custody a moment = refl
 
 -- when its turn has come the Pong that was held has Custody
-held_pong_sent : (a : List ℕ) → due_effect (server (Answer a 12 ∷ []) 2) (Some (Pong (7 ∷ []))) ≡ record { queued = custody_pong ∷ []; phase = phase.Open; held = Answer a 12 ∷ [] }
+held_pong_sent : (a : List ℕ) → due_effect (server (Answer a 12 ∷ []) 2) (Some (Pong (7 ∷ []))) ≡ record { queued = custody_pong ∷ []; phase = phase.Open; held = Answer a 12 ∷ []; outstanding = [] }
 unfolding spelling
 held_pong_sent a = refl
 
@@ -102,12 +108,157 @@ bare code = record { code = code; token = []; options = []; payload = [] }
 
 -- a Release keeps what is held
 release_keeps : (a p : List ℕ) (moment : ℕ) →
-    react (server (Answer a moment ∷ Pong p ∷ []) 2) (bare 228) ≡ record { effect = record { queued = []; phase = phase.Releasing reason.PeerRelease; held = Answer a moment ∷ Pong p ∷ [] }; verdict = verdict.Stopped reason.PeerRelease }
+    react (server (Answer a moment ∷ Pong p ∷ []) 2) (bare 228) ≡ record { effect = record { queued = []; phase = phase.Releasing reason.PeerRelease; held = Answer a moment ∷ Pong p ∷ []; outstanding = [] }; verdict = verdict.Stopped reason.PeerRelease }
 unfolding react live_reaction
 release_keeps a p moment = refl
 
 -- an Abort gives it up
 abort_gives_up : (a p : List ℕ) (moment : ℕ) →
-    react (server (Answer a moment ∷ Pong p ∷ []) 2) (bare 229) ≡ record { effect = record { queued = []; phase = phase.Stopped reason.PeerAbort; held = [] }; verdict = verdict.Stopped reason.PeerAbort }
+    react (server (Answer a moment ∷ Pong p ∷ []) 2) (bare 229) ≡ record { effect = record { queued = []; phase = phase.Stopped reason.PeerAbort; held = []; outstanding = [] }; verdict = verdict.Stopped reason.PeerAbort }
 unfolding react live_reaction
 abort_gives_up a p moment = refl
+
+-- ---- what is outstanding
+
+-- a client that is open to messages of 1,152 bytes
+abbrev client : List OutstandingValue → Standing
+client outstanding = record { role = Client; phase = phase.Open; limit = 1152; held = []; most = 0; outstanding = outstanding }
+
+-- a message with the token 1
+abbrev response : ℕ → List CoapOption → Message
+response code options = record { code = code; token = 1 ∷ []; options = options; payload = [] }
+
+-- an Observe with this value
+abbrev observe : List ℕ → CoapOption
+observe value = record { number = 6; value = value }
+
+-- nothing is queued, this is outstanding, and the caller is told this
+abbrev leaves_open : List OutstandingValue → VerdictValue → Reaction
+leaves_open outstanding what = record { effect = record { queued = []; phase = phase.Open; held = []; outstanding = outstanding }; verdict = what }
+
+-- a response to what was not asked
+response_to_nothing : react (client (Request (2 ∷ []) ∷ Ping (1 ∷ []) ∷ [])) (response 69 []) ≡ leaves_open (Request (2 ∷ []) ∷ Ping (1 ∷ []) ∷ []) verdict.Stranger
+unfolding react live_reaction
+response_to_nothing = refl
+
+-- a response to a request, of which others stay
+response_to_request : react (client (Request (2 ∷ []) ∷ Request (1 ∷ []) ∷ [])) (response 69 []) ≡ leaves_open (Request (2 ∷ []) ∷ []) (verdict.Answer (1 ∷ []) true)
+unfolding react live_reaction
+response_to_request = refl
+
+-- a request has one response, also where that has an Observe
+observe_to_request : react (client (Request (1 ∷ []) ∷ [])) (response 69 (observe (5 ∷ []) ∷ [])) ≡ leaves_open [] (verdict.Answer (1 ∷ []) true)
+unfolding react live_reaction
+observe_to_request = refl
+
+-- behind a notification others may come
+notified : react (client (Observation (1 ∷ []) false ∷ [])) (response 69 (observe (5 ∷ []) ∷ [])) ≡ leaves_open (Observation (1 ∷ []) false ∷ []) (verdict.Answer (1 ∷ []) false)
+unfolding react live_reaction is_notification known_behind is_recognised kind_of first_critical_behind
+notified = refl
+
+-- also behind one that comes after it was cancelled
+notified_cancelled : react (client (Observation (1 ∷ []) true ∷ [])) (response 69 (observe [] ∷ [])) ≡ leaves_open (Observation (1 ∷ []) true ∷ []) (verdict.Answer (1 ∷ []) false)
+unfolding react live_reaction is_notification known_behind is_recognised kind_of first_critical_behind
+notified_cancelled = refl
+
+-- a response with no Observe is the last one
+last_without_observe : react (client (Observation (1 ∷ []) false ∷ [])) (response 69 []) ≡ leaves_open [] (verdict.Answer (1 ∷ []) true)
+unfolding react live_reaction is_notification known_behind
+last_without_observe = refl
+
+-- so is one of another class than 2, here a 4.04
+last_by_class : react (client (Observation (1 ∷ []) false ∷ [])) (response 132 (observe (5 ∷ []) ∷ [])) ≡ leaves_open [] (verdict.Answer (1 ∷ []) true)
+unfolding react live_reaction is_notification
+last_by_class = refl
+
+-- one whose Observe is too long, so that it is not recognised
+last_by_length : react (client (Observation (1 ∷ []) false ∷ [])) (response 69 (observe (0 ∷ 0 ∷ 0 ∷ 5 ∷ []) ∷ [])) ≡ leaves_open [] (verdict.Answer (1 ∷ []) true)
+unfolding react live_reaction is_notification known_behind is_recognised kind_of
+last_by_length = refl
+
+-- and one with a critical option that is not recognised, here 9
+last_by_critical : react (client (Observation (1 ∷ []) false ∷ [])) (response 69 (observe (5 ∷ []) ∷ record { number = 9; value = [] } ∷ [])) ≡ leaves_open [] (verdict.Answer (1 ∷ []) true)
+unfolding react live_reaction is_notification known_behind is_recognised kind_of first_critical_behind
+last_by_critical = refl
+
+-- a Pong answers the Ping, and not the request with the same token
+pong_to_ping : react (client (Request (1 ∷ []) ∷ Ping (1 ∷ []) ∷ [])) (response 227 []) ≡ leaves_open (Request (1 ∷ []) ∷ []) (verdict.Pong (1 ∷ []) false)
+unfolding react live_reaction
+pong_to_ping = refl
+
+-- with Custody
+custody_to_ping : react (client (Ping (1 ∷ []) ∷ [])) (response 227 (record { number = 2; value = [] } ∷ [])) ≡ leaves_open [] (verdict.Pong (1 ∷ []) true)
+unfolding react live_reaction
+custody_to_ping = refl
+
+-- a Pong to a Ping that was not sent
+pong_to_nothing : react (client (Request (1 ∷ []) ∷ Ping (2 ∷ []) ∷ [])) (response 227 []) ≡ leaves_open (Request (1 ∷ []) ∷ Ping (2 ∷ []) ∷ []) verdict.Stranger
+unfolding react live_reaction
+pong_to_nothing = refl
+
+-- a Release gives up what is outstanding, and keeps what is held
+release_gives_up : (a : List ℕ) (moment : ℕ) →
+    react (record (client (Request (1 ∷ []) ∷ Ping (2 ∷ []) ∷ [])) { held = Answer a moment ∷ [] }) (bare 228)
+    ≡ record { effect = record { queued = []; phase = phase.Releasing reason.PeerRelease; held = Answer a moment ∷ []; outstanding = [] }; verdict = verdict.Stopped reason.PeerRelease }
+unfolding react live_reaction
+release_gives_up a moment = refl
+
+-- ---- what is asked
+
+-- the observation with the token is cancelled, and nothing else changes
+one_cancelled : with_cancelled (1 ∷ []) (Request (1 ∷ []) ∷ Observation (2 ∷ []) false ∷ Observation (1 ∷ []) false ∷ []) ≡ Request (1 ∷ []) ∷ Observation (2 ∷ []) false ∷ Observation (1 ∷ []) true ∷ []
+one_cancelled = refl
+
+-- an open connection whose last token has this number, with room for two, messages of 20 bytes, and this much room in the queue
+abbrev asking : List OutstandingValue → ℕ → ℕ → Asking
+asking outstanding tokens free = record { phase = phase.Open; outstanding = outstanding; most = 2; tokens = tokens; limit = 20; free = free }
+
+-- GET under the token 1, of 3 bytes
+abbrev get : Message
+get = response 1 []
+
+asks : asking_refusal (asking (Ping [] ∷ []) 0 3) get ≡ None
+unfolding asking_refusal new_refusal spelling
+asks = refl
+
+no_third : asking_refusal (asking (Ping [] ∷ Ping [] ∷ []) 0 3) get ≡ Some TooMany
+unfolding asking_refusal new_refusal
+no_third = refl
+
+tokens_spent : asking_refusal (asking [] 18446744073709551615 3) get ≡ Some TokensSpent
+unfolding asking_refusal new_refusal
+tokens_spent = refl
+
+last_token : asking_refusal (asking [] 18446744073709551614 3) get ≡ None
+unfolding asking_refusal new_refusal spelling
+last_token = refl
+
+no_room : asking_refusal (asking [] 0 2) get ≡ Some NoRoom
+unfolding asking_refusal new_refusal spelling
+no_room = refl
+
+too_big : asking_refusal (record (asking [] 0 2) { limit = 2 }) get ≡ Some TooBig
+unfolding asking_refusal new_refusal spelling
+too_big = refl
+
+cancels : cancel_refusal (asking (Observation (1 ∷ []) false ∷ Ping [] ∷ []) 18446744073709551615 3) (1 ∷ []) get ≡ None
+unfolding cancel_refusal spelling
+cancels = refl
+
+-- what was cancelled is not cancelled again
+cancelled_once : cancel_refusal (asking (Observation (1 ∷ []) true ∷ Request (1 ∷ []) ∷ []) 1 3) (1 ∷ []) get ≡ Some NoSuchToken
+unfolding cancel_refusal
+cancelled_once = refl
+
+-- the first token, the one of number 256, and the last
+first_token : next_token 0 ≡ 1 ∷ []
+unfolding bytes_of_uint
+first_token = refl
+
+token_of_256 : next_token 255 ≡ 1 ∷ 0 ∷ []
+unfolding bytes_of_uint
+token_of_256 = refl
+
+greatest_token : next_token 18446744073709551614 ≡ 255 ∷ 255 ∷ 255 ∷ 255 ∷ 255 ∷ 255 ∷ 255 ∷ 255 ∷ []
+unfolding bytes_of_uint
+greatest_token = refl

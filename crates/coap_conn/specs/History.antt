@@ -1,5 +1,5 @@
 -- All that happened on one side of a connection, and what each call adds to it (RFC 8323 sections 3.3 and 5).
-use Rattle.std.specs.Prelude.{◌≡◌, ℕ, ◌+◌, ◌≤◌, Bool, true, false, ◌&&◌, List, [], ◌∷◌, ◌++◌, length, nat_lt, if◌then◌else◌}
+use Rattle.std.specs.Prelude.{◌≡◌, ℕ, ◌+◌, ◌≤◌, Bool, true, false, ◌&&◌, List, [], ◌∷◌, ◌++◌, length, drop, ◌-◌, is_none, nat_lt, if◌then◌else◌}
 use Rattle.std.specs.List.{flat_map}
 use Rattle.coap_wire.specs.Message.{Message}
 use Rattle.coap_wire.specs.Spelling.{spelling}
@@ -18,10 +18,12 @@ use Rattle.coap_conn.specs.Limits.{LimitValues}
 use Rattle.coap_conn.specs.Announced.{announced, size_limit}
 use Rattle.coap_conn.specs.Fit.{bare_response}
 use Rattle.coap_conn.specs.Held.{HeldValue, Answer, first_due, without_due}
+use Rattle.coap_conn.specs.Outstanding.{OutstandingValue, Ping, with_cancelled}
+use Rattle.coap_conn.specs.Asking.{Asking, asking_refusal, cancel_refusal, next_token, with_token, entry_of, ping_with}
 use Rattle.coap_conn.specs.Reaction.{Standing, Effect, stop, abort, send, react, due_effect}
 
 -- the messages handled and the messages queued, in order, how many bytes of the queued ones were written, how the connection
--- stands, and what is held; tokens is the number of the last token given
+-- stands, what is held, and what is outstanding; tokens is the number of the last token given
 pub record History : Type 0 where
   pub role : Role
   pub limits : LimitValues
@@ -30,6 +32,7 @@ pub record History : Type 0 where
   pub written : ℕ
   pub phase : Phase
   pub held : List HeldValue
+  pub outstanding : List OutstandingValue
   pub tokens : ℕ
 
 -- the own Capabilities and Settings: Max-Message-Size, and nothing else (RFC 8323 section 5.3)
@@ -39,7 +42,7 @@ own_csm M = record { code = code.csm; token = []; options = record { number = op
 -- the connection begins with the own Capabilities and Settings
 abbrev pub new_history : Role → LimitValues → ℕ → History
 new_history role limits tokens =
-    record { role = role; limits = limits; handled = []; queued = own_csm limits.max_message ∷ []; written = 0; phase = Waiting; held = []; tokens = tokens }
+    record { role = role; limits = limits; handled = []; queued = own_csm limits.max_message ∷ []; written = 0; phase = Waiting; held = []; outstanding = []; tokens = tokens }
 
 -- the own Capabilities and Settings are the first message queued
 abbrev pub AnnouncedFirst : History → Type 0
@@ -60,13 +63,13 @@ abbrev pub limit_now : History → ℕ
 limit_now h = size_limit h.limits.max_sent (announced h.handled)
 
 abbrev pub standing_now : History → Standing
-standing_now h = record { role = h.role; phase = h.phase; limit = limit_now h; held = h.held; most = h.limits.pending }
+standing_now h = record { role = h.role; phase = h.phase; limit = limit_now h; held = h.held; most = h.limits.pending; outstanding = h.outstanding }
 
 -- ---- what happens
 
 -- an effect
 abbrev pub with_effect : History → Effect → History
-with_effect h e = record h { queued = h.queued ++ e.queued; phase = e.phase; held = e.held }
+with_effect h e = record h { queued = h.queued ++ e.queued; phase = e.phase; held = e.held; outstanding = e.outstanding }
 
 -- a message was handled, where messages are taken
 abbrev pub after_message : History → Message → History
@@ -124,3 +127,35 @@ standing_due now s = record s { held = without_due now s.held }
 
 abbrev pub after_due : History → ℕ → History
 after_due h now = with_effect h (due_effect (standing_due now (standing_now h)) (first_due now h.held))
+
+-- ---- what is asked
+
+-- the bytes that wait to be written
+abbrev pub waiting_of : History → List ℕ
+waiting_of h = drop h.written (bytes_of h.queued)
+
+-- what decides whether something is asked now
+abbrev pub asking_now : History → Asking
+asking_now h = record { phase = h.phase; outstanding = h.outstanding; most = h.limits.outstanding; tokens = h.tokens; limit = limit_now h; free = h.limits.queue - length (waiting_of h) }
+
+-- a message with the next token was sent, and what it asks is outstanding, where it is not refused
+abbrev pub after_asking : History → Message → OutstandingValue → History
+after_asking h m e =
+    if is_none (asking_refusal (asking_now h) m)
+    then record h { queued = h.queued ++ m ∷ []; outstanding = h.outstanding ++ e ∷ []; tokens = h.tokens + 1 }
+    else h
+
+-- a request was sent under a new token; it asks for an observation or not
+abbrev pub after_request : History → Message → Bool → History
+after_request h m observe = after_asking h (with_token m (next_token h.tokens)) (entry_of observe (next_token h.tokens))
+
+-- a Ping was sent under a new token
+abbrev pub after_ping : History → Bool → History
+after_ping h custody = after_asking h (ping_with custody (next_token h.tokens)) (Ping (next_token h.tokens))
+
+-- a message was sent under the token of an observation, which is cancelled by it, where it is not refused
+abbrev pub after_cancel : History → List ℕ → Message → History
+after_cancel h token m =
+    if is_none (cancel_refusal (asking_now h) token (with_token m token))
+    then record h { queued = h.queued ++ with_token m token ∷ []; outstanding = with_cancelled token h.outstanding }
+    else h

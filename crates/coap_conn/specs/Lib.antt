@@ -9,7 +9,10 @@ pub mod Fit
 pub mod Verdicts
 pub mod Held
 pub mod HeldViews
+pub mod Outstanding
+pub mod OutstandingViews
 pub mod Reaction
+pub mod Asking
 pub mod History
 pub mod LinkValue
 pub mod LinkViews

@@ -1,5 +1,5 @@
 -- A link as the code holds it, what its calls do to it, and which link shows a history.
-use Rattle.std.specs.Prelude.{◌≡◌, ◌⊎◌, ℕ, ◌-◌, ◌<◌, ◌≤◌, ◌^◌, Bool, true, ◌&&◌, List, [], ◌∷◌, ◌++◌, length, drop, unwrap_or, nat_lt, ◌==◌, if◌then◌else◌}
+use Rattle.std.specs.Prelude.{◌≡◌, ◌⊎◌, ℕ, ◌+◌, ◌-◌, ◌<◌, ◌≤◌, ◌^◌, Bool, true, ◌&&◌, List, [], ◌∷◌, ◌++◌, length, drop, unwrap_or, is_none, nat_lt, ◌==◌, if◌then◌else◌}
 use Rattle.coap_wire.specs.Message.{Message}
 use Rattle.coap_conn.specs.declared.phase.Phase.{Phase}
 use Rattle.coap_conn.specs.declared.phase.Phase.TheVariants.{Waiting}
@@ -12,10 +12,13 @@ use Rattle.coap_conn.specs.Limits.{LimitValues}
 use Rattle.coap_conn.specs.Announced.{base_size, bad_csm_option, csm_size, announcement, announced, size_limit}
 use Rattle.coap_conn.specs.Fit.{bare_response}
 use Rattle.coap_conn.specs.Held.{HeldValue, Answer, first_due}
+use Rattle.coap_conn.specs.Outstanding.{OutstandingValue, Ping, with_cancelled}
+use Rattle.coap_conn.specs.Asking.{Asking, asking_refusal, cancel_refusal, next_token, with_token, entry_of, ping_with}
 use Rattle.coap_conn.specs.Reaction.{Standing, Effect, stop, abort, send, csm_reaction, live_reaction, react, due_effect}
 use Rattle.coap_conn.specs.History.{History, IsHistory, bytes_of, own_csm, end_reason, release, standing_due}
 
--- waiting are the bytes to be written, peer_max the greatest message that the peer takes, held what is sent later
+-- waiting are the bytes to be written, peer_max the greatest message that the peer takes, held what is sent later,
+-- outstanding what was asked
 pub record LinkValue : Type 0 where
   pub role : Role
   pub limits : LimitValues
@@ -23,24 +26,27 @@ pub record LinkValue : Type 0 where
   pub phase : Phase
   pub peer_max : ℕ
   pub held : List HeldValue
+  pub outstanding : List OutstandingValue
   pub tokens : ℕ
 
 -- the link that a history leaves: what was queued without what was written, and the last size announced
 abbrev pub link_of : History → LinkValue
 link_of h =
-    record { role = h.role; limits = h.limits; waiting = drop h.written (bytes_of h.queued); phase = h.phase; peer_max = announced h.handled; held = h.held; tokens = h.tokens }
+    record { role = h.role; limits = h.limits; waiting = drop h.written (bytes_of h.queued); phase = h.phase; peer_max = announced h.handled; held = h.held; outstanding = h.outstanding; tokens = h.tokens }
 
 -- the link shows the history
 pub record LinkShows (v : LinkValue) (h : History) : Type 0 where
   pub is_history : IsHistory h
   pub same : v ≡ link_of h
 
--- what a link keeps: no more waits than the queue has room for, no more is held than may be, and nothing where nothing is answered
+-- what a link keeps: no more waits than the queue has room for, no more is held or outstanding than may be, and nothing is held where
+-- nothing is answered
 pub record IsLink (v : LinkValue) : Type 0 where
   pub within : length v.waiting ≤ v.limits.queue
   pub enough : v.limits.max_sent ≤ v.limits.queue
   pub small : v.peer_max < 2 ^ 32
   pub few : length v.held ≤ v.limits.pending
+  pub few_asked : length v.outstanding ≤ v.limits.outstanding
   pub answering : (v.held ≡ []) ⊎ (answers v.phase ≡ true)
 
 -- ---- what is seen of it
@@ -61,17 +67,17 @@ abbrev pub limit_in : LinkValue → ℕ
 limit_in v = size_limit v.limits.max_sent v.peer_max
 
 abbrev pub standing_in : LinkValue → Standing
-standing_in v = record { role = v.role; phase = v.phase; limit = limit_in v; held = v.held; most = v.limits.pending }
+standing_in v = record { role = v.role; phase = v.phase; limit = limit_in v; held = v.held; most = v.limits.pending; outstanding = v.outstanding }
 
 -- ---- what its calls do
 
 -- a new link: the own Capabilities and Settings wait
 abbrev pub new_link : Role → LimitValues → ℕ → LinkValue
 new_link role limits tokens =
-    record { role = role; limits = limits; waiting = bytes_of (own_csm limits.max_message ∷ []); phase = Waiting; peer_max = base_size; held = []; tokens = tokens }
+    record { role = role; limits = limits; waiting = bytes_of (own_csm limits.max_message ∷ []); phase = Waiting; peer_max = base_size; held = []; outstanding = []; tokens = tokens }
 
 abbrev pub link_with : LinkValue → Effect → LinkValue
-link_with v e = record v { waiting = v.waiting ++ bytes_of e.queued; phase = e.phase; held = e.held }
+link_with v e = record v { waiting = v.waiting ++ bytes_of e.queued; phase = e.phase; held = e.held; outstanding = e.outstanding }
 
 -- each call where it does something, as the history of the connection goes on
 
@@ -108,6 +114,29 @@ link_after_hold v token moment = if is_open v.phase && can_hold v then record v 
 
 abbrev pub link_after_due : LinkValue → ℕ → LinkValue
 link_after_due v now = link_with v (due_effect (standing_due now (standing_in v)) (first_due now v.held))
+
+-- ---- what is asked
+
+abbrev pub asking_in : LinkValue → Asking
+asking_in v = record { phase = v.phase; outstanding = v.outstanding; most = v.limits.outstanding; tokens = v.tokens; limit = limit_in v; free = free_in v }
+
+abbrev pub link_after_asking : LinkValue → Message → OutstandingValue → LinkValue
+link_after_asking v m e =
+    if is_none (asking_refusal (asking_in v) m)
+    then record v { waiting = v.waiting ++ bytes_of (m ∷ []); outstanding = v.outstanding ++ e ∷ []; tokens = v.tokens + 1 }
+    else v
+
+abbrev pub link_after_request : LinkValue → Message → Bool → LinkValue
+link_after_request v m observe = link_after_asking v (with_token m (next_token v.tokens)) (entry_of observe (next_token v.tokens))
+
+abbrev pub link_after_ping : LinkValue → Bool → LinkValue
+link_after_ping v custody = link_after_asking v (ping_with custody (next_token v.tokens)) (Ping (next_token v.tokens))
+
+abbrev pub link_after_cancel : LinkValue → List ℕ → Message → LinkValue
+link_after_cancel v token m =
+    if is_none (cancel_refusal (asking_in v) token (with_token m token))
+    then record v { waiting = v.waiting ++ bytes_of (with_token m token ∷ []); outstanding = with_cancelled token v.outstanding }
+    else v
 
 -- ---- a message that is taken
 

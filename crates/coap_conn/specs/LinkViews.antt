@@ -9,11 +9,11 @@ use Rattle.coap_conn.specs.declared.link.Link.TheInside.{Inside}
 
 abbrev pub link_value : Inside → LinkValue
 link_value l =
-    record { role = l.role; limits = l.limits; waiting = l.queue.waiting; phase = l.phase; peer_max = l.peer_max; held = l.pending.held; tokens = l.tokens }
+    record { role = l.role; limits = l.limits; waiting = l.queue.waiting; phase = l.phase; peer_max = l.peer_max; held = l.pending.held; outstanding = l.asked.entries; tokens = l.tokens }
 
--- the queue and what is held have the room that the limits name
+-- the queue, what is held and what is outstanding have the room that the limits name
 abbrev pub is_link : Inside → Type 0
-is_link l = IsLink (link_value l) × (l.queue.bytes ≡ l.limits.queue) × (l.pending.room ≡ l.limits.pending)
+is_link l = IsLink (link_value l) × (l.queue.bytes ≡ l.limits.queue) × (l.pending.room ≡ l.limits.pending) × (l.asked.room ≡ l.limits.outstanding)
 
 -- a verdict without where its token lies
 abbrev pub verdict_value : Verdict → VerdictValue

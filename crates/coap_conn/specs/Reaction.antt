@@ -1,5 +1,5 @@
 -- What a message does on a connection (RFC 8323 sections 3.3, 3.4 and 5, RFC 7252 section 12.1).
-use Rattle.std.specs.Prelude.{ℕ, ◌/◌, Bool, true, false, ◌&&◌, ◌||◌, List, [], ◌∷◌, ◌++◌, length, Option, Some, None, nat_lt, ◌==◌, if◌then◌else◌}
+use Rattle.std.specs.Prelude.{ℕ, ◌/◌, Bool, true, false, ◌&&◌, ◌||◌, List, [], ◌∷◌, ◌++◌, length, Option, Some, None, nat_lt, find, ◌==◌, if◌then◌else◌}
 use Rattle.std.specs.List.{list_any}
 use Rattle.coap_wire.specs.Message.{CoapOption, Message}
 use Rattle.coap_wire.specs.Codes as code
@@ -17,23 +17,26 @@ use Rattle.coap_conn.specs.Reasons.{abort_of}
 use Rattle.coap_conn.specs.Announced.{has_critical_option, bad_csm_option}
 use Rattle.coap_conn.specs.Fit.{fit, bare_response, without_options, abort_fitted}
 use Rattle.coap_conn.specs.Held.{HeldValue, Answer, Pong}
+use Rattle.coap_conn.specs.Outstanding.{OutstandingValue, is_asked, is_last, is_pinged, without_asked, without_pinged}
 use Rattle.coap_conn.specs.Verdicts.{VerdictValue}
 use Rattle.coap_conn.specs.Verdicts as verdict
 
--- what a connection stands on: which end this is, how it stands, the greatest message that may be sent, what is held, and how much
--- may be
+-- what a connection stands on: which end this is, how it stands, the greatest message that may be sent, what is held and how much
+-- may be, and what is outstanding
 pub record Standing : Type 0 where
   pub role : Role
   pub phase : Phase
   pub limit : ℕ
   pub held : List HeldValue
   pub most : ℕ
+  pub outstanding : List OutstandingValue
 
 -- what is queued, and what the connection stands on afterwards
 pub record Effect : Type 0 where
   pub queued : List Message
   pub phase : Phase
   pub held : List HeldValue
+  pub outstanding : List OutstandingValue
 
 pub record Reaction : Type 0 where
   pub effect : Effect
@@ -43,11 +46,11 @@ pub record Reaction : Type 0 where
 
 -- nothing changes
 abbrev pub stay : Standing → Effect
-stay s = record { queued = []; phase = s.phase; held = s.held }
+stay s = record { queued = []; phase = s.phase; held = s.held; outstanding = s.outstanding }
 
--- The one way to stop: these messages are the last that are queued, and whatever is held is given up.
+-- The one way to stop: these messages are the last that are queued, and whatever is held or outstanding is given up.
 abbrev pub stop : Standing → Reason → List Message → Effect
-stop s why farewell = record { queued = farewell; phase = phase.Stopped why; held = [] }
+stop s why farewell = record { queued = farewell; phase = phase.Stopped why; held = []; outstanding = [] }
 
 -- a stop with the Abort for its reason, where there is one, as it fits
 abbrev pub abort : Standing → Reason → Effect
@@ -109,7 +112,7 @@ abbrev pub csm_reaction : Standing → Option ℕ → Reaction
 csm_reaction s (Some number) = aborts s (BadCsm number)
 csm_reaction s None = becomes s phase.Open (if is_waiting s.phase then verdict.Opened else verdict.Done)
 
--- a Ping asks for Custody where an empty one is there
+-- a Ping or a Pong has Custody where an empty one is there
 abbrev pub asks_custody : Message → Bool
 asks_custody m = list_any (λ o. o.number == option.custody && length o.value == 0) m.options
 
@@ -151,17 +154,45 @@ abbrev pub request_reaction : Standing → Message → Role → Reaction
 request_reaction s m Server = tells s verdict.Request
 request_reaction s m Client = sends s (not_implemented m) (bare_response (not_implemented m))
 
+-- Release: no more is taken, and what is outstanding is answered no more. What is held is still sent (RFC 8323 section 5.5).
+abbrev pub release_reaction : Standing → Reaction
+release_reaction s = record { effect = record (stay s) { phase = phase.Releasing PeerRelease; outstanding = [] }; verdict = verdict.Stopped PeerRelease }
+
+-- ---- answers to what is outstanding
+
+-- this is outstanding from now on
+abbrev pub leaves : Standing → List OutstandingValue → VerdictValue → Reaction
+leaves s outstanding what = record { effect = record (stay s) { outstanding = outstanding }; verdict = what }
+
+-- a response to this, where it is outstanding: it goes with the last response
+abbrev pub answered : Standing → Message → Option OutstandingValue → Reaction
+answered s m None = tells s verdict.Stranger
+answered s m (Some e) =
+    if is_last m e then leaves s (without_asked m.token s.outstanding) (verdict.Answer m.token true)
+    else tells s (verdict.Answer m.token false)
+
+-- a response answers the request or the observation with its token, and nothing where there is none (RFC 7252 section 5.3.2)
+abbrev pub response_reaction : Standing → Message → Reaction
+response_reaction s m = answered s m (find (is_asked m.token) s.outstanding)
+
+-- a Pong answers the Ping with its token, and nothing where there is none (RFC 8323 section 5.4)
+abbrev pub pong_reaction : Standing → Message → Reaction
+pong_reaction s m =
+    if list_any (is_pinged m.token) s.outstanding
+    then leaves s (without_pinged m.token s.outstanding) (verdict.Pong m.token (asks_custody m))
+    else tells s verdict.Stranger
+
 -- a message that is neither Empty nor reserved nor Abort nor Capabilities and Settings, while the connection is open: the
 -- first of these that holds
 abbrev pub open_reaction : Standing → Message → Reaction
 open_reaction s m =
     if minds_critical_options m.code && has_critical_option m then aborts s BadSignalOption
     else (if m.code == code.ping then ping_reaction s m
-    else (if m.code == code.release then becomes s (phase.Releasing PeerRelease) (verdict.Stopped PeerRelease)
-    else (if m.code == code.pong then tells s verdict.Stranger
+    else (if m.code == code.release then release_reaction s
+    else (if m.code == code.pong then pong_reaction s m
     else (if is_signal m.code then tells s verdict.Done
     else (if is_method m.code then request_reaction s m s.role
-    else tells s verdict.Stranger)))))
+    else response_reaction s m)))))
 
 -- What a message does while the connection waits or is open: the first of these that holds. No Abort answers an Abort.
 unfoldable pub live_reaction : Standing → Message → Reaction

@@ -21,7 +21,7 @@ pub(crate) fn has_critical_option(message: &MessageRef) -> bool
     message.options().any(|option| option.number % 2 == 1)
 }
 
-/// Whether a Ping asks for Custody: where an empty option 2 is there.
+/// Whether a Ping or a Pong has Custody: where an empty option 2 is there.
 pub(crate) fn asks_custody(message: &MessageRef) -> bool
     ensures { result ≡ custody_asked message.now }
 {

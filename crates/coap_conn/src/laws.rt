@@ -1,15 +1,17 @@
 //! What holds of every connection, each as the contract of a function that does nothing.
 
-ghost use Rattle.std.specs.Prelude.{◌≡◌, ℕ, ◌+◌, ◌≤◌, List, [], ◌∷◌, ◌++◌, length, Bool, true, Option, Some, None};
+ghost use Rattle.std.specs.Prelude.{◌≡◌, ℕ, ◌+◌, ◌<◌, ◌≤◌, ◌&&◌, List, [], ◌∷◌, ◌++◌, length, Bool, true, false, Option, Some, None};
 ghost use Rattle.std.specs.List.{AllByRecursion, list_any};
 ghost use Rattle.coap_wire.specs.Message.{Message};
-ghost use Rattle.coap_conn.specs.Announced.{bad_csm_option, announcement, announced};
+ghost use Rattle.coap_conn.specs.Announced.{bad_csm_option, has_critical_option, announcement, announced};
 ghost use Rattle.coap_conn.specs.Fit.{AllFit};
 ghost use Rattle.coap_conn.specs.Limits.{LimitValues, AreInRange};
-ghost use Rattle.coap_conn.specs.History.{History, AnnouncedFirst, new_history, limit_now, standing_now, release, after_message, after_send, after_reject, after_end, after_release, after_written, after_hold, after_due};
+ghost use Rattle.coap_conn.specs.History.{History, AnnouncedFirst, new_history, limit_now, standing_now, release, after_message, after_send, after_reject, after_end, after_release, after_written, after_hold, after_due, asking_now, after_asking, after_request, after_cancel, after_ping};
+ghost use Rattle.coap_conn.specs.Asking.{asking_refusal, cancel_refusal, next_token};
+ghost use Rattle.coap_conn.specs.Outstanding.{OutstandingValue, is_asked, is_pinged, is_notification, is_request_entry, without_asked, without_pinged};
 ghost use Rattle.coap_conn.specs.Phases.{stop_of};
 ghost use Rattle.coap_conn.specs.Held.{HeldValue, Answer, Pong, HoldsNothingDue, IsDueFirst, come, first_due, without_due};
-ghost use Rattle.coap_conn.specs.Reaction.{Standing, react, send, abort, due_effect, is_custody_pong};
+ghost use Rattle.coap_conn.specs.Reaction.{Standing, react, send, abort, stay, due_effect, is_custody_pong, asks_custody, is_reserved, is_signal, is_method};
 ghost use Rattle.coap_wire.specs.Codes as code;
 ghost use Rattle.coap_conn.specs.Verdicts.{Request};
 ghost use Rattle.coap_conn.specs.Verdicts as verdict;
@@ -33,6 +35,8 @@ pub fn what_is_queued_fits()
     ensures stopped { (h : History) (why : Reason) → AllFit (limit_now h) (abort (standing_now h) why).queued }
     ensures released { (h : History) → 2 ≤ limit_now h → AllFit (limit_now h) (release ∷ []) }
     ensures due { (h : History) (e : Option HeldValue) → AllFit (limit_now h) (due_effect (standing_now h) e).queued }
+    ensures asked { (h : History) (m : Message) → asking_refusal (asking_now h) m ≡ None → AllFit (limit_now h) (m ∷ []) }
+    ensures cancelled { (h : History) (token : List ℕ) (m : Message) → cancel_refusal (asking_now h) token m ≡ None → AllFit (limit_now h) (m ∷ []) }
 {}
 
 /// The own Capabilities and Settings are the first message queued, and stay so (RFC 8323 section 5.3).
@@ -46,6 +50,9 @@ pub fn own_announcement_comes_first()
     ensures written { (h : History) (n : ℕ) → AnnouncedFirst h → AnnouncedFirst (after_written h n) }
     ensures held { (h : History) (token : List ℕ) (moment : ℕ) → AnnouncedFirst h → AnnouncedFirst (after_hold h token moment) }
     ensures due { (h : History) (now : ℕ) → AnnouncedFirst h → AnnouncedFirst (after_due h now) }
+    ensures asked { (h : History) (m : Message) (observe : Bool) → AnnouncedFirst h → AnnouncedFirst (after_request h m observe) }
+    ensures cancelled { (h : History) (token : List ℕ) (m : Message) → AnnouncedFirst h → AnnouncedFirst (after_cancel h token m) }
+    ensures pinged { (h : History) (custody : Bool) → AnnouncedFirst h → AnnouncedFirst (after_ping h custody) }
 {}
 
 /// Before the peer's Capabilities and Settings no request is handled, and nothing but they open the connection (RFC 8323
@@ -56,8 +63,8 @@ pub fn peer_announces_before_requests()
     ensures opens_whole { (s : Standing) (m : Message) → s.phase ≡ Waiting → (react s m).effect.phase ≡ Open → bad_csm_option m ≡ None }
 {}
 
-/// Nothing follows a stop: where no message is taken any more, a message, a fault, the end of input and the own Release
-/// change nothing, and on a connection that stopped nothing is sent either.
+/// Nothing follows a stop: where no message is taken any more, a message, a fault, the end of input, the own Release and what would
+/// be asked change nothing, and on a connection that stopped nothing is sent either.
 pub fn nothing_follows_a_stop()
     ensures message { (h : History) (m : Message) (why : Reason) → stop_of h.phase ≡ Some why → after_message h m ≡ h }
     ensures told { (s : Standing) (m : Message) (why : Reason) → stop_of s.phase ≡ Some why → (react s m).verdict ≡ verdict.Stopped why }
@@ -66,6 +73,9 @@ pub fn nothing_follows_a_stop()
     ensures released { (h : History) (why : Reason) → stop_of h.phase ≡ Some why → after_release h ≡ h }
     ensures sent { (h : History) (m less : Message) (why : Reason) → h.phase ≡ Stopped why → after_send h m less ≡ h }
     ensures held { (h : History) (token : List ℕ) (moment : ℕ) (why : Reason) → stop_of h.phase ≡ Some why → after_hold h token moment ≡ h }
+    ensures asked { (h : History) (m : Message) (observe : Bool) (why : Reason) → stop_of h.phase ≡ Some why → after_request h m observe ≡ h }
+    ensures cancelled { (h : History) (token : List ℕ) (m : Message) (why : Reason) → stop_of h.phase ≡ Some why → after_cancel h token m ≡ h }
+    ensures pinged { (h : History) (custody : Bool) (why : Reason) → stop_of h.phase ≡ Some why → after_ping h custody ≡ h }
 {}
 
 /// What is due comes first: of the answers whose moments have come the one of the least moment, the earliest of equals; else a Pong
@@ -86,4 +96,39 @@ pub fn custody_waits_for_what_is_held()
     ensures kept { (s : Standing) (m : Message) → stop_of (react s m).effect.phase ≡ None → (more : List HeldValue) × ((react s m).effect.held ≡ s.held ++ more) }
     ensures released { (s : Standing) (m : Message) (why : Reason) → s.phase ≡ Open → (react s m).effect.phase ≡ Releasing why → (react s m).effect.held ≡ s.held }
     ensures given_up { (s : Standing) (m : Message) (why : Reason) → stop_of s.phase ≡ None → (react s m).effect.phase ≡ Stopped why → (react s m).effect.held ≡ [] }
+{}
+
+/// No more is outstanding than may be: a message adds nothing, and what is asked adds one where there is room. A stop and the peer's
+/// Release give it up.
+pub fn outstanding_is_limited()
+    ensures message { (s : Standing) (m : Message) → length (react s m).effect.outstanding ≤ length s.outstanding }
+    ensures asked { (h : History) (m : Message) (observe : Bool) → length h.outstanding ≤ h.limits.outstanding → length (after_request h m observe).outstanding ≤ h.limits.outstanding }
+    ensures pinged { (h : History) (custody : Bool) → length h.outstanding ≤ h.limits.outstanding → length (after_ping h custody).outstanding ≤ h.limits.outstanding }
+    ensures cancelled { (h : History) (token : List ℕ) (m : Message) → length (after_cancel h token m).outstanding ≡ length h.outstanding }
+    ensures given_up { (s : Standing) (m : Message) (why : Reason) → stop_of s.phase ≡ None → stop_of (react s m).effect.phase ≡ Some why → (react s m).effect.outstanding ≡ [] }
+{}
+
+/// A response answers the request or observation that has its token, and none where there is none; a Pong answers a Ping so. Behind the
+/// last response nothing has the token any more; behind another one, which is a notification, all is as before (RFC 7252 section 5.3.2,
+/// RFC 7641 section 3.6).
+pub fn answers_end_what_was_asked()
+    ensures answer { (s : Standing) (m : Message) (token : List ℕ) (last : Bool) → (react s m).verdict ≡ verdict.Answer token last → (token ≡ m.token) × (list_any (is_asked token) s.outstanding ≡ true) }
+    ensures last { (s : Standing) (m : Message) (token : List ℕ) → (react s m).verdict ≡ verdict.Answer token true → (react s m).effect ≡ record (stay s) { outstanding = without_asked token s.outstanding } }
+    ensures gone { (token : List ℕ) (outstanding : List OutstandingValue) → list_any (is_asked token) (without_asked token outstanding) ≡ false }
+    ensures notified { (s : Standing) (m : Message) (token : List ℕ) → (react s m).verdict ≡ verdict.Answer token false → (is_notification m ≡ true) × ((react s m).effect ≡ stay s) }
+    ensures ended { (s : Standing) (m : Message) (token : List ℕ) → (react s m).verdict ≡ verdict.Answer token true → is_notification m ≡ true → list_any (λ e. is_asked token e && is_request_entry e) s.outstanding ≡ true }
+    ensures pong { (s : Standing) (m : Message) (token : List ℕ) (custody : Bool) → (react s m).verdict ≡ verdict.Pong token custody → (token ≡ m.token) × (custody ≡ asks_custody m) × (list_any (is_pinged token) s.outstanding ≡ true) × ((react s m).effect ≡ record (stay s) { outstanding = without_pinged token s.outstanding }) }
+    ensures stranger { (s : Standing) (m : Message) → (react s m).verdict ≡ verdict.Stranger → (react s m).effect ≡ stay s }
+    ensures response_told { (s : Standing) (m : Message) → s.phase ≡ Open → is_reserved m.code ≡ false → is_signal m.code ≡ false → is_method m.code ≡ false → list_any (is_asked m.token) s.outstanding ≡ true → (last : Bool) × ((react s m).verdict ≡ verdict.Answer m.token last) }
+    ensures pong_told { (s : Standing) (m : Message) → s.phase ≡ Open → m.code ≡ code.pong → has_critical_option m ≡ false → list_any (is_pinged m.token) s.outstanding ≡ true → (react s m).verdict ≡ verdict.Pong m.token (asks_custody m) }
+{}
+
+/// A token is given once: its number is one more than the last one, and different numbers of 64 bits are different tokens (RFC 7252 section
+/// 5.3.1). Nothing but what is asked gives one.
+pub fn tokens_are_new()
+    ensures different { (one other : ℕ) → one < 18446744073709551615 → other < 18446744073709551615 → next_token one ≡ next_token other → one ≡ other }
+    ensures asked { (h : History) (m : Message) → asking_refusal (asking_now h) m ≡ None → h.tokens < 18446744073709551615 }
+    ensures given { (h : History) (m : Message) (e : OutstandingValue) → asking_refusal (asking_now h) m ≡ None → (after_asking h m e).tokens ≡ h.tokens + 1 }
+    ensures message { (h : History) (m : Message) → (after_message h m).tokens ≡ h.tokens }
+    ensures cancelled { (h : History) (token : List ℕ) (m : Message) → (after_cancel h token m).tokens ≡ h.tokens }
 {}

@@ -2,6 +2,7 @@
 //! 3.4 and 5).
 #![tactic(auto)]
 
+mod asked;
 mod csm;
 pub mod laws;
 mod limits;
@@ -14,6 +15,6 @@ mod reason;
 
 pub use limits::{LimitFault, Limits};
 pub use link::Link;
-pub use phase::{Due, Full, Phase, Reject, Reply, Role, SendFault, Verdict};
+pub use phase::{Due, Full, Phase, Reject, Reply, RequestFault, Role, SendFault, Verdict};
 pub use queue::OutQueue;
 pub use reason::Reason;

@@ -1,17 +1,19 @@
 //! One side of a connection.
 
 ghost use Rattle.std.specs.Prelude.{◌≡◌};
+ghost use Rattle.coap_wire.specs.Uint.{bytes_of_uint};
 ghost use Rattle.coap_conn.specs.Phases.{is_waiting as waits};
 ghost use Rattle.coap_conn.specs.Reaction.{is_reserved as reserved, minds_critical_options as minds_critical};
 ghost use Rattle.coap_conn.specs.Rejects.{reject_reason};
 
+use crate::asked::{Asked, Outstanding};
 use crate::csm::{announced_size, asks_custody, has_critical_option};
 use crate::limits::Limits;
 use crate::messages::{
-    abort_text, abort_with, announce, bad_csm_number, bare_of, pong_to, queue_release,
+    abort_text, abort_with, announce, bad_csm_number, bare_of, ping_to, pong_to, queue_release,
 };
 use crate::pending::{Held, Pending};
-use crate::phase::{Due, Full, Phase, Reject, Reply, Role, SendFault, Verdict};
+use crate::phase::{Due, Full, Phase, Reject, Reply, RequestFault, Role, SendFault, Verdict};
 use crate::queue::OutQueue;
 use crate::reason::Reason;
 use coap_wire::{Builder, Code, MessageRef, Token, uint_bytes};
@@ -24,8 +26,8 @@ const BASE_SIZE: u32 = 1_152;
 /// The bytes of Release.
 const RELEASE_SIZE: usize = 2;
 
-/// One side of a connection: what was announced, how it stands, and the bytes that wait to be written. Contracts see a
-/// `LinkValue`, and which history of messages it shows.
+/// One side of a connection: what was announced, how it stands, what is held and outstanding, and the bytes that wait to be
+/// written. Contracts see a `LinkValue`, and which history of messages it shows.
 #[derive(Debug, Drop)]
 pub struct Link {
     role: Role,
@@ -34,6 +36,7 @@ pub struct Link {
     phase: Phase,
     peer_max: u32,
     pending: Pending,
+    asked: Asked,
     tokens: u64,
 }
 
@@ -50,7 +53,7 @@ impl Model for Link {
 }
 
 impl Link {
-    ghost use Rattle.std.specs.Prelude.{◌≡◌, ◌≤◌, ◌++◌, ◌↔◌, ⊤, ℕ, List, true, false, [], length, if◌then◌else◌, IsTrue, IsFalse, IfOk, OnOk, OnErr};
+    ghost use Rattle.std.specs.Prelude.{◌≡◌, ◌≤◌, ◌<◌, ◌+◌, ◌++◌, ◌∷◌, ◌↔◌, ⊤, ℕ, List, true, false, [], length, if◌then◌else◌, IsTrue, IsFalse, IfOk, OnOk, OnErr};
     ghost use Rattle.std.specs.Borrow.{sem, follows_so};
     ghost use mathlib.Core.Option.{none};
     ghost use Rattle.coap_wire.specs.Spelling.{spelling};
@@ -60,18 +63,20 @@ impl Link {
     ghost use Rattle.coap_conn.specs.Phases.{IsLive, IsAnswering, is_open};
     ghost use Rattle.coap_conn.specs.Held.{AnAnswer, due_told, first_due};
     ghost use Rattle.coap_conn.specs.HeldViews.{due_value};
-    ghost use Rattle.coap_conn.specs.Reaction.{react, stop, abort, send, told_of, csm_reaction, live_reaction, open_reaction, ping_reaction, pong_with, sends, request_reaction};
+    ghost use Rattle.coap_conn.specs.Reaction.{react, stop, abort, send, told_of, csm_reaction, live_reaction, open_reaction, ping_reaction, pong_with, sends, request_reaction, release_reaction, response_reaction, pong_reaction};
     ghost use Rattle.coap_conn.specs.Verdicts as verdict;
     ghost use Rattle.coap_conn.specs.declared.phase.Phase.TheVariants as phase;
     ghost use Rattle.coap_conn.specs.declared.phase.Role.TheVariants as role;
-    ghost use Rattle.coap_conn.specs.History.{History, bytes_of, new_history, after_message, after_reject, after_end, after_reply, after_release, after_written, after_hold, after_due};
-    ghost use Rattle.coap_conn.specs.LinkValue.{LinkShows, IsLink, IsReady, free_in, limit_in, standing_in, is_finished, new_link, link_with, link_handled, link_after_message, link_after_csm, link_after_reply, link_after_reject, link_after_end, link_after_release, link_after_written, can_hold, link_after_hold, link_after_due};
+    ghost use Rattle.coap_conn.specs.History.{History, bytes_of, new_history, after_message, after_reject, after_end, after_reply, after_release, after_written, after_hold, after_due, after_request, after_cancel, after_ping};
+    ghost use Rattle.coap_conn.specs.Asking.{asking_refusal, cancel_refusal, observation_refusal, new_refusal, size_refusal, next_token, with_token, ping_with};
+    ghost use Rattle.coap_conn.specs.OutstandingViews.{outstanding_value};
+    ghost use Rattle.coap_conn.specs.LinkValue.{LinkShows, IsLink, IsReady, free_in, limit_in, standing_in, is_finished, new_link, link_with, link_handled, link_after_message, link_after_csm, link_after_reply, link_after_reject, link_after_end, link_after_release, link_after_written, can_hold, link_after_hold, link_after_due, asking_in, link_after_request, link_after_cancel, link_after_ping};
     ghost use Rattle.coap_conn.specs.LinkViews.{verdict_value};
     ghost use Rattle.coap_conn.specs.Release.{release_refusal};
     ghost use Rattle.coap_conn.specs.contracts.link.Link.{the_row};
 
-    /// A new connection, with the own Capabilities and Settings queued. The room of its queue and of what it holds is reserved
-    /// here. The first token that it gives is the number after `tokens_from`.
+    /// A new connection, with the own Capabilities and Settings queued. The room of its queue, of what it holds and of what is
+    /// outstanding is reserved here. The first token that it gives is the number after `tokens_from`.
     ///
     /// # Errors
     ///
@@ -87,6 +92,7 @@ impl Link {
     {
         let mut queue = OutQueue::new(alloc, limits.queue())?;
         let pending = Pending::new(alloc, limits.pending())?;
+        let asked = Asked::new(alloc, limits.outstanding())?;
         announce(&mut queue, limits.max_message());
         Ok(Link {
             role,
@@ -95,6 +101,7 @@ impl Link {
             phase: Phase::Waiting,
             peer_max: BASE_SIZE,
             pending,
+            asked,
             tokens: tokens_from,
         })
     }
@@ -160,11 +167,12 @@ impl Link {
         self.pending.len()
     }
 
-    /// How many requests are outstanding: none are yet.
+    /// How many requests, observations and Pings are outstanding.
     pub fn outstanding(&self) -> usize
-        ensures { result ≡ 0 }
+        ensures count { result ≡ length self.now.outstanding }
+        ensures within { length self.now.outstanding ≤ self.now.limits.outstanding }
     {
-        0
+        self.asked.len()
     }
 
     /// Whether nothing more is to be written: it stopped, or its peer released it and nothing is held, and no byte waits. A request
@@ -298,6 +306,165 @@ impl Link {
         Ok(())
     }
 
+    /// Sends a request under a new token, in place of the one that it has, and answers that token. The request is outstanding until a
+    /// response with this token ends it; with `observe` a notification does not (RFC 7252 section 5.3.1, RFC 7641 section 3.1).
+    ///
+    /// # Errors
+    ///
+    /// In this order: `NotOpen` where the connection is not open, `TooMany` where as many are outstanding as may be, `TokensSpent`
+    /// where every token was given, `TooBig` where the message is greater than what may be sent, `NoRoom` where fewer bytes are
+    /// free. Nothing has changed then.
+    pub fn request(&mut self, message: &Builder, observe: bool) -> Result<Token, RequestFault>
+        ensures answer { RefusedBy result (asking_refusal (asking_in self.old) (with_token message.now (next_token self.old.tokens))) }
+        ensures token { IfOk result (λ t. t.items ≡ next_token self.old.tokens) }
+        ensures after { OnOk result (self.new ≡ link_after_request self.old message.now observe) }
+        ensures shows { OnOk result ((h : History) → LinkShows self.old h → LinkShows self.new (after_request h message.now observe)) }
+        ensures err { OnErr result (self.new ≡ self.old) }
+    {
+        let token = self.next_token()?;
+        self.queue_asked(&message.with_token(&token))?;
+        self.enter(if observe {
+            Outstanding::Observation {
+                token: copy_of(&token),
+                cancelled: false,
+            }
+        } else {
+            Outstanding::Request(copy_of(&token))
+        });
+        Ok(token)
+    }
+
+    /// Sends a message under the token of an observation, in place of the one that it has, and the observation counts as cancelled. It
+    /// stays outstanding until a response ends it (RFC 7641 section 3.6).
+    ///
+    /// # Errors
+    ///
+    /// In this order: `NotOpen` where the connection is not open, `NoSuchToken` where no observation with this token is outstanding
+    /// or it was cancelled, `TooBig` where the message is greater than what may be sent, `NoRoom` where fewer bytes are free.
+    /// Nothing has changed then.
+    #[tactic(auto, unfolding(crate::specs::Asking::cancel_refusal))]
+    pub fn cancel(&mut self, token: &Token, message: &Builder) -> Result<(), RequestFault>
+        ensures answer { RefusedBy result (cancel_refusal (asking_in self.old) token.now.items (with_token message.now token.now.items)) }
+        ensures after { OnOk result (self.new ≡ link_after_cancel self.old token.now.items message.now) }
+        ensures shows { OnOk result ((h : History) → LinkShows self.old h → LinkShows self.new (after_cancel h token.now.items message.now)) }
+        ensures err { OnErr result (self.new ≡ self.old) }
+    {
+        let Phase::Open = self.phase else {
+            return Err(RequestFault::NotOpen);
+        };
+        if !self.asked.may_cancel(token) {
+            return Err(RequestFault::NoSuchToken);
+        }
+        self.queue_asked(&message.with_token(token))?;
+        self.asked.cancel(token);
+        Ok(())
+    }
+
+    /// Sends a Ping under a new token, with Custody or not, and answers that token (RFC 8323 section 5.4). The Ping is outstanding until
+    /// its Pong comes.
+    ///
+    /// # Errors
+    ///
+    /// As `request`. Nothing has changed then.
+    pub fn ping(&mut self, custody: bool) -> Result<Token, RequestFault>
+        ensures answer { RefusedBy result (asking_refusal (asking_in self.old) (ping_with custody (next_token self.old.tokens))) }
+        ensures token { IfOk result (λ t. t.items ≡ next_token self.old.tokens) }
+        ensures after { OnOk result (self.new ≡ link_after_ping self.old custody) }
+        ensures shows { OnOk result ((h : History) → LinkShows self.old h → LinkShows self.new (after_ping h custody)) }
+        ensures err { OnErr result (self.new ≡ self.old) }
+    {
+        let token = self.next_token()?;
+        self.queue_asked(&ping_to(&token, custody))?;
+        self.enter(Outstanding::Ping(copy_of(&token)));
+        Ok(token)
+    }
+
+    /// Whether a request may be sent now, whatever its size.
+    ///
+    /// # Errors
+    ///
+    /// In this order: `NotOpen` where the connection is not open, `TooMany` where as many are outstanding as may be, `TokensSpent`
+    /// where every token was given.
+    pub fn may_ask(&self) -> Result<(), RequestFault>
+        ensures { RefusedBy result (new_refusal (asking_in self.now)) }
+    {
+        self.next_token()?;
+        Ok(())
+    }
+
+    /// Whether the observation with this token may be cancelled now, whatever the size of the message.
+    ///
+    /// # Errors
+    ///
+    /// In this order: `NotOpen` where the connection is not open, `NoSuchToken` where no observation with this token is outstanding
+    /// or it was cancelled.
+    #[tactic(auto, unfolding(crate::specs::Asking::observation_refusal))]
+    pub fn may_cancel(&self, token: &Token) -> Result<(), RequestFault>
+        ensures { RefusedBy result (observation_refusal (asking_in self.now) token.now.items) }
+    {
+        let Phase::Open = self.phase else {
+            return Err(RequestFault::NotOpen);
+        };
+        if !self.asked.may_cancel(token) {
+            return Err(RequestFault::NoSuchToken);
+        }
+        Ok(())
+    }
+
+    /// The token behind the last one that was given.
+    ///
+    /// # Errors
+    ///
+    /// In this order: `NotOpen`, `TooMany`, `TokensSpent`.
+    #[tactic(auto, unfolding(crate::specs::Asking::new_refusal))]
+    fn next_token(&self) -> Result<Token, RequestFault>
+        ensures answer { RefusedBy result (new_refusal (asking_in self.now)) }
+        ensures token { IfOk result (λ t. t.items ≡ next_token self.now.tokens) }
+    {
+        let Phase::Open = self.phase else {
+            return Err(RequestFault::NotOpen);
+        };
+        if self.asked.is_full() {
+            return Err(RequestFault::TooMany);
+        }
+        if self.tokens == u64::MAX {
+            return Err(RequestFault::TokensSpent);
+        }
+        Ok(token_of(self.tokens + 1))
+    }
+
+    /// Queues a message that asks something.
+    ///
+    /// # Errors
+    ///
+    /// In this order: `TooBig` where it is greater than what may be sent, `NoRoom` where fewer bytes are free. Nothing has changed
+    /// then.
+    fn queue_asked(&mut self, message: &Builder) -> Result<(), RequestFault>
+        ensures answer { RefusedBy result (size_refusal (asking_in self.old) (length (spelling message.now))) }
+        ensures after { OnOk result (self.new ≡ record self.old { waiting = self.old.waiting ++ bytes_of (message.now ∷ []) }) }
+        ensures err { OnErr result (self.new ≡ self.old) }
+    {
+        let size = message.size();
+        if size > self.limit() as u64 {
+            return Err(RequestFault::TooBig);
+        }
+        if size > self.queue.free() as u64 {
+            return Err(RequestFault::NoRoom);
+        }
+        self.queue.put(message);
+        Ok(())
+    }
+
+    /// This is outstanding, under the token behind the last one that was given.
+    fn enter(&mut self, one: Outstanding)
+        requires room { length self.old.outstanding < self.old.limits.outstanding }
+        requires token { self.old.tokens < 18446744073709551615 }
+        ensures { self.new ≡ record self.old { outstanding = self.old.outstanding ++ outstanding_value one ∷ []; tokens = self.old.tokens + 1 } }
+    {
+        self.asked.enter(one);
+        self.tokens += 1;
+    }
+
     /// The greatest message that may be sent.
     fn limit(&self) -> usize
         ensures { result ≡ limit_in self.now }
@@ -376,13 +543,14 @@ impl Link {
         self.send(response, &bare)
     }
 
-    /// The one way to stop, behind what was queued for it. Whatever is held is given up.
+    /// The one way to stop, behind what was queued for it. Whatever is held or outstanding is given up.
     fn stop(&mut self, reason: Reason) -> Verdict
         ensures verdict { verdict_value result ≡ verdict.Stopped reason }
         ensures after { self.new ≡ link_with self.old (stop (standing_in self.old) reason []) }
     {
         self.phase = Phase::Stopped(reason);
         self.pending.clear();
+        self.asked.clear();
         Verdict::Stopped(reason)
     }
 
@@ -447,16 +615,58 @@ impl Link {
             return self.on_ping(message);
         }
         if code == Code::RELEASE {
-            self.phase = Phase::Releasing(Reason::PeerRelease);
-            return Verdict::Stopped(Reason::PeerRelease);
+            return self.on_release();
         }
         if code == Code::PONG {
-            return Verdict::Stranger;
+            return self.on_pong(message);
         }
         match code.class() {
             7 => Verdict::Done,
             0 => self.on_request(message),
-            _ => Verdict::Stranger,
+            _ => self.on_response(message),
+        }
+    }
+
+    /// The peer releases the connection: what is outstanding is answered no more (RFC 8323 section 5.5).
+    fn on_release(&mut self) -> Verdict
+        ensures verdict { verdict_value result ≡ (release_reaction (standing_in self.old)).verdict }
+        ensures after { self.new ≡ link_with self.old (release_reaction (standing_in self.old)).effect }
+    {
+        self.phase = Phase::Releasing(Reason::PeerRelease);
+        self.asked.clear();
+        Verdict::Stopped(Reason::PeerRelease)
+    }
+
+    /// Handles a response: the request or observation with its token ends by the last one (RFC 7252 section 5.3.2, RFC 7641 section
+    /// 4.2).
+    fn on_response(&mut self, message: &MessageRef) -> Verdict
+        ensures verdict { verdict_value result ≡ (response_reaction (standing_in self.old) message.now).verdict }
+        ensures after { self.new ≡ link_with self.old (response_reaction (standing_in self.old) message.now).effect }
+    {
+        let Some(last) = self.asked.is_last(message) else {
+            return Verdict::Stranger;
+        };
+        if last {
+            self.asked.forget_asked(message.token());
+        }
+        Verdict::Answer {
+            token: copy_of(message.token()),
+            last,
+        }
+    }
+
+    /// Handles a Pong: the Ping with its token ends (RFC 8323 section 5.4).
+    fn on_pong(&mut self, message: &MessageRef) -> Verdict
+        ensures verdict { verdict_value result ≡ (pong_reaction (standing_in self.old) message.now).verdict }
+        ensures after { self.new ≡ link_with self.old (pong_reaction (standing_in self.old) message.now).effect }
+    {
+        if !self.asked.has_ping(message.token()) {
+            return Verdict::Stranger;
+        }
+        self.asked.forget_pinged(message.token());
+        Verdict::Pong {
+            token: copy_of(message.token()),
+            custody: asks_custody(message),
         }
     }
 
@@ -522,6 +732,17 @@ impl Link {
             Reply::Stopped => Verdict::Stopped(Reason::PeerTooSmall),
         }
     }
+}
+
+/// The token of a number: its bytes, as few as possible.
+fn token_of(number: u64) -> Token
+    ensures { result.items ≡ bytes_of_uint number }
+{
+    let bytes = uint_bytes(number);
+    let Ok(token) = Token::try_from(bytes.as_slice()) else {
+        unreachable!()
+    };
+    token
 }
 
 /// The same token.

@@ -2,6 +2,7 @@
 
 ghost use Rattle.std.specs.Prelude.{◌≡◌, ◌≤◌, ◌∷◌, ◌++◌, [], length, option_copied};
 ghost use Rattle.coap_conn.specs.Reasons.{abort_text as text_for, abort_with as abort_message, number_told, told_options};
+ghost use Rattle.coap_conn.specs.Asking.{ping_with};
 ghost use Rattle.coap_conn.specs.Reaction.{pong_with};
 ghost use Rattle.coap_conn.specs.Fit.{bare_response};
 ghost use Rattle.coap_conn.specs.History.{bytes_of, own_csm, release};
@@ -49,6 +50,19 @@ pub(crate) fn pong_to(token: &Token, custody: bool) -> Builder<'static>
         };
     }
     pong
+}
+
+/// A Ping with this token, with Custody or not (RFC 8323 section 5.4).
+pub(crate) fn ping_to(token: &Token, custody: bool) -> Builder<'static>
+    ensures { result ≡ ping_with custody token.now.items }
+{
+    let mut ping = Builder::new(Code::PING, token);
+    if custody {
+        let Ok(()) = ping.option(CUSTODY, &[]) else {
+            unreachable!()
+        };
+    }
+    ping
 }
 
 /// What is sent in place of a response that is too large: its code and token, where a code other than 2.01, 2.02 and 2.04

@@ -137,3 +137,26 @@ pub enum SendFault {
     #[error("the peer takes no message as small as this one")]
     PeerTooSmall = 3,
 }
+
+/// Why a request, a cancellation or a Ping was not sent. The discriminants are the faults' numbers.
+#[derive(Clone, Copy, Debug, PartialEq, Eq, Error)]
+pub enum RequestFault {
+    /// The connection is not open.
+    #[error("the connection is not open")]
+    NotOpen = 1,
+    /// As many are outstanding as may be.
+    #[error("as many requests as may be are outstanding")]
+    TooMany = 2,
+    /// The message is greater than what the peer takes, or than the own greatest message.
+    #[error("the message is greater than what may be sent")]
+    TooBig = 3,
+    /// The queue has no room for the message.
+    #[error("no room in the queue")]
+    NoRoom = 4,
+    /// Every token was given.
+    #[error("every token was given")]
+    TokensSpent = 5,
+    /// No observation with this token is outstanding, or it was cancelled.
+    #[error("no such observation")]
+    NoSuchToken = 6,
+}

@@ -133,6 +133,16 @@ impl Framer {
         }
     }
 
+    /// The split frame that the last `next` gave and that still lies in the buffer, else no byte.
+    pub fn split_frame(&self) -> &[u8]
+        ensures { result.now ≡ self.now.spent }
+    {
+        match self.held {
+            Held::Split => &self.buffer,
+            Held::Beginning | Held::Whole => &[],
+        }
+    }
+
     /// The greatest frame that it takes.
     pub fn max(&self) -> usize
         ensures value { result ≡ self.now.max }

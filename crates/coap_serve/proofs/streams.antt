@@ -11,3 +11,5 @@ pub mod TurnLemmas
 pub mod RunLemmas
 pub mod EndLemmas
 pub mod StartLemmas
+pub mod RestLemmas
+pub mod PeerLemmas

@@ -3,3 +3,5 @@ pub mod Output
 pub mod StdioRun
 pub mod Standing
 pub mod Faults
+pub mod Wires
+pub mod Turns

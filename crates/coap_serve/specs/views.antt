@@ -3,3 +3,4 @@ pub mod ObserverViews
 pub mod SessionViews
 pub mod ServerViews
 pub mod LineViews
+pub mod RestViews

@@ -5,6 +5,7 @@ mod answering;
 mod calls;
 mod config;
 mod device;
+mod door;
 mod event;
 mod host;
 pub mod laws;
@@ -12,19 +13,25 @@ mod observers;
 mod output;
 mod replay;
 mod response;
+mod rest;
 mod scripts;
 mod serve;
 mod server;
 mod session;
+mod wire;
 
 pub use coap_conn::{LimitFault, Limits, Phase, Reason};
 pub use config::{Config, ConfigFault, Starts};
 pub use device::{Outlet, ReadSource, Source, WriteOutlet};
+pub use door::serve_door;
 pub use event::Event;
+pub use output::{WriteFailed, write_all};
 pub use replay::ReplayFault;
-pub use scripts::{ScriptFault, script, scripts_go_on_behind_whole_lines};
+pub use rest::Rest;
+pub use scripts::{ScriptFault, bytes_in, number_in, script, scripts_go_on_behind_whole_lines};
 pub use serve::{IoFault, Report, serve_one};
 pub use server::{
     Backwards, ConnId, Handled, NoSuch, OpenFault, ReleaseFault, Server, Status, TakeFault, Taken,
     WrittenFault,
 };
+pub use wire::{Clock, Door, Got, Wire};

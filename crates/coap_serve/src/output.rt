@@ -9,10 +9,12 @@ ghost use Rattle.coap_serve.specs.values.ServerAnswers.{stop_on};
 use crate::device::Outlet;
 use crate::server::{ConnId, Server};
 use coap_conn::Reason;
+use thiserror::Error;
 
 /// That a write failed.
-#[derive(Clone, Copy, Debug)]
-pub(crate) struct WriteFailed;
+#[derive(Clone, Copy, Debug, PartialEq, Eq, Error)]
+#[error("cannot write")]
+pub struct WriteFailed;
 
 /// Writes all that waits on a connection, until nothing waits: what is written makes room, and what there is room for then comes
 /// to wait. Answers why the connection takes no message any more.
@@ -39,7 +41,11 @@ pub(crate) fn flush<W: Outlet>(
 }
 
 /// Writes these bytes, until none is left.
-pub(crate) fn write_all<W: Outlet>(writer: &mut W, bytes: &[u8]) -> Result<(), WriteFailed>
+///
+/// # Errors
+///
+/// Where a write failed: the outlet has a part of the bytes then.
+pub fn write_all<W: Outlet>(writer: &mut W, bytes: &[u8]) -> Result<(), WriteFailed>
     requires { W.is_failed writer.old ≡ false }
     ensures ok { OnOk result (AddsBytes (W.written writer.old) (W.written writer.new) bytes.now) }
     ensures part { OnErr result (WritesPart (W.written writer.old) (W.written writer.new) bytes.now) }

@@ -112,7 +112,7 @@ fn store_number(fault: StoreFault) -> u8
 }
 
 impl Server {
-    ghost use Rattle.std.specs.Prelude.{◌≡◌, true, false, List, map, IfOk, OnOk, OnErr};
+    ghost use Rattle.std.specs.Prelude.{◌≡◌, ◌≤◌, true, false, List, length, map, IfOk, OnOk, OnErr};
     ghost use Rattle.coap_serve.specs.script.EventViews.{event_value};
     ghost use Rattle.coap_serve.specs.script.Events as event;
     ghost use Rattle.coap_serve.specs.script.Lines as lines;
@@ -209,8 +209,9 @@ impl Server {
     /// # Errors
     ///
     /// Where memory is refused.
-    fn take_all(&mut self, id: ConnId, bytes: &[u8]) -> Result<usize, AllocError>
+    pub(crate) fn take_all(&mut self, id: ConnId, bytes: &[u8]) -> Result<usize, AllocError>
         ensures count { IfOk result (λ n. n ≡ (fed self.old id bytes.now).count) }
+        ensures within { IfOk result (λ n. n ≤ length bytes.now) }
         ensures after { OnOk result (self.new ≡ (fed self.old id bytes.now).server) }
         ensures shows { OnOk result (ShowsMore self.old self.new (took self.old id bytes.now)) }
         ensures err { OnErr result (IsPartlyFed self.old id bytes.now self.new) }

@@ -13,6 +13,7 @@ pub use laws::scripts_go_on_behind_whole_lines;
 use std::alloc::Global;
 use thiserror::Error;
 use words::split_once;
+pub use words::{bytes_in, number_in};
 
 /// Why a text is no script.
 #[derive(Clone, Copy, Debug, PartialEq, Eq, Error)]

@@ -190,7 +190,7 @@ impl Server {
     ghost use Rattle.coap_conn.specs.Limits.{AreInRange};
     ghost use Rattle.coap_store.specs.Refusals.{RefusedOrMemory, put_refusal, remove_refusal};
     ghost use Rattle.coap_serve.specs.values.Servers.{new_server, session_of, is_there, server_opened, count_taken, server_taken, server_written, server_ticked, server_put, server_removed, server_ended, server_released, server_dropped};
-    ghost use Rattle.coap_serve.specs.values.ServerAnswers.{OpenedOrMemory, open_refusal, handled_by, IsNotTaken, written_refusal, released_refusal, front_of, status_of, stop_on};
+    ghost use Rattle.coap_serve.specs.values.ServerAnswers.{OpenedOrMemory, open_refusal, can_take_on, handled_by, IsNotTaken, written_refusal, released_refusal, front_of, status_of, stop_on};
     ghost use Rattle.coap_serve.specs.streams.Device.{AddsBytes, WritesPart};
     ghost use Rattle.coap_serve.specs.values.Flushes.{waiting_at, more_at, IsFlushedOnce};
     ghost use Rattle.coap_serve.specs.contracts.server.Server.{the_row};
@@ -211,6 +211,24 @@ impl Server {
             ids: config.starts().ids,
             sessions: IndexMap::with_capacity(alloc, config.connections())?,
         })
+    }
+
+    /// Whether `add` would be refused for want of memory alone.
+    pub(crate) fn can_open(&self) -> bool
+        ensures { result ≡ is_none (open_refusal self.now) }
+    {
+        self.sessions.len() < self.config.connections() && self.ids < u64::MAX
+    }
+
+    /// Whether a connection takes bytes: it is there, has neither stopped nor been released, and has room in its queue for the
+    /// greatest message sent.
+    pub(crate) fn can_take(&self, id: ConnId) -> bool
+        ensures { result ≡ can_take_on (session_of id self.now.sessions) }
+    {
+        let Some(at) = find(&self.sessions, id) else {
+            return false;
+        };
+        self.sessions[at].takes()
     }
 
     /// Opens a connection, whose own Capabilities and Settings wait, and answers its number: one more than the last one.

@@ -1,4 +1,4 @@
-//! Tests of all crates over their public items, most of them as rows of text: events, and what is to be told of each.
+//! Tests of the crates up to the server over their public items, most of them as rows of text: events, and what is to be told of each.
 //! Only the tests have code.
 #![tactic(auto)]
 
@@ -6,6 +6,8 @@
 mod config;
 #[cfg(test)]
 mod devices;
+#[cfg(test)]
+mod door;
 #[cfg(test)]
 mod frame;
 #[cfg(test)]

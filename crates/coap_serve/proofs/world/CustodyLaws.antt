@@ -334,7 +334,7 @@ message_held ms s m stand =
     let still : StandFor (ms ++ m ∷ []) s.held = stand_more m ms s.held stand in
     react_so s m (λ e. StandFor (ms ++ m ∷ []) e.held) (record {
       stays = still;
-      stands = λ now. still;
+      stands = λ now outstanding. still;
       stops = λ why farewell plain. stand_none (ms ++ m ∷ []);
       queues = λ n is. still;
       keeps = λ ping custody. stand_last m (Pong m.token) ms s.held (rw (ping, custody, (bytes_decides m.token m.token).1 refl) refl) stand;

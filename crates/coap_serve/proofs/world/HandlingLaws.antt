@@ -1,6 +1,7 @@
 -- What a take handled is told by the worlds before and after it: nothing, one message, or the reason of a stop.
 use Rattle.std.proofs.Common.{◌≡◌, ℕ, ◌+◌, Bool, true, false, cond, List, [], ◌∷◌, ◌++◌, length, take, Option, Some, None, Result, Ok, Err, refl, sym, ap, subst, ◌∙◌, ◌⊎◌, inl, inr, arith}
-use Rattle.std.specs.Prelude.{nat_lt, is_none, option_map, ◌&&◌, ◌==◌, IfOk}
+use Rattle.std.specs.List.{list_any}
+use Rattle.std.specs.Prelude.{nat_lt, is_none, find, option_map, ◌&&◌, ◌==◌, IfOk}
 use Rattle.std.proofs.lemmas.Bool.{cond_both, cond-true, and_parts, lt-ltb, le-ltb}
 use Rattle.std.proofs.lemmas.List.{append-nil, length-append, take_all}
 use Rattle.coap_wire.specs.Message.{Message}
@@ -21,7 +22,8 @@ use Rattle.coap_conn.specs.declared.reason.Reason.{Reason}
 use Rattle.coap_conn.specs.Phases.{stop_of, takes_messages, answers, is_open, is_waiting}
 use Rattle.coap_conn.specs.Announced.{has_critical_option, bad_csm_option}
 use Rattle.coap_conn.specs.Fit.{fit, bare_response, without_options}
-use Rattle.coap_conn.specs.Reaction.{Standing, Effect, Reaction, abort, send_as, send, sends, react, reaction_unless, live_reaction, open_reaction, csm_reaction, request_reaction, due_effect, is_reserved, is_signal, is_method, minds_critical_options, asks_custody, pong_with, pong_of, late_pong, ping_reaction, not_implemented}
+use Rattle.coap_conn.specs.Outstanding.{OutstandingValue, is_asked, is_last, is_pinged}
+use Rattle.coap_conn.specs.Reaction.{Standing, Effect, Reaction, abort, send_as, send, sends, react, reaction_unless, live_reaction, open_reaction, csm_reaction, request_reaction, due_effect, is_reserved, is_signal, is_method, minds_critical_options, asks_custody, pong_with, pong_of, late_pong, ping_reaction, pong_reaction, answered, not_implemented}
 use Rattle.coap_conn.specs.Held.{HeldValue, first_due, without_due, due_index}
 use Rattle.coap_conn.specs.Held as held
 use Rattle.coap_conn.specs.Rejects.{reject_of, reject_reason}
@@ -88,14 +90,21 @@ late_pong_so s m is = cond_both (nat_lt (length s.held) s.most) _ _ ReactsSo (λ
 ping_so : (s : Standing) (m : Message) → StopsAtMost s.phase → ReactsSo (ping_reaction s m)
 ping_so s m is = cond_both (asks_custody m && nat_lt 0 (length s.held)) _ _ ReactsSo (λ e. late_pong_so s m is) (λ e. sends_so s (pong_of m) (without_options (pong_of m)) is)
 
+pong_so : (s : Standing) (m : Message) → StopsAtMost s.phase → ReactsSo (pong_reaction s m)
+pong_so s m is = cond_both (list_any (is_pinged m.token) s.outstanding) _ _ ReactsSo (λ e. is) (λ e. is)
+
+answered_so : (s : Standing) (m : Message) (found : Option OutstandingValue) → StopsAtMost s.phase → ReactsSo (answered s m found)
+answered_so s m None is = is
+answered_so s m (Some e) is = cond_both (is_last m e) _ _ ReactsSo (λ last. is) (λ more. is)
+
 open_so : (s : Standing) (m : Message) → StopsAtMost s.phase → ReactsSo (open_reaction s m)
 open_so s m is =
     cond_both (minds_critical_options m.code && has_critical_option m) _ _ ReactsSo (λ e. refl)
     (λ e. cond_both (m.code == code.ping) _ _ ReactsSo (λ e. ping_so s m is)
     (λ e. cond_both (m.code == code.release) _ _ ReactsSo (λ e. refl)
-    (λ e. cond_both (m.code == code.pong) _ _ ReactsSo (λ e. is)
+    (λ e. cond_both (m.code == code.pong) _ _ ReactsSo (λ e. pong_so s m is)
     (λ e. cond_both (is_signal m.code) _ _ ReactsSo (λ e. is)
-    (λ e. cond_both (is_method m.code) _ _ ReactsSo (λ e. request_so s m s.role is) (λ e. is))))))
+    (λ e. cond_both (is_method m.code) _ _ ReactsSo (λ e. request_so s m s.role is) (λ e. answered_so s m (find (is_asked m.token) s.outstanding) is))))))
 
 live_so : (s : Standing) (m : Message) → StopsAtMost s.phase → ReactsSo (live_reaction s m)
 unfolding live_reaction

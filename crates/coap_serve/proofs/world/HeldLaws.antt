@@ -98,7 +98,7 @@ react_over s m =
     let still : Adds m s.held s.held = adds_none m s.held s.held refl in
     react_so s m (λ e. Adds m s.held e.held ⊎ ((why : Reason) × (e.phase ≡ Stopped why))) (record {
       stays = inl still;
-      stands = λ now. inl still;
+      stands = λ now outstanding. inl still;
       stops = λ why farewell plain. inr (why, refl);
       queues = λ n is. inl still;
       keeps = λ ping custody. inl (adds_one m s.held (Pong m.token) (rw (ping, custody, (bytes_decides m.token m.token).1 refl) refl));

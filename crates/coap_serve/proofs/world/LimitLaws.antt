@@ -2,7 +2,7 @@
 -- after accepted events of the bytes that are kept of an unfinished frame.
 use Rattle.std.proofs.Common.{◌≡◌, ℕ, ◌+◌, ◌<◌, ◌≤◌, Bool, true, false, cond, List, [], ◌∷◌, ◌++◌, length, map, drop, Option, Some, None, refl, ap, ◌∙◌, arith}
 use Rattle.std.specs.Prelude.{zero, suc, nat_le, nat_lt, is_none, filter, find, ◌&&◌, ◌==◌}
-use Rattle.std.specs.List.{AllByRecursion}
+use Rattle.std.specs.List.{AllByRecursion, list_any}
 use Rattle.std.proofs.Math.Nat.{min-le_left}
 use Rattle.std.proofs.lemmas.Bool.{both_ways, cond_both, leb-true, ltb-true, ltb-false, and_parts}
 use Rattle.std.proofs.lemmas.List.{length-append, length-drop}
@@ -26,7 +26,8 @@ use Rattle.coap_conn.specs.Announced.{announced, has_critical_option, bad_csm_op
 use Rattle.coap_conn.specs.Fit.{AllFit, fit, fitted, abort_fitted, without_payload, without_options, bare_response}
 use Rattle.coap_conn.specs.Verdicts.{is_request}
 use Rattle.coap_conn.specs.Held.{HeldValue, Answer, Pong, first_due, without_due}
-use Rattle.coap_conn.specs.Reaction.{Standing, Effect, Reaction, stop, abort, send_as, send, told_of, sends, aborts, react, reaction_unless, live_reaction, open_reaction, csm_reaction, request_reaction, ping_reaction, is_reserved, is_signal, is_method, minds_critical_options, asks_custody, pong_with, pong_of, not_implemented, due_effect}
+use Rattle.coap_conn.specs.Outstanding.{OutstandingValue, is_asked, is_last, is_pinged}
+use Rattle.coap_conn.specs.Reaction.{Standing, Effect, Reaction, stop, abort, send_as, send, told_of, sends, aborts, react, reaction_unless, live_reaction, open_reaction, csm_reaction, request_reaction, ping_reaction, pong_reaction, answered, is_reserved, is_signal, is_method, minds_critical_options, asks_custody, pong_with, pong_of, not_implemented, due_effect}
 use Rattle.coap_conn.specs.Rejects.{reject_of, reject_reason}
 use Rattle.coap_conn.specs.Release.{release_refusal}
 use Rattle.coap_conn.specs.History.{History, IsHistory, bytes_of, limit_now, standing_now, with_effect, after_message, after_reply, after_reject, after_end, after_release, after_written, after_hold, after_due, may_hold, standing_due, end_reason, release}
@@ -398,14 +399,22 @@ request_sparing : (s : Standing) (m : Message) (role : Role) → IsSparing (requ
 request_sparing s m Server = (omega arith, λ e. refl)
 request_sparing s m Client = sends_sparing s (not_implemented m) (bare_response (not_implemented m))
 
+pong_sparing : (s : Standing) (m : Message) → IsSparing (pong_reaction s m)
+pong_sparing s m = cond_both (list_any (is_pinged m.token) s.outstanding) _ _ IsSparing (λ e. (omega arith, λ f. refl)) (λ e. (omega arith, λ f. refl))
+
+answered_sparing : (s : Standing) (m : Message) (found : Option OutstandingValue) → IsSparing (answered s m found)
+answered_sparing s m None = (omega arith, λ f. refl)
+answered_sparing s m (Some e) = cond_both (is_last m e) _ _ IsSparing (λ last. (omega arith, λ f. refl)) (λ more. (omega arith, λ f. refl))
+
 open_sparing : (s : Standing) (m : Message) → IsSparing (open_reaction s m)
 open_sparing s m =
     cond_both (minds_critical_options m.code && has_critical_option m) _ _ IsSparing (λ e. aborts_sparing s reason.BadSignalOption)
     (λ e. cond_both (m.code == code.ping) _ _ IsSparing (λ e. ping_sparing s m)
     (λ e. cond_both (m.code == code.release) _ _ IsSparing (λ e. (omega arith, λ e. refl))
-    (λ e. cond_both (m.code == code.pong) _ _ IsSparing (λ e. (omega arith, λ e. refl))
+    (λ e. cond_both (m.code == code.pong) _ _ IsSparing (λ e. pong_sparing s m)
     (λ e. cond_both (is_signal m.code) _ _ IsSparing (λ e. (omega arith, λ e. refl))
-    (λ e. cond_both (is_method m.code) _ _ IsSparing (λ e. request_sparing s m s.role) (λ e. (omega arith, λ e. refl)))))))
+    (λ e. cond_both (is_method m.code) _ _ IsSparing (λ e. request_sparing s m s.role)
+    (λ e. answered_sparing s m (find (is_asked m.token) s.outstanding)))))))
 
 live_sparing : (s : Standing) (m : Message) → IsSparing (live_reaction s m)
 unfolding live_reaction

@@ -2,7 +2,7 @@
 -- thing that happens to a connection queues.
 use Rattle.std.proofs.Common.{◌≡◌, ◌≢◌, ℕ, Bool, true, false, cond, List, [], ◌∷◌, ◌++◌, Option, Some, None, refl, sym, ap, ◌∙◌}
 use Rattle.std.specs.Prelude.{length, nat_lt, reverse, find, ◌&&◌, ◌==◌}
-use Rattle.std.specs.List.{AllByRecursion}
+use Rattle.std.specs.List.{AllByRecursion, list_any}
 use Rattle.std.proofs.lemmas.Bool.{cond_both, cond-true, cond-false, false_from_ne_true, and_parts}
 use Rattle.std.proofs.lemmas.List.{append-nil, append_assoc, reverse-append}
 use lib.Pointwise.{bytes_decides}
@@ -22,7 +22,8 @@ use Rattle.coap_conn.specs.Reasons.{abort_of, abort_text, abort_with, abort_opti
 use Rattle.coap_conn.specs.Announced.{has_critical_option, bad_csm_option}
 use Rattle.coap_conn.specs.Fit.{fit, fitted, abort_fitted, without_payload, without_options, bare_response}
 use Rattle.coap_conn.specs.Held.{HeldValue, Answer, Pong, first_due}
-use Rattle.coap_conn.specs.Reaction.{Standing, Effect, Reaction, stay, stop, abort, send_as, send, holds, react, reaction_unless, live_reaction, open_reaction, csm_reaction, request_reaction, ping_reaction, due_effect, is_reserved, is_signal, is_method, minds_critical_options, asks_custody, is_custody_pong, pong_with, pong_of, not_implemented}
+use Rattle.coap_conn.specs.Outstanding.{OutstandingValue, is_asked, is_last, is_pinged, without_asked, without_pinged}
+use Rattle.coap_conn.specs.Reaction.{Standing, Effect, Reaction, stay, stop, abort, send_as, send, holds, react, reaction_unless, live_reaction, open_reaction, csm_reaction, request_reaction, ping_reaction, pong_reaction, answered, due_effect, is_reserved, is_signal, is_method, minds_critical_options, asks_custody, is_custody_pong, pong_with, pong_of, not_implemented}
 use Rattle.coap_conn.specs.Rejects.{reject_reason}
 use Rattle.coap_conn.specs.History.{History, limit_now, standing_now, with_effect, after_message, after_reply, after_reject, after_end, after_release, end_reason, release, may_hold, after_hold, standing_due, after_due}
 use Rattle.coap_store.specs.Paths.{same_bytes}
@@ -111,7 +112,7 @@ abort_plain limit (Some text) why e =
 -- may be held.
 pub record ReactionCases (s : Standing) (m : Message) (P : Effect → Type 0) : Type 0 where
   pub stays : P (stay s)
-  pub stands : (now : Phase) → P (record (stay s) { phase = now })
+  pub stands : (now : Phase) (outstanding : List OutstandingValue) → P (record (stay s) { phase = now; outstanding = outstanding })
   pub stops : (why : Reason) (farewell : List Message) → AllByRecursion IsPlain farewell → P (stop s why farewell)
   pub queues : (n : Message) → (s.role ≡ Server → IsNoResponse n) → P (record (stay s) { queued = n ∷ [] })
   pub keeps : (m.code == code.ping) ≡ true → asks_custody m ≡ true → P (holds s (Pong m.token)).effect
@@ -129,7 +130,7 @@ module _ (s : Standing) (m : Message) (P : Effect → Type 0) (cases : ReactionC
   sends_so n less Stopped whole bare = cases.stops reason.PeerTooSmall [] tt
 
   csm_so : (bad : Option ℕ) → Does (csm_reaction s bad)
-  csm_so None = cases.stands phase.Open
+  csm_so None = cases.stands phase.Open s.outstanding
   csm_so (Some number) = aborts_so (reason.BadCsm number)
 
   request_so : (role : Role) → s.role ≡ role → Does (request_reaction s m role)
@@ -151,14 +152,22 @@ module _ (s : Standing) (m : Message) (P : Effect → Type 0) (cases : ReactionC
       (λ f. sends_so late late (fit s.limit late late) (λ server. refl) (λ server. refl)))
       (λ e. sends_so now (without_options now) (fit s.limit now (without_options now)) (λ server. refl) (λ server. refl))
 
+  -- neither a Pong nor a response queues anything
+  pong_so : Does (pong_reaction s m)
+  pong_so = cond_both (list_any (is_pinged m.token) s.outstanding) _ _ Does (λ e. cases.stands s.phase (without_pinged m.token s.outstanding)) (λ e. cases.stays)
+
+  answered_so : (found : Option OutstandingValue) → Does (answered s m found)
+  answered_so None = cases.stays
+  answered_so (Some e) = cond_both (is_last m e) _ _ Does (λ f. cases.stands s.phase (without_asked m.token s.outstanding)) (λ f. cases.stays)
+
   open_so : Does (open_reaction s m)
   open_so =
       cond_both (minds_critical_options m.code && has_critical_option m) _ _ Does (λ e. aborts_so reason.BadSignalOption)
       (λ e. cond_both (m.code == code.ping) _ _ Does (λ ping. ping_so ping)
-      (λ e. cond_both (m.code == code.release) _ _ Does (λ e. cases.stands (phase.Releasing reason.PeerRelease))
-      (λ e. cond_both (m.code == code.pong) _ _ Does (λ e. cases.stays)
+      (λ e. cond_both (m.code == code.release) _ _ Does (λ e. cases.stands (phase.Releasing reason.PeerRelease) [])
+      (λ e. cond_both (m.code == code.pong) _ _ Does (λ e. pong_so)
       (λ e. cond_both (is_signal m.code) _ _ Does (λ e. cases.stays)
-      (λ e. cond_both (is_method m.code) _ _ Does (λ e. request_so s.role refl) (λ e. cases.stays))))))
+      (λ e. cond_both (is_method m.code) _ _ Does (λ e. request_so s.role refl) (λ e. answered_so (find (is_asked m.token) s.outstanding)))))))
 
   live_so : Does (live_reaction s m)
   unfolding live_reaction
@@ -185,7 +194,7 @@ AreNoResponses ms = AllByRecursion IsNoResponse ms
 react_signals : (s : Standing) (m : Message) → s.role ≡ Server → AreNoResponses (react s m).effect.queued
 react_signals s m server = react_so s m (λ e. AreNoResponses e.queued) (record {
   stays = tt;
-  stands = λ now. tt;
+  stands = λ now outstanding. tt;
   stops = λ why farewell plain. all_to IsPlain IsNoResponse (λ n is. is.0) farewell plain;
   queues = λ n is. (is server, tt);
   keeps = λ ping custody. tt;

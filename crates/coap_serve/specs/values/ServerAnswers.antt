@@ -66,6 +66,11 @@ released_refusal v id = released_refusal_on (session_of id v.sessions)
 
 -- ---- take
 
+-- a connection is there, and takes bytes
+abbrev pub can_take_on : Option SessionValue → Bool
+can_take_on None = false
+can_take_on (Some s) = session_takes s
+
 -- the connection with this number, where there is one, has this reason to take no message any more
 abbrev pub stop_on : Option SessionValue → Option Reason
 stop_on None = None

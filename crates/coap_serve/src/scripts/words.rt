@@ -25,8 +25,9 @@ pub(super) fn split_once(bytes: &[u8], separator: u8) -> Option<(&[u8], &[u8])>
 /// The most digits of a number.
 const MAX_DIGITS: usize = 20;
 
-/// The number that a word of 1 to 20 decimal digits means, where it fits.
-pub(super) fn number_in(word: &[u8]) -> Option<u64>
+/// The number that a word of 1 to 20 decimal digits means, where it fits in 64 bits; `None` for any other word. Leading
+/// zeros are digits like others.
+pub fn number_in(word: &[u8]) -> Option<u64>
     ensures { result ≡ spec.decimal_value word.now }
 {
     if word.len() > MAX_DIGITS || !word.iter().all(|byte| byte.is_ascii_digit()) {
@@ -36,12 +37,12 @@ pub(super) fn number_in(word: &[u8]) -> Option<u64>
     text.parse::<u64>().ok()
 }
 
-/// The bytes that a word of one or more pairs of hexadecimal digits means, where it is one.
+/// The bytes that a word of one or more pairs of hexadecimal digits means, of either case; `None` for any other word.
 ///
 /// # Errors
 ///
 /// Where memory is refused for them.
-pub(super) fn bytes_in(alloc: Global, word: &[u8]) -> Result<Option<Vec<u8>>, AllocError>
+pub fn bytes_in(alloc: Global, word: &[u8]) -> Result<Option<Vec<u8>>, AllocError>
     ensures { IfOk result (λ found. option_map (λ v. v.items) found ≡ spec.hex_value word.now) }
 {
     if word.is_empty() {

@@ -1,6 +1,8 @@
 use Rattle.std.proofs.Common.{◌&&◌, [], refl}
+use Rattle.std.specs.Prelude.{is_none}
 use Rattle.coap_conn.specs.Phases.{takes_messages, answers, is_open}
-use Rattle.coap_conn.specs.History.{may_hold}
+use Rattle.coap_conn.specs.Asking.{asking_refusal, cancel_refusal, next_token, with_token, ping_with}
+use Rattle.coap_conn.specs.History.{may_hold, asking_now}
 use Rattle.coap_conn.proofs.FirstLaws.{first_stays, guarded_first}
 use Rattle.coap_conn.proofs.laws.own_announcement_comes_first.Goals as goal
 
@@ -30,3 +32,12 @@ returns-clause-held c = λ h token moment first. guarded_first (is_open h.phase 
 
 pub returns-clause-due : goal.returns-clause-due
 returns-clause-due c = λ h now first. first_stays h _ first
+
+pub returns-clause-asked : goal.returns-clause-asked
+returns-clause-asked c = λ h m observe first. guarded_first (is_none (asking_refusal (asking_now h) (with_token m (next_token h.tokens)))) h _ (first_stays h _ first) first
+
+pub returns-clause-cancelled : goal.returns-clause-cancelled
+returns-clause-cancelled c = λ h token m first. guarded_first (is_none (cancel_refusal (asking_now h) token (with_token m token))) h _ (first_stays h _ first) first
+
+pub returns-clause-pinged : goal.returns-clause-pinged
+returns-clause-pinged c = λ h custody first. guarded_first (is_none (asking_refusal (asking_now h) (ping_with custody (next_token h.tokens)))) h _ (first_stays h _ first) first

@@ -1,4 +1,4 @@
-use Rattle.coap_conn.proofs.HistoryLaws.{new_fits, reaction_fits, sent_fits, stopped_fits, released_fits, due_fits}
+use Rattle.coap_conn.proofs.HistoryLaws.{new_fits, reaction_fits, sent_fits, stopped_fits, released_fits, due_fits, asked_fits, cancelled_fits}
 use Rattle.coap_conn.proofs.laws.what_is_queued_fits.Goals as goal
 
 pub returns-clause-new : goal.returns-clause-new
@@ -18,3 +18,9 @@ returns-clause-released c = released_fits
 
 pub returns-clause-due : goal.returns-clause-due
 returns-clause-due c = due_fits
+
+pub returns-clause-asked : goal.returns-clause-asked
+returns-clause-asked c = asked_fits
+
+pub returns-clause-cancelled : goal.returns-clause-cancelled
+returns-clause-cancelled c = cancelled_fits

@@ -1,0 +1,19 @@
+pub mod TargetLemmas
+pub mod RequestLemmas
+pub mod ClientSteps
+pub mod FrontLaws
+pub mod ClientReached
+pub mod ClientShown
+pub mod TakingLemmas
+pub mod TakeLemmas
+pub mod LimitLaws
+pub mod CutLaws
+pub mod TokenLaws
+pub mod HandledLaws
+pub mod FitLaws
+pub mod WordLemmas
+pub mod PlanLemmas
+mod Worked
+mod WorkedClient
+mod WorkedLaws
+mod WordsWorked

@@ -1,0 +1,349 @@
+-- The limits of a client hold: after any calls of what is held and outstanding, and after accepted calls of the bytes that wait
+-- and of those that are kept of an unfinished frame.
+use Rattle.std.proofs.Common.{◌≡◌, ℕ, ◌+◌, ◌<◌, ◌≤◌, Bool, true, false, ◌==◌, cond, List, [], ◌∷◌, ◌++◌, length, drop, Option, Some, None, refl, sym, ap, subst, ◌∙◌, arith}
+use Rattle.std.specs.Prelude.{nat_lt, is_none, find, ◌&&◌}
+use Rattle.std.specs.List.{list_any}
+use Rattle.std.proofs.Math.Nat.{min-le_left}
+use Rattle.std.proofs.lemmas.Bool.{cond_both, ltb-true, and_parts}
+use Rattle.std.proofs.lemmas.List.{length-append, length-drop, length-map}
+use Rattle.coap_wire.specs.Message.{Message}
+use Rattle.coap_wire.specs.Spelling.{spelling}
+use Rattle.coap_wire.specs.Codes as code
+use Rattle.coap_wire.proofs.StreamSteps.{unfinished_below}
+use Rattle.coap_conn.specs.declared.phase.Reply.{Reply}
+use Rattle.coap_conn.specs.declared.phase.Reply.TheVariants.{Whole, Bare, Stopped}
+use Rattle.coap_conn.specs.declared.phase.Role.{Role}
+use Rattle.coap_conn.specs.declared.phase.Role.TheVariants.{Server, Client}
+use Rattle.coap_conn.specs.declared.reason.Reason.{Reason}
+use Rattle.coap_conn.specs.declared.reason.Reason.TheVariants as reason
+use Rattle.coap_conn.specs.Limits.{LimitValues, AreInRange}
+use Rattle.coap_conn.specs.Phases.{stop_of, takes_messages, is_waiting}
+use Rattle.coap_conn.specs.Reasons.{abort_of}
+use Rattle.coap_conn.specs.Rejects.{reject_of, reject_reason}
+use Rattle.coap_conn.specs.Announced.{announced, has_critical_option, bad_csm_option}
+use Rattle.coap_conn.specs.Fit.{AllFit, fit, fitted, abort_fitted, without_payload, without_options, bare_response}
+use Rattle.coap_conn.specs.Outstanding.{OutstandingValue, Ping, is_asked, is_last, is_pinged, cancelled_by}
+use Rattle.coap_conn.specs.Asking.{asking_refusal, cancel_refusal, next_token, with_token, entry_of, ping_with}
+use Rattle.coap_conn.specs.Reaction.{Standing, Reaction, stop, abort, send_as, sends, aborts, react, reaction_unless, live_reaction, open_reaction, csm_reaction, request_reaction, answered, pong_reaction, ping_reaction, is_reserved, is_signal, is_method, minds_critical_options, asks_custody, pong_with, pong_of, not_implemented}
+use Rattle.coap_conn.specs.History.{History, IsHistory, new_history, bytes_of, limit_now, standing_now, asking_now, waiting_of, with_effect, after_message, after_end, after_written, after_asking, after_cancel, end_reason}
+use Rattle.coap_conn.proofs.LinkLemmas.{waiting_more}
+use Rattle.coap_conn.proofs.SmallLemmas.{csm_bytes_small}
+use Rattle.coap_conn.proofs.AskingLaws.{none_where, asked_size, cancel_size}
+use Rattle.coap_conn.proofs.AskedLaws.{asked_no_more, asked_few}
+use Rattle.coap_conn.proofs.HistoryLaws.{reaction_fits, stopped_fits}
+use Rattle.coap_client.specs.Requests.{request_of, cancel_of}
+use Rattle.coap_client.specs.ClientValues.{is_cut}
+use Rattle.coap_client.specs.ClientWorld.{ClientCall, ClientStep, Took, Sent, Cancelled, Pinged, Wrote, Ended, Handles, Faults, Requests, Cancels, Pings, Writes, Ends, stream_in, steps_by, steps_of, step, after_steps, client_after, handles, IsAccepted, AreAccepted, client_of}
+use Rattle.coap_client.proofs.ClientSteps.{rest_unfinished, client_first, client_same, client_step, by_calls}
+use Rattle.coap_client.proofs.ClientReached.{limits_same, accepted_is}
+use Rattle.coap_client.proofs.HandledLaws.{TakesSo, NoStep, OneMessage, OneFault, handles_parts, bytes_taken}
+
+-- ---- what a message does
+
+-- it queues one message at most, and where nothing is held, nothing is held after it
+record IsSparing (s : Standing) (r : Reaction) : Type 0 where
+  one : length r.effect.queued ≤ 1
+  none : s.held ≡ [] → r.effect.held ≡ []
+
+fitted_one : (m less : Message) (r : Reply) → length (fitted m less r) ≤ 1
+fitted_one m less Whole = omega arith
+fitted_one m less Bare = omega arith
+fitted_one m less Stopped = omega arith
+
+abort_one : (limit : ℕ) (o : Option Message) → length (abort_fitted limit o) ≤ 1
+abort_one limit None = omega arith
+abort_one limit (Some m) = fitted_one m (without_payload m) (fit limit m (without_payload m))
+
+aborts_sparing : (s : Standing) (why : Reason) → IsSparing s (aborts s why)
+aborts_sparing s why = record { one = abort_one s.limit (abort_of why); none = λ e. refl }
+
+sent_one : (s : Standing) (m less : Message) (r : Reply) → length (send_as s m less r).queued ≤ 1
+sent_one s m less Whole = omega arith
+sent_one s m less Bare = omega arith
+sent_one s m less Stopped = omega arith
+
+sent_none : (s : Standing) (m less : Message) (r : Reply) → s.held ≡ [] → (send_as s m less r).held ≡ []
+sent_none s m less Whole e = e
+sent_none s m less Bare e = e
+sent_none s m less Stopped e = refl
+
+sends_sparing : (s : Standing) (m less : Message) → IsSparing s (sends s m less)
+sends_sparing s m less = record { one = sent_one s m less (fit s.limit m less); none = sent_none s m less (fit s.limit m less) }
+
+csm_sparing : (s : Standing) (bad : Option ℕ) → IsSparing s (csm_reaction s bad)
+csm_sparing s None = record { one = omega arith; none = λ e. e }
+csm_sparing s (Some number) = aborts_sparing s (reason.BadCsm number)
+
+-- a Pong waits only for what is held
+ping_sparing : (s : Standing) (m : Message) → IsSparing s (ping_reaction s m)
+ping_sparing s m =
+    cond_both (asks_custody m && nat_lt 0 (length s.held)) _ _ (IsSparing s)
+    (λ e. cond_both (nat_lt (length s.held) s.most) _ _ (IsSparing s)
+    (λ f. record {
+      one = omega arith;
+      none =
+          λ none. absurd (omega (arith, ltb-true 0 (length s.held) (and_parts (asks_custody m) (nat_lt 0 (length s.held)) e).1, ap (λ held. length held) none));
+    })
+    (λ f. sends_sparing s (pong_with false m.token) (pong_with false m.token)))
+    (λ e. sends_sparing s (pong_of m) (without_options (pong_of m)))
+
+request_sparing : (s : Standing) (m : Message) (role : Role) → IsSparing s (request_reaction s m role)
+request_sparing s m Server = record { one = omega arith; none = λ e. e }
+request_sparing s m Client = sends_sparing s (not_implemented m) (bare_response (not_implemented m))
+
+pong_sparing : (s : Standing) (m : Message) → IsSparing s (pong_reaction s m)
+pong_sparing s m =
+    cond_both (list_any (is_pinged m.token) s.outstanding) _ _ (IsSparing s) (λ e. record { one = omega arith; none = λ e. e })
+    (λ e. record { one = omega arith; none = λ e. e })
+
+answered_sparing : (s : Standing) (m : Message) (found : Option OutstandingValue) → IsSparing s (answered s m found)
+answered_sparing s m None = record { one = omega arith; none = λ e. e }
+answered_sparing s m (Some e) =
+    cond_both (is_last m e) _ _ (IsSparing s) (λ f. record { one = omega arith; none = λ e. e }) (λ f. record { one = omega arith; none = λ e. e })
+
+open_sparing : (s : Standing) (m : Message) → IsSparing s (open_reaction s m)
+open_sparing s m =
+    cond_both (minds_critical_options m.code && has_critical_option m) _ _ (IsSparing s) (λ e. aborts_sparing s reason.BadSignalOption)
+    (λ e. cond_both (m.code == code.ping) _ _ (IsSparing s) (λ e. ping_sparing s m)
+    (λ e. cond_both (m.code == code.release) _ _ (IsSparing s) (λ e. record { one = omega arith; none = λ e. e })
+    (λ e. cond_both (m.code == code.pong) _ _ (IsSparing s) (λ e. pong_sparing s m)
+    (λ e. cond_both (is_signal m.code) _ _ (IsSparing s) (λ e. record { one = omega arith; none = λ e. e })
+    (λ e. cond_both (is_method m.code) _ _ (IsSparing s) (λ e. request_sparing s m s.role) (λ e. answered_sparing s m (find (is_asked m.token) s.outstanding)))))))
+
+live_sparing : (s : Standing) (m : Message) → IsSparing s (live_reaction s m)
+unfolding live_reaction
+live_sparing s m =
+    cond_both (is_reserved m.code) _ _ (IsSparing s) (λ e. aborts_sparing s reason.ReservedCode)
+    (λ e. cond_both (m.code == code.empty) _ _ (IsSparing s) (λ e. record { one = omega arith; none = λ e. e })
+    (λ e. cond_both (m.code == code.abort) _ _ (IsSparing s) (λ e. aborts_sparing s reason.PeerAbort)
+    (λ e. cond_both (m.code == code.csm) _ _ (IsSparing s) (λ e. csm_sparing s (bad_csm_option m))
+    (λ e. cond_both (is_waiting s.phase) _ _ (IsSparing s) (λ e. aborts_sparing s reason.CsmExpected) (λ e. open_sparing s m)))))
+
+unless_sparing : (s : Standing) (m : Message) (over : Option Reason) → IsSparing s (reaction_unless s m over)
+unless_sparing s m None = live_sparing s m
+unless_sparing s m (Some why) = record { one = omega arith; none = λ e. e }
+
+react_sparing : (s : Standing) (m : Message) → IsSparing s (react s m)
+unfolding react
+react_sparing s m = unless_sparing s m (stop_of s.phase)
+
+-- ---- what is held and outstanding
+
+-- the limits are these, nothing is held, and no more is outstanding than may be
+record Keeps (limits : LimitValues) (h : History) : Type 0 where
+  same : h.limits ≡ limits
+  none : h.held ≡ []
+  few : length h.outstanding ≤ limits.outstanding
+
+keeps_if : (limits : LimitValues) (h k : History) (does : Bool) → Keeps limits h → Keeps limits k → Keeps limits (cond does k h)
+keeps_if limits h k true is then = then
+keeps_if limits h k false is then = is
+
+asked_same : (h : History) (m : Message) (e : OutstandingValue)
+    → ((after_asking h m e).limits ≡ h.limits) × ((after_asking h m e).held ≡ h.held)
+asked_same h m e =
+    cond_both (is_none (asking_refusal (asking_now h) m)) _ h (λ (k : History). (k.limits ≡ h.limits) × (k.held ≡ h.held)) (λ f. (refl, refl)) (λ f. (refl, refl))
+
+asked_keeps : (limits : LimitValues) (h : History) (m : Message) (e : OutstandingValue) → Keeps limits h
+    → Keeps limits (after_asking h m e)
+asked_keeps limits h m e is =
+    let most : h.limits.outstanding ≡ limits.outstanding = ap (λ (l : LimitValues). l.outstanding) is.same in
+    record {
+      same = (asked_same h m e).0 ∙ is.same;
+      none = (asked_same h m e).1 ∙ is.none;
+      few = omega (arith, most, asked_few h m e (omega (arith, most, is.few)));
+    }
+
+step_keeps : (limits : LimitValues) (h : History) (s : ClientStep) → Keeps limits h → Keeps limits (step h s)
+unfolding step
+step_keeps limits h (Handles m) is =
+    keeps_if limits h (record (with_effect h (react (standing_now h) m).effect) { handled = h.handled ++ m ∷ [] }) (takes_messages h.phase) is
+    (record { same = is.same; none = (react_sparing (standing_now h) m).none is.none; few = omega (arith, is.few, asked_no_more (standing_now h) m) })
+step_keeps limits h (Faults fault) is =
+    keeps_if limits h (with_effect h (abort (standing_now h) (reject_reason (reject_of fault)))) (takes_messages h.phase) is
+    (record { same = is.same; none = refl; few = omega arith })
+step_keeps limits h (Requests m observe) is =
+    asked_keeps limits h (with_token m (next_token h.tokens)) (entry_of observe (next_token h.tokens)) is
+step_keeps limits h (Cancels token m) is =
+    keeps_if limits h _ (is_none (cancel_refusal (asking_now h) token (with_token m token))) is
+    (record { same = is.same; none = is.none; few = omega (arith, is.few, length-map h.outstanding (cancelled_by token)) })
+step_keeps limits h (Pings custody) is =
+    asked_keeps limits h (ping_with custody (next_token h.tokens)) (Ping (next_token h.tokens)) is
+step_keeps limits h (Writes n) is = record { same = is.same; none = is.none; few = is.few }
+step_keeps limits h (Ends cut) is =
+    keeps_if limits h (with_effect h (stop (standing_now h) (end_reason cut) [])) (takes_messages h.phase) is
+    (record { same = is.same; none = refl; few = omega arith })
+
+steps_keep : (limits : LimitValues) (h : History) (ss : List ClientStep) → Keeps limits h → Keeps limits (after_steps h ss)
+unfolding after_steps
+steps_keep limits h [] is = is
+steps_keep limits h (s ∷ ss) is = steps_keep limits (step h s) ss (step_keeps limits h s is)
+
+after_keeps : (limits : LimitValues) (tokens : ℕ) (calls : List ClientCall) → Keeps limits (client_after limits tokens calls)
+unfolding client_after
+after_keeps limits tokens calls =
+    steps_keep limits (new_history Client limits tokens) (steps_of limits.max_message calls) (record { same = refl; none = refl; few = omega arith })
+
+pub nothing_held : (limits : LimitValues) (tokens : ℕ) (calls : List ClientCall) → (client_after limits tokens calls).held ≡ []
+nothing_held limits tokens calls = (after_keeps limits tokens calls).none
+
+pub few_outstanding : (limits : LimitValues) (tokens : ℕ) (calls : List ClientCall)
+    → length (client_after limits tokens calls).outstanding ≤ limits.outstanding
+few_outstanding limits tokens calls = (after_keeps limits tokens calls).few
+
+-- ---- how many bytes wait
+
+-- the bytes that wait, and those of what is queued
+abbrev wait : History → ℕ
+wait h = length (waiting_of h)
+
+abbrev size : List Message → ℕ
+size ms = length (bytes_of ms)
+
+-- one message at most has the bytes that its limit allows
+one_small : (limit : ℕ) (ms : List Message) → length ms ≤ 1 → AllFit limit ms → size ms ≤ limit
+one_small limit [] one each = omega arith
+one_small limit (m ∷ []) one each = omega (arith, each.0, length-append (spelling m) [])
+one_small limit (m ∷ n ∷ ms) one each = absurd (omega (arith, one))
+
+limit_within : (h : History) → limit_now h ≤ h.limits.max_sent
+limit_within h = min-le_left h.limits.max_sent (announced h.handled)
+
+-- messages of so many bytes more
+more_wait : (h : History) (ms : List Message) → IsHistory h
+    → length (drop h.written (bytes_of (h.queued ++ ms))) ≡ wait h + size ms
+more_wait h ms is =
+    ap (λ (bs : List ℕ). length bs) (waiting_more h ms is) ∙ length-append (drop h.written (bytes_of h.queued)) (bytes_of ms)
+
+-- where a test says so
+wait_if : (most : ℕ) (h k : History) (does : Bool) → wait h ≤ most → (does ≡ true → wait k ≤ most) → wait (cond does k h) ≤ most
+wait_if most h k true few then = then refl
+wait_if most h k false few then = few
+
+-- a history in which no more waits than these limits allow
+module _ (limits : LimitValues) (h : History) (same : h.limits ≡ limits) (is : IsHistory h) (few : length (waiting_of h) ≤ limits.queue) where
+  -- what is of the right size has room
+  room_for : (m : Message) → length (spelling m) ≤ (asking_now h).free
+      → length (drop h.written (bytes_of (h.queued ++ m ∷ []))) ≤ limits.queue
+  room_for m room =
+      omega (arith, few, room, more_wait h (m ∷ []) is, length-append (spelling m) [], ap (λ (l : LimitValues). l.queue) same)
+
+  asking_waits : (m : Message) (e : OutstandingValue) → wait (after_asking h m e) ≤ limits.queue
+  asking_waits m e =
+      wait_if limits.queue h _ (is_none (asking_refusal (asking_now h) m)) few
+      (λ may. room_for m (asked_size (asking_now h) m (none_where (asking_refusal (asking_now h) m) may)).room)
+
+  cancel_waits : (token : List ℕ) (m : Message) → wait (after_cancel h token m) ≤ limits.queue
+  cancel_waits token m =
+      let sent : Message = with_token m token in
+      wait_if limits.queue h _ (is_none (cancel_refusal (asking_now h) token sent)) few
+      (λ may. room_for sent (cancel_size (asking_now h) token sent (none_where (cancel_refusal (asking_now h) token sent) may)).room)
+
+  written_waits : (n : ℕ) → wait (after_written h n) ≤ limits.queue
+  written_waits n = omega (arith, few, length-drop h.written (bytes_of h.queued), length-drop (h.written + n) (bytes_of h.queued))
+
+  end_waits : (cut : Bool) → wait (after_end h cut) ≤ limits.queue
+  end_waits cut =
+      wait_if limits.queue h (with_effect h (stop (standing_now h) (end_reason cut) [])) (takes_messages h.phase) few
+      (λ takes. omega (arith, few, more_wait h [] is))
+
+  -- where messages are handled, one has room
+  module _ (does : handles h ≡ true) where
+    one_waits : (ms : List Message) → length ms ≤ 1 → AllFit (limit_now h) ms
+        → length (drop h.written (bytes_of (h.queued ++ ms))) ≤ limits.queue
+    one_waits ms one fit =
+        omega (
+          arith,
+          few,
+          more_wait h ms is,
+          one_small (limit_now h) ms one fit,
+          limit_within h,
+          (handles_parts h does).1,
+          ap (λ (l : LimitValues). l.queue) same,
+        )
+
+    message_waits : (m : Message) → wait (after_message h m) ≤ limits.queue
+    message_waits m =
+        wait_if limits.queue h (record (with_effect h (react (standing_now h) m).effect) { handled = h.handled ++ m ∷ [] }) (takes_messages h.phase) few
+        (λ takes. one_waits (react (standing_now h) m).effect.queued (react_sparing (standing_now h) m).one (reaction_fits h m))
+
+    fault_waits : (why : Reason)
+        → wait (cond (takes_messages h.phase) (with_effect h (abort (standing_now h) why)) h) ≤ limits.queue
+    fault_waits why =
+        wait_if limits.queue h (with_effect h (abort (standing_now h) why)) (takes_messages h.phase) few
+        (λ takes. one_waits (abort (standing_now h) why).queued (abort_one (limit_now h) (abort_of why)) (stopped_fits h why))
+
+-- ---- after accepted calls
+
+module _ (limits : LimitValues) (tokens : ℕ) where
+  -- no more waits after them than the queue holds
+  abbrev FewWait : List ClientCall → Type 0
+  FewWait calls = length (waiting_of (client_after limits tokens calls)) ≤ limits.queue
+
+  none_wait : AreInRange limits → FewWait []
+  none_wait ranges =
+      omega (arith, ap (λ (h : History). wait h) (client_first limits tokens), csm_bytes_small limits.max_message, ranges.sent_low, ranges.queue_low)
+
+  module _ (calls : List ClientCall) (all : AreAccepted limits tokens calls) (few : FewWait calls) where
+    abbrev now : History
+    now = client_after limits tokens calls
+
+    same_limits : (client_after limits tokens calls).limits ≡ limits
+    same_limits = limits_same limits tokens calls
+
+    written_within : IsHistory (client_after limits tokens calls)
+    written_within = (accepted_is limits tokens calls all).is_history
+
+    step_waits : (c : ClientCall) (s : ClientStep) → steps_by limits.max_message calls c ≡ s ∷ []
+        → wait (step now s) ≤ limits.queue → FewWait (calls ++ c ∷ [])
+    step_waits c s one waits =
+        subst (λ (h : History). wait h ≤ limits.queue) (sym (client_step limits tokens calls c s one)) waits
+
+    took_waits : (bytes : List ℕ) → TakesSo limits.max_message calls bytes now → FewWait (calls ++ Took bytes ∷ [])
+    unfolding step
+    took_waits bytes (NoStep none messages fault) =
+        subst (λ (h : History). wait h ≤ limits.queue) (sym (client_same limits tokens calls (Took bytes) none)) few
+    took_waits bytes (OneMessage does m adds) =
+        step_waits (Took bytes) (Handles m) adds.steps (message_waits limits now same_limits written_within few does m)
+    took_waits bytes (OneFault does fault rest adds) =
+        step_waits (Took bytes) (Faults fault) adds.steps (fault_waits limits now same_limits written_within few does (reject_reason (reject_of fault)))
+
+    call_waits : (c : ClientCall) → IsAccepted limits tokens calls c → FewWait (calls ++ c ∷ [])
+    unfolding steps_by step
+    call_waits (Took bytes) last = took_waits bytes (bytes_taken limits tokens calls bytes all last)
+    call_waits (Sent method target extras) last =
+        step_waits (Sent method target extras) (Requests (request_of method target extras) extras.observe) refl
+        (asking_waits limits now same_limits written_within few (with_token (request_of method target extras) (next_token now.tokens))
+        (entry_of extras.observe (next_token now.tokens)))
+    call_waits (Cancelled token target extras) last =
+        step_waits (Cancelled token target extras) (Cancels token (cancel_of target extras)) refl
+        (cancel_waits limits now same_limits written_within few token (cancel_of target extras))
+    call_waits (Pinged custody) last =
+        step_waits (Pinged custody) (Pings custody) refl
+        (asking_waits limits now same_limits written_within few (ping_with custody (next_token now.tokens)) (Ping (next_token now.tokens)))
+    call_waits (Wrote n) last = step_waits (Wrote n) (Writes n) refl (written_waits limits now same_limits written_within few n)
+    call_waits Ended last =
+        let cut : Bool = is_cut (stream_in limits.max_message calls).rest in
+        step_waits Ended (Ends cut) refl (end_waits limits now same_limits written_within few cut)
+
+pub few_wait : (limits : LimitValues) (tokens : ℕ) (calls : List ClientCall) → AreInRange limits
+    → AreAccepted limits tokens calls → length (waiting_of (client_after limits tokens calls)) ≤ limits.queue
+few_wait limits tokens calls ranges accepted =
+    by_calls limits tokens (λ cs. length (waiting_of (client_after limits tokens cs)) ≤ limits.queue) (none_wait limits tokens ranges)
+    (λ cs c all last before. call_waits limits tokens cs all before c last) calls accepted
+
+-- ---- the bytes that are kept of an unfinished frame
+
+kept_small : (M : ℕ) (rest : List ℕ) (takes : Bool) → 1 ≤ M → (takes ≡ true → length rest < M) → length (cond takes rest []) < M
+kept_small M rest true enough go = go refl
+kept_small M rest false enough go = omega (arith, enough)
+
+-- fewer than the greatest message taken has
+pub few_kept : (limits : LimitValues) (tokens : ℕ) (calls : List ClientCall) → AreInRange limits
+    → AreAccepted limits tokens calls → length (client_of limits tokens calls).frame < limits.max_message
+unfolding client_of
+few_kept limits tokens calls ranges accepted =
+    let rest : List ℕ = (stream_in limits.max_message calls).rest in
+    kept_small limits.max_message rest (takes_messages (client_after limits tokens calls).phase) (omega (arith, ranges.message_low))
+    (λ takes. unfinished_below limits.max_message rest (omega (arith, ranges.message_low))
+    (rest_unfinished limits.max_message calls ((accepted_is limits tokens calls accepted).live takes)))

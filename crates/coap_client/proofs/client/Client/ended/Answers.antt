@@ -1,0 +1,24 @@
+use Rattle.std.proofs.Common.{ℕ, refl, ap, subst, sym, ◌∙◌}
+use Rattle.std.specs.Prelude.{[], nat_lt}
+use Rattle.coap_frame.specs.Framing.{FramerValue, IsFramer}
+use Rattle.coap_frame.proofs.FramingLemmas.{empty_framer}
+use Rattle.coap_conn.specs.LinkValue.{LinkValue, link_after_end}
+use Rattle.coap_client.specs.ClientValues.{client_ended}
+use Rattle.coap_client.proofs.ClientShown.{ended_shown}
+use Rattle.coap_client.proofs.TakingLemmas.{is_still, limits_end}
+use Rattle.coap_client.proofs.client.Client.ended.Goals as goal
+
+pub invariant_of-self : goal.invariant_of-self
+invariant_of-self c =
+    let is = c.self.invariant in
+    is_still c.self.inside c.clear.new.self c.end.new.self is (ap (λ (f : FramerValue). f.max) c.clear.ensures)
+    (subst IsFramer (sym c.clear.ensures) (empty_framer c.self.inside.framer.max [] is.framer.low is.framer.high refl))
+    (ap (λ (l : LinkValue). l.limits) c.end.ensures.after ∙ limits_end c.self.inside.link (nat_lt 0 c.kept.result))
+
+pub returns-clause-shows : goal.returns-clause-shows
+returns-clause-shows c =
+    ended_shown c.args.self.now (record { frame = c.clear.new.self.kept; link = c.end.new.self })
+    (ap (λ (f : FramerValue). record { frame = f.kept; link = c.end.new.self }) c.clear.ensures
+    ∙ ap (λ (l : LinkValue). record { frame = []; link = l }) c.end.ensures.after
+    ∙ ap (λ (n : ℕ). record { frame = []; link = link_after_end c.self.inside.link (nat_lt 0 n) }) c.kept.ensures.kept
+    ∙ ap client_ended c.self.view_is)

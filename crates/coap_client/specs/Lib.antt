@@ -1,0 +1,15 @@
+pub mod Targets
+pub mod TargetViews
+pub mod Requests
+pub mod RequestViews
+pub mod ClientValues
+pub mod ClientWorld
+pub mod ClientLaws
+pub mod EventViews
+pub mod CommandLines
+pub mod ServerWords
+pub mod ClientWords
+pub mod PlanViews
+pub mod RunFaults
+pub mod RunTexts
+pub mod RunSteps

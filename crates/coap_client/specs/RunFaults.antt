@@ -1,0 +1,22 @@
+-- How a run of a client ends.
+use Rattle.std.specs.Prelude.{ℕ, ◌≤◌, Bool, true, false, Result, Ok, Err}
+use Rattle.coap_client.specs.declared.run.ClientFault.{ClientFault}
+use Rattle.coap_client.specs.declared.run.ClientFault.TheVariants.{Output, Memory}
+use Rattle.coap_client.specs.declared.run.Heard.{Heard}
+use Rattle.coap_client.specs.declared.run.Heard.TheVariants.{Nothing, Notified, Ended}
+
+-- the status of a program
+abbrev pub IsStatus : ℕ → Type 0
+IsStatus status = status ≤ 4
+
+-- it ended since an outlet failed
+abbrev pub is_output_fault : {T : Type 0} → Result T ClientFault → Bool
+is_output_fault (Ok x) = false
+is_output_fault (Err Output) = true
+is_output_fault (Err Memory) = false
+
+-- where the run ends with a message, it ends with a status
+abbrev pub EndsWithStatus : Heard → Type 0
+EndsWithStatus Nothing = Unit {0}
+EndsWithStatus Notified = Unit {0}
+EndsWithStatus (Ended status) = IsStatus status

@@ -1,0 +1,311 @@
+-- What is outstanding is limited, answers end it, and tokens are given once.
+use Rattle.std.proofs.Common.{◌≡◌, ℕ, ◌+◌, ◌<◌, ◌≤◌, Bool, true, false, ◌||◌, ◌&&◌, ◌==◌, List, [], ◌∷◌, length, Option, Some, None, refl, sym, ap, subst, ◌∙◌, arith, inl, inr}
+use Rattle.std.specs.Prelude.{not, filter, find, is_none, nat_lt}
+use Rattle.std.specs.List.{list_any}
+use Rattle.std.proofs.lemmas.Bool.{cond_both, cond-true, cond-false, eqb-true, not-true, not-false, and_from, and_left, and_right, or_cases, or_from, or_left, or_right, true≢false, false_from_ne_true}
+use Rattle.std.proofs.lemmas.List.{length-append}
+use Rattle.coap_wire.specs.Message.{Message}
+use Rattle.coap_wire.specs.Codes as code
+use Rattle.coap_wire.proofs.UintLaws.{bytes_are_one}
+use Rattle.coap_conn.specs.declared.reason.Reason.{Reason}
+use Rattle.coap_conn.specs.declared.phase.Phase.{Phase}
+use Rattle.coap_conn.specs.declared.phase.Phase.TheVariants as phase
+use Rattle.coap_conn.specs.declared.phase.Role.{Role}
+use Rattle.coap_conn.specs.declared.phase.Role.TheVariants.{Server, Client}
+use Rattle.coap_conn.specs.declared.phase.Reply.{Reply}
+use Rattle.coap_conn.specs.declared.phase.Reply.TheVariants.{Whole, Bare, Stopped}
+use Rattle.coap_conn.specs.Phases.{stop_of, is_waiting}
+use Rattle.coap_conn.specs.Announced.{has_critical_option, bad_csm_option}
+use Rattle.coap_conn.specs.Fit.{fit, bare_response, without_options}
+use Rattle.coap_conn.specs.Verdicts.{VerdictValue}
+use Rattle.coap_conn.specs.Verdicts as verdict
+use Rattle.coap_conn.specs.Outstanding.{OutstandingValue, Request, Observation, Ping, is_asked, is_last, is_notification, is_pinged, is_request_entry, without_asked, without_pinged}
+use Rattle.coap_conn.specs.Asking.{asking_refusal, next_token}
+use Rattle.coap_conn.specs.Reaction.{Standing, Effect, Reaction, stay, tells, leaves, told_of, ping_reaction, pong_reaction, csm_reaction, request_reaction, answered, response_reaction, open_reaction, live_reaction, reaction_unless, react, is_reserved, is_signal, is_method, minds_critical_options, asks_custody, pong_with, pong_of, not_implemented}
+use Rattle.coap_conn.specs.History.{History, asking_now, after_asking}
+use Rattle.coap_conn.proofs.AskingLaws.{none_where, asked_new}
+use Rattle.coap_conn.proofs.RequestLemmas.{react_live}
+use Rattle.coap_conn.proofs.HeldLaws.{react_does}
+
+-- ---- no more is outstanding than may be
+
+-- a message adds nothing
+pub asked_no_more : (s : Standing) (m : Message) → length (react s m).effect.outstanding ≤ length s.outstanding
+asked_no_more s = react_does s (λ e. length e.outstanding ≤ length s.outstanding) (record {
+  stays = omega arith;
+  opens = omega arith;
+  releases = omega arith;
+  stops = λ why farewell other. omega arith;
+  queues = λ m may. omega arith;
+  keeps = λ token room. omega arith;
+  ends = λ rest fewer. fewer;
+})
+
+-- what is asked adds one where there is room
+pub asked_few : (h : History) (m : Message) (e : OutstandingValue) → length h.outstanding ≤ h.limits.outstanding → length (after_asking h m e).outstanding ≤ h.limits.outstanding
+asked_few h m e few =
+    cond_both (is_none (asking_refusal (asking_now h) m)) _ h (λ (after : History). length after.outstanding ≤ h.limits.outstanding)
+    (λ may. omega (arith, (asked_new (asking_now h) m (none_where (asking_refusal (asking_now h) m) may)).few, length-append h.outstanding (e ∷ [])))
+    (λ f. few)
+
+live_no_stop : (p : Phase) (why : Reason) → stop_of p ≡ None → stop_of p ≡ Some why → ⊥
+live_no_stop p why live over = let bad : ◌≡◌ {A = Option Reason} None (Some why) = sym live ∙ over in cc
+
+-- a stop and a Release give up what is outstanding
+pub asked_given_up : (s : Standing) (m : Message) (why : Reason) → stop_of s.phase ≡ None → stop_of (react s m).effect.phase ≡ Some why → (react s m).effect.outstanding ≡ []
+asked_given_up s m why live = react_does s (λ e. stop_of e.phase ≡ Some why → e.outstanding ≡ []) (record {
+  stays = λ over. absurd (live_no_stop s.phase why live over);
+  opens = λ over. absurd cc;
+  releases = λ over. refl;
+  stops = λ because farewell other over. refl;
+  queues = λ m may over. absurd (live_no_stop s.phase why live over);
+  keeps = λ token room over. absurd (live_no_stop s.phase why live over);
+  ends = λ rest fewer over. absurd (live_no_stop s.phase why live over);
+}) m
+
+-- ---- what is told of a message
+
+-- it tells of no response and of no Pong
+abbrev is_plain : VerdictValue → Bool
+is_plain verdict.Opened = true
+is_plain verdict.Done = true
+is_plain verdict.Request = true
+is_plain (verdict.Answer token last) = false
+is_plain (verdict.Pong token custody) = false
+is_plain verdict.Stranger = false
+is_plain (verdict.Stopped why) = true
+
+-- what holds of each reaction that a message may have
+record ToldCases (s : Standing) (m : Message) (P : Reaction → Type 0) : Type 0 where
+  plain : (r : Reaction) → is_plain r.verdict ≡ true → P r
+  stranger : P (tells s verdict.Stranger)
+  last : (e : OutstandingValue) → find (is_asked m.token) s.outstanding ≡ Some e → is_last m e ≡ true → P (leaves s (without_asked m.token s.outstanding) (verdict.Answer m.token true))
+  notified : (e : OutstandingValue) → find (is_asked m.token) s.outstanding ≡ Some e → is_last m e ≡ false → P (tells s (verdict.Answer m.token false))
+  pong : list_any (is_pinged m.token) s.outstanding ≡ true → P (leaves s (without_pinged m.token s.outstanding) (verdict.Pong m.token (asks_custody m)))
+
+-- what is sent tells of neither
+told_plain : (r : Reply) → is_plain (told_of r) ≡ true
+told_plain Whole = refl
+told_plain Bare = refl
+told_plain Stopped = refl
+
+csm_plain : (s : Standing) (bad : Option ℕ) → is_plain (csm_reaction s bad).verdict ≡ true
+csm_plain s None = cond_both (is_waiting s.phase) verdict.Opened verdict.Done (λ v. is_plain v ≡ true) (λ e. refl) (λ e. refl)
+csm_plain s (Some number) = refl
+
+request_plain : (s : Standing) (m : Message) (role : Role) → is_plain (request_reaction s m role).verdict ≡ true
+request_plain s m Server = refl
+request_plain s m Client = told_plain (fit s.limit (not_implemented m) (bare_response (not_implemented m)))
+
+ping_plain : (s : Standing) (m : Message) → is_plain (ping_reaction s m).verdict ≡ true
+ping_plain s m =
+    let late : Message = pong_with false m.token in
+    cond_both (asks_custody m && nat_lt 0 (length s.held)) _ _ (λ (r : Reaction). is_plain r.verdict ≡ true)
+    (λ e. cond_both (nat_lt (length s.held) s.most) _ _ (λ (r : Reaction). is_plain r.verdict ≡ true) (λ f. refl) (λ f. told_plain (fit s.limit late late)))
+    (λ e. told_plain (fit s.limit (pong_of m) (without_options (pong_of m))))
+
+answered_told : (s : Standing) (m : Message) (P : Reaction → Type 0) → ToldCases s m P → (found : Option OutstandingValue) → find (is_asked m.token) s.outstanding ≡ found → P (answered s m found)
+answered_told s m P cases None is = cases.stranger
+answered_told s m P cases (Some e) is = cond_both (is_last m e) _ _ P (λ last. cases.last e is last) (λ more. cases.notified e is more)
+
+pong_told : (s : Standing) (m : Message) (P : Reaction → Type 0) → ToldCases s m P → P (pong_reaction s m)
+pong_told s m P cases = cond_both (list_any (is_pinged m.token) s.outstanding) _ _ P (λ e. cases.pong e) (λ e. cases.stranger)
+
+open_told : (s : Standing) (m : Message) (P : Reaction → Type 0) → ToldCases s m P → P (open_reaction s m)
+open_told s m P cases =
+    cond_both (minds_critical_options m.code && has_critical_option m) _ _ P (λ e. cases.plain _ refl)
+    (λ e. cond_both (m.code == code.ping) _ _ P (λ e. cases.plain _ (ping_plain s m))
+    (λ e. cond_both (m.code == code.release) _ _ P (λ e. cases.plain _ refl)
+    (λ e. cond_both (m.code == code.pong) _ _ P (λ e. pong_told s m P cases)
+    (λ e. cond_both (is_signal m.code) _ _ P (λ e. cases.plain _ refl)
+    (λ e. cond_both (is_method m.code) _ _ P (λ e. cases.plain _ (request_plain s m s.role))
+    (λ e. answered_told s m P cases (find (is_asked m.token) s.outstanding) refl))))))
+
+live_told : (s : Standing) (m : Message) (P : Reaction → Type 0) → ToldCases s m P → P (live_reaction s m)
+unfolding live_reaction
+live_told s m P cases =
+    cond_both (is_reserved m.code) _ _ P (λ e. cases.plain _ refl)
+    (λ e. cond_both (m.code == code.empty) _ _ P (λ e. cases.plain _ refl)
+    (λ e. cond_both (m.code == code.abort) _ _ P (λ e. cases.plain _ refl)
+    (λ e. cond_both (m.code == code.csm) _ _ P (λ e. cases.plain _ (csm_plain s (bad_csm_option m)))
+    (λ e. cond_both (is_waiting s.phase) _ _ P (λ e. cases.plain _ refl) (λ e. open_told s m P cases)))))
+
+unless_told : (s : Standing) (m : Message) (P : Reaction → Type 0) → ToldCases s m P → (over : Option Reason) → P (reaction_unless s m over)
+unless_told s m P cases None = live_told s m P cases
+unless_told s m P cases (Some why) = cases.plain _ refl
+
+-- what holds of each reaction that a message may have holds of its reaction
+react_told : (s : Standing) (m : Message) (P : Reaction → Type 0) → ToldCases s m P → P (react s m)
+unfolding react
+react_told s m P cases = unless_told s m P cases (stop_of s.phase)
+
+-- such a verdict is none of a response or a Pong
+not_plain : (v w : VerdictValue) → is_plain v ≡ true → is_plain w ≡ false → v ≡ w → ⊥
+not_plain v w plain other same = true≢false (sym plain ∙ ap is_plain same ∙ other)
+
+-- ---- what is found
+
+-- where one test finds an element that passes another test, some element passes that one
+found_any : {X : Type 0} (p q : X → Bool) (xs : List X) (x : X) → find p xs ≡ Some x → (p x ≡ true → q x ≡ true) → list_any q xs ≡ true
+found_any p q [] x e f = absurd cc
+found_any p q (y ∷ ys) x e f =
+    cond_both (p y) (Some y) (find p ys) (λ o. o ≡ Some x → (q y || list_any q ys) ≡ true)
+    (λ passes is. let same : x ≡ y = cc in or_left (q y) (list_any q ys) (subst (λ z. p z ≡ true → q z ≡ true) same f passes))
+    (λ other is. or_right (q y) (list_any q ys) (found_any p q ys x is f)) e
+
+-- nothing that was taken out is left
+pub none_left : {X : Type 0} (p : X → Bool) (xs : List X) → list_any p (filter (λ x. not (p x)) xs) ≡ false
+none_left p [] = refl
+none_left p (x ∷ xs) =
+    cond_both (not (p x)) (x ∷ filter (λ y. not (p y)) xs) (filter (λ y. not (p y)) xs) (λ l. list_any p l ≡ false)
+    (λ other. or_from (p x) _ (not-true (p x) other) (none_left p xs)) (λ passes. none_left p xs)
+
+-- where a notification is a last response, it answers a request
+last_of_request : (m : Message) (token : List ℕ) (e : OutstandingValue) → is_notification m ≡ true → is_last m e ≡ true → is_asked token e ≡ true → (is_asked token e && is_request_entry e) ≡ true
+last_of_request m token (Request asked) notifies last is = and_from _ true is refl
+last_of_request m token (Observation asked cancelled) notifies last is = absurd (true≢false (sym notifies ∙ not-true (is_notification m) last))
+last_of_request m token (Ping asked) notifies last is = absurd (true≢false (sym is))
+
+-- a response that is not the last one is a notification
+more_notified : (m : Message) (e : OutstandingValue) → is_last m e ≡ false → is_notification m ≡ true
+more_notified m (Request asked) more = absurd (true≢false more)
+more_notified m (Observation asked cancelled) more = not-false (is_notification m) more
+more_notified m (Ping asked) more = absurd (true≢false more)
+
+-- ---- responses and Pongs answer
+
+pub answers_asked : (s : Standing) (m : Message) (token : List ℕ) (last : Bool) → (react s m).verdict ≡ verdict.Answer token last → (token ≡ m.token) × (list_any (is_asked token) s.outstanding ≡ true)
+answers_asked s m token last = react_told s m (λ r. r.verdict ≡ verdict.Answer token last → (token ≡ m.token) × (list_any (is_asked token) s.outstanding ≡ true)) (record {
+  plain = λ r plain is. absurd (not_plain r.verdict (verdict.Answer token last) plain refl is);
+  stranger = λ is. absurd cc;
+  last = λ e found ends is. let same : token ≡ m.token = cc in (same, rw same (found_any (is_asked m.token) (is_asked m.token) s.outstanding e found (λ p. p)));
+  notified = λ e found more is. let same : token ≡ m.token = cc in (same, rw same (found_any (is_asked m.token) (is_asked m.token) s.outstanding e found (λ p. p)));
+  pong = λ pinged is. absurd cc;
+})
+
+pub last_ends : (s : Standing) (m : Message) (token : List ℕ) → (react s m).verdict ≡ verdict.Answer token true → (react s m).effect ≡ record (stay s) { outstanding = without_asked token s.outstanding }
+last_ends s m token = react_told s m (λ r. r.verdict ≡ verdict.Answer token true → r.effect ≡ record (stay s) { outstanding = without_asked token s.outstanding }) (record {
+  plain = λ r plain is. absurd (not_plain r.verdict (verdict.Answer token true) plain refl is);
+  stranger = λ is. absurd cc;
+  last = λ e found ends is. let same : m.token ≡ token = cc in ap (λ (t : List ℕ). record (stay s) { outstanding = without_asked t s.outstanding }) same;
+  notified = λ e found more is. absurd cc;
+  pong = λ pinged is. absurd cc;
+})
+
+pub notified_stays : (s : Standing) (m : Message) (token : List ℕ) → (react s m).verdict ≡ verdict.Answer token false → (is_notification m ≡ true) × ((react s m).effect ≡ stay s)
+notified_stays s m token = react_told s m (λ r. r.verdict ≡ verdict.Answer token false → (is_notification m ≡ true) × (r.effect ≡ stay s)) (record {
+  plain = λ r plain is. absurd (not_plain r.verdict (verdict.Answer token false) plain refl is);
+  stranger = λ is. absurd cc;
+  last = λ e found ends is. absurd cc;
+  notified = λ e found more is. (more_notified m e more, refl);
+  pong = λ pinged is. absurd cc;
+})
+
+pub request_ended : (s : Standing) (m : Message) (token : List ℕ) → (react s m).verdict ≡ verdict.Answer token true → is_notification m ≡ true → list_any (λ e. is_asked token e && is_request_entry e) s.outstanding ≡ true
+request_ended s m token = react_told s m (λ r. r.verdict ≡ verdict.Answer token true → is_notification m ≡ true → list_any (λ e. is_asked token e && is_request_entry e) s.outstanding ≡ true) (record {
+  plain = λ r plain is. absurd (not_plain r.verdict (verdict.Answer token true) plain refl is);
+  stranger = λ is. absurd cc;
+  last = λ e found ends is notifies. (
+      let same : token ≡ m.token = cc in
+      rw same (found_any (is_asked m.token) (λ e. is_asked m.token e && is_request_entry e) s.outstanding e found (last_of_request m m.token e notifies ends)));
+  notified = λ e found more is. absurd cc;
+  pong = λ pinged is. absurd cc;
+})
+
+-- what a Pong does
+abbrev Pongs : Standing → Message → List ℕ → Bool → Effect → Type 0
+Pongs s m token custody e =
+    (token ≡ m.token) × (custody ≡ asks_custody m) × (list_any (is_pinged token) s.outstanding ≡ true) × (e ≡ record (stay s) { outstanding = without_pinged token s.outstanding })
+
+pub pong_ends : (s : Standing) (m : Message) (token : List ℕ) (custody : Bool) → (react s m).verdict ≡ verdict.Pong token custody → Pongs s m token custody (react s m).effect
+pong_ends s m token custody = react_told s m (λ r. r.verdict ≡ verdict.Pong token custody → Pongs s m token custody r.effect) (record {
+  plain = λ r plain is. absurd (not_plain r.verdict (verdict.Pong token custody) plain refl is);
+  stranger = λ is. absurd cc;
+  last = λ e found ends is. absurd cc;
+  notified = λ e found more is. absurd cc;
+  pong = λ pinged is. (
+      let same : token ≡ m.token = cc in
+      let told : custody ≡ asks_custody m = cc in
+      (same, told, rw same pinged, ap (λ (t : List ℕ). record (stay s) { outstanding = without_pinged t s.outstanding }) (sym same)));
+})
+
+pub stranger_stays : (s : Standing) (m : Message) → (react s m).verdict ≡ verdict.Stranger → (react s m).effect ≡ stay s
+stranger_stays s m = react_told s m (λ r. r.verdict ≡ verdict.Stranger → r.effect ≡ stay s) (record {
+  plain = λ r plain is. absurd (not_plain r.verdict verdict.Stranger plain refl is);
+  stranger = λ is. refl;
+  last = λ e found ends is. absurd cc;
+  notified = λ e found more is. absurd cc;
+  pong = λ pinged is. absurd cc;
+})
+
+-- ---- a response and a Pong are told
+
+other_code : (test : ℕ → Bool) (n k : ℕ) → test n ≡ false → test k ≡ true → (n == k) ≡ false
+other_code test n k here there = false_from_ne_true (n == k) (λ e. true≢false (sym there ∙ ap test (sym (eqb-true n k e)) ∙ here))
+
+minds_none : (n : ℕ) → is_signal n ≡ false → minds_critical_options n ≡ false
+minds_none n other =
+    or_from (n == code.ping || n == code.pong) (n == code.release)
+    (or_from (n == code.ping) (n == code.pong) (other_code is_signal n code.ping other refl) (other_code is_signal n code.pong other refl))
+    (other_code is_signal n code.release other refl)
+
+-- while the connection is open a message whose code is neither reserved nor a signal's nor a method is taken as a response
+response_taken : (s : Standing) (m : Message) → s.phase ≡ phase.Open → is_reserved m.code ≡ false → is_signal m.code ≡ false → is_method m.code ≡ false → live_reaction s m ≡ response_reaction s m
+unfolding live_reaction
+response_taken s m opened reserved signal method =
+    cond-false (is_reserved m.code) _ _ reserved
+    ∙ cond-false (m.code == code.empty) _ _ (other_code is_method m.code code.empty method refl)
+    ∙ cond-false (m.code == code.abort) _ _ (other_code is_signal m.code code.abort signal refl)
+    ∙ cond-false (m.code == code.csm) _ _ (other_code is_signal m.code code.csm signal refl)
+    ∙ cond-false (is_waiting s.phase) _ _ (ap is_waiting opened)
+    ∙ cond-false (minds_critical_options m.code && has_critical_option m) _ _ (and_left (minds_critical_options m.code) (has_critical_option m) (minds_none m.code signal))
+    ∙ cond-false (m.code == code.ping) _ _ (other_code is_signal m.code code.ping signal refl)
+    ∙ cond-false (m.code == code.release) _ _ (other_code is_signal m.code code.release signal refl)
+    ∙ cond-false (m.code == code.pong) _ _ (other_code is_signal m.code code.pong signal refl)
+    ∙ cond-false (is_signal m.code) _ _ signal
+    ∙ cond-false (is_method m.code) _ _ method
+
+pong_taken : (s : Standing) (m : Message) → s.phase ≡ phase.Open → m.code ≡ code.pong → has_critical_option m ≡ false → live_reaction s m ≡ pong_reaction s m
+unfolding live_reaction
+pong_taken s m opened is plain =
+    cond-false (is_reserved m.code) _ _ (ap is_reserved is)
+    ∙ cond-false (m.code == code.empty) _ _ (ap (λ (n : ℕ). n == code.empty) is)
+    ∙ cond-false (m.code == code.abort) _ _ (ap (λ (n : ℕ). n == code.abort) is)
+    ∙ cond-false (m.code == code.csm) _ _ (ap (λ (n : ℕ). n == code.csm) is)
+    ∙ cond-false (is_waiting s.phase) _ _ (ap is_waiting opened)
+    ∙ cond-false (minds_critical_options m.code && has_critical_option m) _ _ (and_right (minds_critical_options m.code) (has_critical_option m) plain)
+    ∙ cond-false (m.code == code.ping) _ _ (ap (λ (n : ℕ). n == code.ping) is)
+    ∙ cond-false (m.code == code.release) _ _ (ap (λ (n : ℕ). n == code.release) is)
+    ∙ cond-true (m.code == code.pong) _ _ (ap (λ (n : ℕ). n == code.pong) is)
+
+any_found : {X : Type 0} (p : X → Bool) (xs : List X) → list_any p xs ≡ true → (x : X) × (find p xs ≡ Some x)
+any_found p [] e = absurd (true≢false (sym e))
+any_found p (y ∷ ys) e =
+    cond_both (p y) (Some y) (find p ys) (λ o. (x : _) × (o ≡ Some x)) (λ passes. (y, refl))
+    (λ other. any_found p ys (elim (or_cases (p y) (list_any p ys) e) [ inl passes ↦ absurd (true≢false (sym passes ∙ other)) | inr later ↦ later ]))
+
+answered_so : (s : Standing) (m : Message) (found : Option OutstandingValue) (e : OutstandingValue) → found ≡ Some e → (last : Bool) × ((answered s m found).verdict ≡ verdict.Answer m.token last)
+answered_so s m None e is = absurd cc
+answered_so s m (Some x) e is = cond_both (is_last m x) _ _ (λ (r : Reaction). (last : Bool) × (r.verdict ≡ verdict.Answer m.token last)) (λ f. (true, refl)) (λ f. (false, refl))
+
+-- a response to what is outstanding is told as its answer
+pub response_told : (s : Standing) (m : Message) → s.phase ≡ phase.Open → is_reserved m.code ≡ false → is_signal m.code ≡ false → is_method m.code ≡ false → list_any (is_asked m.token) s.outstanding ≡ true
+    → (last : Bool) × ((react s m).verdict ≡ verdict.Answer m.token last)
+response_told s m opened reserved signal method asked =
+    let found = any_found (is_asked m.token) s.outstanding asked in
+    let told = answered_so s m (find (is_asked m.token) s.outstanding) found.0 found.1 in
+    (told.0, ap (λ (r : Reaction). r.verdict) (react_live s m (ap stop_of opened) ∙ response_taken s m opened reserved signal method) ∙ told.1)
+
+-- and a Pong to a Ping that is outstanding as its Pong
+pub pong_told_of : (s : Standing) (m : Message) → s.phase ≡ phase.Open → m.code ≡ code.pong → has_critical_option m ≡ false → list_any (is_pinged m.token) s.outstanding ≡ true → (react s m).verdict ≡ verdict.Pong m.token (asks_custody m)
+pong_told_of s m opened is plain pinged =
+    ap (λ (r : Reaction). r.verdict) (react_live s m (ap stop_of opened) ∙ pong_taken s m opened is plain ∙ cond-true (list_any (is_pinged m.token) s.outstanding) _ _ pinged)
+
+-- ---- tokens
+
+-- different numbers are different tokens
+pub tokens_differ : (one other : ℕ) → one < 18446744073709551615 → other < 18446744073709551615 → next_token one ≡ next_token other → one ≡ other
+tokens_differ one other small other_small same = omega (arith, bytes_are_one (one + 1) (other + 1) (omega (arith, small)) (omega (arith, other_small)) same)
+
+pub token_left : (h : History) (m : Message) → asking_refusal (asking_now h) m ≡ None → h.tokens < 18446744073709551615
+token_left h m may = (asked_new (asking_now h) m may).left

@@ -1,0 +1,10 @@
+use Rattle.std.proofs.Common.{◌≡◌, length, map, ◌++◌, take, drop}
+use Rattle.std.specs.Vec.{vec_capacity}
+use Rattle.coap_conn.specs.Outstanding.{with_cancelled}
+use Rattle.coap_conn.specs.OutstandingViews.{outstanding_value}
+use Rattle.coap_conn.proofs.asked.cancel_in.Given as goal
+
+abbrev pub invariant-loop-index : goal.invariant-loop-index
+invariant-loop-index l =
+    (map outstanding_value l.entries.items ≡ with_cancelled l.token.items (take l.index (map outstanding_value l.initial.entries.items)) ++ drop l.index (map outstanding_value l.initial.entries.items))
+    × (length l.entries.items ≡ length l.initial.entries.items) × (vec_capacity l.entries ≡ vec_capacity l.initial.entries)

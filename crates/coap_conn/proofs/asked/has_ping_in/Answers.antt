@@ -1,0 +1,13 @@
+use Rattle.std.proofs.Common.{◌∙◌, rules, tests}
+use Rattle.std.proofs.lemmas.Iterator.{YieldsList-from_slice}
+use Rattle.std.proofs.lemmas.Iterator.Search.{any_from_yields_List}
+use Rattle.coap_conn.specs.Outstanding.{is_pinged}
+use Rattle.coap_conn.specs.OutstandingViews.{outstanding_value}
+use Rattle.coap_conn.proofs.AskedLemmas.{any_of}
+use Rattle.coap_conn.proofs.asked.has_ping_in.Goals as goal
+
+pub returns : goal.returns
+returns c =
+    any_from_yields_List (λ e. is_pinged c.args.token.now.items (outstanding_value e)) _ _ _ c.any.ensures.ran
+    (YieldsList-from_slice c.args.entries.now cc) (λ x b q k. search (rules, tests))
+    ∙ any_of (is_pinged c.args.token.now.items) c.args.entries.now

@@ -1,0 +1,15 @@
+use Rattle.std.proofs.Common.{◌+◌, cond, [], ◌∷◌, ◌++◌, Option, ap}
+use Rattle.std.specs.Prelude.{is_none}
+use Rattle.coap_conn.specs.declared.phase.RequestFault.{RequestFault}
+use Rattle.coap_conn.proofs.AskedLaws.{tokens_differ, token_left}
+use Rattle.coap_conn.proofs.laws.tokens_are_new.Goals as goal
+
+pub returns-clause-different : goal.returns-clause-different
+returns-clause-different c = tokens_differ
+
+pub returns-clause-asked : goal.returns-clause-asked
+returns-clause-asked c = token_left
+
+pub returns-clause-given : goal.returns-clause-given
+returns-clause-given c h m e none =
+    ap (λ (o : Option RequestFault). (cond (is_none o) (record h { queued = h.queued ++ m ∷ []; outstanding = h.outstanding ++ e ∷ []; tokens = h.tokens + 1 }) h).tokens) none

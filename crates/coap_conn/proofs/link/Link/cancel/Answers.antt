@@ -1,0 +1,34 @@
+use Rattle.std.proofs.Common.{◌≡◌, true, ap, ◌∙◌, rules, tests}
+use Rattle.std.proofs.lemmas.Result.{err_from_is_err_and}
+use Rattle.coap_conn.specs.Phases.{is_open}
+use Rattle.coap_conn.specs.Outstanding.{AskedValue, with_cancelled}
+use Rattle.coap_conn.specs.Asking.{has_observation}
+use Rattle.coap_conn.specs.LinkValue.{LinkValue, asking_in}
+use Rattle.coap_conn.specs.LinkViews.{link_value}
+use Rattle.coap_conn.proofs.LinkLemmas.{cancel_shown}
+use Rattle.coap_conn.proofs.AskedLemmas.{cancel_size, cancel_after}
+use Rattle.coap_conn.proofs.link.Link.cancel.Goals as goal
+
+pub returns-in_err-queue_asked-clause-answer : goal.returns-in_err-queue_asked-clause-answer
+returns-in_err-queue_asked-clause-answer c =
+    let p = err_from_is_err_and c.from_residual.result c.from_residual.ensures.1 in
+    let opened : is_open c.args.self.now.phase ≡ true = search (rules, tests) in
+    let there : has_observation (asking_in c.args.self.now) c.args.token.now.items ≡ true = search (rules, tests) in
+    rw (p.1, p.2)
+    (cancel_size (asking_in c.args.self.now) c.args.token.now.items _ c.with_token.result _ opened there c.with_token.ensures c.in_err-queue_asked.ensures.answer)
+
+pub returns-clause-answer : goal.returns-clause-answer
+returns-clause-answer c =
+    let opened : is_open c.args.self.now.phase ≡ true = search (rules, tests) in
+    let there : has_observation (asking_in c.args.self.now) c.args.token.now.items ≡ true = search (rules, tests) in
+    cancel_size (asking_in c.args.self.now) c.args.token.now.items _ c.with_token.result _ opened there c.with_token.ensures c.in_ok-queue_asked.ensures.answer
+
+pub returns-clause-after : goal.returns-clause-after
+returns-clause-after c =
+    ap (λ (a : AskedValue). record (link_value c.self-2.inside) { outstanding = a.entries }) c.cancel.ensures
+    ∙ ap (λ (v : LinkValue). record v { outstanding = with_cancelled c.args.token.now.items v.outstanding }) c.self-2.view_is
+    ∙ cancel_after c.args.self.now c.queue_asked.new.self c.args.token.now.items c.args.message.now c.with_token.result
+    (returns-clause-answer c) c.with_token.ensures c.in_ok-queue_asked.ensures.after
+
+pub returns-clause-shows : goal.returns-clause-shows
+returns-clause-shows c = cancel_shown c.args.self.now _ c.args.token.now.items c.args.message.now (returns-clause-after c)

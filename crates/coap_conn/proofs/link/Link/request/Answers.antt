@@ -1,0 +1,60 @@
+use Rattle.std.proofs.Common.{◌≡◌, ◌<◌, length, Bool, false, List, ℕ, sym, ap, ◌∙◌, subst}
+use Rattle.std.proofs.lemmas.Result.{err_from_is_err_and}
+use Rattle.coap_conn.specs.Outstanding as value
+use Rattle.coap_conn.specs.OutstandingViews.{outstanding_value}
+use Rattle.coap_conn.specs.Asking.{next_token, with_token, entry_of}
+use Rattle.coap_conn.specs.LinkValue.{LinkValue, asking_in}
+use Rattle.coap_conn.proofs.LinkLemmas.{request_shown}
+use Rattle.coap_conn.proofs.AskedLemmas.{new_room, new_number, refused_new, refused_size, asked_after}
+use Rattle.coap_conn.proofs.link.Link.request.Goals as goal
+use Rattle.coap_conn.proofs.link.Link.request.Goals.{then-observe, else-observe}
+
+pub returns-in_err-token-clause-answer : goal.returns-in_err-token-clause-answer
+returns-in_err-token-clause-answer c =
+    let p = err_from_is_err_and c.from_residual.result c.from_residual.ensures.1 in
+    rw (p.1, p.2) (refused_new (asking_in c.args.self.now) (with_token c.args.message.now (next_token c.args.self.now.tokens)) c.in_err-token.field-0.0 c.in_err-token.ensures.answer)
+
+pub returns-in_err-queue_asked-clause-answer : goal.returns-in_err-queue_asked-clause-answer
+returns-in_err-queue_asked-clause-answer c =
+    let p = err_from_is_err_and c.from_residual-in_err-queue_asked.result c.from_residual-in_err-queue_asked.ensures.1 in
+    let same = c.with_token.ensures ∙ ap (with_token c.args.message.now) c.in_ok-token.ensures.token in
+    rw (p.1, p.2) (refused_size (asking_in c.args.self.now) _ c.with_token.result _ same c.in_ok-token.ensures.answer c.in_err-queue_asked.ensures.answer)
+
+-- ---- it is outstanding
+
+pub enter-requires-clause-room : goal.enter-requires-clause-room
+enter-requires-clause-room c =
+    let room = new_room (asking_in c.args.self.now) c.in_ok-token.ensures.answer in
+    subst (λ (v : LinkValue). length v.outstanding < v.limits.outstanding) (sym c.in_ok-queue_asked.ensures.after) room
+
+pub enter-requires-clause-token : goal.enter-requires-clause-token
+enter-requires-clause-token c =
+    let number = new_number (asking_in c.args.self.now) c.in_ok-token.ensures.answer in
+    subst (λ (v : LinkValue). v.tokens < 18446744073709551615) (sym c.in_ok-queue_asked.ensures.after) number
+
+-- ---- it was sent
+
+pub returns-clause-answer : goal.returns-clause-answer
+returns-clause-answer c =
+    let same = c.with_token.ensures ∙ ap (with_token c.args.message.now) c.in_ok-token.ensures.token in
+    refused_size (asking_in c.args.self.now) _ c.with_token.result _ same c.in_ok-token.ensures.answer c.in_ok-queue_asked.ensures.answer
+
+pub returns-clause-after : goal.returns-clause-after
+returns-clause-after c =
+    let same = c.with_token.ensures ∙ ap (with_token c.args.message.now) c.in_ok-token.ensures.token in
+    let entered : outstanding_value c.if-observe.enter ≡ entry_of c.args.observe (next_token c.args.self.now.tokens) =
+    elim c.if-observe.branch [
+      | then-observe w ↦
+          ap outstanding_value w.enter-is
+          ∙ ap (λ (t : List ℕ). value.Observation t false) (w.copy_of.ensures ∙ c.in_ok-token.ensures.token)
+          ∙ ap (λ (b : Bool). entry_of b (next_token c.args.self.now.tokens)) (sym w.if-observe.true)
+      | else-observe w ↦
+          ap outstanding_value w.enter-is
+          ∙ ap value.Request (w.copy_of-else-observe.ensures ∙ c.in_ok-token.ensures.token)
+          ∙ ap (λ (b : Bool). entry_of b (next_token c.args.self.now.tokens)) (sym w.if-observe.false)
+    ] in
+    asked_after c.args.self.now c.queue_asked.new.self c.enter.new.self _ c.with_token.result (entry_of c.args.observe (next_token c.args.self.now.tokens)) _
+    (returns-clause-answer c) same entered c.in_ok-queue_asked.ensures.after c.enter.ensures
+
+pub returns-clause-shows : goal.returns-clause-shows
+returns-clause-shows c = request_shown c.args.self.now c.enter.new.self c.args.message.now c.args.observe (returns-clause-after c)

@@ -1,0 +1,9 @@
+-- How the bytes read from a wire that are not taken yet are seen in contracts.
+use Rattle.std.specs.Prelude.{ℕ, ◌≤◌, ◌-◌, List, length, take, drop}
+use Rattle.coap_serve.specs.declared.rest.Rest.TheInside.{Inside}
+
+abbrev pub rest_value : Inside → List ℕ
+rest_value r = take (r.to - r.from) (drop r.from r.buffer.items)
+
+abbrev pub is_rest : Inside → Type 0
+is_rest r = (r.from ≤ r.to) × (r.to ≤ length r.buffer.items)

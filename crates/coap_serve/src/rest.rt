@@ -1,0 +1,96 @@
+//! Bytes read from a wire that no connection has taken yet.
+
+ghost use Rattle.std.specs.Prelude.{◌≡◌, ◌≤◌, length};
+
+use crate::wire::{Got, Wire};
+use std::alloc::{AllocError, Global};
+use std::marker::Model;
+
+/// How many bytes are read at once, at most.
+const ROOM: usize = 16_384;
+
+/// The bytes read from a wire that are not taken yet. Contracts see these bytes.
+#[derive(Debug, Drop)]
+pub struct Rest {
+    buffer: Vec<u8>,
+    from: usize,
+    to: usize,
+}
+
+impl Model for Rest {
+    ghost use Rattle.std.specs.Prelude.{ℕ, List};
+
+    ghost Value = { List ℕ };
+
+    ghost use Rattle.coap_serve.specs.views.RestViews.{rest_value, is_rest};
+
+    ghost view = { rest_value };
+
+    ghost invariant = { is_rest };
+}
+
+impl Rest {
+    ghost use Rattle.std.specs.Prelude.{◌≡◌, ◌==◌, ◌≤◌, ◌-◌, [], length, drop, IfOk};
+    ghost use Rattle.coap_serve.specs.streams.Device.{AddsBytes};
+    ghost use Rattle.coap_serve.specs.streams.Wires.{count_passed};
+
+    /// Nothing was read. The room of 16,384 bytes is reserved once.
+    ///
+    /// # Errors
+    ///
+    /// Where that room is refused.
+    pub fn new(alloc: Global) -> Result<Rest, AllocError>
+        ensures { IfOk result (λ r. r ≡ []) }
+    {
+        Ok(Rest {
+            buffer: vec![in alloc; 0; ROOM]?,
+            from: 0,
+            to: 0,
+        })
+    }
+
+    /// Whether all that was read is taken.
+    pub fn is_empty(&self) -> bool
+        ensures { result ≡ (length self.now == 0) }
+    {
+        self.from == self.to
+    }
+
+    /// The bytes that are not taken yet.
+    pub fn bytes(&self) -> &[u8]
+        ensures { result.now ≡ self.now }
+    {
+        &self.buffer[self.from..self.to]
+    }
+
+    /// The first so many bytes were taken.
+    pub fn advance(&mut self, count: usize)
+        requires { count ≤ length self.old }
+        ensures { self.new ≡ drop count self.old }
+    {
+        self.from += count;
+    }
+
+    /// The bytes are given up.
+    pub fn clear(&mut self)
+        ensures { self.new ≡ [] }
+    {
+        self.from = 0;
+        self.to = 0;
+    }
+
+    /// Reads once, in place of the bytes that were there.
+    pub fn read<W: Wire>(&mut self, wire: &mut W) -> Got
+        ensures count { length self.new ≡ count_passed result }
+        ensures gave { AddsBytes (W.given wire.old) (W.given wire.new) self.new }
+        ensures wrote { AddsBytes (W.written wire.old) (W.written wire.new) [] }
+    {
+        self.from = 0;
+        self.to = 0;
+        let got = wire.read(&mut self.buffer);
+        if let Got::Bytes(count) = got {
+            self.to = count;
+        }
+        got
+    }
+}

@@ -1,0 +1,56 @@
+//! What connections and moments come from: wires, the door that hands them out, and the clock.
+
+ghost use Rattle.std.specs.Prelude.{ℕ, List, [], length, Option};
+ghost use Rattle.coap_serve.specs.streams.Device.{AddsBytes};
+ghost use Rattle.coap_serve.specs.streams.Wires.{IsWithin, bytes_passed};
+
+/// What a read or a write of a wire came to.
+#[derive(Clone, Copy, Debug, PartialEq, Eq)]
+pub enum Got {
+    /// So many bytes, at least 1, were passed on.
+    Bytes(usize),
+    /// None now: the caller may try again later.
+    Later,
+    /// The peer sends nothing more. A write that answers so has failed.
+    End,
+    /// The wire has failed.
+    Failed,
+}
+
+/// One connection of a transport that gives and takes bytes in order (RFC 8323 section 3), and never waits.
+pub trait Wire {
+    /// The bytes that its reads gave so far, in order, where it tells.
+    ghost given: { Self → Option (List ℕ) };
+
+    /// The bytes that its writes took so far, in order, where it tells.
+    ghost written: { Self → Option (List ℕ) };
+
+    /// Reads at least 1 byte and at most as many as the buffer has, into the front of the buffer. `Later` where no byte is
+    /// there now, `End` where the peer sends nothing more, `Failed` where reading fails.
+    fn read(&mut self, buffer: &mut [u8]) -> Got
+        ensures within { IsWithin (length buffer.new) result }
+        ensures gave { AddsBytes (given self.old) (given self.new) (bytes_passed buffer.new result) }
+        ensures wrote { AddsBytes (written self.old) (written self.new) [] };
+
+    /// Writes at least 1 of the bytes, from their front. `Later` where none can be taken now, `Failed` where writing fails;
+    /// `End` means the same as `Failed`.
+    fn write(&mut self, bytes: &[u8]) -> Got
+        ensures within { IsWithin (length bytes.now) result }
+        ensures wrote { AddsBytes (written self.old) (written self.new) (bytes_passed bytes.now result) }
+        ensures gave { AddsBytes (given self.old) (given self.new) [] };
+}
+
+/// What hands out wires, one for each connection that a peer opens.
+pub trait Door {
+    /// The wires that it hands out.
+    type Wire: Wire + Drop;
+
+    /// The next wire, where a peer has opened a connection that was not handed out yet. It never waits.
+    fn next(&mut self) -> Option<Self::Wire>;
+}
+
+/// What tells the moment.
+pub trait Clock {
+    /// The moment, in seconds.
+    fn now(&mut self) -> u64;
+}

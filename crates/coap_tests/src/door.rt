@@ -1,0 +1,383 @@
+//! Runs of `serve_door` over a door, wires and a clock in memory. A run is told by the calls of its devices in their order,
+//! by the bytes that each wire took, and by its fault.
+//!
+//! Of the calls `+1` is a door that hands out the first wire and `+-` one that has none; `1<5` a read of the first wire that
+//! gave 5 bytes, and `1<later` one that gave none yet; `1>19` a write of 19 bytes that took all, and `1>19:1` one that took 1.
+
+ghost use Rattle.std.specs.Prelude.{None, length};
+ghost use Rattle.coap_serve.specs.streams.Wires.{IsWithin};
+
+use crate::rows::{digits, same, spelled};
+use crate::serve::{configured, set_all, usual};
+use coap_serve::{Clock, Door, Got, IoFault, Wire, serve_door};
+use std::alloc::Global;
+use std::cell::RefCell;
+use std::process::Abort;
+use std::test::Fail;
+
+/// What happens at the devices of a run.
+#[derive(Drop)]
+struct Book {
+    alloc: Global,
+    calls: RefCell<String>,
+    written: RefCell<Vec<Vec<u8>>>,
+}
+
+impl Book {
+    /// Nothing has happened yet.
+    fn new(alloc: Global) -> Book {
+        Book {
+            alloc,
+            calls: RefCell::new(String::new(alloc)),
+            written: RefCell::new(Vec::new(alloc)),
+        }
+    }
+
+    /// Notes a call, and tells whether there was memory for it.
+    fn note(&self, call: &str) -> bool {
+        match self.calls.try_borrow_mut() {
+            Ok(mut calls) => calls.push_str(call).is_ok(),
+            Err(_) => false,
+        }
+    }
+
+    /// Notes what a read or a write came to, and tells whether there was memory for it.
+    fn note_got(&self, front: &str, handed: usize, got: Got) -> bool {
+        if !self.note(front) {
+            return false;
+        }
+        let text = match got {
+            Got::Bytes(count) if count == handed => format!(in self.alloc; "{count} "),
+            Got::Bytes(count) => format!(in self.alloc; "{handed}:{count} "),
+            Got::Later => format!(in self.alloc; "later "),
+            Got::End => format!(in self.alloc; "end "),
+            Got::Failed => format!(in self.alloc; "failed "),
+        };
+        match text {
+            Ok(text) => self.note(text.as_str()),
+            Err(_) => false,
+        }
+    }
+
+    /// A wire took these bytes.
+    fn take(&self, wire: usize, bytes: &[u8]) -> bool {
+        let Ok(mut written) = self.written.try_borrow_mut() else {
+            return false;
+        };
+        while written.len() <= wire {
+            let Ok(()) = written.push(Vec::new(self.alloc)) else {
+                return false;
+            };
+        }
+        match written.get_mut(wire) {
+            Some(taken) => taken.extend_from_slice(bytes).is_ok(),
+            None => false,
+        }
+    }
+
+    /// The calls, and a line for each wire that took bytes.
+    fn told(&self) -> Result<String, Fail> {
+        let calls = self.calls.try_borrow()?;
+        let mut text = String::new(self.alloc);
+        text.push_str(calls.as_str().trim_end())?;
+        let written = self.written.try_borrow()?;
+        for (at, taken) in written.iter().enumerate() {
+            let digits = digits(self.alloc, taken)?;
+            let line = format!(in self.alloc; "\n{} {digits}", at.saturating_add(1))?;
+            text.push_str(line.as_str())?;
+        }
+        Ok(text)
+    }
+}
+
+/// A wire whose reads give what the words of a text name: bytes, `zeros` as many as there is room for, `later`, `end` or `failed`; and `later` behind them. Its
+/// writes take all, or `one` byte, or are `late` once, or all come to `end` or `failed`.
+#[derive(Drop)]
+struct Line<'a> {
+    place: usize,
+    reads: &'a str,
+    writes: &'a str,
+    book: &'a Book,
+}
+
+/// What a read gives that a word names.
+fn given(alloc: Global, word: &str, buffer: &mut [u8]) -> Got
+    ensures { IsWithin (length buffer.new) result }
+{
+    match word {
+        "" => Got::Later,
+        "later" => Got::Later,
+        "end" => Got::End,
+        "failed" => Got::Failed,
+        "zeros" => zeros(buffer),
+        _ => given_bytes(alloc, word, buffer),
+    }
+}
+
+/// As many zeros as there is room for.
+fn zeros(buffer: &mut [u8]) -> Got
+    ensures { IsWithin (length buffer.new) result }
+{
+    let count = buffer.len();
+    if count == 0 {
+        return Got::Failed;
+    }
+    buffer.fill(0);
+    Got::Bytes(count)
+}
+
+/// The bytes that a word names, as many as there is room for.
+fn given_bytes(alloc: Global, word: &str, buffer: &mut [u8]) -> Got
+    ensures { IsWithin (length buffer.new) result }
+{
+    let Ok(bytes) = hex::decode(alloc, word) else {
+        return Got::Failed;
+    };
+    let count = bytes.len().min(buffer.len());
+    if count == 0 {
+        return Got::Failed;
+    }
+    buffer[..count].copy_from_slice(&bytes[..count]);
+    Got::Bytes(count)
+}
+
+/// What a write of so many bytes comes to that a word names.
+fn taken(word: &str, count: usize) -> Got
+    ensures { IsWithin count result }
+{
+    if count == 0 {
+        return Got::Later;
+    }
+    match word {
+        "one" => Got::Bytes(1),
+        "late" => Got::Later,
+        "end" => Got::End,
+        "failed" => Got::Failed,
+        _ => Got::Bytes(count),
+    }
+}
+
+impl Wire for Line<'_> {
+    ghost given = { λ line. None };
+
+    ghost written = { λ line. None };
+
+    fn read(&mut self, buffer: &mut [u8]) -> Got {
+        let (word, rest) = self.reads.split_once(' ').unwrap_or((self.reads, ""));
+        self.reads = rest;
+        let got = given(self.book.alloc, word, buffer);
+        let handed = match got {
+            Got::Bytes(count) => count,
+            _ => 0,
+        };
+        let front = if self.place == 0 { "1<" } else { "2<" };
+        self.book.note_got(front, handed, got);
+        got
+    }
+
+    fn write(&mut self, bytes: &[u8]) -> Got {
+        let got = taken(self.writes, bytes.len());
+        if self.writes == "late" {
+            self.writes = "all";
+        }
+        if let Got::Bytes(count) = got {
+            self.book.take(self.place, &bytes[..count]);
+        }
+        let front = if self.place == 0 { "1>" } else { "2>" };
+        self.book.note_got(front, bytes.len(), got);
+        got
+    }
+}
+
+/// A door that hands out the wires that a text names, at most two.
+#[derive(Drop)]
+struct Hall<'a> {
+    wires: &'a str,
+    count: usize,
+    book: &'a Book,
+}
+
+impl<'a> Door for Hall<'a> {
+    type Wire = Line<'a>;
+
+    fn next(&mut self) -> Option<Line<'a>> {
+        if self.wires.is_empty() {
+            self.book.note("+- ");
+            return None;
+        }
+        let place = self.count;
+        self.book.note(if place == 0 { "+1 " } else { "+2 " });
+        self.count = place.saturating_add(1);
+        let (wire, rest) = self.wires.split_once(" | ").unwrap_or((self.wires, ""));
+        self.wires = rest;
+        let (writes, reads) = wire.split_once(' ').unwrap_or((wire, ""));
+        Some(Line {
+            place,
+            reads,
+            writes,
+            book: self.book,
+        })
+    }
+}
+
+/// A clock that tells the moments that the words of a text name, and the last one behind them.
+#[derive(Drop)]
+struct Moments<'a> {
+    text: &'a str,
+}
+
+impl Clock for Moments<'_> {
+    fn now(&mut self) -> u64 {
+        let (word, rest) = self.text.split_once(' ').unwrap_or((self.text, self.text));
+        self.text = rest;
+        word.parse::<u64>().unwrap_or(0)
+    }
+}
+
+/// Serves what a door hands out, as a text sets it: what is set; the moments; the wires. Tells how that went.
+fn served(rt: &(impl Abort + AllocGlobal), opening: &str) -> Result<String, Fail> {
+    let (setting, rest) = opening.split_once("; ").unwrap_or((opening, ""));
+    let (moments, wires) = rest.split_once("; ").unwrap_or((rest, ""));
+    let setting = set_all(rt, usual(), setting)?;
+    let book = Book::new(rt.alloc());
+    let mut door = Hall {
+        wires,
+        count: 0,
+        book: &book,
+    };
+    let mut clock = Moments { text: moments };
+    let result = serve_door(rt.alloc(), &mut door, &mut clock, configured(rt, &setting));
+    assert!(rt; result == Err(IoFault::Turns));
+    book.told()
+}
+
+/// Plays a text of runs: each begins with `= ` and how it is set. Behind that stand its calls, and what each wire took.
+fn play_all(rt: &(impl Abort + AllocGlobal), text: &str) -> Result<(), Fail> {
+    let text = spelled(rt.alloc(), text)?;
+    for run in text.split("= ").skip(1) {
+        let (opening, wanted) = run.split_once('\n').unwrap_or((run, ""));
+        same(
+            rt,
+            opening,
+            served(rt, opening)?.as_str(),
+            wanted.trim_end(),
+        );
+    }
+    Ok(())
+}
+
+/// A request behind the Capabilities and Settings. Then the first of two wires fails at its first read; then writes take one
+/// byte each, or come late, or fail.
+const SERVES_EACH_WIRE: &str = "= turns 10; 0; all 00e1010101 later
++1 1<5 1>19 +- 1<later +- 1<later +- 1<later +- 1<later +- 1<later +- 1<later +- 1<later +- 1<later +- 1<later
+1 40e123010000a14501c0ff'coap+tcp'
+= turns 1; 0; all 00e1010101
++1 1<5 1>19
+1 40e123010000a14501c0ff'coap+tcp'
+= turns 10; 0; all failed | all 00e1010101
++1 1<failed +2 2<5 2>19 +- 2<later +- 2<later +- 2<later +- 2<later +- 2<later +- 2<later +- 2<later +- 2<later
+1 -
+2 40e123010000a14501c0ff'coap+tcp'
+= turns 3; 0; one 00e1010101
++1 1<5 1>19:1 +- 1<later 1>18:1 +- 1<later 1>17:1
+1 40e123
+= turns 3; 0; late 00e1010101
++1 1<5 1>later +- 1<later 1>19 +- 1<later
+1 40e123010000a14501c0ff'coap+tcp'
+= turns 3; 0; failed 00e1010101 | all 00e1
++1 1<5 1>failed +2 2<2 2>6 +- 2<later
+1 -
+2 40e123010000
+= turns 3; 0; end 00e1010101 | all later 00e1
++1 1<5 1>end +2 2<later 2>6 +- 2<2
+1 -
+2 40e123010000";
+
+#[test]
+fn serves_each_wire(rt: HostRuntime) -> Result<(), Fail> {
+    play_all(&rt, SERVES_EACH_WIRE)
+}
+
+/// The end comes within a message, behind a request, and at once; the peer releases, with nothing pending and with an answer
+/// held for 1 s; a message stops the connection, and the one behind it is not looked at. Nothing is read then.
+const DROPS_WHAT_IS_FINISHED: &str = "= turns 4; 0; all 00e13101 end 00
++1 1<4 1>6 +- 1<end +- +-
+1 40e123010000
+= turns 3; 0; all 00e1010101 end
++1 1<5 1>19 +- 1<end +-
+1 40e123010000a14501c0ff'coap+tcp'
+= turns 2; 0; all end
++1 1<end 1>6 +-
+1 40e123010000
+= turns 3; 0; one 00e1 end
++1 1<2 1>6:1 +- 1<end 1>5:1 +- 1>4:1
+1 40e123
+= turns 3; 0; all 00e100e4010101 failed
++1 1<7 1>6 +- +-
+1 40e123010000
+= turns 5; 0 0 0 1; all 00e1810105b5'async'413100e4 failed
++1 1<15 1>6 +- +- +- 1>9 +-
+1 40e123010000614505c0ff'done'
+= turns 3; 0; late 01010100e1 failed
++1 1<5 1>later +- 1>22 +-
+1 40e123010000d000e5ff'CSM expected'";
+
+#[test]
+fn drops_what_is_finished(rt: HostRuntime) -> Result<(), Fail> {
+    play_all(&rt, DROPS_WHAT_IS_FINISHED)
+}
+
+/// With one connection at most the door is not asked for a second wire before the first one is dropped, and with no number
+/// left it is not asked at all.
+const ASKS_THE_DOOR_WHERE_THERE_IS_ROOM: &str =
+    "= turns 5 connections 1; 0; all 00e1010101 later end | all 00e1010102
++1 1<5 1>19 1<later 1<end +2 2<5 2>19 2<later
+1 40e123010000a14501c0ff'coap+tcp'
+2 40e123010000a14502c0ff'coap+tcp'
+= turns 3 ids 18446744073709551615; 0; all 00e1
+
+= turns 4 ids 18446744073709551614; 0; all 00e1 end | all 00e1
++1 1<2 1>6 1<end
+1 40e123010000
+= turns 4; 0; all 00e1 010101 | all 00e1 010102 failed
++1 1<2 1>6 +2 1<3 1>13 2<2 2>6 +- 1<later 2<3 2>13 +- 1<later 2<failed
+1 40e123010000a14501c0ff'coap+tcp'
+2 40e123010000a14502c0ff'coap+tcp'";
+
+#[test]
+fn asks_the_door_where_there_is_room(rt: HostRuntime) -> Result<(), Fail> {
+    play_all(&rt, ASKS_THE_DOOR_WHERE_THERE_IS_ROOM)
+}
+
+/// An answer is held for 1 s, until the clock moves on. A moment that goes back changes nothing.
+const TELLS_THE_TIME: &str = "= turns 4; 0 0 0 1; all 00e1810105b5'async'4131
++1 1<13 1>6 +- 1<later +- 1<later +- 1<later 1>9
+1 40e123010000614505c0ff'done'
+= turns 4; 5 0 5 6; all 00e1810105b5'async'4131
++1 1<13 1>6 +- 1<later +- 1<later +- 1<later 1>9
+1 40e123010000614505c0ff'done'
+= turns 2; 5 3; all 00e1 510107b4'time'
++1 1<2 1>6 +- 1<8 1>8
+1 40e123010000514507c02101ff35";
+
+#[test]
+fn tells_the_time(rt: HostRuntime) -> Result<(), Fail> {
+    play_all(&rt, TELLS_THE_TIME)
+}
+
+/// A queue with room for one greatest message takes one request a turn, and what was read before is used up before the next
+/// read.
+const TAKES_THE_REST_FIRST: &str = "= turns 5 sent 1152 queue 1152; 0; all 00e1010101010102 010103
++1 1>6 +- 1<8 1>13 +- 1>13 +- 1<3 1>13 +- 1<later
+1 40e123010000a14501c0ff'coap+tcp'a14502c0ff'coap+tcp'a14503c0ff'coap+tcp'
+= turns 3 sent 1152 queue 1152; 0; all 00e1010101010102 end
++1 1>6 +- 1<8 1>13 +- 1>13
+1 40e123010000a14501c0ff'coap+tcp'a14502c0ff'coap+tcp'
+= turns 3; 0; all zeros later 00e1
++1 1<16384 1>6 +- 1<later +- 1<2
+1 40e123010000";
+
+#[test]
+fn takes_the_rest_first(rt: HostRuntime) -> Result<(), Fail> {
+    play_all(&rt, TAKES_THE_REST_FIRST)
+}
