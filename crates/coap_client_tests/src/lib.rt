@@ -10,6 +10,8 @@ mod command_lines;
 #[cfg(test)]
 mod joined;
 #[cfg(test)]
+mod memory;
+#[cfg(test)]
 mod rows;
 #[cfg(test)]
 mod run;

@@ -7,6 +7,8 @@
 ghost use Rattle.std.specs.Prelude.{None, length};
 ghost use Rattle.coap_serve.specs.streams.Wires.{IsWithin};
 
+mod memory;
+
 use crate::rows::{digits, same, spelled};
 use crate::serve::{configured, set_all, usual};
 use coap_serve::{Clock, Door, Got, IoFault, Wire, serve_door};

@@ -1,0 +1,101 @@
+//! A door that is served while memory is refused. What the test allocates is what it serves, so `rt try --test --fail-alloc N` refuses each
+//! of these in turn: what was written until then is what is written without a refusal, and a run behind it goes as without one.
+
+ghost use Rattle.std.specs.Prelude.{None};
+
+use super::Moments;
+use crate::devices::Fixed;
+use coap_serve::{Config, Door, Got, IoFault, Limits, Starts, Wire, serve_door};
+use std::cell::RefCell;
+use std::io::Write;
+use std::process::Abort;
+use std::test::Fail;
+
+/// What is read: Capabilities and Settings, a GET of the root, and a PUT that stores one byte.
+const READ: &[u8] = b"\x00\xe1\x01\x01\x01\x41\x03\x02\xb1a\xffx";
+
+/// What is written for it.
+const WRITTEN: &[u8] = b"\x30\xe1\x22\x04\x80\xa1\x45\x01\xc0\xffcoap+tcp\x01\x41\x02";
+
+/// A wire that gives bytes, and whose writes take one byte each.
+#[derive(Drop)]
+struct Line<'a> {
+    rest: &'a [u8],
+    page: &'a RefCell<Fixed>,
+}
+
+impl Wire for Line<'_> {
+    ghost given = { λ line. None };
+
+    ghost written = { λ line. None };
+
+    fn read(&mut self, buffer: &mut [u8]) -> Got {
+        let count = self.rest.len().min(buffer.len());
+        if count == 0 {
+            return Got::Later;
+        }
+        buffer[..count].copy_from_slice(&self.rest[..count]);
+        self.rest = &self.rest[count..];
+        Got::Bytes(count)
+    }
+
+    fn write(&mut self, bytes: &[u8]) -> Got {
+        let Ok(mut page) = self.page.try_borrow_mut() else {
+            return Got::Failed;
+        };
+        match page.write(bytes) {
+            Ok(count) if 0 < count && count <= bytes.len() => Got::Bytes(count),
+            _ => Got::Failed,
+        }
+    }
+}
+
+/// A door that hands out one wire.
+#[derive(Drop)]
+struct Once<'a> {
+    is_open: bool,
+    page: &'a RefCell<Fixed>,
+}
+
+impl<'a> Door for Once<'a> {
+    type Wire = Line<'a>;
+
+    fn next(&mut self) -> Option<Line<'a>> {
+        if !self.is_open {
+            return None;
+        }
+        self.is_open = false;
+        Some(Line {
+            rest: READ,
+            page: self.page,
+        })
+    }
+}
+
+/// Serves one connection in forty turns, and tells how that ended. What is written is all of it, and a front of it where memory is refused.
+fn served(rt: &(impl Abort + AllocGlobal), config: Config) -> Result<(), IoFault> {
+    let page = RefCell::new(Fixed::new(64, None));
+    let mut door = Once {
+        is_open: true,
+        page: &page,
+    };
+    let mut clock = Moments { text: "0" };
+    let result = serve_door(rt.alloc(), &mut door, &mut clock, config);
+    let page = page.try_borrow().expect(rt, "what was written");
+    let written = page.written();
+    assert!(rt; WRITTEN.starts_with(written));
+    assert!(rt; result == Err(IoFault::Memory) || written.len() == WRITTEN.len());
+    result
+}
+
+#[test]
+fn serves_without_memory(rt: HostRuntime) -> Result<(), Fail> {
+    let limits = Limits::new(1_152, 1_152, 2_304, 1, 1, 1)?;
+    let config = Config::new(limits, 1, 1, 100, 40, Starts::default())?;
+    let result = match served(&rt, config) {
+        Err(IoFault::Memory) => served(&rt, config),
+        other => other,
+    };
+    assert!(&rt; result == Err(IoFault::Turns));
+    Ok(())
+}
