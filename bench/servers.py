@@ -1,0 +1,120 @@
+"""Builds the programs of bench/, starts servers for the load program, and ends them."""
+
+import collections
+import contextlib
+import os
+import socket
+import subprocess
+import sys
+import tempfile
+import time
+
+ROOT = os.path.dirname(os.path.dirname(os.path.abspath(__file__)))
+sys.path.insert(0, f"{ROOT}/tests")
+from packages import install  # noqa: E402
+
+HOST = "127.0.0.1"
+
+# gencat comes with the headers of the C library, which the package gcc alone does not bring
+PACKAGES = {"cc": "gcc", "gencat": "libc6-dev"}
+
+# Seconds: until a server must accept, until it must have ended, and for one run of the load program.
+STARTS, ENDS, LIMIT = 5, 5, 60
+
+# requests that were answered, seconds, requests for each second, and the latencies in microseconds
+Figures = collections.namedtuple("Figures", ["requests", "seconds", "rate", "p50", "p99"])
+
+
+def prepare(packages):
+    """Installs what is missing, builds the programs of bench/, and tells whether all is there."""
+    if not install({**PACKAGES, **packages}):
+        return False
+    os.makedirs(f"{ROOT}/bin", exist_ok=True)
+    words = ["cc", "-std=c11", "-O2", "-Wall", "-Wextra", "-Werror"]
+    return all(subprocess.run([*words, "-o", f"{ROOT}/bin/{it}", f"{ROOT}/bench/{it}.c"]).returncode == 0 for it in ("load", "floor"))
+
+
+def ours(port):
+    """The command of the program that is measured."""
+    return [f"{ROOT}/bin/coap-server", "-A", HOST, "-p", str(port), "--connections", "256"]
+
+
+def free_port():
+    with socket.socket() as it:
+        it.bind((HOST, 0))
+        return it.getsockname()[1]
+
+
+class Server:
+    """A server on a port of its own. `trouble` says why it cannot be measured, and is empty where it can."""
+
+    def __init__(self, name, command, patience=STARTS):
+        self.name, self.port, self.output = name, free_port(), tempfile.TemporaryFile()
+        try:
+            self.process = subprocess.Popen(command(self.port), stdin=subprocess.DEVNULL, stdout=self.output, stderr=self.output)
+        except OSError as trouble:
+            self.process, self.trouble = None, str(trouble)
+        else:
+            self.trouble = self.wait(patience)
+
+    def __enter__(self):
+        return self
+
+    def __exit__(self, *_):
+        self.end()
+        self.output.close()
+
+    def wait(self, patience):
+        """Waits so many seconds at the most until the port accepts, and says what is wrong where it does not."""
+        limit = time.monotonic() + patience
+        while time.monotonic() < limit:
+            if self.process.poll() is not None:
+                return self.ended()
+            with contextlib.suppress(OSError):
+                self.greet()
+                return ""
+            time.sleep(0.02)
+        return f"does not accept within {patience} s"
+
+    def greet(self):
+        """Opens a connection, and lets the server close it, so that it takes no place of a later one."""
+        with socket.create_connection((HOST, self.port), 1) as it, contextlib.suppress(OSError):
+            it.shutdown(socket.SHUT_WR)
+            while it.recv(4096):
+                pass
+
+    def told(self):
+        """What the server wrote."""
+        self.output.seek(0)
+        return self.output.read().decode(errors="replace")
+
+    def ended(self):
+        """How the server ended, and what it wrote, without what valgrind writes of itself."""
+        lines = [it for it in self.told().splitlines() if not it.startswith("==")]
+        return f"ended with status {self.process.returncode}: " + ("\n".join(lines) or "it wrote nothing")
+
+    def end(self):
+        """Ends the server by SIGTERM, or where that does not do, at once."""
+        if self.process and self.process.poll() is None:
+            self.process.terminate()
+            try:
+                self.process.wait(ENDS)
+            except subprocess.TimeoutExpired:
+                self.process.kill()
+                self.process.wait()
+
+    def load(self, connections, outstanding, requests, idle=0):
+        """What the load program measures, or nothing where not every request was answered: then there is a trouble."""
+        words = [f"{ROOT}/bin/load", "--idle", idle, HOST, self.port, connections, outstanding, requests]
+        try:
+            ran = subprocess.run([str(it) for it in words], stdin=subprocess.DEVNULL, capture_output=True, text=True, timeout=LIMIT)
+        except subprocess.TimeoutExpired:
+            self.trouble = f"{requests:,} requests are not answered within {LIMIT} s"
+            return None
+        if ran.returncode:
+            self.trouble = ran.stderr.strip()
+            with contextlib.suppress(subprocess.TimeoutExpired):
+                self.process.wait(0.2)
+                self.trouble += "; " + self.ended()
+            return None
+        return Figures(*map(float, ran.stdout.split()))
