@@ -66,7 +66,7 @@ impl Book {
         let Ok(mut written) = self.written.try_borrow_mut() else {
             return false;
         };
-        while written.len() <= wire {
+        for _ in written.len()..=wire {
             let Ok(()) = written.push(Vec::new(self.alloc)) else {
                 return false;
             };
