@@ -1,13 +1,13 @@
 -- How a run of a client ends.
-use Rattle.std.specs.Prelude.{ℕ, ◌≤◌, Bool, true, false, Result, Ok, Err}
+use Rattle.std.specs.Prelude.{◌≡◌, ◌==◌, ◌||◌, ℕ, Bool, true, false, Result, Ok, Err}
 use Rattle.coap_client.specs.declared.run.ClientFault.{ClientFault}
 use Rattle.coap_client.specs.declared.run.ClientFault.TheVariants.{Output, Memory}
 use Rattle.coap_client.specs.declared.run.Heard.{Heard}
 use Rattle.coap_client.specs.declared.run.Heard.TheVariants.{Nothing, Notified, Ended}
 
--- the status of a program
+-- the statuses that a run ends with: 1 is for words that are not understood
 abbrev pub IsStatus : ℕ → Type 0
-IsStatus status = status ≤ 4
+IsStatus status = (status == 0 || status == 2 || status == 3 || status == 4) ≡ true
 
 -- it ended since an outlet failed
 abbrev pub is_output_fault : {T : Type 0} → Result T ClientFault → Bool
