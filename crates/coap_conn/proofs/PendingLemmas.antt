@@ -14,9 +14,9 @@ use Rattle.coap_conn.specs.LinkValue.{LinkValue, standing_in, link_with, link_af
 
 -- ---- what was looked at is what is held
 
-pub moments_of : (now : ℕ) (held : List Held) → filter_map (λ e. come now (held_value e)) held ≡ filter_map (come now) (map held_value held)
-moments_of now [] = refl
-moments_of now (e ∷ held) = ap (cons_option (come now (held_value e))) (moments_of now held)
+pub moments_of : (moment : HeldValue → Option ℕ) (held : List Held) → filter_map (λ e. moment (held_value e)) held ≡ filter_map moment (map held_value held)
+moments_of moment [] = refl
+moments_of moment (e ∷ held) = ap (cons_option (moment (held_value e))) (moments_of moment held)
 
 -- the first place at which a test of values passes
 place_step : (passes : Bool) (n : ℕ) → cond (not passes) (1 + n) 0 ≡ cond passes 0 (1 + n)

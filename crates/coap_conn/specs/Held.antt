@@ -1,6 +1,6 @@
 -- What a connection holds, in order of arrival: answers that are sent when their moments come, and Pongs with Custody, which are
 -- sent when everything that came before was (RFC 8323 section 5.4.1; that answers are held is own).
-use Rattle.std.specs.Prelude.{◌≡◌, ℕ, ◌≤◌, ◌++◌, Bool, false, List, [], ◌∷◌, Option, Some, None, min, slice_get, nat_le, ◌==◌, if◌then◌else◌}
+use Rattle.std.specs.Prelude.{◌≡◌, ℕ, ◌≤◌, ◌++◌, Bool, false, List, [], ◌∷◌, Option, Some, None, min, slice_get, nat_le, nat_lt, ◌==◌, if◌then◌else◌}
 use Rattle.std.specs.List.{AllByRecursion, filter_map, reduce, position, remove}
 
 -- an answer to the request with this token, which is due at a moment; or the Pong to the Ping with this token
@@ -43,6 +43,17 @@ else_index (Some i) other = Some i
 -- a Pong with nothing before it.
 unfoldable pub due_index : ℕ → List HeldValue → Option ℕ
 due_index now held = else_index (answer_index (least_come now held) held) (pong_index held)
+
+-- ---- what is still to come
+
+-- the moment of an answer, where it lies behind this one
+abbrev pub to_come : ℕ → HeldValue → Option ℕ
+to_come now (Answer token moment) = if nat_lt now moment then Some moment else None
+to_come now (Pong token) = None
+
+-- the least moment of an answer that lies behind this one
+abbrev pub next_moment : ℕ → List HeldValue → Option ℕ
+next_moment now held = reduce min (filter_map (to_come now) held)
 
 -- ---- taking it out
 

@@ -61,7 +61,7 @@ impl Link {
     ghost use Rattle.coap_conn.specs.Announced.{bad_csm_option};
     ghost use Rattle.coap_conn.specs.Fit.{fit, fitted, bare_response, without_options};
     ghost use Rattle.coap_conn.specs.Phases.{IsLive, IsAnswering, is_open};
-    ghost use Rattle.coap_conn.specs.Held.{AnAnswer, due_told, first_due};
+    ghost use Rattle.coap_conn.specs.Held.{AnAnswer, due_told, first_due, next_moment as moment_next};
     ghost use Rattle.coap_conn.specs.HeldViews.{due_value};
     ghost use Rattle.coap_conn.specs.Reaction.{react, stop, abort, send, told_of, csm_reaction, live_reaction, open_reaction, ping_reaction, pong_with, sends, request_reaction, release_reaction, response_reaction, pong_reaction};
     ghost use Rattle.coap_conn.specs.Verdicts as verdict;
@@ -165,6 +165,13 @@ impl Link {
         ensures within { length self.now.held ≤ self.now.limits.pending }
     {
         self.pending.len()
+    }
+
+    /// The least moment, in seconds, of a held answer that lies behind this one: what is held waits for it, where there is room.
+    pub fn next_moment(&self, now: u64) -> Option<u64>
+        ensures { result ≡ moment_next now self.now.held }
+    {
+        self.pending.next_moment(now)
     }
 
     /// How many requests, observations and Pings are outstanding.

@@ -2,7 +2,7 @@
 
 ghost use Rattle.std.specs.Prelude.{◌≡◌, ℕ, List, map, option_map};
 ghost use Rattle.std.specs.List.{filter_map, reduce, position};
-ghost use Rattle.coap_conn.specs.Held.{come as moment_come, is_answer_at as is_answer_due_at, least_come as least_moment, answer_index as index_of_answer, due_index as index_due, pong_index};
+ghost use Rattle.coap_conn.specs.Held.{come as moment_come, is_answer_at as is_answer_due_at, least_come as least_moment, answer_index as index_of_answer, due_index as index_due, next_moment as moment_next, pong_index, to_come as moment_to_come};
 ghost use Rattle.coap_conn.specs.HeldViews.{held_value};
 
 use coap_wire::Token;
@@ -25,7 +25,7 @@ pub(crate) enum Held {
 
 impl Held {
     ghost use Rattle.std.specs.Prelude.{◌≡◌};
-    ghost use Rattle.coap_conn.specs.Held.{come as moment_come, is_answer_at as is_answer_due_at};
+    ghost use Rattle.coap_conn.specs.Held.{come as moment_come, is_answer_at as is_answer_due_at, to_come as moment_to_come};
     ghost use Rattle.coap_conn.specs.HeldViews.{held_value};
 
     /// The moment of an answer, where it has come.
@@ -34,6 +34,16 @@ impl Held {
     {
         match self {
             Held::Answer { moment, .. } if *moment <= now => Some(*moment),
+            _ => None,
+        }
+    }
+
+    /// The moment of an answer, where it lies behind this one.
+    fn to_come(&self, now: u64) -> Option<u64>
+        ensures { result ≡ moment_to_come now (held_value self.now) }
+    {
+        match self {
+            Held::Answer { moment, .. } if *moment > now => Some(*moment),
             _ => None,
         }
     }
@@ -72,7 +82,7 @@ impl Model for Pending {
 impl Pending {
     ghost use Rattle.std.specs.Prelude.{◌≡◌, ◌≤◌, ◌<◌, ◌++◌, ◌∷◌, [], length, not, nat_lt, IfOk, IfSome, Some, slice_get, ◌==◌};
     ghost use Rattle.std.specs.List.{remove};
-    ghost use Rattle.coap_conn.specs.Held.{due_index as index_due};
+    ghost use Rattle.coap_conn.specs.Held.{due_index as index_due, next_moment as moment_next};
     ghost use Rattle.coap_conn.specs.HeldViews.{held_value};
 
     /// Nothing held, and room for so many, at most 256.
@@ -128,6 +138,13 @@ impl Pending {
         due_in(&self.entries, now)
     }
 
+    /// The least moment of an answer that lies behind this one.
+    pub(crate) fn next_moment(&self, now: u64) -> Option<u64>
+        ensures { result ≡ moment_next now self.now.held }
+    {
+        next_of(&self.entries, now)
+    }
+
     /// Takes out the one at an index.
     pub(crate) fn take(&mut self, index: usize) -> Held
         requires { index < length self.old.held }
@@ -168,6 +185,13 @@ fn least_come(held: &[Held], now: u64) -> Option<u64>
     ensures { result ≡ least_moment now (map held_value held.now) }
 {
     held.iter().filter_map(|one| one.come(now)).min()
+}
+
+/// The least moment of an answer among these that lies behind this one.
+fn next_of(held: &[Held], now: u64) -> Option<u64>
+    ensures { result ≡ moment_next now (map held_value held.now) }
+{
+    held.iter().filter_map(|one| one.to_come(now)).min()
 }
 
 /// The index of a Pong with nothing before it.

@@ -13,3 +13,5 @@ pub mod EndLemmas
 pub mod StartLemmas
 pub mod RestLemmas
 pub mod PeerLemmas
+pub mod AgendaLemmas
+pub mod PassedLemmas

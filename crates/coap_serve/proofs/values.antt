@@ -8,3 +8,4 @@ pub mod ServerLemmas
 pub mod TakenLemmas
 pub mod FlushLemmas
 pub mod TurnLemmas
+pub mod DueLemmas

@@ -3,3 +3,4 @@ pub mod Entries
 pub mod Servers
 pub mod ServerAnswers
 pub mod Flushes
+pub mod Dues

@@ -1,24 +1,53 @@
 //! Serves connections over the wires that a door hands out.
 
-ghost use Rattle.std.specs.Prelude.{◌≡◌, ◌≢◌, ◌<◌, true, false, [], length, is_none, is_some, remove, slice_get, if◌then◌else◌, IfSome, IfOk, IfErr, Ok, OnOk, OnErr};
+ghost use Rattle.std.specs.Prelude.{◌≡◌, ◌≢◌, ◌<◌, true, false, [], length, ◌&&◌, not, nat_lt, is_none, is_some, map, remove, slice_get, take, if◌then◌else◌, IfSome, IfOk, IfErr, Ok, OnOk, OnErr};
 ghost use Rattle.std.specs.Map.{keys_of};
 ghost use Rattle.coap_serve.specs.script.PartlyFed.{IsPartlyFed};
 ghost use Rattle.coap_serve.specs.script.Replay.{fed};
 ghost use Rattle.coap_serve.specs.streams.Device.{AddsBytes};
-ghost use Rattle.coap_serve.specs.streams.Turns.{IsServedOnce, IsLaidOut, is_heard, server_heard, server_wrote, rest_left, is_over_on, has_failed, course_of};
+ghost use Rattle.coap_serve.specs.streams.Turns.{IsServed, IsServedOnce, IsLaidOut, is_heard, server_heard, server_wrote, waiting_once, rest_left, is_over_in, has_failed, course_of, wants_in, wants_of, wait_of, MayWait};
 ghost use Rattle.coap_serve.specs.streams.Wires.{IsWithin, IsMemory, IsMemoryOrTurns, bytes_passed};
-ghost use Rattle.coap_serve.specs.values.Flushes.{waiting_at};
+ghost use Rattle.coap_serve.specs.values.Dues.{same_stamp, stamp_of};
 ghost use Rattle.coap_serve.specs.values.ServerAnswers.{open_refusal, stop_on};
 ghost use Rattle.coap_serve.specs.values.Servers.{session_of, is_there, server_opened, server_dropped};
-ghost use Rattle.coap_serve.specs.declared.wire.Got.TheVariants.{End};
+ghost use Rattle.coap_serve.specs.declared.door.Course.TheVariants.{Open};
+ghost use Rattle.coap_serve.specs.declared.wire.Got.TheVariants.{Later, End};
 
 use crate::config::Config;
 use crate::rest::Rest;
 use crate::serve::IoFault;
-use crate::server::{ConnId, Server};
-use crate::wire::{Clock, Door, Got, Wire};
+use crate::server::{ConnId, Outlook, Server, Stamp};
+use crate::session::sooner;
+use crate::wire::{Clock, Door, Got, Ready, Wait, Wire};
 use indexmap::IndexMap;
 use std::alloc::Global;
+
+/// What a connection is to be served for, as it was left when it was served last.
+#[derive(Clone, Copy, Debug, PartialEq, Eq)]
+struct Wants {
+    /// What was read before can be taken, or is to be given up.
+    take: bool,
+    /// Its wire is to be read, once it may be.
+    read: bool,
+    /// Its wire is to be written, once it may be.
+    write: bool,
+    /// The next moment, in seconds, at which time alone may queue something.
+    due: Option<u64>,
+    /// What the server was then: where that has changed, anything may be wanted.
+    stamp: Stamp,
+}
+
+impl Wants {
+    ghost use Rattle.std.specs.Prelude.{◌≡◌, ◌&&◌, not};
+    ghost use Rattle.coap_serve.specs.values.Dues.{same_stamp};
+
+    /// Whether nothing is to be done on a server with this stamp, where something can be done at once or not.
+    fn is_at_rest(self, is_ready: bool, stamp: Stamp) -> bool
+        ensures { result ≡ (same_stamp self.stamp stamp && not is_ready) }
+    {
+        self.stamp == stamp && !is_ready
+    }
+}
 
 /// The far end of a connection.
 #[derive(Debug, Drop)]
@@ -27,6 +56,21 @@ struct Peer<W> {
     wire: W,
     /// What was read from the wire and is not taken yet.
     rest: Rest,
+    /// What it is to be served for.
+    wants: Wants,
+}
+
+impl<W: Ready> Peer<W> {
+    ghost use Rattle.coap_serve.specs.streams.Turns.{CanGoOn};
+
+    /// Whether something that it is to be served for can be done at once.
+    fn is_ready(&self) -> bool
+        ensures { CanGoOn self.now.wants result }
+    {
+        self.wants.take
+            || (self.wants.read && self.wire.may_read())
+            || (self.wants.write && self.wire.may_write())
+    }
 }
 
 /// The far ends by the numbers of their connections, in order.
@@ -35,12 +79,48 @@ type Peers<W> = IndexMap<u64, Peer<W>>;
 /// How a connection came out of its part of a turn.
 #[derive(Clone, Copy, Debug, PartialEq, Eq)]
 enum Course {
-    /// Nothing was done.
-    Idle,
-    /// Bytes were read, taken or written, or the end was found.
-    Busy,
+    /// It goes on.
+    Open,
     /// Its wire has failed, or nothing more is to be written.
     Over,
+}
+
+/// What the connections that were looked at in a turn leave to be done.
+#[derive(Clone, Copy, Debug, PartialEq, Eq)]
+struct Agenda {
+    /// Whether something can be done at once.
+    at_once: bool,
+    /// The least moment, in seconds, at which time alone may queue something.
+    due: Option<u64>,
+}
+
+impl Agenda {
+    ghost use Rattle.std.specs.Prelude.{◌≡◌};
+    ghost use Rattle.coap_serve.specs.streams.Turns.{agenda_with, wait_of};
+
+    /// With one connection more, on which something can be done at once or not, and on which time alone may queue something at a moment,
+    /// if ever.
+    fn with(self, is_ready: bool, due: Option<u64>) -> Agenda
+        ensures { result ≡ agenda_with self is_ready due }
+    {
+        Agenda {
+            at_once: self.at_once || is_ready,
+            due: sooner(self.due, due),
+        }
+    }
+
+    /// How long the door may wait.
+    fn wait(self) -> Wait
+        ensures { result ≡ wait_of self }
+    {
+        if self.at_once {
+            return Wait::No;
+        }
+        match self.due {
+            Some(moment) => Wait::Until(moment),
+            None => Wait::Forever,
+        }
+    }
 }
 
 /// Serves connections over the wires that a door hands out, as many turns as the configuration allows. It runs one `Server`, in
@@ -50,7 +130,12 @@ enum Course {
 /// wire, where one more connection may be opened. Then each connection in order of its number takes what was read before, or
 /// else what one read of at most 16,384 bytes gives, and what waits is written once. No wire is read where its connection takes
 /// nothing: where it has stopped or was released (RFC 8323 section 5.5), or where its queue has no room for the greatest message
-/// sent. A connection is dropped, it alone, where its wire has failed or where nothing more is to be written on it.
+/// sent. No wire is read or written that may not be. A connection is dropped, it alone, where its wire has failed or where nothing
+/// more is to be written on it.
+///
+/// Between turns the door may wait: not at all where anything can be done at once; else until the next moment at which an answer is
+/// to be sent that is held, or an observer is to be told the moment; else for as long as no wire is ready. A connection on which
+/// nothing can be done is passed over as long as neither the moment nor what is stored changes.
 ///
 /// # Errors
 ///
@@ -70,15 +155,19 @@ pub fn serve_door<D: Door, C: Clock>(
     let Ok(mut peers) = IndexMap::with_capacity(alloc, config.connections()) else {
         return Err(IoFault::Memory);
     };
-    for _ in 0..config.turns() {
+    let mut wait = Wait::No;
+    for turn in 0..config.turns() {
+        if turn > 0 {
+            door.wait(wait, server.can_open());
+        }
         let _ = server.tick(clock.now());
-        take_turn(alloc, &mut server, &mut peers, door)?;
+        wait = take_turn(alloc, &mut server, &mut peers, door)?;
     }
     Err(IoFault::Turns)
 }
 
 /// One turn at a moment: opens one connection, where one more may be and the door hands out a wire, and serves each. Answers
-/// whether anything was done.
+/// how long the door may wait then.
 ///
 /// # Errors
 ///
@@ -88,12 +177,13 @@ fn take_turn<D: Door>(
     server: &mut Server,
     peers: &mut Peers<D::Wire>,
     door: &mut D,
-) -> Result<bool, IoFault>
-    ensures { IfErr result IsMemory }
+) -> Result<Wait, IoFault>
+    ensures waits { IfOk result (λ wait. MayWait wait (stamp_of server.new.host) (map (λ e. e.1.wants) peers.new.entries)) }
+    ensures fault { IfErr result IsMemory }
 {
-    let opened = accept(alloc, server, peers, door)?;
-    let served = serve_each(server, peers)?;
-    Ok(opened || served)
+    accept(alloc, server, peers, door)?;
+    let agenda = serve_each(server, peers)?;
+    Ok(agenda.wait())
 }
 
 /// Opens one connection, where one more may be and the door hands out a wire, and answers whether it did.
@@ -124,36 +214,61 @@ fn accept<D: Door>(
     let Ok(id) = server.open() else {
         return Err(IoFault::Memory);
     };
-    let Ok(_) = peers.insert(id, Peer { wire, rest }) else {
+    let wants = wants_on(server, id, &rest);
+    let Ok(_) = peers.insert(id, Peer { wire, rest, wants }) else {
         return Err(IoFault::Memory);
     };
     Ok(true)
 }
 
-/// Serves each connection in order of its number, and drops those that are over. Answers whether anything was done.
+/// Serves each connection in order of its number but those that are at rest, and drops those that are over. Answers what they
+/// leave to be done.
 ///
 /// # Errors
 ///
 /// `Memory` where memory was refused.
-fn serve_each<W: Wire + Drop>(server: &mut Server, peers: &mut Peers<W>) -> Result<bool, IoFault>
-    ensures { IfErr result IsMemory }
+fn serve_each<W: Wire + Ready + Drop>(
+    server: &mut Server,
+    peers: &mut Peers<W>,
+) -> Result<Agenda, IoFault>
+    // What is left to be done at once, and when: the door waits only where all were served after the last change.
+    ensures waits { IfOk result (λ agenda. MayWait (wait_of agenda) (stamp_of server.new.host) (map (λ e. e.1.wants) peers.new.entries)) }
+    ensures fault { IfErr result IsMemory }
 {
-    let mut done = false;
+    let mut agenda = Agenda {
+        at_once: false,
+        due: None,
+    };
+    let mut stamp = server.stamp();
     let mut at = 0;
     while at < peers.len() {
-        match serve_at(server, peers, at)? {
-            Course::Idle => at += 1,
-            Course::Busy => {
-                done = true;
+        let wants = peers[at].wants;
+        if wants.is_at_rest(peers[at].is_ready(), stamp) {
+            agenda = agenda.with(false, wants.due);
+            at += 1;
+            continue;
+        }
+        let course = serve_at(server, peers, at)?;
+        let later = server.stamp();
+        agenda = agenda.with(concerns_others(at, stamp, later), None);
+        stamp = later;
+        match course {
+            Course::Over => drop_at(server, peers, at),
+            Course::Open => {
+                agenda = agenda.with(peers[at].is_ready(), peers[at].wants.due);
                 at += 1;
-            }
-            Course::Over => {
-                done = true;
-                drop_at(server, peers, at);
             }
         }
     }
-    Ok(done)
+    Ok(agenda)
+}
+
+/// Whether serving the connection at an index, before and after which the server had these stamps, may concern those before it, which
+/// have had their part of the turn.
+fn concerns_others(at: usize, before: Stamp, after: Stamp) -> bool
+    ensures { result ≡ (nat_lt 0 at && not (same_stamp after before)) }
+{
+    at > 0 && after != before
 }
 
 /// Serves the connection at an index.
@@ -161,24 +276,29 @@ fn serve_each<W: Wire + Drop>(server: &mut Server, peers: &mut Peers<W>) -> Resu
 /// # Errors
 ///
 /// `Memory` where memory was refused.
-fn serve_at<W: Wire>(
+fn serve_at<W: Wire + Ready>(
     server: &mut Server,
     peers: &mut Peers<W>,
     at: usize,
 ) -> Result<Course, IoFault>
     requires { at < length peers.old.entries }
-    ensures part { IfSome (slice_get peers.old.entries at) (λ was. IfSome (slice_get peers.new.entries at) (λ is. IfOk result (λ course. IsServedOnce server.old was.0 was.1.rest server.new is.1.rest course))) }
+    ensures part { IfSome (slice_get peers.old.entries at) (λ was. IfSome (slice_get peers.new.entries at) (λ is. IfOk result (λ course. IsServed server.old was.0 was.1.rest server.new is.1.rest course))) }
+    ensures wants { IfSome (slice_get peers.new.entries at) (λ is. IfOk result (λ course. course ≡ Open → is.1.wants ≡ wants_of server.new is.0 is.1.rest)) }
+    ensures before { take at peers.new.entries ≡ take at peers.old.entries }
     ensures same { keys_of peers.new.entries ≡ keys_of peers.old.entries }
     ensures fault { IfErr result IsMemory }
 {
     let (id, peer) = peers.pair_mut(at);
-    serve_peer(server, *id, peer)
+    let may_read = peer.wire.may_read();
+    let may_write = peer.wire.may_write();
+    serve_peer(server, *id, peer, may_read, may_write)
 }
 
 /// Drops the connection at an index.
 fn drop_at<W: Wire + Drop>(server: &mut Server, peers: &mut Peers<W>, at: usize)
     requires { at < length peers.old.entries }
     ensures peers { peers.new.entries ≡ remove peers.old.entries at }
+    ensures host { server.new.host ≡ server.old.host }
     ensures server { IfSome (slice_get (keys_of peers.old.entries) at) (λ id. is_there (session_of id server.old.sessions) ≡ true → server.new ≡ server_dropped server.old id) }
 {
     if let Some((id, _)) = peers.shift_remove_index(at) {
@@ -186,8 +306,9 @@ fn drop_at<W: Wire + Drop>(server: &mut Server, peers: &mut Peers<W>, at: usize)
     }
 }
 
-/// Serves a connection: reads once, where all that was read before is taken and the connection takes bytes; lets it take what was
-/// read; and writes once what waits.
+/// Serves a connection whose wire may be read or not, and written or not: reads once, where it may, all that was read before is taken
+/// and the connection takes bytes; lets it take what was read; and writes once what waits, where it may. Notes what it is to be served
+/// for next.
 ///
 /// # Errors
 ///
@@ -196,18 +317,51 @@ fn serve_peer<W: Wire>(
     server: &mut Server,
     id: ConnId,
     peer: &mut Peer<W>,
+    may_read: bool,
+    may_write: bool,
 ) -> Result<Course, IoFault>
-    ensures part { IfOk result (λ course. IsServedOnce server.old id peer.old.rest server.new peer.new.rest course) }
+    ensures part { IfOk result (λ course. IsServedOnce may_read may_write server.old id peer.old.rest server.new peer.new.rest course) }
+    ensures wants { IfOk result (λ course. course ≡ Open → peer.new.wants ≡ wants_of server.new id peer.new.rest) }
     ensures fault { IfErr result IsMemory }
 {
-    let heard = hear(server, id, peer);
+    let heard = hear(server, id, peer, may_read);
     if failed(heard) {
         return Ok(Course::Over);
     }
-    let took = take_rest(server, id, &mut peer.rest)?;
-    let wrote = write_once(server, id, &mut peer.wire);
-    let over = is_over(server, id);
-    Ok(outcome(heard, took, wrote, over))
+    take_rest(server, id, &mut peer.rest)?;
+    let wrote = write_once(server, id, &mut peer.wire, may_write);
+    let outlook = server.outlook(id);
+    peer.wants = wants_by(outlook, peer.rest.is_empty(), server.stamp());
+    Ok(outcome(wrote, is_over(outlook)))
+}
+
+/// What a connection is to be served for that has this left of what was read.
+fn wants_on(server: &Server, id: ConnId, rest: &Rest) -> Wants
+    ensures { result ≡ wants_of server.now id rest.now }
+{
+    wants_by(server.outlook(id), rest.is_empty(), server.stamp())
+}
+
+/// What a connection is to be served for on which this is to be done, and where all that was read is taken or not.
+fn wants_by(outlook: Option<Outlook>, is_empty: bool, stamp: Stamp) -> Wants
+    ensures { result ≡ wants_in outlook is_empty stamp }
+{
+    match outlook {
+        Some(outlook) => Wants {
+            take: !is_empty && (outlook.takes || outlook.stopped),
+            read: is_empty && outlook.takes,
+            write: outlook.waits,
+            due: outlook.due,
+            stamp,
+        },
+        None => Wants {
+            take: false,
+            read: false,
+            write: false,
+            due: None,
+            stamp,
+        },
+    }
 }
 
 /// Whether a wire has failed.
@@ -222,34 +376,27 @@ fn failed(got: Got) -> bool
     }
 }
 
-/// How a connection comes out whose read and write came to this, that took so many bytes, and on which nothing more is to be
-/// written, or something is.
-fn outcome(heard: Got, took: usize, wrote: Got, is_over: bool) -> Course
-    ensures { result ≡ course_of heard took wrote is_over }
+/// How a connection comes out whose write came to this, and on which nothing more is to be written, or something is.
+fn outcome(wrote: Got, is_over: bool) -> Course
+    ensures { result ≡ course_of wrote is_over }
 {
     if is_over || failed(wrote) {
         return Course::Over;
     }
-    if took > 0 {
-        return Course::Busy;
-    }
-    match (heard, wrote) {
-        (Got::Later, Got::Later) => Course::Idle,
-        _ => Course::Busy,
-    }
+    Course::Open
 }
 
-/// Reads once, where all that was read before is taken and the connection takes bytes, and answers what came of it: `Later` too
-/// where nothing was read. The end of what the peer sends is told to the connection.
-fn hear<W: Wire>(server: &mut Server, id: ConnId, peer: &mut Peer<W>) -> Got
+/// Reads once, where all that was read before is taken, the wire may be read and the connection takes bytes, and answers what came
+/// of it: `Later` too where nothing was read. The end of what the peer sends is told to the connection.
+fn hear<W: Wire>(server: &mut Server, id: ConnId, peer: &mut Peer<W>, may_read: bool) -> Got
     ensures server { server.new ≡ server_heard server.old id result }
-    ensures laid { IsLaidOut (is_heard server.old id peer.old.rest) peer.old.rest result peer.new.rest }
+    ensures laid { IsLaidOut (is_heard may_read server.old id peer.old.rest) peer.old.rest result peer.new.rest }
     // The wire is not touched where it is not to be read.
-    ensures passed { is_heard server.old id peer.old.rest ≡ false → peer.new ≡ peer.old }
-    ensures read { is_heard server.old id peer.old.rest ≡ true → AddsBytes (W.given peer.old.wire) (W.given peer.new.wire) peer.new.rest }
-    ensures wrote { is_heard server.old id peer.old.rest ≡ true → AddsBytes (W.written peer.old.wire) (W.written peer.new.wire) [] }
+    ensures passed { is_heard may_read server.old id peer.old.rest ≡ false → peer.new ≡ peer.old }
+    ensures read { is_heard may_read server.old id peer.old.rest ≡ true → AddsBytes (W.given peer.old.wire) (W.given peer.new.wire) peer.new.rest }
+    ensures wrote { is_heard may_read server.old id peer.old.rest ≡ true → AddsBytes (W.written peer.old.wire) (W.written peer.new.wire) [] }
 {
-    if !peer.rest.is_empty() || !server.can_take(id) {
+    if !may_read || !peer.rest.is_empty() || !server.can_take(id) {
         return Got::Later;
     }
     let got = peer.rest.read(&mut peer.wire);
@@ -262,13 +409,12 @@ fn hear<W: Wire>(server: &mut Server, id: ConnId, peer: &mut Peer<W>) -> Got
 }
 
 /// Lets a connection take what was read, message by message, until all is taken or it takes none. Where it takes no message any
-/// more, what is left is given up. Answers how many bytes were taken.
+/// more, what is left is given up.
 ///
 /// # Errors
 ///
 /// `Memory` where memory was refused for a representation that a message stores.
-fn take_rest(server: &mut Server, id: ConnId, rest: &mut Rest) -> Result<usize, IoFault>
-    ensures count { IfOk result (λ n. n ≡ (fed server.old id rest.old).count) }
+fn take_rest(server: &mut Server, id: ConnId, rest: &mut Rest) -> Result<(), IoFault>
     ensures server { OnOk result (server.new ≡ (fed server.old id rest.old).server) }
     ensures rest { OnOk result (rest.new ≡ rest_left server.old id rest.old) }
     ensures fault { IfErr result IsMemory }
@@ -281,19 +427,22 @@ fn take_rest(server: &mut Server, id: ConnId, rest: &mut Rest) -> Result<usize, 
     if has_stopped(server, id) {
         rest.clear();
     }
-    Ok(count)
+    Ok(())
 }
 
-/// Writes once what waits on a connection, where anything does, and answers what came of it: `Later` too where nothing waited, and
-/// `Failed` for each answer that a write fails with.
-fn write_once<W: Wire>(server: &mut Server, id: ConnId, wire: &mut W) -> Got
+/// Writes once what waits on a connection, where anything does and the wire may be written, and answers what came of it: `Later` too
+/// where nothing was written, and `Failed` for each answer that a write fails with.
+fn write_once<W: Wire>(server: &mut Server, id: ConnId, wire: &mut W, may_write: bool) -> Got
     ensures server { server.new ≡ server_wrote server.old id result }
-    ensures within { IsWithin (length (waiting_at id server.old)) result }
-    ensures idle { waiting_at id server.old ≡ [] → wire.new ≡ wire.old }
-    ensures wrote { waiting_at id server.old ≢ [] → AddsBytes (W.written wire.old) (W.written wire.new) (bytes_passed (waiting_at id server.old) result) }
-    ensures gave { waiting_at id server.old ≢ [] → AddsBytes (W.given wire.old) (W.given wire.new) [] }
+    ensures within { IsWithin (length (waiting_once may_write id server.old)) result }
+    ensures idle { waiting_once may_write id server.old ≡ [] → (wire.new ≡ wire.old) × (result ≡ Later) }
+    ensures wrote { waiting_once may_write id server.old ≢ [] → AddsBytes (W.written wire.old) (W.written wire.new) (bytes_passed (waiting_once may_write id server.old) result) }
+    ensures gave { waiting_once may_write id server.old ≢ [] → AddsBytes (W.given wire.old) (W.given wire.new) [] }
     ensures no_end { result ≢ End }
 {
+    if !may_write {
+        return Got::Later;
+    }
     let Some(waiting) = server.front(id) else {
         return Got::Later;
     };
@@ -323,12 +472,12 @@ fn has_stopped(server: &Server, id: ConnId) -> bool
     status.phase.stop().is_some()
 }
 
-/// Whether nothing more is to be written on a connection, or none has the number.
-fn is_over(server: &Server, id: ConnId) -> bool
-    ensures { result ≡ is_over_on (session_of id server.now.sessions) }
+/// Whether nothing more is to be written on a connection on which this is to be done, or none has the number.
+fn is_over(outlook: Option<Outlook>) -> bool
+    ensures { result ≡ is_over_in outlook }
 {
-    let Some(status) = server.status(id) else {
-        return true;
-    };
-    status.finished
+    match outlook {
+        Some(outlook) => outlook.finished,
+        None => true,
+    }
 }

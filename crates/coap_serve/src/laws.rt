@@ -1,6 +1,6 @@
 //! What holds of every server, each as the contract of a function that does nothing.
 
-ghost use Rattle.std.specs.Prelude.{◌≡◌, ℕ, Bool, ◌≤◌, List, [], ◌∷◌, ◌++◌, length, true, false, Some, None};
+ghost use Rattle.std.specs.Prelude.{◌≡◌, ℕ, Bool, ◌<◌, ◌^◌, ◌≤◌, List, [], ◌∷◌, ◌++◌, length, true, false, Some, None};
 ghost use Rattle.std.specs.List.{AllByRecursion};
 ghost use Rattle.coap_wire.specs.Message.{Message};
 ghost use Rattle.coap_wire.specs.Stream.{StreamFault};
@@ -14,8 +14,12 @@ ghost use Rattle.coap_conn.specs.Reaction.{send, pong_with};
 ghost use Rattle.coap_conn.specs.History.{limit_now, standing_now, standing_due, after_message, after_reply, after_due};
 ghost use Rattle.coap_store.specs.Store.{StoreValue};
 ghost use Rattle.coap_store.specs.Answer.{answer_of};
+ghost use Rattle.coap_store.specs.Invariant.{IsStore};
 ghost use Rattle.coap_serve.specs.Configs.{ConfigValues};
-ghost use Rattle.coap_serve.specs.values.Servers.{ServerValue};
+ghost use Rattle.coap_serve.specs.values.Servers.{ServerValue, AreSettled, LiesAt};
+ghost use Rattle.coap_serve.specs.streams.Turns.{IsServedOnce, can_go_on, is_over_in, wants_of};
+ghost use Rattle.coap_serve.specs.declared.door.Course.TheVariants.{Open};
+ghost use Rattle.coap_serve.specs.values.Dues.{WaitsForWhatIsDue, outlook_of};
 ghost use Rattle.coap_serve.specs.world.Sides.{Side, waiting_on, HearsAll, handles, asks_answer, held_for, moment_after, held_message, next_held, side_after, side_faulted, side_written, side_ended, side_released, settled_once};
 ghost use Rattle.coap_serve.specs.world.Custody.{StandFor, QueuesCustody, IsFirstHeld, KeepsHeld, KeepsHeldOver};
 ghost use Rattle.coap_serve.specs.world.World.{World, Step, Opened, new_world, side_of, step, after_steps};
@@ -66,6 +70,18 @@ pub fn a_connection_sees_others_through_the_store_alone()
     ensures events_store { (c : ConfigValues) (id : ℕ) (events : List Event) → (world_after c events).store ≡ (after_view c id (steps_of c.limits.max_message events)).store }
     ensures events_now { (c : ConfigValues) (id : ℕ) (events : List Event) → (world_after c events).now ≡ (after_view c id (steps_of c.limits.max_message events)).now }
     ensures alike { (c : ConfigValues) (id : ℕ) (events others : List Event) → view_of c.limits id (new_world c) (steps_of c.limits.max_message events) ≡ view_of c.limits id (new_world c) (steps_of c.limits.max_message others) → side_of id (world_after c events).sides ≡ side_of id (world_after c others).sides }
+{}
+
+/// What is not due stays: where every connection is settled, and the moment moves on to one before each at which time alone may queue
+/// something, only the moment changes. On every connection what waits, what is held and who observes are as they were.
+pub fn what_is_not_due_stays()
+    ensures { (v : ServerValue) (later : ℕ) → IsStore v.host.store → AreSettled v.host v.sessions → v.host.now ≤ later → later < 2 ^ 64 → WaitsForWhatIsDue v later }
+{}
+
+/// What has nothing to do may be passed over: where a connection is not over, and nothing can be done of what it is to be served for, its
+/// part of a turn may come to nothing. The server and what is left of its reads are then as they were.
+pub fn what_has_nothing_to_do_is_passed_over()
+    ensures { (v : ServerValue) (id i : ℕ) (rest : List ℕ) (may_read may_write : Bool) → LiesAt id i v.sessions → AreSettled v.host v.sessions → can_go_on (wants_of v id rest) may_read may_write ≡ false → is_over_in (outlook_of v id) ≡ false → IsServedOnce may_read may_write v id rest v rest Open }
 {}
 
 /// The limits are kept, after any events: on each connection no more bytes wait than the queue holds, and no more answers and Pongs

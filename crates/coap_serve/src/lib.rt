@@ -34,4 +34,4 @@ pub use server::{
     Backwards, ConnId, Handled, NoSuch, OpenFault, ReleaseFault, Server, Status, TakeFault, Taken,
     WrittenFault,
 };
-pub use wire::{Clock, Door, Got, Wire};
+pub use wire::{Clock, Door, Got, Ready, Wait, Wire};

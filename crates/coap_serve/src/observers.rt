@@ -1,7 +1,9 @@
 //! The observers of a connection (RFC 7641).
 
 ghost use Rattle.std.specs.Prelude.{◌≡◌, ◌≤◌, length, map};
+ghost use Rattle.std.specs.List.{list_any};
 ghost use Rattle.std.specs.Vec.{vec_capacity};
+ghost use Rattle.coap_serve.specs.values.Dues.{tells_time as observes_time};
 ghost use Rattle.coap_serve.specs.values.Entries.{first_index};
 ghost use Rattle.coap_serve.specs.values.Sessions.{is_stale as stale, without_entry};
 ghost use Rattle.coap_serve.specs.views.ObserverViews.{observer_value};
@@ -27,8 +29,16 @@ pub(crate) struct Observer {
 
 impl Observer {
     ghost use Rattle.std.specs.Prelude.{◌≡◌};
+    ghost use Rattle.coap_serve.specs.values.Dues.{tells_time as observes_time};
     ghost use Rattle.coap_serve.specs.values.Sessions.{is_stale as stale};
     ghost use Rattle.coap_serve.specs.views.ObserverViews.{observer_value};
+
+    /// Whether it observes something built in, which is the moment: no other one of these can be observed.
+    fn tells_time(&self) -> bool
+        ensures { result ≡ observes_time (observer_value self.now) }
+    {
+        !self.path.place().is_dynamic()
+    }
 
     /// Whether it was told another state of its path than the one on this host.
     #[tactic(auto, unfolding(crate::specs::values::Sessions::is_stale))]
@@ -61,7 +71,8 @@ impl Model for Observers {
 
 impl Observers {
     ghost use Rattle.std.specs.Prelude.{◌≡◌, ◌≤◌, ◌<◌, ◌++◌, ◌∷◌, [], length, not, nat_lt, IfOk, IfSome, Some, slice_get, slice_set};
-    ghost use Rattle.std.specs.List.{remove};
+    ghost use Rattle.std.specs.List.{remove, list_any};
+    ghost use Rattle.coap_serve.specs.values.Dues.{tells_time as observes_time};
     ghost use Rattle.coap_serve.specs.values.Sessions.{ObserverValue, without_entry, is_stale};
     ghost use Rattle.coap_serve.specs.values.Entries.{first_index};
     ghost use Rattle.coap_serve.specs.views.ObserverViews.{observer_value};
@@ -93,6 +104,13 @@ impl Observers {
         ensures { result ≡ not (nat_lt (length self.now.entries) self.now.room) }
     {
         self.entries.len() >= self.room
+    }
+
+    /// Whether one of them observes the moment.
+    pub(crate) fn tell_time(&self) -> bool
+        ensures { result ≡ list_any observes_time self.now.entries }
+    {
+        tells_time(&self.entries)
     }
 
     /// The index of the first one that was told another state of its path than the one on this host.
@@ -160,6 +178,13 @@ fn first_stale(observers: &[Observer], host: &Host) -> Option<usize>
         }
     }
     None
+}
+
+/// Whether one of these observes the moment.
+fn tells_time(observers: &[Observer]) -> bool
+    ensures { result ≡ list_any observes_time (map observer_value observers.now) }
+{
+    observers.iter().any(|observer| observer.tells_time())
 }
 
 /// All stay but those with this token.

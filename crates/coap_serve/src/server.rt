@@ -145,6 +145,32 @@ pub struct Status {
     pub finished: bool,
 }
 
+/// What may concern every connection, if it changes: the moment, and what tells the store from those that it was before.
+#[derive(Clone, Copy, Debug, PartialEq, Eq)]
+pub(crate) struct Stamp {
+    /// The moment, in seconds.
+    pub moment: u64,
+    /// How many representations were stored so far.
+    pub versions: u64,
+    /// How many resources are stored.
+    pub resources: usize,
+}
+
+/// What is to be done on a connection.
+#[derive(Clone, Copy, Debug, PartialEq, Eq)]
+pub(crate) struct Outlook {
+    /// Whether it takes bytes.
+    pub takes: bool,
+    /// Whether it takes no message any more.
+    pub stopped: bool,
+    /// Whether bytes wait to be written.
+    pub waits: bool,
+    /// Whether nothing more is to be written.
+    pub finished: bool,
+    /// The next moment, in seconds, at which time alone may queue something.
+    pub due: Option<u64>,
+}
+
 /// What was done to write what waits on a connection.
 #[derive(Clone, Copy, Debug)]
 pub(crate) struct Flushed {
@@ -190,6 +216,7 @@ impl Server {
     ghost use Rattle.coap_conn.specs.Limits.{AreInRange};
     ghost use Rattle.coap_store.specs.Refusals.{RefusedOrMemory, put_refusal, remove_refusal};
     ghost use Rattle.coap_serve.specs.values.Servers.{new_server, session_of, is_there, server_opened, count_taken, server_taken, server_written, server_ticked, server_put, server_removed, server_ended, server_released, server_dropped};
+    ghost use Rattle.coap_serve.specs.values.Dues.{outlook_of, stamp_of};
     ghost use Rattle.coap_serve.specs.values.ServerAnswers.{OpenedOrMemory, open_refusal, can_take_on, handled_by, IsNotTaken, written_refusal, released_refusal, front_of, status_of, stop_on};
     ghost use Rattle.coap_serve.specs.streams.Device.{AddsBytes, WritesPart};
     ghost use Rattle.coap_serve.specs.values.Flushes.{waiting_at, more_at, IsFlushedOnce};
@@ -472,6 +499,31 @@ impl Server {
         };
         self.sessions.shift_remove_index(at);
         Ok(())
+    }
+
+    /// What may concern every connection, if it changes.
+    pub(crate) fn stamp(&self) -> Stamp
+        ensures { result ≡ stamp_of self.now.host }
+    {
+        Stamp {
+            moment: self.host.now,
+            versions: self.host.store.versions(),
+            resources: self.host.store.count(),
+        }
+    }
+
+    /// What is to be done on a connection, where one has the number.
+    pub(crate) fn outlook(&self, id: ConnId) -> Option<Outlook>
+        ensures { result ≡ outlook_of self.now id }
+    {
+        let session = self.sessions.get(&id)?;
+        Some(Outlook {
+            takes: session.takes(),
+            stopped: session.phase().stop().is_some(),
+            waits: session.waiting() > 0,
+            finished: session.finished(),
+            due: session.due(self.host.now),
+        })
     }
 
     /// How a connection is, where one has the number.

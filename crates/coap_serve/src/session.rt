@@ -5,6 +5,7 @@ ghost use Rattle.coap_conn.specs.Phases.{IsLive};
 ghost use Rattle.coap_conn.specs.LinkValue.{IsReady};
 ghost use Rattle.coap_store.specs.Changes.{IsPut, changes};
 ghost use Rattle.coap_serve.specs.values.Sessions.{change_by, host_changed, observers_on, session_handled, session_with};
+ghost use Rattle.coap_serve.specs.values.Dues.{sooner as lesser};
 ghost use Rattle.coap_serve.specs.values.Entries.{framer_on};
 
 use crate::answering::{answer, notify, send_due};
@@ -72,6 +73,7 @@ impl Session {
     ghost use Rattle.coap_conn.specs.Release.{release_refusal};
     ghost use Rattle.coap_store.specs.Changes.{changes};
     ghost use Rattle.coap_serve.specs.values.Sessions.{new_session, session_takes, next_held_in, next_stale, session_notified, session_settled_once, taking, host_changed, session_written, session_ended, session_released, session_settled, IsSettled, RefusesPiece};
+    ghost use Rattle.coap_serve.specs.values.Dues.{due_on, next_told as next_told_of};
     ghost use Rattle.coap_serve.specs.values.Entries.{settled_held};
     ghost use Rattle.coap_serve.specs.contracts.session.Session.{the_row};
 
@@ -244,6 +246,24 @@ impl Session {
         Ok(())
     }
 
+    /// The next moment, in seconds, at which time alone may queue something: until then an answer is held, or an observer of the
+    /// moment is to be told it.
+    pub(crate) fn due(&self, now: u64) -> Option<u64>
+        ensures { result ≡ due_on now self.now }
+    {
+        sooner(self.link.next_moment(now), self.next_told(now))
+    }
+
+    /// The moment behind this one, where an observer is to be told it.
+    fn next_told(&self, now: u64) -> Option<u64>
+        ensures { result ≡ next_told_of now self.now.observers }
+    {
+        if !self.observers.tell_time() || now == u64::MAX {
+            return None;
+        }
+        Some(now + 1)
+    }
+
     /// How it stands.
     pub(crate) fn phase(&self) -> Phase
         ensures { result ≡ self.now.link.phase }
@@ -298,6 +318,17 @@ impl Session {
         ensures { result ≡ is_finished self.now.link }
     {
         self.link.finished()
+    }
+}
+
+/// The lesser of two moments, where there are any.
+pub(crate) fn sooner(one: Option<u64>, other: Option<u64>) -> Option<u64>
+    ensures { result ≡ lesser one other }
+{
+    match (one, other) {
+        (Some(one), Some(other)) => Some(one.min(other)),
+        (Some(one), None) => Some(one),
+        (None, other) => other,
     }
 }
 

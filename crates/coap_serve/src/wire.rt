@@ -40,13 +40,37 @@ pub trait Wire {
         ensures gave { AddsBytes (given self.old) (given self.new) [] };
 }
 
+/// Whether a wire is ready, as far as its owner knows without asking the system.
+pub trait Ready {
+    /// Whether a read may come to something else than `Later`. No read is tried where it may not.
+    fn may_read(&self) -> bool;
+
+    /// Whether a write may come to something else than `Later`. No write is tried where it may not.
+    fn may_write(&self) -> bool;
+}
+
+/// How long a door may wait.
+#[derive(Clone, Copy, Debug, PartialEq, Eq)]
+pub enum Wait {
+    /// Not at all.
+    No,
+    /// Until this moment, in seconds, at the most.
+    Until(u64),
+    /// Until a wire or the door is ready.
+    Forever,
+}
+
 /// What hands out wires, one for each connection that a peer opens.
 pub trait Door {
     /// The wires that it hands out.
-    type Wire: Wire + Drop;
+    type Wire: Wire + Ready + Drop;
 
     /// The next wire, where a peer has opened a connection that was not handed out yet. It never waits.
     fn next(&mut self) -> Option<Self::Wire>;
+
+    /// Learns which wires are ready, and before that waits until one is that was not, or, where another connection may be opened
+    /// (`opens`), until a peer opens one: as long as it is told at the most, and not at all where a peer waits already.
+    fn wait(&mut self, wait: Wait, opens: bool);
 }
 
 /// What tells the moment.

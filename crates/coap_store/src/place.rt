@@ -25,7 +25,7 @@ impl Place {
     ghost use Rattle.coap_store.specs.State.{is_dynamic as is_dynamic_place, is_async as is_async_place, is_observable as is_observable_place};
 
     /// Whether no resource is built in there.
-    pub(crate) fn is_dynamic(self) -> bool
+    pub fn is_dynamic(self) -> bool
         ensures { result ≡ is_dynamic_place self }
     {
         match self {
@@ -61,6 +61,18 @@ impl Place {
             Place::Listing => false,
             Place::Dynamic => true,
         }
+    }
+}
+
+impl PathKey {
+    ghost use Rattle.std.specs.Prelude.{◌≡◌};
+    ghost use Rattle.coap_store.specs.State.{place_of as place_named};
+
+    /// Which resource the path names.
+    pub fn place(&self) -> Place
+        ensures { result ≡ place_named self.now }
+    {
+        place_of(self)
     }
 }
 

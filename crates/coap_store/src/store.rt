@@ -145,8 +145,15 @@ impl Store {
         let _read = self.versions;
     }
 
+    /// How many resources are stored.
+    pub fn count(&self) -> usize
+        ensures { result ≡ length self.now.resources }
+    {
+        self.resources.len()
+    }
+
     /// How many representations were stored so far, which is the version of the last one.
-    pub(crate) fn versions(&self) -> u64
+    pub fn versions(&self) -> u64
         ensures { result ≡ self.now.versions }
     {
         self.versions

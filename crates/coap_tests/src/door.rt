@@ -3,6 +3,10 @@
 //!
 //! Of the calls `+1` is a door that hands out the first wire and `+-` one that has none; `1<5` a read of the first wire that
 //! gave 5 bytes, and `1<later` one that gave none yet; `1>19` a write of 19 bytes that took all, and `1>19:1` one that took 1.
+//!
+//! Where the first word of the setting is `waits`, the waits of the door are told too: `~no` is none, `~6` one until the moment 6 at
+//! the most, `~ever` one until something is ready, and with `|` in place of `~` no connection may be opened. A wire may then be read
+//! while words are left that its reads give. All other runs have wires that are always ready.
 
 ghost use Rattle.std.specs.Prelude.{None, length};
 ghost use Rattle.coap_serve.specs.streams.Wires.{IsWithin};
@@ -11,7 +15,7 @@ mod memory;
 
 use crate::rows::{digits, same, spelled};
 use crate::serve::{configured, set_all, usual};
-use coap_serve::{Clock, Door, Got, IoFault, Wire, serve_door};
+use coap_serve::{Clock, Door, Got, IoFault, Ready, Wait, Wire, serve_door};
 use std::alloc::Global;
 use std::cell::RefCell;
 use std::process::Abort;
@@ -23,15 +27,52 @@ struct Book {
     alloc: Global,
     calls: RefCell<String>,
     written: RefCell<Vec<Vec<u8>>>,
+    /// Whether waits are told.
+    tells_waits: bool,
+    /// How often the door was told to wait.
+    waits: RefCell<usize>,
 }
 
 impl Book {
     /// Nothing has happened yet.
-    fn new(alloc: Global) -> Book {
+    fn new(alloc: Global, tells_waits: bool) -> Book {
         Book {
             alloc,
             calls: RefCell::new(String::new(alloc)),
             written: RefCell::new(Vec::new(alloc)),
+            tells_waits,
+            waits: RefCell::new(0),
+        }
+    }
+
+    /// Whether the door was told to wait as often as a word `@3` says; any other word says nothing.
+    fn has_come(&self, word: &str) -> bool {
+        let Some(number) = word.strip_prefix('@') else {
+            return true;
+        };
+        let wanted = number.parse::<usize>().unwrap_or(0);
+        match self.waits.try_borrow() {
+            Ok(waits) => *waits >= wanted,
+            Err(_) => false,
+        }
+    }
+
+    /// The door was told to wait.
+    fn wait(&self, wait: Wait, opens: bool) {
+        if let Ok(mut waits) = self.waits.try_borrow_mut() {
+            *waits = waits.saturating_add(1);
+        }
+        if !self.tells_waits {
+            return;
+        }
+        let mark = if opens { "~" } else { "|" };
+        let text = match wait {
+            Wait::No => format!(in self.alloc; "{mark}no "),
+            Wait::Until(moment) => format!(in self.alloc; "{mark}{moment} "),
+            Wait::Forever => format!(in self.alloc; "{mark}ever "),
+        };
+        if let Ok(text) = text {
+            self.note(text.as_str());
         }
     }
 
@@ -92,14 +133,25 @@ impl Book {
     }
 }
 
-/// A wire whose reads give what the words of a text name: bytes, `zeros` as many as there is room for, `later`, `end` or `failed`; and `later` behind them. Its
-/// writes take all, or `one` byte, or are `late` once, or all come to `end` or `failed`.
+/// A wire whose reads give what the words of a text name: bytes, `zeros` as many as there is room for, `later`, `end` or `failed`; and
+/// `later` behind them. Its writes take all, or `one` byte, or are `late` once, or all come to `end` or `failed`; words with commas
+/// between them name one write each, the last one all others. A word `@3` before another one of either kind says that the wire is not
+/// ready for it until the door was told to wait 3 times.
 #[derive(Drop)]
 struct Line<'a> {
     place: usize,
     reads: &'a str,
     writes: &'a str,
     book: &'a Book,
+}
+
+/// The word at the front of a text behind a word `@3`, if any, and the text behind it.
+fn next_word<'t>(text: &'t str, between: char) -> (&'t str, &'t str) {
+    let (word, rest) = text.split_once(between).unwrap_or((text, ""));
+    if word.starts_with('@') {
+        return rest.split_once(between).unwrap_or((rest, ""));
+    }
+    (word, rest)
 }
 
 /// What a read gives that a word names.
@@ -165,7 +217,7 @@ impl Wire for Line<'_> {
     ghost written = { λ line. None };
 
     fn read(&mut self, buffer: &mut [u8]) -> Got {
-        let (word, rest) = self.reads.split_once(' ').unwrap_or((self.reads, ""));
+        let (word, rest) = next_word(self.reads, ' ');
         self.reads = rest;
         let got = given(self.book.alloc, word, buffer);
         let handed = match got {
@@ -178,9 +230,12 @@ impl Wire for Line<'_> {
     }
 
     fn write(&mut self, bytes: &[u8]) -> Got {
-        let got = taken(self.writes, bytes.len());
-        if self.writes == "late" {
+        let (word, rest) = next_word(self.writes, ',');
+        let got = taken(word, bytes.len());
+        if word == "late" && rest.is_empty() {
             self.writes = "all";
+        } else if !rest.is_empty() {
+            self.writes = rest;
         }
         if let Got::Bytes(count) = got {
             self.book.take(self.place, &bytes[..count]);
@@ -188,6 +243,18 @@ impl Wire for Line<'_> {
         let front = if self.place == 0 { "1>" } else { "2>" };
         self.book.note_got(front, bytes.len(), got);
         got
+    }
+}
+
+impl Ready for Line<'_> {
+    fn may_read(&self) -> bool {
+        let (word, _) = self.reads.split_once(' ').unwrap_or((self.reads, ""));
+        !self.book.tells_waits || (!word.is_empty() && self.book.has_come(word))
+    }
+
+    fn may_write(&self) -> bool {
+        let (word, _) = self.writes.split_once(',').unwrap_or((self.writes, ""));
+        !self.book.tells_waits || self.book.has_come(word)
     }
 }
 
@@ -220,6 +287,10 @@ impl<'a> Door for Hall<'a> {
             book: self.book,
         })
     }
+
+    fn wait(&mut self, wait: Wait, opens: bool) {
+        self.book.wait(wait, opens);
+    }
 }
 
 /// A clock that tells the moments that the words of a text name, and the last one behind them.
@@ -240,8 +311,12 @@ impl Clock for Moments<'_> {
 fn served(rt: &(impl Abort + AllocGlobal), opening: &str) -> Result<String, Fail> {
     let (setting, rest) = opening.split_once("; ").unwrap_or((opening, ""));
     let (moments, wires) = rest.split_once("; ").unwrap_or((rest, ""));
+    let (tells_waits, setting) = match setting.strip_prefix("waits ") {
+        Some(setting) => (true, setting),
+        None => (false, setting),
+    };
     let setting = set_all(rt, usual(), setting)?;
-    let book = Book::new(rt.alloc());
+    let book = Book::new(rt.alloc(), tells_waits);
     let mut door = Hall {
         wires,
         count: 0,
@@ -382,4 +457,101 @@ const TAKES_THE_REST_FIRST: &str = "= turns 5 sent 1152 queue 1152; 0; all 00e10
 #[test]
 fn takes_the_rest_first(rt: HostRuntime) -> Result<(), Fail> {
     play_all(&rt, TAKES_THE_REST_FIRST)
+}
+
+/// No connection, and two on which nothing comes: the door waits until something is ready. With one connection at most it is told that
+/// none may be opened, until the first one is dropped.
+const WAITS_WHERE_NOTHING_IS_TO_BE_DONE: &str = "= waits turns 3; 0
++- ~ever +- ~ever +-
+= waits turns 6; 0; all 00e1 | all 00e1
++1 1<2 1>6 ~ever +2 2<2 2>6 ~ever +- ~ever +- ~ever +- ~ever +-
+1 40e123010000
+2 40e123010000
+= waits turns 3 connections 1; 0; all 00e1
++1 1<2 1>6 |ever |ever
+1 40e123010000
+= waits turns 4 connections 1; 0; all 00e1 end
++1 1<2 1>6 |no 1<end ~ever +- ~ever +-
+1 40e123010000
+= waits turns 4; 0 5 4 5; all 00e1 @2 010101
++1 1<2 1>6 ~ever +- ~ever +- 1<3 1>13 ~ever +-
+1 40e123010000a14501c0ff'coap+tcp'
+= waits turns 1; 0; all 00e1
++1 1<2 1>6
+1 40e123010000";
+
+#[test]
+fn waits_where_nothing_is_to_be_done(rt: HostRuntime) -> Result<(), Fail> {
+    play_all(&rt, WAITS_WHERE_NOTHING_IS_TO_BE_DONE)
+}
+
+/// An answer is held until the moment 1; it is then written, or waits for the wire. Two are held on two connections: the door waits for
+/// the lesser moment. An observer of the moment is told each one, and the last moment of all has none behind it.
+const WAITS_FOR_A_MOMENT: &str = "= waits turns 5; 0 0 0 1; all 00e1810105b5'async'4131
++1 1<13 1>6 ~1 +- ~1 +- ~1 +- 1>9 ~ever +-
+1 40e123010000614505c0ff'done'
+= waits turns 4; 0 1; all,@9 00e1810105b5'async'4131
++1 1<13 1>6 ~1 +- ~ever +- ~ever +-
+1 40e123010000
+= waits turns 5; 0 0 0 5 9; all 00e1810105b5'async'4139 | all 00e1810106b5'async'4135
++1 1<13 1>6 ~9 +2 2<13 2>6 ~5 +- ~5 +- 2>9 ~9 +- 1>9
+1 40e123010000614505c0ff'done'
+2 40e123010000614506c0ff'done'
+= waits turns 5; 5 5 6 6 8; all 00e16101076054'time'
++1 1<11 1>15 ~6 +- ~6 +- 1>9 ~7 +- ~7 +- 1>9
+1 40e12301000061450760602101ff'5'61450760602101ff'6'61450760602101ff'8'
+= waits turns 2; 18446744073709551615; all 00e16101076054'time'
++1 1<11 1>35 ~ever +-
+1 40e123010000d10c450760602101ff'18446744073709551615'";
+
+#[test]
+fn waits_for_a_moment(rt: HostRuntime) -> Result<(), Fail> {
+    play_all(&rt, WAITS_FOR_A_MOMENT)
+}
+
+/// What is left of a read is taken before the door waits. A peer whose queue is full and whose wire may not be written keeps nobody
+/// awake, although its wire may be read: neither before the first byte is taken nor with a rest that waits for room.
+const WAITS_FOR_WIRES: &str = "= waits turns 5 sent 1152 queue 1152; 0; all 00e1010101010102
++1 1>6 ~no +- 1<8 1>13 ~no +- 1>13 ~ever +- ~ever +-
+1 40e123010000a14501c0ff'coap+tcp'a14502c0ff'coap+tcp'
+= waits turns 3 sent 1152 queue 1152; 0; @9 00e1010101
++1 ~ever +- ~ever +-
+= waits turns 5 sent 1152 queue 1152; 0; late,@2,all 00e1010101
++1 1>later ~ever +- ~ever +- 1>6 ~no +- 1<5 1>13 ~ever +-
+1 40e123010000a14501c0ff'coap+tcp'
+= waits turns 4 sent 1152 queue 1152; 0; all,@9 00e1010101010102 010103
++1 1>6 ~no +- 1<8 ~ever +- ~ever +-
+1 40e123010000
+= waits turns 5; 0; one,one,@3,all 00e1010101 later
++1 1<5 1>19:1 ~no +- 1<later 1>18:1 ~ever +- ~ever +- 1>17 ~ever +-
+1 40e123010000a14501c0ff'coap+tcp'
+= waits turns 3; 0; all failed | all @2 00e1
++1 1<failed ~ever +2 2>6 ~ever +- 2<2
+1 -
+2 40e123010000";
+
+#[test]
+fn waits_for_wires(rt: HostRuntime) -> Result<(), Fail> {
+    play_all(&rt, WAITS_FOR_WIRES)
+}
+
+/// A PUT on one connection notifies an observer on another one that is passed over otherwise: on one before it in the next turn, with
+/// no wait in between, and on one behind it in the same turn. So does a DELETE.
+const PASSES_OVER_NO_NEWS: &str =
+    "= waits turns 7 dynamic 1; 0; all 00e1410302b1'a'ff'x'3101076051'a' | all @3 00e1410302b1'a'ff'y'
++1 1<15 1>17 ~ever +2 2>6 ~ever +- ~ever +- 2<9 2>3 ~no +- 1>8 ~ever +- ~ever +-
+1 40e123010000014102514507410120ff'x'514507410220ff'y'
+2 40e123010000014402
+= waits turns 6 dynamic 1; 0; all 00e1410302b1'a'ff'x' @4 410302b1'a'ff'y' | all 00e13101076051'a'
++1 1<9 1>9 ~ever +2 2<8 2>14 ~ever +- ~ever +- ~ever +- 1<7 1>3 2>8 ~ever +-
+1 40e123010000014102014402
+2 40e123010000514507410120ff'x'514507410220ff'y'
+= waits turns 6 dynamic 1; 0; all 00e1410302b1'a'ff'x'3101076051'a' | all @3 00e1210402b1'a'
++1 1<15 1>17 ~ever +2 2>6 ~ever +- ~ever +- 2<7 2>3 ~no +- 1>3 ~ever +-
+1 40e123010000014102514507410120ff'x'018407
+2 40e123010000014202";
+
+#[test]
+fn passes_over_no_news(rt: HostRuntime) -> Result<(), Fail> {
+    play_all(&rt, PASSES_OVER_NO_NEWS)
 }

@@ -1,5 +1,5 @@
 -- A value written at an index of a map whose keys are numbers.
-use Rattle.std.proofs.Common.{◌≡◌, ℕ, zero, suc, List, [], ◌∷◌, Some, sym, subst}
+use Rattle.std.proofs.Common.{◌≡◌, ℕ, zero, suc, List, [], ◌∷◌, take, Some, refl, ap, sym, subst}
 use Rattle.std.specs.Prelude.{slice_get, IfSome}
 use Rattle.indexmap.specs.IndexMap.{set_value_at}
 
@@ -11,3 +11,18 @@ written_there {X = X} (e ∷ es) zero w k x at P p =
     let Q : ℕ × X → Type 0 = λ v. P v (v.0, w) in
     subst Q (sym same) p
 written_there (e ∷ es) (suc i) w k x at P p = written_there es i w k x at P p
+
+-- the entries before it stay
+pub before_written : {X : Type 0} (es : List (ℕ × X)) (i : ℕ) (w : X) → take i (set_value_at es i w) ≡ take i es
+before_written [] i w = refl
+before_written (e ∷ es) zero w = refl
+before_written (e ∷ es) (suc i) w = ap (λ xs. e ∷ xs) (before_written es i w)
+
+-- what holds of the value that is written, and of the number there, holds of the entry
+pub is_written : {X : Type 0} (es : List (ℕ × X)) (i : ℕ) (w : X) (k : ℕ) (x : X) → slice_get es i ≡ Some (k, x) → (P : ℕ × X → Type 0) → P (k, w) → IfSome (slice_get (set_value_at es i w) i) P
+is_written [] i w k x at P p = tt
+is_written {X = X} (e ∷ es) zero w k x at P p =
+    let same : e ≡ (k, x) = cc in
+    let Q : ℕ × X → Type 0 = λ v. P (v.0, w) in
+    subst Q (sym same) p
+is_written (e ∷ es) (suc i) w k x at P p = is_written es i w k x at P p

@@ -1,7 +1,7 @@
 -- Entries by their index, and what becomes of the first one that is stale.
 use Rattle.std.proofs.Common.{◌≡◌, ℕ, zero, suc, ◌+◌, ◌<◌, Bool, true, false, List, [], ◌∷◌, length, map, set, get_or, Option, Some, None, refl, sym, ap, subst, ◌∙◌, arith, inl, inr}
-use Rattle.std.specs.Prelude.{find, filter, not, option_map, slice_get, slice_set, if◌then◌else◌, IfSome}
-use Rattle.std.specs.List.{remove}
+use Rattle.std.specs.Prelude.{◌||◌, find, filter, not, option_map, slice_get, slice_set, if◌then◌else◌, IfSome}
+use Rattle.std.specs.List.{remove, list_any}
 use Rattle.std.proofs.lemmas.Bool.{cases_lt, cond-true, cond-false}
 use Rattle.std.proofs.lemmas.List.{length-map, map-set}
 use Rattle.std.proofs.lemmas.Option.{slice_get_read, slice_get-map}
@@ -137,3 +137,10 @@ told_seen xs v room i mark x o seen within read at =
 -- the entry that a loop reads
 pub read_at : (xs : List Observer) (i : ℕ) (x : Observer) → i < length xs → x ≡ get_or xs i x → slice_get (map observer_value xs) i ≡ Some (observer_value x)
 read_at xs i x within read = seen_at xs (map observer_value xs) i x refl (omega (arith, within, length-map xs observer_value)) read
+
+-- ---- some
+
+-- whether one of those that the code holds passes a test of values
+pub any_seen : (test : ObserverValue → Bool) (os : List Observer) → list_any (λ o. test (observer_value o)) os ≡ list_any test (map observer_value os)
+any_seen test [] = refl
+any_seen test (o ∷ os) = ap (λ b. test (observer_value o) || b) (any_seen test os)

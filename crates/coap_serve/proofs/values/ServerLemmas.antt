@@ -10,6 +10,7 @@ use Rattle.coap_conn.specs.Limits.{LimitValues}
 use Rattle.coap_serve.specs.declared.host.Host.{Host}
 use Rattle.coap_serve.specs.values.Sessions.{SessionValue, new_session, session_ready, is_stale, next_stale, session_settled, IsSettled}
 use Rattle.coap_serve.specs.values.Servers.{ServerValue, LiesAt, session_of, is_there, changed_at, session_becomes, on_session, settled_entry, server_settled, server_ticked, server_opened, server_dropped, AreSettled}
+use Rattle.coap_serve.specs.values.Dues.{session_outlook}
 use Rattle.coap_serve.specs.values.ServerAnswers.{front_of, session_status}
 use Rattle.coap_serve.specs.views.ServerViews.{IsServer}
 use Rattle.coap_serve.proofs.values.SettleLemmas.{no_held_due, settled_is_settled, settled_stays}
@@ -410,6 +411,9 @@ is_there_at id i es lies = sym (ap is_there lies.found ∙ at_place (values_of e
 
 pub status_found : (id : ℕ) (es : Entries) (found : Option SessionValue) → found ≡ lookup (nat_eq id) es → option_map session_status found ≡ option_map session_status (session_of id es)
 status_found id es found is = ap (option_map session_status) (is ∙ sym (session_found id es))
+
+pub outlook_found : (now id : ℕ) (es : Entries) (found : Option SessionValue) → found ≡ lookup (nat_eq id) es → option_map (session_outlook now) found ≡ option_map (session_outlook now) (session_of id es)
+outlook_found now id es found is = ap (option_map (session_outlook now)) (is ∙ sym (session_found id es))
 
 pub waits_there : (v : ServerValue) (id i : ℕ) (s : SessionValue) → LiesAt id i v.sessions → slice_get (values_of v.sessions) i ≡ Some s → Some s.link.waiting ≡ front_of v id
 waits_there v id i s lies here = ap (option_map (λ (s : SessionValue). s.link.waiting)) (sym (lies.found ∙ here))

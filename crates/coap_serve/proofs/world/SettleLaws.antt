@@ -258,7 +258,7 @@ none_come : (now : ℕ) (held : List HeldValue) → AllByRecursion (λ e. come n
 none_come now [] none = refl
 none_come now (e ∷ held) none = rw none.0 (none_come now held none.1)
 
-nothing_first : (now : ℕ) (held : List HeldValue) → HoldsNothingDue now held → first_due now held ≡ None
+pub nothing_first : (now : ℕ) (held : List HeldValue) → HoldsNothingDue now held → first_due now held ≡ None
 unfolding first_due due_index
 nothing_first now held none =
     ap (λ moments. held_at held (else_index (answer_index (reduce min moments) held) (pong_index held))) (none_come now held none.0) ∙ ap (held_at held) none.1

@@ -1,21 +1,31 @@
 -- What a turn over the wires of a door does to the server and its connections.
-use Rattle.std.specs.Prelude.{◌≡◌, ℕ, Bool, true, false, List, [], length, drop, Option, Some, None, ◌==◌, ◌&&◌, ◌||◌, if◌then◌else◌}
+use Rattle.std.specs.Prelude.{◌≡◌, fold, ℕ, Bool, true, false, not, List, [], length, drop, Option, Some, None, ◌==◌, ◌&&◌, ◌||◌, if◌then◌else◌}
+use Rattle.std.specs.List.{AllByRecursion}
 use Rattle.coap_conn.specs.declared.reason.Reason.{Reason}
-use Rattle.coap_conn.specs.LinkValue.{is_finished}
-use Rattle.coap_serve.specs.values.Sessions.{SessionValue}
 use Rattle.coap_serve.specs.values.Servers.{ServerValue, session_of, server_ended, server_written}
 use Rattle.coap_serve.specs.values.ServerAnswers.{can_take_on, stop_on}
 use Rattle.coap_serve.specs.script.Replay.{fed}
+use Rattle.coap_serve.specs.values.Dues.{outlook_of, stamp_of, sooner}
 use Rattle.coap_serve.specs.values.Flushes.{waiting_at}
 use Rattle.coap_serve.specs.streams.Wires.{IsWithin, count_passed}
 use Rattle.coap_serve.specs.declared.door.Course.{Course}
-use Rattle.coap_serve.specs.declared.door.Course.TheVariants.{Idle, Busy, Over}
+use Rattle.coap_serve.specs.declared.door.Course.TheVariants.{Open, Over}
+use Rattle.coap_serve.specs.declared.door.Wants.{Wants}
+use Rattle.coap_serve.specs.declared.door.Agenda.{Agenda}
+use Rattle.coap_serve.specs.declared.wire.Wait.{Wait}
+use Rattle.coap_serve.specs.declared.wire.Wait.TheVariants.{No, Until, Forever}
+use Rattle.coap_serve.specs.declared.server.Outlook.{Outlook}
+use Rattle.coap_serve.specs.declared.server.Stamp.{Stamp}
 use Rattle.coap_serve.specs.declared.wire.Got.{Got}
 use Rattle.coap_serve.specs.declared.wire.Got.TheVariants.{Bytes, Later, End, Failed}
 
--- A wire is read only where nothing is left of what was read before, and its connection takes bytes.
-abbrev pub is_heard : ServerValue → ℕ → List ℕ → Bool
-is_heard v id rest = (length rest == 0) && can_take_on (session_of id v.sessions)
+-- A wire is read only where it may be, nothing is left of what was read before, and its connection takes bytes.
+abbrev pub is_heard : (may_read : Bool) → ServerValue → ℕ → List ℕ → Bool
+is_heard may_read v id rest = may_read && (length rest == 0) && can_take_on (session_of id v.sessions)
+
+-- what a write is handed: what waits, where the wire may be written
+abbrev pub waiting_once : (may_write : Bool) → ℕ → ServerValue → List ℕ
+waiting_once may_write id v = if may_write then waiting_at id v else []
 
 -- the server after a read: the connection's input has ended where the read found that
 abbrev pub server_heard : ServerValue → ℕ → Got → ServerValue
@@ -40,10 +50,10 @@ left_behind (Some why) rest = []
 abbrev pub rest_left : ServerValue → ℕ → List ℕ → List ℕ
 rest_left v id rest = left_behind (stop_on (session_of id (fed v id rest).server.sessions)) (drop (fed v id rest).count rest)
 
--- nothing more is to be written on a connection, or none is there
-abbrev pub is_over_on : Option SessionValue → Bool
-is_over_on None = true
-is_over_on (Some s) = is_finished s.link
+-- nothing more is to be written on a connection on which this is to be done, or none is there
+abbrev pub is_over_in : Option Outlook → Bool
+is_over_in None = true
+is_over_in (Some o) = o.finished
 
 -- ---- one connection's part of a turn
 
@@ -53,40 +63,92 @@ has_failed Later = false
 has_failed End = false
 has_failed Failed = true
 
-abbrev pub came_to_nothing : Got → Bool
-came_to_nothing (Bytes n) = false
-came_to_nothing Later = true
-came_to_nothing End = false
-came_to_nothing Failed = false
-
--- How a connection comes out whose read and write came to this, that took so many bytes, and on which something is still to be
--- written or is not.
-abbrev pub course_of : (heard : Got) (took : ℕ) (wrote : Got) (is_over : Bool) → Course
-course_of heard took wrote is_over =
-    if has_failed wrote || is_over then Over
-    else (if came_to_nothing heard && (took == 0) && came_to_nothing wrote then Idle else Busy)
+-- How a connection comes out whose write came to this, and on which something is still to be written or is not.
+abbrev pub course_of : (wrote : Got) (is_over : Bool) → Course
+course_of wrote is_over = if has_failed wrote || is_over then Over else Open
 
 -- the bytes that are there to be taken: those that a read gave, or those that were left before
 abbrev pub IsLaidOut : Bool → List ℕ → Got → List ℕ → Type 0
 IsLaidOut true rest heard bytes = length bytes ≡ count_passed heard
 IsLaidOut false rest heard bytes = (heard ≡ Later) × (bytes ≡ rest)
 
--- A connection of a server took what it takes of these bytes, and what waited then was written once.
-pub record IsTakenAndWritten (v : ServerValue) (id : ℕ) (heard : Got) (bytes : List ℕ) (after : ServerValue) (left : List ℕ) (course : Course) : Type 0 where
+-- A connection of a server took what it takes of these bytes, and what waited then was written once, where the wire may be written.
+pub record IsTakenAndWritten (may_write : Bool) (v : ServerValue) (id : ℕ) (bytes : List ℕ) (after : ServerValue) (left : List ℕ) (course : Course) : Type 0 where
   pub wrote : Got
-  pub within : IsWithin (length (waiting_at id (fed v id bytes).server)) wrote
+  pub within : IsWithin (length (waiting_once may_write id (fed v id bytes).server)) wrote
+  pub idle : waiting_once may_write id (fed v id bytes).server ≡ [] → wrote ≡ Later
   pub server : after ≡ server_wrote (fed v id bytes).server id wrote
   pub rest : left ≡ rest_left v id bytes
-  pub outcome : course ≡ course_of heard (fed v id bytes).count wrote (is_over_on (session_of id after.sessions))
+  pub outcome : course ≡ course_of wrote (is_over_in (outlook_of after id))
 
 -- what follows a read that failed, and one that did not
-abbrev pub IsCarriedOn : Bool → ServerValue → ℕ → Got → List ℕ → ServerValue → List ℕ → Course → Type 0
-IsCarriedOn true v id heard bytes after left course = (after ≡ v) × (course ≡ Over)
-IsCarriedOn false v id heard bytes after left course = IsTakenAndWritten (server_heard v id heard) id heard bytes after left course
+abbrev pub IsCarriedOn : (failed may_write : Bool) → ServerValue → ℕ → List ℕ → ServerValue → List ℕ → Course → Type 0
+IsCarriedOn true may_write v id bytes after left course = (after ≡ v) × (course ≡ Over)
+IsCarriedOn false may_write v id bytes after left course = IsTakenAndWritten may_write v id bytes after left course
 
--- One connection's part of a turn: a read where one is due, then what it takes, then a write. A failed read ends it.
-pub record IsServedOnce (v : ServerValue) (id : ℕ) (rest : List ℕ) (after : ServerValue) (left : List ℕ) (course : Course) : Type 0 where
+-- One connection's part of a turn, where its wire may be read or not, and written or not: a read where one is due, then what it
+-- takes, then a write. A failed read ends it.
+pub record IsServedOnce (may_read may_write : Bool) (v : ServerValue) (id : ℕ) (rest : List ℕ) (after : ServerValue) (left : List ℕ) (course : Course) : Type 0 where
   pub heard : Got
   pub bytes : List ℕ
-  pub laid : IsLaidOut (is_heard v id rest) rest heard bytes
-  pub carried : IsCarriedOn (has_failed heard) v id heard bytes after left course
+  pub laid : IsLaidOut (is_heard may_read v id rest) rest heard bytes
+  pub carried : IsCarriedOn (has_failed heard) may_write (server_heard v id heard) id bytes after left course
+
+-- the same, for what its wire says of itself
+pub record IsServed (v : ServerValue) (id : ℕ) (rest : List ℕ) (after : ServerValue) (left : List ℕ) (course : Course) : Type 0 where
+  pub may_read : Bool
+  pub may_write : Bool
+  pub part : IsServedOnce may_read may_write v id rest after left course
+
+-- ---- what is left to be done
+
+-- What a connection is to be served for on which this is to be done: what was read before can be taken or is given up, its wire is to
+-- be read, it is to be written. Nothing where none is there.
+abbrev pub wants_in : Option Outlook → (is_empty : Bool) → Stamp → Wants
+wants_in None is_empty stamp = record { take = false; read = false; write = false; due = None; stamp = stamp }
+wants_in (Some o) is_empty stamp = record {
+  take = not is_empty && (o.takes || o.stopped);
+  read = is_empty && o.takes;
+  write = o.waits;
+  due = o.due;
+  stamp = stamp;
+}
+
+-- what the connection with this number is to be served for, of whose reads these bytes are left
+abbrev pub wants_of : ServerValue → ℕ → List ℕ → Wants
+wants_of v id rest = wants_in (outlook_of v id) (length rest == 0) (stamp_of v.host)
+
+-- something that it wants can be done at once
+abbrev pub can_go_on : Wants → (may_read may_write : Bool) → Bool
+can_go_on w may_read may_write = w.take || (w.read && may_read) || (w.write && may_write)
+
+-- whether something can be, for what its wire says of itself
+pub record CanGoOn (w : Wants) (result : Bool) : Type 0 where
+  pub may_read : Bool
+  pub may_write : Bool
+  pub is : result ≡ can_go_on w may_read may_write
+
+-- All were served when the server had this stamp, and left nothing that can be taken at once.
+abbrev pub AreServed : Stamp → List Wants → Type 0
+AreServed stamp all = AllByRecursion (λ w. (w.stamp ≡ stamp) × (w.take ≡ false)) all
+
+-- the least moment at which time alone may queue something on one of these
+abbrev pub least_due : List Wants → Option ℕ
+least_due all = fold (λ due w. sooner due w.due) None all
+
+-- one connection more was looked at: something can be done at once or not, and time alone may queue something at a moment
+abbrev pub agenda_with : Agenda → Bool → Option ℕ → Agenda
+agenda_with a ready due = record { at_once = a.at_once || ready; due = sooner a.due due }
+
+abbrev pub wait_until : Option ℕ → Wait
+wait_until None = Forever
+wait_until (Some moment) = Until moment
+
+abbrev pub wait_of : Agenda → Wait
+wait_of a = if a.at_once then No else wait_until a.due
+
+-- How long the door may wait: not at all; or, where all were served, until the least moment of them.
+abbrev pub MayWait : Wait → Stamp → List Wants → Type 0
+MayWait No stamp all = Unit {0}
+MayWait (Until moment) stamp all = AreServed stamp all × (least_due all ≡ Some moment)
+MayWait Forever stamp all = AreServed stamp all × (least_due all ≡ None)

@@ -5,7 +5,7 @@ ghost use Rattle.std.specs.Prelude.{None};
 
 use super::Moments;
 use crate::devices::Fixed;
-use coap_serve::{Config, Door, Got, IoFault, Limits, Starts, Wire, serve_door};
+use coap_serve::{Config, Door, Got, IoFault, Limits, Ready, Starts, Wait, Wire, serve_door};
 use std::cell::RefCell;
 use std::io::Write;
 use std::process::Abort;
@@ -50,6 +50,16 @@ impl Wire for Line<'_> {
     }
 }
 
+impl Ready for Line<'_> {
+    fn may_read(&self) -> bool {
+        true
+    }
+
+    fn may_write(&self) -> bool {
+        true
+    }
+}
+
 /// A door that hands out one wire.
 #[derive(Drop)]
 struct Once<'a> {
@@ -70,6 +80,8 @@ impl<'a> Door for Once<'a> {
             page: self.page,
         })
     }
+
+    fn wait(&mut self, _wait: Wait, _opens: bool) {}
 }
 
 /// Serves one connection in forty turns, and tells how that ended. What is written is all of it, and a front of it where memory is refused.

@@ -12,4 +12,4 @@ pub returns : goal.returns
 returns c =
     sym (option_map_id c.min.result)
     ∙ min_from_yields_List _ c.min.result c.min.ensures.ran (YieldsList-from_filter_map _ (λ e. come c.args.now (held_value e)) (YieldsList-from_slice c.args.held.now cc) c.filter_map.ensures.closure (λ x r q k. search (rules, tests)))
-    ∙ ap (reduce min) (moments_of c.args.now c.args.held.now)
+    ∙ ap (reduce min) (moments_of (come c.args.now) c.args.held.now)

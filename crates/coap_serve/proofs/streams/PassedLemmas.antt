@@ -1,0 +1,132 @@
+-- A connection on which nothing can be done: its part of a turn comes to nothing.
+use Rattle.std.proofs.Common.{◌≡◌, ℕ, zero, suc, Bool, true, false, ◌&&◌, List, [], ◌∷◌, length, map, drop, Option, Some, None, refl, sym, ap, subst, ◌∙◌, not, arith}
+use Rattle.std.specs.Prelude.{◌||◌, ◌==◌, is_some, option_map, slice_get, if◌then◌else◌}
+use Rattle.std.specs.Map.{values_of}
+use Rattle.std.proofs.lemmas.Bool.{or_parts, eqb-true, ne_eqb}
+use Rattle.coap_conn.specs.Phases.{stop_of, is_over}
+use Rattle.coap_conn.specs.declared.phase.Phase.{Phase}
+use Rattle.coap_conn.specs.declared.reason.Reason.{Reason}
+use Rattle.coap_serve.specs.declared.door.Course.TheVariants.{Open, Over}
+use Rattle.coap_serve.specs.declared.wire.Got.TheVariants.{Later}
+use Rattle.coap_serve.specs.values.Sessions.{SessionValue, session_takes}
+use Rattle.coap_serve.specs.values.Servers.{ServerValue, LiesAt, AreSettled, session_of, settled_entry, changed_at, server_taken, server_taken_on, server_taken_so, count_taken, count_on}
+use Rattle.coap_serve.specs.values.ServerAnswers.{can_take_on, stop_on}
+use Rattle.coap_serve.specs.script.Replay.{Fed, fed_turns, fed, fed_more, goes_on}
+use Rattle.coap_serve.specs.streams.Turns.{IsServedOnce, IsLaidOut, is_heard, is_over_in, left_behind, rest_left, wants_of, can_go_on}
+use Rattle.coap_serve.proofs.values.ServerLemmas.{changed_one, all_settled_stay}
+use Rattle.coap_serve.specs.values.Dues.{session_outlook, outlook_of}
+use Rattle.coap_serve.proofs.streams.AgendaLemmas.{cannot_take}
+use Rattle.coap_serve.proofs.world.ShownLemmas.{taking_stopped}
+
+abbrev Entries : Type 0
+Entries = List (ℕ × SessionValue)
+
+-- ---- it takes nothing
+
+same_there : (es : Entries) (i : ℕ) (s : SessionValue) → slice_get (values_of es) i ≡ Some s → changed_at i (λ _. s) es ≡ es
+unfolding changed_at
+same_there [] i s at = refl
+same_there (e ∷ es) zero s at = ap (λ v. (e.0, v) ∷ es) (let is : s ≡ e.1 = cc in is)
+same_there (e ∷ es) (suc i) s at = ap (λ rest. e ∷ rest) (same_there es i s at)
+
+untouched : (v : ServerValue) (id i : ℕ) (s : SessionValue) (piece : List ℕ) → LiesAt id i v.sessions → session_of id v.sessions ≡ Some s → AreSettled v.host v.sessions → session_takes s ≡ false → server_taken v id piece ≡ v
+unfolding server_taken
+untouched v id i s piece lies here settled closed =
+    ap (server_taken_on v id piece) here ∙ ap (server_taken_so v id) (taking_stopped v.host s piece closed)
+    ∙ ap (λ (es : Entries). record v { sessions = map (settled_entry v.host) es }) (sym (changed_one id (λ _. s) v.sessions i lies.distinct lies.index lies.within) ∙ same_there v.sessions i s (sym lies.found ∙ here))
+    ∙ ap (λ (es : Entries). record v { sessions = es }) (all_settled_stay v.host v.sessions settled)
+
+none_taken : (v : ServerValue) (id : ℕ) (s : SessionValue) (piece : List ℕ) → session_of id v.sessions ≡ Some s → session_takes s ≡ false → count_taken v id piece ≡ 0
+unfolding count_taken
+none_taken v id s piece here closed = ap (count_on v piece) here ∙ ap (λ t. t.count) (taking_stopped v.host s piece closed)
+
+record IsUntouched (v : ServerValue) (f : Fed) : Type 0 where
+  server : f.server ≡ v
+  count : f.count ≡ 0
+
+stays : (v : ServerValue) (id i : ℕ) (s : SessionValue) (bytes : List ℕ) (turns : ℕ) → LiesAt id i v.sessions → session_of id v.sessions ≡ Some s → AreSettled v.host v.sessions → session_takes s ≡ false → IsUntouched v (fed_turns turns v id bytes)
+unfolding fed_turns
+stays v id i s bytes zero lies here settled closed = record { server = refl; count = refl }
+stays v id i s bytes (suc turns) lies here settled closed =
+    let f : Fed = fed_turns turns v id bytes in
+    let so_far = stays v id i s bytes turns lies here settled closed in
+    elim (goes_on bytes f) as (λ b. IsUntouched v (if b then fed_more id (drop f.count bytes) f else f)) [
+      | true ↦ record {
+        server = ap (λ w. server_taken w id (drop f.count bytes)) so_far.server ∙ untouched v id i s (drop f.count bytes) lies here settled closed;
+        count =
+            let moved = ap (λ w. count_taken w id (drop f.count bytes)) so_far.server in
+            let none = none_taken v id s (drop f.count bytes) here closed in
+            omega (arith, so_far.count, moved, none);
+      }
+      | false ↦ so_far
+    ]
+
+not_taken : (b : ℕ) (rest : List ℕ) (more : Bool) → (not (length (b ∷ rest) == 0) && more) ≡ false → more ≡ false
+not_taken b rest more = subst (λ c. (not c && more) ≡ false → more ≡ false) (sym (ne_eqb (suc (length rest)) 0 (λ e. omega (arith, e)))) (λ is. is)
+
+-- what was read before and waits for room stays, and where nothing was, nothing is taken
+still_fed : (v : ServerValue) (id i : ℕ) (s : SessionValue) (rest : List ℕ) → LiesAt id i v.sessions → session_of id v.sessions ≡ Some s → AreSettled v.host v.sessions → (wants_of v id rest).take ≡ false → IsUntouched v (fed v id rest)
+unfolding fed_turns
+still_fed v id i s [] lies here settled idle = record { server = refl; count = refl }
+still_fed v id i s (b ∷ rest) lies here settled idle =
+    let closed : session_takes s ≡ false = (or_parts (session_takes s) (is_over s.link.phase) (not_taken b rest (session_takes s || is_over s.link.phase) (rw here at idle))).0 in
+    stays v id i s (b ∷ rest) (length (b ∷ rest)) lies here settled closed
+
+none_given_up : (phase : Phase) (bytes : List ℕ) → is_over phase ≡ false → left_behind (stop_of phase) bytes ≡ bytes
+none_given_up phase bytes on = elim (stop_of phase) as (λ (why : Option Reason). is_some why ≡ false → left_behind why bytes ≡ bytes) [ None ↦ λ e. refl | Some why ↦ λ e. absurd cc ] on
+
+none_there : (why : Option Reason) → left_behind why [] ≡ []
+none_there None = refl
+none_there (Some why) = refl
+
+left_as_it_is : (v : ServerValue) (id : ℕ) (s : SessionValue) (rest : List ℕ) → session_of id v.sessions ≡ Some s → (wants_of v id rest).take ≡ false → left_behind (stop_on (session_of id v.sessions)) rest ≡ rest
+left_as_it_is v id s [] here idle = none_there (stop_on (session_of id v.sessions))
+left_as_it_is v id s (b ∷ rest) here idle =
+    let on : is_over s.link.phase ≡ false = (or_parts (session_takes s) (is_over s.link.phase) (not_taken b rest (session_takes s || is_over s.link.phase) (rw here at idle))).1 in
+    ap (λ o. left_behind (stop_on o) (b ∷ rest)) here ∙ none_given_up s.link.phase (b ∷ rest) on
+
+rest_stays : (v : ServerValue) (id : ℕ) (s : SessionValue) (rest : List ℕ) → session_of id v.sessions ≡ Some s → (wants_of v id rest).take ≡ false → IsUntouched v (fed v id rest) → rest_left v id rest ≡ rest
+rest_stays v id s rest here idle same =
+    ap (λ (w : ServerValue). left_behind (stop_on (session_of id w.sessions)) (drop (fed v id rest).count rest)) same.server
+    ∙ ap (λ n. left_behind (stop_on (session_of id v.sessions)) (drop n rest)) same.count
+    ∙ left_as_it_is v id s rest here idle
+
+-- ---- its part of a turn
+
+laid_by : (heard : Bool) (rest : List ℕ) → (heard ≡ true → length rest ≡ 0) → IsLaidOut heard rest Later rest
+laid_by true rest none = none refl
+laid_by false rest none = (refl, refl)
+
+middle : (a b c : Bool) → (a && b && c) ≡ true → b ≡ true
+middle true true c e = refl
+middle true false c e = absurd cc
+middle false b c e = absurd cc
+
+laid_again : (may_read : Bool) (v : ServerValue) (id : ℕ) (rest : List ℕ) → IsLaidOut (is_heard may_read v id rest) rest Later rest
+laid_again may_read v id rest = laid_by (is_heard may_read v id rest) rest (λ e. eqb-true (length rest) 0 (middle may_read (length rest == 0) (can_take_on (session_of id v.sessions)) e))
+
+passed_on : (v : ServerValue) (id i : ℕ) (s : SessionValue) (rest : List ℕ) (may_read may_write : Bool) → LiesAt id i v.sessions → session_of id v.sessions ≡ Some s → AreSettled v.host v.sessions → (wants_of v id rest).take ≡ false → is_over_in (outlook_of v id) ≡ false → IsServedOnce may_read may_write v id rest v rest Open
+passed_on v id i s rest may_read may_write lies here settled idle on =
+    let same = still_fed v id i s rest lies here settled idle in
+    record {
+      heard = Later;
+      bytes = rest;
+      laid = laid_again may_read v id rest;
+      carried = record {
+        wrote = Later;
+        within = tt;
+        idle = λ e. refl;
+        server = sym same.server;
+        rest = sym (rest_stays v id s rest here idle same);
+        outcome = sym (ap (λ (b : Bool). if b then Over else Open) on);
+      };
+    }
+
+-- a connection on which nothing can be done may be passed over
+pub passed_over : (v : ServerValue) (id i : ℕ) (rest : List ℕ) (may_read may_write : Bool) → LiesAt id i v.sessions → AreSettled v.host v.sessions → can_go_on (wants_of v id rest) may_read may_write ≡ false → is_over_in (outlook_of v id) ≡ false → IsServedOnce may_read may_write v id rest v rest Open
+passed_over v id i rest may_read may_write lies settled idle on =
+    let none = cannot_take (wants_of v id rest) may_read may_write idle in
+    elim (session_of id v.sessions) as (λ o. session_of id v.sessions ≡ o → is_over_in (option_map (session_outlook v.host.now) o) ≡ false → IsServedOnce may_read may_write v id rest v rest Open) [
+      | None ↦ λ here over. absurd cc
+      | Some s ↦ λ here over. passed_on v id i s rest may_read may_write lies here settled none on
+    ] refl on
