@@ -49,6 +49,22 @@ a_stray_word : server_plan_of (codes "x" ∷ []) ≡ Err (Usage (kind.UnknownArg
 unfolding clap_on_literals server_plan_of server_plan_in values_said limits_said number_within decimal_value is_used address_of read_ipv4 read_ipv6 read_octet read_segment read_segments read_number
 a_stray_word = refl
 
+help_of_the_server : server_plan_of (codes "--help" ∷ []) ≡ Err (Usage (kind.DisplayHelp ∷ []))
+unfolding clap_on_literals server_plan_of server_plan_in values_said limits_said number_within decimal_value is_used address_of read_ipv4 read_ipv6 read_octet read_segment read_segments read_number
+help_of_the_server = refl
+
+help_by_its_letter : server_plan_of (codes "-p" ∷ codes "0" ∷ codes "-h" ∷ []) ≡ Err (Usage (kind.DisplayHelp ∷ []))
+unfolding clap_on_literals server_plan_of server_plan_in values_said limits_said number_within decimal_value is_used address_of read_ipv4 read_ipv6 read_octet read_segment read_segments read_number
+help_by_its_letter = refl
+
+version_of_the_server : server_plan_of (codes "--version" ∷ []) ≡ Err (Usage (kind.DisplayVersion ∷ []))
+unfolding clap_on_literals server_plan_of server_plan_in values_said limits_said number_within decimal_value is_used address_of read_ipv4 read_ipv6 read_octet read_segment read_segments read_number
+version_of_the_server = refl
+
+version_by_its_letter : server_plan_of (codes "-V" ∷ codes "--turns" ∷ codes "0" ∷ []) ≡ Err (Usage (kind.DisplayVersion ∷ []))
+unfolding clap_on_literals server_plan_of server_plan_in values_said limits_said number_within decimal_value is_used address_of read_ipv4 read_ipv6 read_octet read_segment read_segments read_number
+version_by_its_letter = refl
+
 an_option_twice : server_plan_of (codes "-p" ∷ codes "1" ∷ codes "-p" ∷ codes "1" ∷ []) ≡ Err (Usage (kind.ArgumentConflict ∷ []))
 unfolding clap_on_literals server_plan_of server_plan_in values_said limits_said number_within decimal_value is_used address_of read_ipv4 read_ipv6 read_octet read_segment read_segments read_number
 an_option_twice = refl
@@ -82,6 +98,22 @@ two_uris = refl
 an_unknown_letter : fault_of client_app (codes "-v" ∷ codes "coap+tcp://h/" ∷ []) ≡ kind.UnknownArgument ∷ []
 unfolding clap_on_literals request_said uri_said payload_said clashes number_within decimal_value is_used method_named format_named format_of option_bytes extra_of hex_value decode_pairs percent_decode
 an_unknown_letter = refl
+
+help_without_a_uri : fault_of client_app (codes "--help" ∷ []) ≡ kind.DisplayHelp ∷ []
+unfolding clap_on_literals request_said uri_said payload_said clashes number_within decimal_value is_used method_named format_named format_of option_bytes extra_of hex_value decode_pairs percent_decode
+help_without_a_uri = refl
+
+help_behind_a_uri : fault_of client_app (codes "coap+tcp://h/" ∷ codes "-wh" ∷ []) ≡ kind.DisplayHelp ∷ []
+unfolding clap_on_literals request_said uri_said payload_said clashes number_within decimal_value is_used method_named format_named format_of option_bytes extra_of hex_value decode_pairs percent_decode
+help_behind_a_uri = refl
+
+version_of_the_client : fault_of client_app (codes "--version" ∷ []) ≡ kind.DisplayVersion ∷ []
+unfolding clap_on_literals request_said uri_said payload_said clashes number_within decimal_value is_used method_named format_named format_of option_bytes extra_of hex_value decode_pairs percent_decode
+version_of_the_client = refl
+
+version_before_a_stray_word : fault_of client_app (codes "-V" ∷ codes "coap+tcp://h/" ∷ codes "coap+tcp://h/" ∷ []) ≡ kind.DisplayVersion ∷ []
+unfolding clap_on_literals request_said uri_said payload_said clashes number_within decimal_value is_used method_named format_named format_of option_bytes extra_of hex_value decode_pairs percent_decode
+version_before_a_stray_word = refl
 
 uri_behind_options : uri_said (matches_of client_app (codes "-w" ∷ codes "-e" ∷ codes "x" ∷ codes "coap+tcp://h/" ∷ [])) ≡ codes "coap+tcp://h/"
 unfolding clap_on_literals request_said uri_said payload_said clashes number_within decimal_value is_used method_named format_named format_of option_bytes extra_of hex_value decode_pairs percent_decode

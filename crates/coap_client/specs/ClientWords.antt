@@ -37,13 +37,16 @@ pub record ClientPlanValue : Type 0 where
 abbrev pub uri_rule : Rule
 uri_rule = record (new_rule (codes "URI")) { required = true }
 
--- the command as `clap` is given it: flat, with one text or none to an option, and no word for the program's own name
+-- the command as `clap` is given it: flat, with one text or none to an option, a version, and no word for the program's own name.
+-- `clap` adds `-h` and `--help`, and for the version `-V` and `--version`; a use of these is a refusal of its own, by the kind
+-- DisplayHelp or DisplayVersion
 abbrev pub client_app : App
 client_app = record {
   top = record (new_shape (codes "coap-client")) {
     rules = letter_option (codes "-m") ∷ letter_option (codes "-e") ∷ letter_option (codes "-f") ∷ letter_option (codes "-o")
         ∷ letter_option (codes "-t") ∷ letter_option (codes "-A") ∷ letter_option (codes "-s") ∷ letter_option (codes "-B")
         ∷ letter_option (codes "-O") ∷ letter_flag (codes "-U") ∷ letter_flag (codes "-w") ∷ uri_rule ∷ [];
+    has_version = true;
     no_binary_name = true;
   };
   subs = [];

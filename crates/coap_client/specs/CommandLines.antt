@@ -27,9 +27,9 @@ unless_refused (kind ∷ kinds) answer = Err (Usage (kind ∷ kinds))
 
 -- ---- options, each known by its name as it is written in a command line, with its hyphens
 
--- a command without options, whose words are those behind the program's name
+-- a command with a version and without options of its own, whose words are those behind the program's name
 abbrev pub bare_app : Text → App
-bare_app name = record { top = record (new_shape name) { no_binary_name = true }; subs = [] }
+bare_app name = record { top = record (new_shape name) { has_version = true; no_binary_name = true }; subs = [] }
 
 -- the option of one letter, which takes one text
 abbrev pub letter_option : Text → Rule

@@ -1,7 +1,9 @@
 -- How the plans of the command lines, and their faults, are seen.
-use Rattle.std.specs.Prelude.{◌≡◌, ⊤, ℕ, List, Vec, Option, option_map, Result, Ok, Err, string_bytes}
+use Rattle.std.specs.Prelude.{◌≡◌, ⊤, ℕ, Bool, true, false, List, Vec, Option, option_map, Result, Ok, Err, string_bytes}
 use Rattle.std.specs.Borrow.{Bor}
 use Rattle.clap.specs.Words.{IsAmong, Kinds, Text, kind_of}
+use Rattle.clap.specs.declared.error.kind.ErrorKind.{ErrorKind}
+use Rattle.clap.specs.declared.error.kind.ErrorKind.TheVariants as kind
 use Rattle.coap_client.specs.CommandLines.{WordsFaultValue}
 use Rattle.coap_client.specs.CommandLines as fault
 use Rattle.coap_client.specs.ClientWords.{ClientPlanValue, client_plan_of}
@@ -59,6 +61,16 @@ words_fault_number (faults.Target refusal) = 2
 words_fault_number (faults.Value name) = 3
 words_fault_number faults.Clash = 4
 words_fault_number faults.Memory = 5
+
+-- `clap`'s refusal is no mistake of the user's: its text was asked for, the help or the version
+abbrev pub is_asked_for : ErrorKind → Bool
+is_asked_for kind.DisplayHelp = true
+is_asked_for kind.DisplayVersion = true
+is_asked_for other = false
+
+abbrev pub is_help_or_version : WordsFault → Bool
+is_help_or_version (faults.Usage error) = is_asked_for (kind_of error)
+is_help_or_version other = false
 
 -- an answer is refused for this; `clap`'s own refusal is of one of the kinds that it has; where memory was refused, nothing is
 -- known

@@ -26,7 +26,9 @@ pub record ServerPlanValue : Type 0 where
 
 -- ---- the options
 
--- the command as `clap` is given it: flat, with one text or none to an option, and no word for the program's own name
+-- the command as `clap` is given it: flat, with one text or none to an option, a version, and no word for the program's own name.
+-- `clap` adds `-h` and `--help`, and for the version `-V` and `--version`; a use of these is a refusal of its own, by the kind
+-- DisplayHelp or DisplayVersion
 abbrev pub server_app : App
 server_app = record {
   top = record (new_shape (codes "coap-server")) {
@@ -35,6 +37,7 @@ server_app = record {
         ∷ word_option (codes "--max-message") ∷ word_option (codes "--max-sent") ∷ word_option (codes "--queue")
         ∷ word_option (codes "--pending") ∷ word_option (codes "--observers")
         ∷ word_option (codes "--connections") ∷ word_option (codes "--turns") ∷ [];
+    has_version = true;
     no_binary_name = true;
   };
   subs = [];

@@ -5,12 +5,14 @@ ghost use Rattle.coap_client.specs.PlanViews.{IsClientPlan, IsServerPlan};
 
 mod client;
 mod commands;
+mod help;
 mod readings;
 mod server;
 
 use crate::plan::{ClientPlan, ServerPlan};
 use crate::target::TargetFault;
 use clap::Error as UsageError;
+use clap::error::ErrorKind;
 use client::client_plan;
 use commands::{client_command, matches_in, server_command};
 use server::server_plan;
@@ -21,8 +23,8 @@ use thiserror::Error;
 /// Why the words of a command line are refused. Its `Display` is the line for the user, without the program's name.
 #[derive(Debug, Drop, Error)]
 pub enum WordsFault {
-    /// The command line has words that the program does not know, lacks some, or asks for help. `clap`'s error tells the
-    /// kind, and its `Display` is the text for the user.
+    /// The command line has words that the program does not know, lacks some, or asks for help or for the version. `clap`'s
+    /// error tells the kind, and its `Display` is the text for the user.
     #[error("{0}")]
     Usage(UsageError),
     /// The URI names no target.
@@ -42,7 +44,7 @@ pub enum WordsFault {
 
 impl WordsFault {
     ghost use Rattle.std.specs.Prelude.{◌≡◌};
-    ghost use Rattle.coap_client.specs.PlanViews.{words_fault_number};
+    ghost use Rattle.coap_client.specs.PlanViews.{is_help_or_version, words_fault_number};
 
     /// Its number, 1 to 5.
     pub const fn number(&self) -> u8
@@ -54,6 +56,20 @@ impl WordsFault {
             WordsFault::Value(_) => 3,
             WordsFault::Clash => 4,
             WordsFault::Memory => 5,
+        }
+    }
+
+    /// Whether the words ask for help or for the version, which is no mistake: the text of `Display` belongs on standard output
+    /// then.
+    pub fn is_help_or_version(&self) -> bool
+        ensures { result ≡ is_help_or_version self.now }
+    {
+        match self {
+            WordsFault::Usage(error) => matches!(
+                error.kind(),
+                ErrorKind::DisplayHelp | ErrorKind::DisplayVersion
+            ),
+            _ => false,
         }
     }
 }

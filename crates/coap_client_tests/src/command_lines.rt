@@ -1,7 +1,7 @@
 //! The command lines of the programs.
 //!
-//! A row's event is the words of a command line. What is told is the plan, or the fault: `usage` and `clap`'s kind, or the line
-//! for the user.
+//! A row's event is the words of a command line. What is told is the plan, or the fault: `usage` and `clap`'s kind, `asks` and the
+//! kind where the words ask for help or for the version, or the line for the user.
 
 use crate::rows::{digits, halves, same, words};
 use coap_client::{ClientPlan, Mode, ServerPlan, WordsFault, client_words, server_words};
@@ -12,7 +12,11 @@ use std::test::Fail;
 /// Tells a fault.
 fn fault_told(alloc: Global, fault: &WordsFault) -> Result<String, Fail> {
     match fault {
-        WordsFault::Usage(error) => Ok(format!(in alloc; "usage {:?}", error.kind())?),
+        WordsFault::Usage(error) => {
+            let asks = fault.is_help_or_version();
+            let told = if asks { "asks" } else { "usage" };
+            Ok(format!(in alloc; "{told} {:?}", error.kind())?)
+        }
         _ => Ok(format!(in alloc; "{fault}")?),
     }
 }
@@ -110,6 +114,16 @@ fn server_plans(rt: HostRuntime) -> Result<(), Fail> {
 
 /// Words that the server refuses: by `clap`, for a value, for two modes, and the first of several.
 const SERVER_FAULTS: &str = "\
+--help => asks DisplayHelp
+-h => asks DisplayHelp
+--version => asks DisplayVersion
+-V => asks DisplayVersion
+-p 0 --stdio --script - --help => asks DisplayHelp
+--version --help => asks DisplayVersion
+--help x => asks DisplayHelp
+x --help => usage UnknownArgument
+help => usage UnknownArgument
+--help=x => usage TooManyValues
 x => usage UnknownArgument
 -x => usage UnknownArgument
 -p => usage InvalidValue
@@ -183,7 +197,13 @@ const CLIENT_FAULTS: &str = "\
 -v coap+tcp://h/ => usage UnknownArgument
 coap+tcp://h/ coap+tcp://h/ => usage UnknownArgument
 -O 1,a -O 2,b coap+tcp://h/ => usage ArgumentConflict
---help => usage DisplayHelp
+--help => asks DisplayHelp
+-h => asks DisplayHelp
+--version => asks DisplayVersion
+-V => asks DisplayVersion
+-wV => asks DisplayVersion
+x -B 0 --help => asks DisplayHelp
+coap+tcp://h/ coap+tcp://h/ --help => usage UnknownArgument
 x => bad target 1
 coap://h/ => bad target 2
 coap+tcp://h/#f => bad target 5

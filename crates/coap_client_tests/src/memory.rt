@@ -5,7 +5,8 @@ ghost use Rattle.std.specs.Prelude.{◌≡◌, ◌≤◌, false, None, length};
 
 use crate::rows::same;
 use coap_client::{
-    Client, ClientFault, ClientPlan, Mode, Target, TargetFault, WordsFault, client_words, run_client, server_words,
+    Client, ClientFault, ClientPlan, Mode, Target, TargetFault, WordsFault, client_words,
+    run_client, server_words,
 };
 use coap_serve::{Clock, Got, Limits, Outlet, Wire};
 use std::alloc::{AllocError, Global};
@@ -71,7 +72,15 @@ fn plan_of(alloc: Global, words: &[&str]) -> Result<ClientPlan, Fail> {
 #[test]
 fn reads_words_without_memory(rt: HostRuntime) -> Result<(), Fail> {
     let words = [
-        "-m", "put", "-e", "a%20b", "-O", "2048,0x0102", "-o", "out", "coap+tcp://h/x",
+        "-m",
+        "put",
+        "-e",
+        "a%20b",
+        "-O",
+        "2048,0x0102",
+        "-o",
+        "out",
+        "coap+tcp://h/x",
     ];
     let plan = plan_of(rt.alloc(), &words)?;
     same(&rt, "the payload", str::from_utf8(&plan.payload)?, "a b");

@@ -8,7 +8,7 @@ ghost use Rattle.coap_client.specs.ClientWords.{client_app, uri_rule};
 ghost use Rattle.coap_client.specs.PlanViews.{IsTurnedDown};
 ghost use Rattle.coap_client.specs.ServerWords.{server_app};
 
-use crate::words::WordsFault;
+use crate::words::{WordsFault, help};
 use clap::error::ErrorKind;
 use clap::{Arg, ArgAction, ArgMatches, Command};
 use std::alloc::{AllocError, Global};
@@ -21,10 +21,14 @@ fn with_letter<'a>(
     name: &'a str,
     letter: char,
     value: &'a str,
+    help: &'a str,
 ) -> Result<Command<'a>, AllocError>
     ensures { IfOk result (λ c. app_of c ≡ with_rule (app_of command.entry) (record (new_rule name.entry.now) { short = Some letter; value_names = 1 })) }
 {
-    let option = Arg::new(alloc, name).short(letter).value_name(value);
+    let option = Arg::new(alloc, name)
+        .short(letter)
+        .value_name(value)
+        .help(help);
     command.arg(option)
 }
 
@@ -35,11 +39,28 @@ fn with_word<'a>(
     name: &'a str,
     word: &'a str,
     value: &'a str,
+    help: &'a str,
 ) -> Result<Command<'a>, AllocError>
     ensures { IfOk result (λ c. app_of c ≡ with_rule (app_of command.entry) (record (new_rule name.entry.now) { long = Some word.entry.now; value_names = 1 })) }
 {
-    let option = Arg::new(alloc, name).long(word).value_name(value);
+    let option = Arg::new(alloc, name)
+        .long(word)
+        .value_name(value)
+        .help(help);
     command.arg(option)
+}
+
+/// The command with one more option of a word, which takes a number.
+fn with_number<'a>(
+    alloc: Global,
+    command: Command<'a>,
+    name: &'a str,
+    word: &'a str,
+    help: &'a str,
+) -> Result<Command<'a>, AllocError>
+    ensures { IfOk result (λ c. app_of c ≡ with_rule (app_of command.entry) (record (new_rule name.entry.now) { long = Some word.entry.now; value_names = 1 })) }
+{
+    with_word(alloc, command, name, word, "N", help)
 }
 
 /// The command with one more option of a letter, which takes no text.
@@ -48,12 +69,14 @@ fn with_letter_flag<'a>(
     command: Command<'a>,
     name: &'a str,
     letter: char,
+    help: &'a str,
 ) -> Result<Command<'a>, AllocError>
     ensures { IfOk result (λ c. app_of c ≡ with_rule (app_of command.entry) (record (new_rule name.entry.now) { short = Some letter; action = Some SetTrue })) }
 {
     let option = Arg::new(alloc, name)
         .short(letter)
-        .action(ArgAction::SetTrue);
+        .action(ArgAction::SetTrue)
+        .help(help);
     command.arg(option)
 }
 
@@ -63,18 +86,26 @@ fn with_word_flag<'a>(
     command: Command<'a>,
     name: &'a str,
     word: &'a str,
+    help: &'a str,
 ) -> Result<Command<'a>, AllocError>
     ensures { IfOk result (λ c. app_of c ≡ with_rule (app_of command.entry) (record (new_rule name.entry.now) { long = Some word.entry.now; action = Some SetTrue })) }
 {
-    let option = Arg::new(alloc, name).long(word).action(ArgAction::SetTrue);
+    let option = Arg::new(alloc, name)
+        .long(word)
+        .action(ArgAction::SetTrue)
+        .help(help);
     command.arg(option)
 }
 
-/// The command of this name without options, whose words are those behind the program's name.
-fn bare<'a>(alloc: Global, name: &'a str) -> Command<'a>
+/// The command of this name with the version of the programs and no other option, whose words are those behind the program's
+/// name.
+fn bare<'a>(alloc: Global, name: &'a str, about: &'a str) -> Command<'a>
     ensures { app_of result ≡ spec.bare_app name.entry.now }
 {
-    Command::new(alloc, name).no_binary_name(true)
+    Command::new(alloc, name)
+        .about(about)
+        .version(help::VERSION)
+        .no_binary_name(true)
 }
 
 /// The command of `coap-server`.
@@ -85,26 +116,38 @@ fn bare<'a>(alloc: Global, name: &'a str) -> Command<'a>
 pub(super) fn server_command<'a>(alloc: Global) -> Result<Command<'a>, AllocError>
     ensures { IfOk result (λ c. app_of c ≡ server_app) }
 {
-    let command = bare(alloc, "coap-server");
-    let command = with_letter(alloc, command, "-A", 'A', "ADDRESS")?;
-    let command = with_letter(alloc, command, "-p", 'p', "PORT")?;
-    let command = with_letter(alloc, command, "-d", 'd', "MAX")?;
-    let command = with_word_flag(alloc, command, "--stdio", "stdio")?;
-    let command = with_word(alloc, command, "--script", "script", "FILE")?;
-    let command = with_word(alloc, command, "--max-message", "max-message", "N")?;
-    let command = with_word(alloc, command, "--max-sent", "max-sent", "N")?;
-    let command = with_word(alloc, command, "--queue", "queue", "N")?;
-    let command = with_word(alloc, command, "--pending", "pending", "N")?;
-    let command = with_word(alloc, command, "--observers", "observers", "N")?;
-    let command = with_word(alloc, command, "--connections", "connections", "N")?;
-    with_word(alloc, command, "--turns", "turns", "N")
+    let command = bare(alloc, "coap-server", help::SERVER);
+    let command = with_letter(alloc, command, "-A", 'A', "ADDRESS", help::ADDRESS)?;
+    let command = with_letter(alloc, command, "-p", 'p', "PORT", help::PORT)?;
+    let command = with_letter(alloc, command, "-d", 'd', "MAX", help::DYNAMIC_MAX)?;
+    let command = with_word_flag(alloc, command, "--stdio", "stdio", help::STDIO)?;
+    let command = with_word(alloc, command, "--script", "script", "FILE", help::SCRIPT)?;
+    let command = with_number(
+        alloc,
+        command,
+        "--max-message",
+        "max-message",
+        help::MAX_MESSAGE,
+    )?;
+    let command = with_number(alloc, command, "--max-sent", "max-sent", help::MAX_SENT)?;
+    let command = with_number(alloc, command, "--queue", "queue", help::QUEUE)?;
+    let command = with_number(alloc, command, "--pending", "pending", help::PENDING)?;
+    let command = with_number(alloc, command, "--observers", "observers", help::OBSERVERS)?;
+    let command = with_number(
+        alloc,
+        command,
+        "--connections",
+        "connections",
+        help::CONNECTIONS,
+    )?;
+    with_number(alloc, command, "--turns", "turns", help::TURNS)
 }
 
 /// The command with the URI as its one word that is no option, which has to be there.
 fn with_uri<'a>(alloc: Global, command: Command<'a>) -> Result<Command<'a>, AllocError>
     ensures { IfOk result (λ c. app_of c ≡ with_rule (app_of command.entry) uri_rule) }
 {
-    let uri = Arg::new(alloc, "URI").required(true);
+    let uri = Arg::new(alloc, "URI").required(true).help(help::URI);
     command.arg(uri)
 }
 
@@ -116,18 +159,18 @@ fn with_uri<'a>(alloc: Global, command: Command<'a>) -> Result<Command<'a>, Allo
 pub(super) fn client_command<'a>(alloc: Global) -> Result<Command<'a>, AllocError>
     ensures { IfOk result (λ c. app_of c ≡ client_app) }
 {
-    let command = bare(alloc, "coap-client");
-    let command = with_letter(alloc, command, "-m", 'm', "METHOD")?;
-    let command = with_letter(alloc, command, "-e", 'e', "TEXT")?;
-    let command = with_letter(alloc, command, "-f", 'f', "FILE")?;
-    let command = with_letter(alloc, command, "-o", 'o', "FILE")?;
-    let command = with_letter(alloc, command, "-t", 't', "FORMAT")?;
-    let command = with_letter(alloc, command, "-A", 'A', "FORMAT")?;
-    let command = with_letter(alloc, command, "-s", 's', "SECONDS")?;
-    let command = with_letter(alloc, command, "-B", 'B', "SECONDS")?;
-    let command = with_letter(alloc, command, "-O", 'O', "NUM,TEXT")?;
-    let command = with_letter_flag(alloc, command, "-U", 'U')?;
-    let command = with_letter_flag(alloc, command, "-w", 'w')?;
+    let command = bare(alloc, "coap-client", help::CLIENT);
+    let command = with_letter(alloc, command, "-m", 'm', "METHOD", help::METHOD)?;
+    let command = with_letter(alloc, command, "-e", 'e', "TEXT", help::PAYLOAD)?;
+    let command = with_letter(alloc, command, "-f", 'f', "FILE", help::INPUT)?;
+    let command = with_letter(alloc, command, "-o", 'o', "FILE", help::OUTPUT)?;
+    let command = with_letter(alloc, command, "-t", 't', "FORMAT", help::CONTENT_FORMAT)?;
+    let command = with_letter(alloc, command, "-A", 'A', "FORMAT", help::ACCEPT)?;
+    let command = with_letter(alloc, command, "-s", 's', "SECONDS", help::OBSERVE)?;
+    let command = with_letter(alloc, command, "-B", 'B', "SECONDS", help::WAIT)?;
+    let command = with_letter(alloc, command, "-O", 'O', "NUM,TEXT", help::OPTION)?;
+    let command = with_letter_flag(alloc, command, "-U", 'U', help::PLAIN)?;
+    let command = with_letter_flag(alloc, command, "-w", 'w', help::NEWLINE)?;
     with_uri(alloc, command)
 }
 

@@ -18,4 +18,4 @@ returns c =
     let e9 = grown (app_of c.in_ok-command-8.command) (app_of c.in_ok-command-9.command) _ (word_option (codes "--pending")) c.in_ok-command-9.ensures e8 in
     let e10 = grown (app_of c.in_ok-command-9.command) (app_of c.in_ok-command-10.command) _ (word_option (codes "--observers")) c.in_ok-command-10.ensures e9 in
     let e11 = grown (app_of c.in_ok-command-10.command) (app_of c.in_ok-command-11.command) _ (word_option (codes "--connections")) c.in_ok-command-11.ensures e10 in
-    IfOk-weaker c.with_word-8.result _ _ (λ done h. grown (app_of c.in_ok-command-11.command) (app_of done) _ (word_option (codes "--turns")) h e11) c.with_word-8.ensures
+    IfOk-weaker c.with_number-7.result _ _ (λ done h. grown (app_of c.in_ok-command-11.command) (app_of done) _ (word_option (codes "--turns")) h e11) c.with_number-7.ensures
