@@ -31,13 +31,10 @@ fn bytes_of(alloc: Global, reader: &mut impl Read) -> Result<Vec<u8>, Trouble> {
     }
 }
 
-/// Opens the file of this name for responses, with nothing in it, unless it is `-`, which is standard output.
-pub(crate) fn create(rt: &impl Files, name: &str) -> Result<(), Trouble> {
-    if name == "-" {
-        return Ok(());
-    }
+/// Opens the file of this name for responses, with nothing in it.
+pub(crate) fn create<R: Files>(rt: &R, name: &str) -> Result<R::File, Trouble> {
     match fs::create(rt, name) {
-        Ok(_file) => Ok(()),
+        Ok(file) => Ok(file),
         Err(fault) if fault.kind() == ErrorKind::OutOfMemory => Err(Trouble::Memory),
         Err(_) => Err(Trouble::Open),
     }

@@ -1,19 +1,28 @@
 //! The program `coap-client`: one request over a reliable transport (RFC 8323).
 //!
-//! Its words are those of `coap_client::client_words`. It reads the payload that `-f` names and opens the file that `-o` names, and cannot
-//! connect yet.
+//! Its words are those of `coap_client::client_words`. It reads the payload that `-f` names, connects to the host of the URI, opens the file that
+//! `-o` names, and then runs `coap_client::run_client`.
 #![tactic(auto)]
+
+ghost use Rattle.std.specs.Prelude.{◌≡◌, ◌≤◌};
 
 mod files;
 
-use coap_client::{ClientPlan, WordsFault, client_words};
+use coap_client::{ClientPlan, WordsFault, client_words, run_client};
+use coap_serve::WriteOutlet;
+use coap_sockets::{ConnectFault, Line};
 use files::Trouble;
 use std::alloc::{AllocError, Global};
-use std::env;
 use std::env::Args;
-use std::io::ErrorKind;
+use std::fmt::Display;
+use std::io::{ErrorKind, Write};
+use std::net::Net;
 use std::process::ExitCode;
 use std::rt::{Env, Files};
+use std::{env, io, str, time};
+
+/// The status for help and the version.
+const SHOWN: u8 = 0;
 
 /// The status for words that are not understood.
 const USAGE: u8 = 1;
@@ -22,13 +31,17 @@ const USAGE: u8 = 1;
 const FAULT: u8 = 3;
 
 /// Writes the program's line for what went wrong to standard error, and answers the status.
-fn tell(rt: &impl Eprint, what: &str, status: u8) -> u8 {
+fn tell(rt: &impl Eprint, what: impl Display + Drop, status: u8) -> u8
+    ensures { result ≡ status }
+{
     let _ = eprintln!(rt; "coap-client: {what}");
     status
 }
 
 /// Tells what is wrong with a file, and answers the status.
-fn tell_trouble(rt: &impl Eprint, trouble: Trouble, name: &str) -> u8 {
+fn tell_trouble(rt: &impl Eprint, trouble: Trouble, name: &str) -> u8
+    ensures { result ≤ 4 }
+{
     match trouble {
         Trouble::Open => {
             let _ = eprintln!(rt; "coap-client: cannot open {name}");
@@ -40,20 +53,63 @@ fn tell_trouble(rt: &impl Eprint, trouble: Trouble, name: &str) -> u8 {
     }
 }
 
-/// Does what a plan says, and answers the status.
-fn run(rt: &(impl Input + Print + Eprint + Files + AllocGlobal), mut plan: ClientPlan) -> u8 {
+/// Connects to the host of a plan's target, in so many seconds as the plan waits for a response.
+fn connect<'a, R: Net + time::Clock + AllocGlobal>(
+    rt: &'a R,
+    plan: &ClientPlan,
+) -> Result<Line<'a, R>, ConnectFault> {
+    // No host has a name that is not UTF-8.
+    let Ok(host) = str::from_utf8(plan.target.host()) else {
+        return Err(ConnectFault::Socket);
+    };
+    Line::connect(rt, rt.alloc(), host, plan.target.port(), plan.wait)
+}
+
+/// Runs a client over a connection, with these writers for payloads and for lines, and answers the status.
+fn converse<R: Eprint + Net + time::Clock + AllocGlobal>(
+    rt: &R,
+    mut line: Line<'_, R>,
+    out: impl Write + Drop,
+    err: impl Write + Drop,
+    plan: &ClientPlan,
+) -> u8
+    ensures { result ≤ 4 }
+{
+    let mut clock = line.clock();
+    let mut out = WriteOutlet::new(out);
+    let mut err = WriteOutlet::new(err);
+    match run_client(rt.alloc(), &mut line, &mut clock, &mut out, &mut err, plan) {
+        Ok(status) => status,
+        Err(fault) => tell(rt, fault, FAULT),
+    }
+}
+
+/// Does what a plan says, with this writer for lines, and answers the status: reads the payload's file, connects, and opens the file for responses,
+/// so that this one is left as it is where there is no connection.
+fn run(
+    rt: &(impl Input + Print + Eprint + Files + Net + time::Clock + AllocGlobal),
+    err: impl Write + Drop,
+    mut plan: ClientPlan,
+) -> u8
+    ensures { result ≤ 4 }
+{
     if let Some(name) = &plan.input {
         match files::payload(rt, name.as_str()) {
             Ok(bytes) => plan.payload = bytes,
             Err(trouble) => return tell_trouble(rt, trouble, name.as_str()),
         }
     }
-    if let Some(name) = &plan.output {
-        if let Err(trouble) = files::create(rt, name.as_str()) {
-            return tell_trouble(rt, trouble, name.as_str());
-        }
+    let line = match connect(rt, &plan) {
+        Ok(line) => line,
+        Err(fault) => return tell(rt, fault, FAULT),
+    };
+    match &plan.output {
+        Some(name) if name.as_str() != "-" => match files::create(rt, name.as_str()) {
+            Ok(file) => converse(rt, line, file, err, &plan),
+            Err(trouble) => tell_trouble(rt, trouble, name.as_str()),
+        },
+        _ => converse(rt, line, io::writer(rt), err, &plan),
     }
-    tell(rt, "cannot connect", FAULT)
 }
 
 /// The words behind the program's name.
@@ -77,8 +133,17 @@ fn plan_of(alloc: Global, words: Args) -> Result<ClientPlan, WordsFault> {
     client_words(alloc, &words)
 }
 
-/// Tells why words are refused, and answers the status. What `clap` says of them has lines of its own.
-fn refuse(rt: &impl Eprint, fault: &WordsFault) -> u8 {
+/// Writes help or the version, where the words ask for it, to standard output, and answers the status. Else it tells why words
+/// are refused; what `clap` says of them has lines of its own.
+fn refuse(rt: &(impl Print + Eprint), fault: &WordsFault) -> u8
+    ensures { result ≤ 4 }
+{
+    if fault.is_help_or_version() {
+        return match print!(rt; "{fault}") {
+            Ok(()) => SHOWN,
+            Err(_) => tell(rt, "cannot write", FAULT),
+        };
+    }
     match fault {
         WordsFault::Usage(text) => {
             let _ = eprint!(rt; "{text}");
@@ -93,10 +158,15 @@ fn refuse(rt: &impl Eprint, fault: &WordsFault) -> u8 {
 }
 
 /// Does what the program's words say, and answers the status. Words that are not UTF-8 are not understood.
-fn start(rt: &(impl Input + Print + Eprint + Env + Files + AllocGlobal)) -> u8 {
+fn start(
+    rt: &(impl Input + Print + Eprint + Env + Files + Net + time::Clock + AllocGlobal),
+    err: impl Write + Drop,
+) -> u8
+    ensures { result ≤ 4 }
+{
     match env::args(rt) {
         Ok(words) => match plan_of(rt.alloc(), words) {
-            Ok(plan) => run(rt, plan),
+            Ok(plan) => run(rt, err, plan),
             Err(fault) => refuse(rt, &fault),
         },
         Err(fault) if fault.kind() == ErrorKind::OutOfMemory => tell(rt, "no memory", FAULT),
@@ -105,5 +175,5 @@ fn start(rt: &(impl Input + Print + Eprint + Env + Files + AllocGlobal)) -> u8 {
 }
 
 fn main(rt: HostRuntime) -> ExitCode {
-    ExitCode::from(start(&rt))
+    ExitCode::from(start(&rt, rt.stderr()))
 }

@@ -2,24 +2,30 @@
 //!
 //! Its words are those of `coap_client::server_words`. With `--stdio` it serves one connection over standard input and output; with
 //! `--script FILE` it replays the script in that file, or in standard input where FILE is `-`, on a server, and writes the line of each
-//! event. It cannot listen yet.
+//! event. Else it listens at an address, and serves the connections that are opened to it.
 #![tactic(auto)]
 
 ghost use Rattle.std.specs.Prelude.{◌≡◌, IfSome};
 
+mod listening;
 mod script;
 
 use coap_client::{Mode, ServerPlan, WordsFault, server_words};
-use coap_serve::{Config, IoFault, ReadSource, Starts, WriteOutlet, serve_one};
+use coap_serve::{Config, ReadSource, Starts, WriteOutlet, serve_one};
 use std::alloc::{AllocError, Global};
 use std::env::Args;
+use std::fmt::Display;
 use std::io::ErrorKind;
+use std::net::{Net, SocketAddr};
 use std::process::ExitCode;
 use std::rt::{Env, Files};
-use std::{env, io};
+use std::{env, io, time};
 
 /// The status of a run that ended of itself.
 pub(crate) const ENDED: u8 = 0;
+
+/// The status for help and the version.
+const SHOWN: u8 = 0;
 
 /// The status for words that are not understood.
 pub(crate) const USAGE: u8 = 1;
@@ -31,20 +37,24 @@ pub(crate) const FAULT: u8 = 3;
 const REP_MAX: usize = 65_000;
 
 /// Writes the program's line for what went wrong to standard error, and answers the status.
-pub(crate) fn tell(rt: &impl Eprint, what: &str, status: u8) -> u8 {
+pub(crate) fn tell(rt: &impl Eprint, what: impl Display + Drop, status: u8) -> u8
+    ensures { result ≡ status }
+{
     let _ = eprintln!(rt; "coap-server: {what}");
     status
 }
 
-/// The configuration of a plan, with counts that begin at 0.
-fn config_of(plan: &ServerPlan) -> Option<Config>
-    ensures { IfSome result (λ config. config.starts.ids ≡ 0) }
+/// Counts that begin at 0.
+const FROM_ZERO: Starts = Starts {
+    moment: 0,
+    versions: 0,
+    ids: 0,
+};
+
+/// The configuration of a plan, with counts that begin where it is told.
+pub(crate) fn config_of(plan: &ServerPlan, starts: Starts) -> Option<Config>
+    ensures { IfSome result (λ config. (config.starts.moment ≡ starts.moment) × (config.starts.versions ≡ starts.versions) × (config.starts.ids ≡ starts.ids)) }
 {
-    let starts = Starts {
-        moment: 0,
-        versions: 0,
-        ids: 0,
-    };
     Config::new(
         plan.limits,
         plan.connections,
@@ -64,22 +74,24 @@ fn serve(rt: &(impl Input + Print + Eprint + AllocGlobal), config: &Config) -> u
     let mut output = WriteOutlet::new(io::writer(rt));
     match serve_one(rt.alloc(), &mut input, &mut output, config) {
         Ok(_) => ENDED,
-        Err(IoFault::Read) => tell(rt, "cannot read", FAULT),
-        Err(IoFault::Write) => tell(rt, "cannot write", FAULT),
-        Err(IoFault::Memory) => tell(rt, "no memory", FAULT),
-        Err(IoFault::Turns) => tell(rt, "too many turns", FAULT),
+        Err(fault) => tell(rt, fault, FAULT),
     }
 }
 
 /// Does what a plan says, and answers the status.
-fn run(rt: &(impl Input + Print + Eprint + Files + AllocGlobal), plan: &ServerPlan) -> u8 {
-    let Some(config) = config_of(plan) else {
+fn run(
+    rt: &(impl Input + Print + Eprint + Files + Net + time::Clock + AllocGlobal),
+    plan: &ServerPlan,
+) -> u8 {
+    if let Mode::Listen(address, port) = &plan.mode {
+        return listening::run(rt, SocketAddr::new(*address, *port), plan);
+    }
+    let Some(config) = config_of(plan, FROM_ZERO) else {
         return tell(rt, "a limit is out of its range", USAGE);
     };
     match &plan.mode {
-        Mode::Listen(_, _) => tell(rt, "cannot listen", FAULT),
-        Mode::Stdio => serve(rt, &config),
         Mode::Script(name) => script::run(rt, name.as_str(), &config),
+        _ => serve(rt, &config),
     }
 }
 
@@ -104,8 +116,15 @@ fn plan_of(alloc: Global, words: Args) -> Result<ServerPlan, WordsFault> {
     server_words(alloc, &words)
 }
 
-/// Tells why words are refused, and answers the status. What `clap` says of them has lines of its own.
-fn refuse(rt: &impl Eprint, fault: &WordsFault) -> u8 {
+/// Writes help or the version, where the words ask for it, to standard output, and answers the status. Else it tells why words
+/// are refused; what `clap` says of them has lines of its own.
+fn refuse(rt: &(impl Print + Eprint), fault: &WordsFault) -> u8 {
+    if fault.is_help_or_version() {
+        return match print!(rt; "{fault}") {
+            Ok(()) => SHOWN,
+            Err(_) => tell(rt, "cannot write", FAULT),
+        };
+    }
     match fault {
         WordsFault::Usage(text) => {
             let _ = eprint!(rt; "{text}");
@@ -120,7 +139,7 @@ fn refuse(rt: &impl Eprint, fault: &WordsFault) -> u8 {
 }
 
 /// Does what the program's words say, and answers the status. Words that are not UTF-8 are not understood.
-fn start(rt: &(impl Input + Print + Eprint + Env + Files + AllocGlobal)) -> u8 {
+fn start(rt: &(impl Input + Print + Eprint + Env + Files + Net + time::Clock + AllocGlobal)) -> u8 {
     match env::args(rt) {
         Ok(words) => match plan_of(rt.alloc(), words) {
             Ok(plan) => run(rt, &plan),

@@ -1,0 +1,52 @@
+//! Listens, and serves what connects.
+
+ghost use Rattle.std.specs.Prelude.{◌≡◌, ◌*◌, ◌-◌, ◌^◌, min};
+
+use crate::{FAULT, USAGE, config_of, tell};
+use coap_client::ServerPlan;
+use coap_serve::{Clock, Starts, serve_door};
+use coap_sockets::{SocketDoor, SystemClock};
+use std::fmt::Display;
+use std::net::{Net, SocketAddr};
+use std::time;
+
+/// How many versions a second has, so that a server that starts again gives none that it gave before.
+const VERSIONS_A_SECOND: u64 = 65_536;
+
+/// Where the counts of a server begin that starts at a moment.
+fn starts_at(moment: u64) -> Starts
+    ensures moment { result.moment ≡ moment }
+    ensures versions { result.versions ≡ min (moment * 65_536) (2 ^ 64 - 1) }
+    ensures ids { result.ids ≡ 0 }
+{
+    Starts {
+        moment,
+        versions: moment.saturating_mul(VERSIONS_A_SECOND),
+        ids: 0,
+    }
+}
+
+/// Listens at an address, says so in one line of standard error, and serves what connects. It answers the status, with which it ends only where it cannot
+/// listen, memory was refused or the turns are used up.
+pub(crate) fn run(
+    rt: &(impl Eprint + Net + time::Clock + AllocGlobal),
+    address: SocketAddr,
+    plan: &ServerPlan,
+) -> u8 {
+    let mut clock = SystemClock::new(rt);
+    let Some(config) = config_of(plan, starts_at(clock.now())) else {
+        return tell(rt, "a limit is out of its range", USAGE);
+    };
+    let mut door = match SocketDoor::listen(rt, rt.alloc(), address, config.connections()) {
+        Ok(door) => door,
+        Err(fault) => return tell(rt, fault, FAULT),
+    };
+    let _ = eprintln!(rt;
+        "coap-server: listening on {}",
+        door.address().unwrap_or(address)
+    );
+    match serve_door(rt.alloc(), &mut door, &mut clock, config) {
+        Ok(()) => unreachable!(),
+        Err(fault) => tell(rt, fault, FAULT),
+    }
+}

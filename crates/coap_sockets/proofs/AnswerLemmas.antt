@@ -1,0 +1,47 @@
+-- What kinds of errors come to, and that what a call passes on is within its room.
+use Rattle.std.proofs.Common.{◌≡◌, ◌≢◌, ℕ, zero, suc, ◌≤◌, Bool, true, false, List, length, refl, arith}
+use Rattle.std.specs.Prelude.{Result, Ok, Err}
+use Rattle.std.specs.Io.{ReadsAtMost, WritesAtMost}
+use Rattle.std.specs.declared.io.Error.{Error}
+use Rattle.std.specs.declared.io.ErrorKind.{ErrorKind}
+use Rattle.std.specs.declared.io.ErrorKind.TheVariants.{WouldBlock, Interrupted, ConnectionAborted}
+use Rattle.std.specs.IoError.{error_kind}
+use Rattle.coap_serve.specs.declared.wire.Got.{Got}
+use Rattle.coap_serve.specs.declared.wire.Got.TheVariants.{Failed}
+use Rattle.coap_serve.specs.streams.Wires.{IsWithin}
+use Rattle.coap_sockets.specs.declared.answers.Refused.TheVariants.{Full}
+use Rattle.coap_sockets.specs.Answers.{is_would_block, fault_got, accept_fault, read_got, write_got}
+
+pub another_is_no_would_block : (k : ErrorKind) → k ≢ WouldBlock → false ≡ is_would_block k
+unfolding is_would_block
+another_is_no_would_block WouldBlock not = absurd (not refl)
+another_is_no_would_block _ not = refl
+
+pub another_is_a_failure : (k : ErrorKind) → k ≢ WouldBlock → k ≢ Interrupted → Failed ≡ fault_got k
+unfolding fault_got
+another_is_a_failure WouldBlock not_1 not_2 = absurd (not_1 refl)
+another_is_a_failure Interrupted not_1 not_2 = absurd (not_2 refl)
+another_is_a_failure _ not_1 not_2 = refl
+
+pub another_is_full : (k : ErrorKind) → k ≢ WouldBlock → k ≢ Interrupted → k ≢ ConnectionAborted → Full ≡ accept_fault k
+unfolding accept_fault
+another_is_full WouldBlock not_1 not_2 not_3 = absurd (not_1 refl)
+another_is_full Interrupted not_1 not_2 not_3 = absurd (not_2 refl)
+another_is_full ConnectionAborted not_1 not_2 not_3 = absurd (not_3 refl)
+another_is_full _ not_1 not_2 not_3 = refl
+
+fault_is_within : (room : ℕ) (k : ErrorKind) → IsWithin room (fault_got k)
+unfolding fault_got
+fault_is_within room WouldBlock = tt
+fault_is_within room Interrupted = tt
+fault_is_within room _ = tt
+
+pub read_is_within : (buffer : List ℕ) (answer : Result ℕ Error) → ReadsAtMost answer buffer → IsWithin (length buffer) (read_got answer)
+read_is_within buffer (Ok zero) most = tt
+read_is_within buffer (Ok (suc n)) most = (omega arith, most.0)
+read_is_within buffer (Err e) most = fault_is_within (length buffer) (error_kind e)
+
+pub write_is_within : (bytes : List ℕ) (answer : Result ℕ Error) → WritesAtMost answer bytes → IsWithin (length bytes) (write_got answer)
+write_is_within bytes (Ok zero) most = tt
+write_is_within bytes (Ok (suc n)) most = (omega arith, most)
+write_is_within bytes (Err e) most = fault_is_within (length bytes) (error_kind e)

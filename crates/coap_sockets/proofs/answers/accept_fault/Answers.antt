@@ -1,0 +1,21 @@
+use Rattle.std.proofs.Common.{rules, ◌≡◌, ap, sym, ◌∙◌}
+use Rattle.std.specs.IoError.{error_kind}
+use Rattle.coap_sockets.specs.Answers as spec
+use Rattle.coap_sockets.proofs.AnswerLemmas.{another_is_full}
+use Rattle.coap_sockets.proofs.answers.accept_fault.Goals as goal
+
+pub returns-in-WouldBlock : goal.returns-in-WouldBlock
+unfolding spec.accept_fault
+returns-in-WouldBlock c = ap spec.accept_fault (sym c.in-WouldBlock.is ∙ c.kind.ensures)
+
+pub returns-in-Interrupted : goal.returns-in-Interrupted
+unfolding spec.accept_fault
+returns-in-Interrupted c = ap spec.accept_fault (sym c.in-Interrupted.is ∙ c.kind.ensures)
+
+pub returns-in-ConnectionAborted : goal.returns-in-ConnectionAborted
+unfolding spec.accept_fault
+returns-in-ConnectionAborted c = ap spec.accept_fault (sym c.in-ConnectionAborted.is ∙ c.kind.ensures)
+
+pub returns-in_default : goal.returns-in_default
+returns-in_default c =
+    another_is_full _ (λ is. c.in_default.not-WouldBlock (c.kind.ensures ∙ is)) (λ is. c.in_default.not-Interrupted (c.kind.ensures ∙ is)) (λ is. c.in_default.not-ConnectionAborted (c.kind.ensures ∙ is))

@@ -1,0 +1,8 @@
+use Rattle.std.proofs.Common.{rules, length, subst, sym}
+use Rattle.coap_serve.specs.streams.Wires.{IsWithin}
+use Rattle.coap_sockets.proofs.AnswerLemmas.{read_is_within}
+use Rattle.coap_sockets.proofs.readiness.Readiness.read.Goals as goal
+
+pub returns-clause-within : goal.returns-clause-within
+returns-clause-within g c =
+    subst (IsWithin (length c.read-answer.new.buf)) (sym c.read_got.ensures) (read_is_within _ _ c.read-answer.ensures.bound)

@@ -1,0 +1,8 @@
+use Rattle.std.proofs.Common.{rules, length, subst, sym}
+use Rattle.coap_serve.specs.streams.Wires.{IsWithin}
+use Rattle.coap_sockets.proofs.AnswerLemmas.{write_is_within}
+use Rattle.coap_sockets.proofs.readiness.Readiness.write.Goals as goal
+
+pub returns-clause-within : goal.returns-clause-within
+returns-clause-within g c =
+    subst (IsWithin (length c.args.bytes.now)) (sym c.write_got.ensures) (write_is_within _ _ c.write-answer.ensures.bound)

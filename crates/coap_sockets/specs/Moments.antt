@@ -1,0 +1,23 @@
+-- How long there is to wait, in nanoseconds.
+use Rattle.std.specs.Prelude.{ℕ, ◌+◌, ◌-◌, ◌*◌, ◌/◌, ◌%◌, min, Option, Some, None}
+
+-- a second
+abbrev pub second : ℕ
+second = 1_000_000_000
+
+-- until a moment in seconds begins; nothing where it has begun
+abbrev pub left_until : (moment now : ℕ) → ℕ
+left_until moment now = moment * second - now
+
+-- of a time that began at a moment, what is left at another one
+abbrev pub left_of : (time began now : ℕ) → ℕ
+left_of time began now = time - (now - began)
+
+-- until the next second begins
+abbrev pub to_next_second : ℕ → ℕ
+to_next_second now = second - now % second
+
+-- the shorter of two times, of which none is endless
+abbrev pub at_most : (limit : ℕ) → Option ℕ → ℕ
+at_most limit None = limit
+at_most limit (Some time) = min time limit

@@ -1,0 +1,48 @@
+-- What is known of a socket without asking the system.
+use Rattle.std.specs.Prelude.{ℕ, ◌==◌, ◌<◌, nat_lt, Bool, true, false, not, ◌&&◌, ◌||◌, Result, Ok, Err}
+use Rattle.std.specs.IoError.{error_kind}
+use Rattle.std.specs.declared.io.Error.{Error}
+use Rattle.mio.specs.declared.event.event.Event.{Event}
+use Rattle.mio.specs.Event.{is_readable, is_writable, is_error, is_read_closed, is_write_closed}
+use Rattle.coap_serve.specs.declared.wire.Got.{Got}
+use Rattle.coap_serve.specs.declared.wire.Got.TheVariants.{Bytes, Later, End, Failed}
+use Rattle.coap_sockets.specs.Answers.{is_would_block}
+use Rattle.coap_sockets.specs.declared.readiness.Readiness.{Readiness}
+
+-- of a socket that nothing is known of, both are to be tried
+abbrev pub unknown : Readiness
+unknown = record { readable = true; writable = true; at_end = false }
+
+-- after an event: what failed, and what the peer has closed, is found by the next read and the next write
+abbrev pub woken : Readiness → Event → Readiness
+woken r e =
+    let failed = is_error e || is_read_closed e in
+    record {
+      readable = r.readable || is_readable e || failed;
+      writable = r.writable || is_writable e || is_write_closed e || is_error e;
+      at_end = r.at_end || failed;
+    }
+
+-- After a read with so much room another may give something: not where nothing was there, nor where fewer bytes came than there was room for,
+-- which is all that was there, but where the end stands behind them.
+abbrev pub stays_readable : (at_end : Bool) (room : ℕ) → Result ℕ Error → Bool
+stays_readable at_end room (Ok count) = (count == 0) || not (nat_lt count room) || at_end
+stays_readable at_end room (Err e) = not (is_would_block (error_kind e))
+
+abbrev pub read_with : Readiness → ℕ → Result ℕ Error → Readiness
+read_with r room answer = record { readable = stays_readable r.at_end room answer; writable = r.writable; at_end = r.at_end }
+
+-- After a write of so many bytes another may take some: not where none was taken for want of room, nor where fewer were taken.
+abbrev pub stays_writable : ℕ → Result ℕ Error → Bool
+stays_writable offered (Ok count) = (count == 0) || not (nat_lt count offered)
+stays_writable offered (Err e) = not (is_would_block (error_kind e))
+
+abbrev pub written_with : Readiness → ℕ → Result ℕ Error → Readiness
+written_with r offered answer = record { readable = r.readable; writable = stays_writable offered answer; at_end = r.at_end }
+
+-- a write of so many bytes that came to this left some, for want of room
+abbrev pub is_blocked_by : ℕ → Got → Bool
+is_blocked_by offered (Bytes n) = nat_lt n offered
+is_blocked_by offered Later = true
+is_blocked_by offered End = false
+is_blocked_by offered Failed = false

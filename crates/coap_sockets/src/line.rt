@@ -1,0 +1,224 @@
+//! A client's wire over TCP, which waits.
+
+ghost use Rattle.std.specs.Prelude.{◌≡◌};
+ghost use Rattle.coap_sockets.specs.Ready.{is_blocked_by};
+
+use crate::answers::{read_got, write_got};
+use crate::clock::RunClock;
+use coap_serve::{Got, Wire};
+use mio::net::TcpStream;
+use mio::{Events, Interest, Poll, Token};
+use std::alloc::{AllocError, Global};
+use std::io::{Read, Write};
+use std::net::{Net, SocketAddr, ToSocketAddrs};
+use std::time::Duration;
+use std::{io, time};
+use thiserror::Error;
+
+/// Why there is no connection. The discriminants are the faults' numbers.
+#[derive(Clone, Copy, Debug, PartialEq, Eq, Error)]
+pub enum ConnectFault {
+    /// The host has no address that answers in time.
+    #[error("cannot connect")]
+    Socket = 1,
+    /// Memory was refused.
+    #[error("no memory")]
+    Memory = 2,
+}
+
+impl From<io::Error> for ConnectFault {
+    ghost use Rattle.std.specs.Prelude.{◌≡◌};
+    ghost use Rattle.coap_sockets.specs.declared.line.ConnectFault.TheVariants as fault;
+
+    ghost from_gives = { λ error given. given ≡ fault.Socket };
+
+    fn from(_error: io::Error) -> ConnectFault {
+        ConnectFault::Socket
+    }
+}
+
+impl From<AllocError> for ConnectFault {
+    ghost use Rattle.std.specs.Prelude.{◌≡◌};
+    ghost use Rattle.coap_sockets.specs.declared.line.ConnectFault.TheVariants as fault;
+
+    ghost from_gives = { λ error given. given ≡ fault.Memory };
+
+    fn from(_error: AllocError) -> ConnectFault {
+        ConnectFault::Memory
+    }
+}
+
+/// The token of the one socket.
+const LINE: Token = Token(0);
+
+/// What connects: tries one address after the other, within a time for all of them together.
+#[derive(Drop)]
+struct Dialer<'a, R> {
+    rt: &'a R,
+    poll: Poll,
+    events: Events,
+    clock: RunClock<'a, R>,
+    limit: Duration,
+}
+
+impl<'a, R: Net + time::Clock> Dialer<'a, R> {
+    /// The connection to an address, where it comes about in time.
+    fn dial(&mut self, address: SocketAddr) -> Option<TcpStream> {
+        let mut stream = TcpStream::connect(self.rt, address).ok()?;
+        self.poll
+            .registry()
+            .register(&mut stream, LINE, Interest::WRITABLE)
+            .ok()?;
+        if !self.comes_about() || stream.take_error().ok()?.is_some() {
+            return None;
+        }
+        stream.peer_addr().ok()?;
+        stream.set_nodelay(true).ok()?;
+        Some(stream)
+    }
+
+    /// Waits until something has become of the connection, and answers whether it has in time.
+    fn comes_about(&mut self) -> bool {
+        for _ in 0..u64::MAX {
+            let left = self.limit.saturating_sub(self.clock.passed());
+            if self.poll.poll(&mut self.events, Some(left)).is_err() {
+                return false;
+            }
+            if !self.events.is_empty() {
+                return true;
+            }
+            if left.is_zero() {
+                return false;
+            }
+        }
+        false
+    }
+
+    /// The wire of a connection, whose run begins now.
+    fn line(self, stream: TcpStream) -> Line<'a, R> {
+        Line {
+            stream,
+            poll: self.poll,
+            events: self.events,
+            clock: RunClock::start(self.rt),
+            is_blocked: true,
+            has_ticked: false,
+        }
+    }
+}
+
+/// The wire of a client. A read with nothing there waits, until the next second of the run begins at the most, and a write never does.
+#[derive(Drop)]
+pub struct Line<'a, R> {
+    stream: TcpStream,
+    poll: Poll,
+    events: Events,
+    clock: RunClock<'a, R>,
+    /// Whether bytes may wait to be written: at first, and where the last write did not take all.
+    is_blocked: bool,
+    /// Whether the last wait ended as a second of the run began. The run looks at that moment before it waits again.
+    has_ticked: bool,
+}
+
+impl<'a, R: Net + time::Clock> Line<'a, R> {
+    /// Connects to a host, which is a name, or an address without brackets: tries each address of it in turn, for so many seconds in all. Looking up
+    /// a name takes as long as the system takes for it.
+    ///
+    /// # Errors
+    ///
+    /// `Socket` where none of the addresses answers in time, `Memory` where memory is refused.
+    pub fn connect(
+        rt: &'a R,
+        alloc: Global,
+        host: &str,
+        port: u16,
+        seconds: u32,
+    ) -> Result<Line<'a, R>, ConnectFault> {
+        let mut dialer = Dialer {
+            rt,
+            poll: Poll::new(rt)?,
+            events: Events::with_capacity(alloc, 1)?,
+            clock: RunClock::start(rt),
+            limit: Duration::from_secs(u64::from(seconds)),
+        };
+        for address in (host, port).to_socket_addrs(rt)? {
+            if let Some(stream) = dialer.dial(address) {
+                return Ok(dialer.line(stream));
+            }
+        }
+        Err(ConnectFault::Socket)
+    }
+
+    /// The clock of the run, which began as the connection came about.
+    pub fn clock(&self) -> RunClock<'a, R> {
+        self.clock.again()
+    }
+
+    /// Waits until bytes are there to be read, or until bytes that wait can be written, or until the next second of the run begins.
+    fn wait(&mut self) {
+        let interest = if self.is_blocked {
+            Interest::READABLE | Interest::WRITABLE
+        } else {
+            Interest::READABLE
+        };
+        // To register it once more has the system tell again what is ready. Where that fails, the wait ends with the second.
+        let _ = self
+            .poll
+            .registry()
+            .reregister(&mut self.stream, LINE, interest);
+        let time = self.clock.to_next_second();
+        let is_told = self.poll.poll(&mut self.events, Some(time)).is_ok();
+        if is_told && self.events.iter().any(|event| event.is_writable()) {
+            self.is_blocked = false;
+        }
+        self.has_ticked = self.events.is_empty();
+    }
+}
+
+/// Whether a write of so many bytes left some, for want of room.
+fn is_blocked_by(offered: usize, got: Got) -> bool
+    ensures { result ≡ is_blocked_by offered got }
+{
+    match got {
+        Got::Bytes(count) => count < offered,
+        Got::Later => true,
+        Got::End => false,
+        Got::Failed => false,
+    }
+}
+
+impl<'a, R: Net + time::Clock> Wire for Line<'a, R> {
+    ghost use Rattle.std.specs.Prelude.{◌≡◌, None, [], length};
+    ghost use Rattle.coap_serve.specs.streams.Device.{AddsBytes};
+    ghost use Rattle.coap_serve.specs.streams.Wires.{IsWithin, bytes_passed};
+    ghost use Rattle.coap_sockets.specs.Ready.{is_blocked_by};
+
+    // A socket tells nothing of what it passed on.
+    ghost given = { λ _. None };
+
+    ghost written = { λ _. None };
+
+    fn read(&mut self, buffer: &mut [u8]) -> Got {
+        let got = read_got(self.stream.read(buffer));
+        if got != Got::Later {
+            return got;
+        }
+        if self.has_ticked {
+            self.has_ticked = false;
+            return Got::Later;
+        }
+        self.wait();
+        read_got(self.stream.read(buffer))
+    }
+
+    fn write(&mut self, bytes: &[u8]) -> Got
+        ensures within { IsWithin (length bytes.now) result }
+        ensures wrote { AddsBytes None None (bytes_passed bytes.now result) }
+        ensures gave { AddsBytes None None [] }
+        ensures blocked { self.new.is_blocked ≡ is_blocked_by (length bytes.now) result }
+    {
+        let got = write_got(self.stream.write(bytes));
+        self.is_blocked = is_blocked_by(bytes.len(), got);
+        got
+    }
+}

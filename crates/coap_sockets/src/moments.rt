@@ -1,0 +1,45 @@
+//! How long there is to wait.
+
+ghost use Rattle.std.specs.Prelude.{◌≡◌, option_map};
+ghost use Rattle.std.specs.Duration.{as_nanos};
+ghost use Rattle.coap_sockets.specs.Moments as spec;
+
+use std::time::Duration;
+
+/// A second.
+pub(crate) fn second() -> Duration
+    ensures { as_nanos result ≡ spec.second }
+{
+    Duration::from_secs(1)
+}
+
+/// How long it is until a moment in seconds begins: nothing where it has begun.
+pub(crate) fn left_until(moment: u64, now: Duration) -> Duration
+    ensures { as_nanos result ≡ spec.left_until moment (as_nanos now) }
+{
+    Duration::from_secs(moment).saturating_sub(now)
+}
+
+/// What is left of a time that began at a moment.
+pub(crate) fn left_of(time: Duration, began: Duration, now: Duration) -> Duration
+    ensures { as_nanos result ≡ spec.left_of (as_nanos time) (as_nanos began) (as_nanos now) }
+{
+    time.saturating_sub(now.saturating_sub(began))
+}
+
+/// How long it is until the next second begins.
+pub(crate) fn to_next_second(now: Duration) -> Duration
+    ensures { as_nanos result ≡ spec.to_next_second (as_nanos now) }
+{
+    second().saturating_sub(Duration::from_nanos(u64::from(now.subsec_nanos())))
+}
+
+/// A time, but at most this one; `None` is a time without end.
+pub(crate) fn at_most(limit: Duration, time: Option<Duration>) -> Duration
+    ensures { as_nanos result ≡ spec.at_most (as_nanos limit) (option_map as_nanos time) }
+{
+    match time {
+        Some(time) => time.min(limit),
+        None => limit,
+    }
+}

@@ -1,0 +1,105 @@
+//! What is known of a socket without asking the system.
+
+ghost use Rattle.std.specs.Prelude.{◌≡◌, false, length};
+ghost use Rattle.coap_serve.specs.streams.Wires.{IsWithin};
+ghost use Rattle.coap_serve.specs.declared.wire.Got.TheVariants.{Later};
+ghost use Rattle.coap_sockets.specs.Ready as spec;
+
+use crate::answers::{is_would_block, read_got, write_got};
+use coap_serve::Got;
+use mio::event::Event;
+use std::io;
+use std::io::{Read, Write};
+
+/// What is known of a socket without asking the system.
+///
+/// The system tells of changes alone. So what it told holds until a call finds that the socket has nothing to give, or no room to take; and
+/// a call that passed on fewer bytes than it was asked for has found the same.
+#[derive(Clone, Copy, Debug, PartialEq, Eq)]
+pub struct Readiness {
+    /// Whether a read may come to something else than that nothing is there.
+    pub readable: bool,
+    /// Whether a write may come to something else than that there is no room.
+    pub writable: bool,
+    /// Whether the peer sends no more, or the socket has failed: then a read finds that, behind the bytes that are there.
+    pub at_end: bool,
+}
+
+impl Readiness {
+    /// That of a socket that nothing is known of: a read and a write are to be tried.
+    pub(crate) fn unknown() -> Readiness
+        ensures { result ≡ spec.unknown }
+    {
+        Readiness {
+            readable: true,
+            writable: true,
+            at_end: false,
+        }
+    }
+
+    /// That after an event of the system.
+    pub(crate) fn woken(self, event: &Event) -> Readiness
+        ensures { result ≡ spec.woken self event.now }
+    {
+        let failed = event.is_error() || event.is_read_closed();
+        Readiness {
+            readable: self.readable || event.is_readable() || failed,
+            writable: self.writable
+                || event.is_writable()
+                || event.is_write_closed()
+                || event.is_error(),
+            at_end: self.at_end || failed,
+        }
+    }
+
+    /// That after a read with so much room.
+    fn read_with(self, room: usize, answer: io::Result<usize>) -> Readiness
+        ensures { result ≡ spec.read_with self room answer }
+    {
+        let readable = match answer {
+            Ok(count) => count == 0 || !(count < room) || self.at_end,
+            Err(error) => !is_would_block(error),
+        };
+        Readiness { readable, ..self }
+    }
+
+    /// That after a write of so many bytes.
+    fn written_with(self, offered: usize, answer: io::Result<usize>) -> Readiness
+        ensures { result ≡ spec.written_with self offered answer }
+    {
+        let writable = match answer {
+            Ok(count) => count == 0 || !(count < offered),
+            Err(error) => !is_would_block(error),
+        };
+        Readiness { writable, ..self }
+    }
+
+    /// Reads once, where a read may come to something, and keeps what was learnt of the socket.
+    pub(crate) fn read<S: Read>(&mut self, stream: &mut S, buffer: &mut [u8]) -> Got
+        ensures within { IsWithin (length buffer.new) result }
+        // The system is not asked where nothing can come of it.
+        ensures idle { self.old.readable ≡ false → (stream.new ≡ stream.old) × (self.new ≡ self.old) × (result ≡ Later) }
+    {
+        if !self.readable {
+            return Got::Later;
+        }
+        let room = buffer.len();
+        let answer = stream.read(buffer);
+        *self = self.read_with(room, answer);
+        read_got(answer)
+    }
+
+    /// Writes once, where a write may come to something, and keeps what was learnt of the socket.
+    pub(crate) fn write<S: Write>(&mut self, stream: &mut S, bytes: &[u8]) -> Got
+        ensures within { IsWithin (length bytes.now) result }
+        // The system is not asked where nothing can come of it.
+        ensures idle { self.old.writable ≡ false → (stream.new ≡ stream.old) × (self.new ≡ self.old) × (result ≡ Later) }
+    {
+        if !self.writable {
+            return Got::Later;
+        }
+        let answer = stream.write(bytes);
+        *self = self.written_with(bytes.len(), answer);
+        write_got(answer)
+    }
+}
