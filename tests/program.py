@@ -4,6 +4,7 @@
 """
 
 import os
+import re
 import subprocess
 import sys
 import tempfile
@@ -135,6 +136,7 @@ BAD_SCRIPTS = [
 SERVER_WORDS = [
     (["--stdio", "--stdio"], 1, None), (["--script"], 1, None), (["--stdio=1"], 1, None), (["-"], 1, None), (["stdio"], 1, None), ([""], 1, None),
     (["--script", "-", "-"], 1, None), (["-", "--script"], 1, None), (["-x"], 1, None), (["--stdio", "--Queue", "70000"], 1, None), (["-d"], 1, None),
+    (["x", "--help"], 1, None), (["--help=x"], 1, None), (["-x", "-V"], 1, None),
     (["--script", "-", "--stdio"], 1, "options exclude each other"), (["--stdio", "--script", "-"], 1, "options exclude each other"),
     (["-A", "localhost", "--stdio"], 1, "bad value for -A"), (["-A", "1.2.3", "--stdio"], 1, "bad value for -A"), (["-A", "::1::"], 1, "bad value for -A"),
     (["-p", "0"], 1, "bad value for -p"), (["-p", "65536"], 1, "bad value for -p"), (["-p", "+1"], 1, "bad value for -p"), (["-p", ""], 1, "bad value for -p"),
@@ -148,13 +150,16 @@ SERVER_WORDS = [
     (["--turns", "0"], 1, "bad value for --turns"), (["--turns", "1000000000001"], 1, "bad value for --turns"),
     (["--turns", "0", "-p", "0", "--script", "-", "--stdio"], 1, "bad value for -p"),
     (["--queue", "1000", "--stdio"], 1, "bad value for --queue"),
-    ([], 3, "cannot listen"), (["-A", "::1", "-p", "0005683"], 3, "cannot listen"), (["-A", "127.0.0.1", "--turns", "1"], 3, "cannot listen"),
+    # addresses for documentation, which no machine has
+    (["-A", "192.0.2.1"], 3, "cannot listen"), (["-A", "2001:db8::1", "-p", "0005683"], 3, "cannot listen"),
+    (["-A", "192.0.2.1", "-p", "1", "--turns", "1"], 3, "cannot listen"),
 ]
 
 CLIENT_WORDS = [
     (["x"], 1, "bad target 1"), (["coap://h/"], 1, "bad target 2"), (["coap+tcp:///"], 1, "bad target 3"), (["coap+tcp://u@h/"], 1, "bad target 4"),
     (["coap+tcp://h/#f"], 1, "bad target 5"), (["coap+tcp://h/" + "a" * 256], 1, "bad target 6"), (["coap+tcp://h" + "/a" * 17], 1, "bad target 7"),
     ([], 1, None), (["coap+tcp://h/", "coap+tcp://h/"], 1, None), (["-x", "coap+tcp://h/"], 1, None), (["-O", "1,a", "-O", "2,b", "coap+tcp://h/"], 1, None),
+    (["-x", "--help"], 1, None), (["coap+tcp://h/", "coap+tcp://h/", "-V"], 1, None), (["--version=x"], 1, None),
     (["-m", "GET", "coap+tcp://h/"], 1, "bad value for -m"), (["-B", "0", "coap+tcp://h/"], 1, "bad value for -B"),
     (["-B", "4294967296", "coap+tcp://h/"], 1, "bad value for -B"), (["-s", "4294967296", "coap+tcp://h/"], 1, "bad value for -s"),
     (["-t", "65536", "coap+tcp://h/"], 1, "bad value for -t"), (["-A", "json", "coap+tcp://h/"], 1, "bad value for -A"),
@@ -163,9 +168,24 @@ CLIENT_WORDS = [
     (["-s", "1", "-m", "put", "coap+tcp://h/"], 1, "options exclude each other"), (["-e", "x", "-f", "y", "coap+tcp://h/"], 1, "options exclude each other"),
     (["-e", "x", "-f", "y", "-B", "0", "coap+tcp://h/"], 1, "bad value for -B"), (["-B", "0", "coap://h/"], 1, "bad target 2"),
     (["-f", "/nothing/here", "-m", "put", "coap+tcp://h/"], 3, "cannot open /nothing/here"), (["-f", "/", "coap+tcp://h/"], 3, "cannot read"),
-    (["-o", "/nothing/here", "coap+tcp://h/"], 3, "cannot open /nothing/here"), (["-f", "/dev/zero", "coap+tcp://h/"], 1, "bad value for -f"),
-    (["coap+tcp://127.0.0.1/"], 3, "cannot connect"), (["-f", "-", "-m", "put", "-t", "application/cbor", "coap+tcp://[::1]/a"], 3, "cannot connect"),
+    (["-f", "/dev/zero", "coap+tcp://h/"], 1, "bad value for -f"), (["-o", "/nothing/here", "coap+tcp://127.0.0.1:1/"], 3, "cannot connect"),
+    (["coap+tcp://127.0.0.1:1/"], 3, "cannot connect"), (["-f", "-", "-m", "put", "-t", "application/cbor", "coap+tcp://[::1]:1/a"], 3, "cannot connect"),
+    # names that no host has
+    (["coap+tcp://%ff/"], 3, "cannot connect"), (["coap+tcp://a%00b/"], 3, "cannot connect"),
 ]
+
+# how the help of each program begins, and what it explains, each in one line
+SERVER_HELP = (
+    b"A CoAP server over TCP (RFC 8323)\n\nUsage: coap-server [OPTIONS]\n\nOptions:\n",
+    ["-A <ADDRESS>", "-p <PORT>", "-d <MAX>", "--stdio", "--script <FILE>", "--max-message <N>", "--max-sent <N>", "--queue <N>", "--pending <N>"]
+    + ["--observers <N>", "--connections <N>", "--turns <N>", "-h, --help", "-V, --version"],
+)
+
+CLIENT_HELP = (
+    b"A CoAP client over TCP (RFC 8323)\n\nUsage: coap-client [OPTIONS] <URI>\n\nArguments:\n",
+    ["<URI>", "-m <METHOD>", "-e <TEXT>", "-f <FILE>", "-o <FILE>", "-t <FORMAT>", "-A <FORMAT>", "-s <SECONDS>", "-B <SECONDS>", "-O <NUM,TEXT>"]
+    + ["-U", "-w", "-h, --help", "-V, --version"],
+)
 
 # the words before --stdio, what is sent, and what is answered behind the own Capabilities and Settings
 STDIO_WORDS = [
@@ -221,6 +241,25 @@ def check_words(program, name, rows, checks):
         checks.same("%s %r" % (name, words), (done.returncode, done.stdout, done.stderr), (status, b"", wanted))
 
 
+def check_help(program, name, told, checks):
+    """Help and the version, which go to standard output."""
+    begins, explained = told
+    for words in [["--help"], ["-h"], ["--help", "x", "-x"]]:
+        done = run(program, words)
+        checks.same("%s %r" % (name, words), (done.returncode, done.stdout[: len(begins)], done.stderr), (0, begins, b""))
+        lines = done.stdout.decode().splitlines()
+        for option in explained:
+            found = [it for it in lines if re.match(r" +%s  +\S" % re.escape(option), it)]
+            checks.same("%s explains %s" % (name, option), len(found), 1)
+    for words in [["--version"], ["-V"], ["-V", "--help"]]:
+        done = run(program, words)
+        checks.same("%s %r" % (name, words), (done.returncode, done.stdout, done.stderr), (0, b"%s 0.1.0\n" % name.encode(), b""))
+    with open("/dev/full", "wb") as full:
+        for words in [["--help"], ["--version"]]:
+            done = run(program, words, stdout=full)
+            checks.same("%s %r into what is full" % (name, words), (done.returncode, done.stderr), (3, b"%s: cannot write\n" % name.encode()))
+
+
 def main(words):
     program = os.path.abspath(words[0])
     checks = Checks()
@@ -231,6 +270,8 @@ def main(words):
     check_scripts(program, checks)
     check_words(program, "coap-server", SERVER_WORDS, checks)
     check_words(os.path.abspath(words[1]), "coap-client", CLIENT_WORDS, checks)
+    check_help(program, "coap-server", SERVER_HELP, checks)
+    check_help(os.path.abspath(words[1]), "coap-client", CLIENT_HELP, checks)
     for said, sent, greeting, answered in STDIO_WORDS:
         done = run(program, said + ["--stdio"], bytes.fromhex(sent))
         checks.same("bytes for %r" % said, (done.returncode, done.stdout.hex()), (0, greeting + answered))
