@@ -1,7 +1,11 @@
 # Proves, builds, runs, tests and measures. Needs Rattle's toolchain (`rt`) and Python 3; `make test` also installs Debian's
-# libcoap3-bin, tshark and valgrind where they are missing, and `make bench` gcc, libc6-dev, libcoap3-bin and valgrind.
+# libcoap3-bin, mandoc, tshark and valgrind where they are missing, and `make bench` gcc, libc6-dev, libcoap3-bin and valgrind.
 
-.PHONY: all run test bench try clean
+.PHONY: all run test bench try install uninstall clean
+
+# Where `make install` puts the programs, their manuals and the unit of systemd; DESTDIR stands before it for what is packed.
+PREFIX ?= /usr/local
+DESTDIR ?=
 
 # Proves every crate and builds the programs.
 all: bin/coap-server bin/coap-client
@@ -26,6 +30,20 @@ bench: bin/coap-server
 # UNPROVED: runs the program on the recorded stream before any proof, for work in progress.
 try:
 	python3 tests/show.py --try
+
+# Installs what `make all` built, and builds nothing, so that it can be run by another user.
+install:
+	@test -x bin/coap-server -a -x bin/coap-client || { echo "Run 'make all' first: bin/ has not both programs." >&2; exit 1; }
+	install -D -m 0755 -t "$(DESTDIR)$(PREFIX)/bin" bin/coap-server bin/coap-client
+	install -D -m 0644 -t "$(DESTDIR)$(PREFIX)/share/man/man1" man/coap-server.1 man/coap-client.1
+	install -D -m 0644 install/coap-server.service.in "$(DESTDIR)$(PREFIX)/lib/systemd/system/coap-server.service"
+	sed -i 's|@PREFIX@|$(PREFIX)|g' "$(DESTDIR)$(PREFIX)/lib/systemd/system/coap-server.service"
+
+# Takes away what `make install` put there, and leaves the folders.
+uninstall:
+	rm -f "$(DESTDIR)$(PREFIX)/bin/coap-server" "$(DESTDIR)$(PREFIX)/bin/coap-client"
+	rm -f "$(DESTDIR)$(PREFIX)/share/man/man1/coap-server.1" "$(DESTDIR)$(PREFIX)/share/man/man1/coap-client.1"
+	rm -f "$(DESTDIR)$(PREFIX)/lib/systemd/system/coap-server.service"
 
 clean:
 	rm -rf bin crates/*/out
