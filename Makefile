@@ -1,5 +1,5 @@
 # Proves, builds, runs, tests and measures. Needs Rattle's toolchain (`rt`) and Python 3; `make test` also installs Debian's
-# libcoap3-bin, mandoc, tshark and valgrind where they are missing, and `make bench` gcc, libc6-dev, libcoap3-bin and valgrind.
+# gcc, libc6-dev, libcoap3-bin, mandoc, tshark and valgrind where they are missing, and `make bench` all of these but mandoc and tshark.
 
 .PHONY: all run test bench try install uninstall clean
 
