@@ -20,7 +20,7 @@ import tempfile
 import time
 
 from packages import install
-from program import CSM, Checks
+from program import ABORTS, CSM, Checks
 
 PACKAGES = {"coap-client-notls": "libcoap3-bin", "coap-server-notls": "libcoap3-bin"}
 
@@ -80,7 +80,7 @@ class Server:
             words = it.read().rpartition(")")[2].split()
         return (int(words[11]) + int(words[12])) / os.sysconf("SC_CLK_TCK")
 
-    def end(self, how=signal.SIGKILL):
+    def end(self, how=signal.SIGTERM):
         self.process.send_signal(how)
         self.process.wait(LIMIT)
         self.process.stderr.close()
@@ -109,6 +109,18 @@ def taken(peer, count):
         while len(got) < count and (piece := peer.recv(count - len(got))):
             got += piece
     return got.hex()
+
+
+def told_until_end(peer):
+    """All bytes of a peer, in hexadecimal, and how it ended."""
+    peer.settimeout(LIMIT)
+    got = b""
+    try:
+        while piece := peer.recv(65536):
+            got += piece
+    except OSError as trouble:
+        return got.hex(), repr(trouble)
+    return got.hex(), "the end"
 
 
 def greeted(peer):
@@ -264,7 +276,7 @@ def check_restart(checks, programs):
     client(programs.client, ["-m", "put", "-e", "x", first.uri("/a")])
     with first.connect() as peer:
         checks.same("before the restart", greeted(peer), True)
-        first.end()
+        first.end(signal.SIGKILL)
         with Server(programs.server, port=first.port) as second:
             checks.same("restart: line", second.said, "coap-server: listening on %s\n" % second.at())
             checks.same("after the restart", client(programs.client, [second.uri()]), (0, b"coap+tcp", b""))
@@ -325,6 +337,10 @@ def check_peers(checks, programs):
             for byte in bytes.fromhex(HELLO):
                 peer.sendall(bytes([byte]))
             checks.same("byte by byte", taken(peer, len(CSM + GREETING) // 2), CSM + GREETING)
+        with server.connect() as peer:
+            # one message of more than is taken: that is told, and then the end, and no reset for the bytes that nobody reads
+            peer.sendall(bytes.fromhex("00e1" "f0ffffffff01") + bytes(40_000))
+            checks.same("too much", told_until_end(peer), (CSM + ABORTS["message too large"], "the end"))
         with server.connect() as peer:
             # pings whose answers nobody reads, until nothing more goes
             peer.sendall(bytes.fromhex("00e1"))

@@ -1,11 +1,12 @@
 //! Serves connections over the wires that a door hands out.
 
-ghost use Rattle.std.specs.Prelude.{◌≡◌, ◌≢◌, ◌<◌, true, false, [], length, ◌&&◌, not, nat_lt, is_none, is_some, map, remove, slice_get, take, if◌then◌else◌, IfSome, IfOk, IfErr, Ok, OnOk, OnErr};
+ghost use Rattle.std.specs.Prelude.{◌≡◌, ◌≢◌, ◌<◌, ◌≤◌, ◌+◌, ◌-◌, ◌^◌, true, false, [], length, ◌&&◌, not, nat_lt, is_none, is_some, map, drop, remove, slice_get, take, if◌then◌else◌, IfSome, IfOk, IfErr, Ok, OnOk, OnErr};
+ghost use Rattle.std.specs.List.{AllByRecursion};
 ghost use Rattle.std.specs.Map.{keys_of};
 ghost use Rattle.coap_serve.specs.script.PartlyFed.{IsPartlyFed};
 ghost use Rattle.coap_serve.specs.script.Replay.{fed};
 ghost use Rattle.coap_serve.specs.streams.Device.{AddsBytes};
-ghost use Rattle.coap_serve.specs.streams.Turns.{IsServed, IsServedOnce, IsLaidOut, is_heard, server_heard, server_wrote, waiting_once, rest_left, is_over_in, has_failed, course_of, wants_in, wants_of, wait_of, MayWait};
+ghost use Rattle.coap_serve.specs.streams.Turns.{IsServed, IsServedOnce, IsLaidOut, is_heard, server_heard, server_wrote, waiting_once, rest_left, is_over_in, has_failed, course_of, wants_in, wants_of, wait_of, end_of, agenda_past, IsAgendaOf, IsAtRest, IsInTurn, MayWait};
 ghost use Rattle.coap_serve.specs.streams.Wires.{IsWithin, IsMemory, IsMemoryOrTurns, bytes_passed};
 ghost use Rattle.coap_serve.specs.values.Dues.{same_stamp, stamp_of};
 ghost use Rattle.coap_serve.specs.values.ServerAnswers.{open_refusal, stop_on};
@@ -37,18 +38,6 @@ struct Wants {
     stamp: Stamp,
 }
 
-impl Wants {
-    ghost use Rattle.std.specs.Prelude.{◌≡◌, ◌&&◌, not};
-    ghost use Rattle.coap_serve.specs.values.Dues.{same_stamp};
-
-    /// Whether nothing is to be done on a server with this stamp, where something can be done at once or not.
-    fn is_at_rest(self, is_ready: bool, stamp: Stamp) -> bool
-        ensures { result ≡ (same_stamp self.stamp stamp && not is_ready) }
-    {
-        self.stamp == stamp && !is_ready
-    }
-}
-
 /// The far end of a connection.
 #[derive(Debug, Drop)]
 struct Peer<W> {
@@ -61,20 +50,65 @@ struct Peer<W> {
 }
 
 impl<W: Ready> Peer<W> {
-    ghost use Rattle.coap_serve.specs.streams.Turns.{CanGoOn};
+    ghost use Rattle.coap_serve.specs.streams.Turns.{IsAsked, CanGoOn, IsRestAnswer, end_of};
+
+    /// Whether its wire is to be read, and may be.
+    fn can_read(&self) -> bool
+        ensures { IsAsked self.now.wants.read (W.readable self.now.wire) result }
+    {
+        self.wants.read && self.wire.may_read()
+    }
+
+    /// Whether its wire is to be written, and may be.
+    fn can_write(&self) -> bool
+        ensures { IsAsked self.now.wants.write (W.writable self.now.wire) result }
+    {
+        self.wants.write && self.wire.may_write()
+    }
 
     /// Whether something that it is to be served for can be done at once.
     fn is_ready(&self) -> bool
-        ensures { CanGoOn self.now.wants result }
+        ensures { CanGoOn (end_of W.readable W.writable self.now) result }
     {
-        self.wants.take
-            || (self.wants.read && self.wire.may_read())
-            || (self.wants.write && self.wire.may_write())
+        self.wants.take || self.can_read() || self.can_write()
+    }
+
+    /// Whether it was served on a server with this stamp, and nothing can be done now.
+    fn is_at_rest(&self, stamp: Stamp) -> bool
+        ensures { IsRestAnswer stamp (end_of W.readable W.writable self.now) result }
+    {
+        self.wants.stamp == stamp && !self.is_ready()
     }
 }
 
 /// The far ends by the numbers of their connections, in order.
 type Peers<W> = IndexMap<u64, Peer<W>>;
+
+/// How far a turn is through the connections.
+#[derive(Clone, Copy, Debug, PartialEq, Eq)]
+struct Seen {
+    /// How many were looked at: the index of the next one.
+    at: usize,
+    /// What these leave to be done.
+    agenda: Agenda,
+}
+
+impl Seen {
+    ghost use Rattle.std.specs.Prelude.{◌≡◌, false, None};
+
+    /// None, at the beginning of a turn.
+    fn none() -> Seen
+        ensures { result ≡ record { at = 0; agenda = record { at_once = false; due = None } } }
+    {
+        Seen {
+            at: 0,
+            agenda: Agenda {
+                at_once: false,
+                due: None,
+            },
+        }
+    }
+}
 
 /// How a connection came out of its part of a turn.
 #[derive(Clone, Copy, Debug, PartialEq, Eq)]
@@ -178,7 +212,7 @@ fn take_turn<D: Door>(
     peers: &mut Peers<D::Wire>,
     door: &mut D,
 ) -> Result<Wait, IoFault>
-    ensures waits { IfOk result (λ wait. MayWait wait (stamp_of server.new.host) (map (λ e. e.1.wants) peers.new.entries)) }
+    ensures waits { IfOk result (λ wait. MayWait wait (stamp_of server.new.host) (map (λ e. end_of D.Wire.readable D.Wire.writable e.1) peers.new.entries)) }
     ensures fault { IfErr result IsMemory }
 {
     accept(alloc, server, peers, door)?;
@@ -232,35 +266,76 @@ fn serve_each<W: Wire + Ready + Drop>(
     peers: &mut Peers<W>,
 ) -> Result<Agenda, IoFault>
     // What is left to be done at once, and when: the door waits only where all were served after the last change.
-    ensures waits { IfOk result (λ agenda. MayWait (wait_of agenda) (stamp_of server.new.host) (map (λ e. e.1.wants) peers.new.entries)) }
+    ensures waits { IfOk result (λ agenda. MayWait (wait_of agenda) (stamp_of server.new.host) (map (λ e. end_of W.readable W.writable e.1) peers.new.entries)) }
     ensures fault { IfErr result IsMemory }
 {
-    let mut agenda = Agenda {
-        at_once: false,
-        due: None,
-    };
-    let mut stamp = server.stamp();
-    let mut at = 0;
-    while at < peers.len() {
-        let wants = peers[at].wants;
-        if wants.is_at_rest(peers[at].is_ready(), stamp) {
-            agenda = agenda.with(false, wants.due);
-            at += 1;
-            continue;
+    let mut seen = pass_over(peers, Seen::none(), server.stamp());
+    while seen.at < peers.len() {
+        let served = serve_next(server, peers, seen)?;
+        seen = pass_over(peers, served, server.stamp());
+    }
+    Ok(seen.agenda)
+}
+
+/// Serves the connection that comes next, and drops it where it is over.
+///
+/// # Errors
+///
+/// `Memory` where memory was refused.
+fn serve_next<W: Wire + Ready + Drop>(
+    server: &mut Server,
+    peers: &mut Peers<W>,
+    seen: Seen,
+) -> Result<Seen, IoFault>
+    requires there { seen.at < length peers.old.entries }
+    requires fits { length peers.old.entries < 2 ^ 64 }
+    ensures agenda { IfOk result (λ later. IsAgendaOf seen.agenda (stamp_of server.old.host) (map (λ e. end_of W.readable W.writable e.1) (take seen.at peers.old.entries)) → IsAgendaOf later.agenda (stamp_of server.new.host) (map (λ e. end_of W.readable W.writable e.1) (take later.at peers.new.entries))) }
+    ensures within { IfOk result (λ later. later.at ≤ length peers.new.entries) }
+    // One fewer is left.
+    ensures fewer { IfOk result (λ later. length peers.new.entries - later.at + 1 ≡ length peers.old.entries - seen.at) }
+    ensures fault { IfErr result IsMemory }
+{
+    let before = server.stamp();
+    let course = serve_at(server, peers, seen.at)?;
+    let concerned = concerns_others(seen.at, before, server.stamp());
+    let agenda = seen.agenda.with(concerned, None);
+    match course {
+        Course::Over => {
+            drop_at(server, peers, seen.at);
+            Ok(Seen { agenda, ..seen })
         }
-        let course = serve_at(server, peers, at)?;
-        let later = server.stamp();
-        agenda = agenda.with(concerns_others(at, stamp, later), None);
-        stamp = later;
-        match course {
-            Course::Over => drop_at(server, peers, at),
-            Course::Open => {
-                agenda = agenda.with(peers[at].is_ready(), peers[at].wants.due);
-                at += 1;
-            }
+        Course::Open => {
+            let peer = &peers[seen.at];
+            Ok(Seen {
+                at: seen.at + 1,
+                agenda: agenda.with(peer.is_ready(), peer.wants.due),
+            })
         }
     }
-    Ok(agenda)
+}
+
+/// Passes over the connections at rest that come next, up to the first that is not, or to the end.
+fn pass_over<W: Ready>(peers: &Peers<W>, seen: Seen, stamp: Stamp) -> Seen
+    requires { seen.at ≤ length peers.now.entries }
+    ensures from { seen.at ≤ result.at }
+    ensures within { result.at ≤ length peers.now.entries }
+    ensures rest { AllByRecursion (IsAtRest stamp) (map (λ e. end_of W.readable W.writable e.1) (drop seen.at (take result.at peers.now.entries))) }
+    ensures agenda { result.agenda ≡ agenda_past seen.agenda (map (λ e. end_of W.readable W.writable e.1) (drop seen.at (take result.at peers.now.entries))) }
+    ensures next { IfSome (slice_get peers.now.entries result.at) (λ e. IsInTurn stamp (end_of W.readable W.writable e.1)) }
+{
+    let mut at = seen.at;
+    let mut due = seen.agenda.due;
+    while at < peers.len() && peers[at].is_at_rest(stamp) {
+        due = sooner(due, peers[at].wants.due);
+        at += 1;
+    }
+    Seen {
+        at,
+        agenda: Agenda {
+            due,
+            ..seen.agenda
+        },
+    }
 }
 
 /// Whether serving the connection at an index, before and after which the server had these stamps, may concern those before it, which
@@ -282,7 +357,7 @@ fn serve_at<W: Wire + Ready>(
     at: usize,
 ) -> Result<Course, IoFault>
     requires { at < length peers.old.entries }
-    ensures part { IfSome (slice_get peers.old.entries at) (λ was. IfSome (slice_get peers.new.entries at) (λ is. IfOk result (λ course. IsServed server.old was.0 was.1.rest server.new is.1.rest course))) }
+    ensures part { IfSome (slice_get peers.old.entries at) (λ was. IfSome (slice_get peers.new.entries at) (λ is. IfOk result (λ course. IsServed (W.readable was.1.wire) (W.writable was.1.wire) server.old was.0 was.1.rest server.new is.1.rest course))) }
     ensures wants { IfSome (slice_get peers.new.entries at) (λ is. IfOk result (λ course. course ≡ Open → is.1.wants ≡ wants_of server.new is.0 is.1.rest)) }
     ensures before { take at peers.new.entries ≡ take at peers.old.entries }
     ensures same { keys_of peers.new.entries ≡ keys_of peers.old.entries }

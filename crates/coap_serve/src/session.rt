@@ -325,10 +325,12 @@ impl Session {
 pub(crate) fn sooner(one: Option<u64>, other: Option<u64>) -> Option<u64>
     ensures { result ≡ lesser one other }
 {
-    match (one, other) {
-        (Some(one), Some(other)) => Some(one.min(other)),
-        (Some(one), None) => Some(one),
-        (None, other) => other,
+    let Some(second) = other else {
+        return one;
+    };
+    match one {
+        Some(first) => Some(first.min(second)),
+        None => other,
     }
 }
 

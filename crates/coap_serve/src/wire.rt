@@ -1,8 +1,8 @@
 //! What connections and moments come from: wires, the door that hands them out, and the clock.
 
-ghost use Rattle.std.specs.Prelude.{ℕ, List, [], length, Option};
+ghost use Rattle.std.specs.Prelude.{ℕ, Bool, List, [], length, Option};
 ghost use Rattle.coap_serve.specs.streams.Device.{AddsBytes};
-ghost use Rattle.coap_serve.specs.streams.Wires.{IsWithin, bytes_passed};
+ghost use Rattle.coap_serve.specs.streams.Wires.{IsWithin, IsTold, bytes_passed};
 
 /// What a read or a write of a wire came to.
 #[derive(Clone, Copy, Debug, PartialEq, Eq)]
@@ -42,11 +42,19 @@ pub trait Wire {
 
 /// Whether a wire is ready, as far as its owner knows without asking the system.
 pub trait Ready {
+    /// Whether a read may come to something, where it tells.
+    ghost readable: { Self → Option Bool };
+
+    /// Whether a write may come to something, where it tells.
+    ghost writable: { Self → Option Bool };
+
     /// Whether a read may come to something else than `Later`. No read is tried where it may not.
-    fn may_read(&self) -> bool;
+    fn may_read(&self) -> bool
+        ensures { IsTold (readable self.now) result };
 
     /// Whether a write may come to something else than `Later`. No write is tried where it may not.
-    fn may_write(&self) -> bool;
+    fn may_write(&self) -> bool
+        ensures { IsTold (writable self.now) result };
 }
 
 /// How long a door may wait.

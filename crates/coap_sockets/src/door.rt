@@ -15,7 +15,8 @@ use mio::net::{TcpListener, TcpStream};
 use mio::{Events, Interest, Poll, Token};
 use std::alloc::{AllocError, Global};
 use std::cell::Cell;
-use std::net::{Net, SocketAddr};
+use std::io::Read;
+use std::net::{Net, Shutdown, SocketAddr};
 use std::rc::Rc;
 use std::time::Duration;
 use std::{io, time};
@@ -61,10 +62,34 @@ type Shared = Rc<Cell<Readiness>>;
 const LISTENER: Token = Token(usize::MAX);
 
 /// One accepted connection. Its socket is closed where it is dropped.
-#[derive(Drop)]
 pub struct SocketWire {
     stream: TcpStream,
     readiness: Shared,
+}
+
+// The system resets a connection that is closed with bytes unread, and the peer may lose what was written last. So the peer is told the
+// end first, and what has come is read and given up.
+impl Drop for SocketWire {
+    fn drop(self) {
+        let SocketWire {
+            mut stream,
+            readiness: _,
+        } = self;
+        let _ = stream.shutdown(Shutdown::Write);
+        give_up(&mut stream);
+    }
+}
+
+/// Reads what has come and gives it up, at most a mebibyte.
+fn give_up<S: Read>(stream: &mut S) {
+    let mut bytes = [0; 16_384];
+    for _ in 0..64 {
+        match stream.read(&mut bytes) {
+            Ok(0) => return,
+            Ok(_) => {}
+            Err(_) => return,
+        }
+    }
 }
 
 impl Wire for SocketWire {
@@ -91,6 +116,13 @@ impl Wire for SocketWire {
 }
 
 impl Ready for SocketWire {
+    ghost use Rattle.std.specs.Prelude.{None};
+
+    // What is known of a socket stands in what the wire and the door share.
+    ghost readable = { λ _. None };
+
+    ghost writable = { λ _. None };
+
     fn may_read(&self) -> bool {
         self.readiness.get().readable
     }

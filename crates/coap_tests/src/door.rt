@@ -247,6 +247,11 @@ impl Wire for Line<'_> {
 }
 
 impl Ready for Line<'_> {
+    // What has come stands in the book, and not in the wire.
+    ghost readable = { λ line. None };
+
+    ghost writable = { λ line. None };
+
     fn may_read(&self) -> bool {
         let (word, _) = self.reads.split_once(' ').unwrap_or((self.reads, ""));
         !self.book.tells_waits || (!word.is_empty() && self.book.has_come(word))

@@ -5,12 +5,13 @@ use Rattle.coap_conn.specs.declared.reason.Reason.{Reason}
 use Rattle.coap_serve.specs.values.Servers.{ServerValue, session_of, server_ended, server_written}
 use Rattle.coap_serve.specs.values.ServerAnswers.{can_take_on, stop_on}
 use Rattle.coap_serve.specs.script.Replay.{fed}
-use Rattle.coap_serve.specs.values.Dues.{outlook_of, stamp_of, sooner}
+use Rattle.coap_serve.specs.values.Dues.{outlook_of, stamp_of, same_stamp, sooner}
 use Rattle.coap_serve.specs.values.Flushes.{waiting_at}
-use Rattle.coap_serve.specs.streams.Wires.{IsWithin, count_passed}
+use Rattle.coap_serve.specs.streams.Wires.{IsWithin, IsTold, count_passed}
 use Rattle.coap_serve.specs.declared.door.Course.{Course}
 use Rattle.coap_serve.specs.declared.door.Course.TheVariants.{Open, Over}
 use Rattle.coap_serve.specs.declared.door.Wants.{Wants}
+use Rattle.coap_serve.specs.declared.door.Peer.{Peer}
 use Rattle.coap_serve.specs.declared.door.Agenda.{Agenda}
 use Rattle.coap_serve.specs.declared.wire.Wait.{Wait}
 use Rattle.coap_serve.specs.declared.wire.Wait.TheVariants.{No, Until, Forever}
@@ -94,10 +95,12 @@ pub record IsServedOnce (may_read may_write : Bool) (v : ServerValue) (id : ℕ)
   pub laid : IsLaidOut (is_heard may_read v id rest) rest heard bytes
   pub carried : IsCarriedOn (has_failed heard) may_write (server_heard v id heard) id bytes after left course
 
--- the same, for what its wire says of itself
-pub record IsServed (v : ServerValue) (id : ℕ) (rest : List ℕ) (after : ServerValue) (left : List ℕ) (course : Course) : Type 0 where
+-- the same, for what its wire answers of itself
+pub record IsServed (readable writable : Option Bool) (v : ServerValue) (id : ℕ) (rest : List ℕ) (after : ServerValue) (left : List ℕ) (course : Course) : Type 0 where
   pub may_read : Bool
   pub may_write : Bool
+  pub read : IsTold readable may_read
+  pub write : IsTold writable may_write
   pub part : IsServedOnce may_read may_write v id rest after left course
 
 -- ---- what is left to be done
@@ -122,19 +125,59 @@ wants_of v id rest = wants_in (outlook_of v id) (length rest == 0) (stamp_of v.h
 abbrev pub can_go_on : Wants → (may_read may_write : Bool) → Bool
 can_go_on w may_read may_write = w.take || (w.read && may_read) || (w.write && may_write)
 
--- whether something can be, for what its wire says of itself
-pub record CanGoOn (w : Wants) (result : Bool) : Type 0 where
-  pub may_read : Bool
-  pub may_write : Bool
-  pub is : result ≡ can_go_on w may_read may_write
+-- what is known of the far end of a connection: whether its wire may be read and written, where it tells, and what it is to be served for
+pub record FarEnd : Type 0 where
+  pub readable : Option Bool
+  pub writable : Option Bool
+  pub wants : Wants
 
--- All were served when the server had this stamp, and left nothing that can be taken at once.
-abbrev pub AreServed : Stamp → List Wants → Type 0
-AreServed stamp all = AllByRecursion (λ w. (w.stamp ≡ stamp) × (w.take ≡ false)) all
+abbrev pub end_of : {W : Type 0} (readable writable : W → Option Bool) → Peer W → FarEnd
+end_of readable writable p = record { readable = readable p.wire; writable = writable p.wire; wants = p.wants }
 
--- the least moment at which time alone may queue something on one of these
-abbrev pub least_due : List Wants → Option ℕ
-least_due all = fold (λ due w. sooner due w.due) None all
+-- a wire is asked of itself only where it is wanted
+abbrev pub IsAsked : (wanted : Bool) (told : Option Bool) (answer : Bool) → Type 0
+IsAsked true told answer = IsTold told answer
+IsAsked false told answer = answer ≡ false
+
+-- whether something can be done at once: what was read can be taken, or its wire is to be read and may be, or to be written and may be
+pub record CanGoOn (e : FarEnd) (result : Bool) : Type 0 where
+  pub reads : Bool
+  pub writes : Bool
+  pub read : IsAsked e.wants.read e.readable reads
+  pub write : IsAsked e.wants.write e.writable writes
+  pub is : result ≡ e.wants.take || reads || writes
+
+-- It was served when the server had this stamp, and nothing can be done now.
+abbrev pub IsAtRest : Stamp → FarEnd → Type 0
+IsAtRest stamp e = (e.wants.stamp ≡ stamp) × CanGoOn e false
+
+-- It was served when the server had another stamp, or something can be done.
+pub record IsInTurn (stamp : Stamp) (e : FarEnd) : Type 0 where
+  pub ready : Bool
+  pub can : CanGoOn e ready
+  pub is : (same_stamp e.wants.stamp stamp && not ready) ≡ false
+
+-- which of both is so
+abbrev pub IsRestAnswer : Stamp → FarEnd → Bool → Type 0
+IsRestAnswer stamp e true = IsAtRest stamp e
+IsRestAnswer stamp e false = IsInTurn stamp e
+
+-- the least moment, this one or one at which time alone may queue something on one of these
+abbrev pub least_with : Option ℕ → List FarEnd → Option ℕ
+least_with due all = fold (λ due e. sooner due e.wants.due) due all
+
+abbrev pub least_due : List FarEnd → Option ℕ
+least_due all = least_with None all
+
+-- What an agenda says of the connections that were looked at, on a server with this stamp: where nothing is to be done at once, all
+-- are at rest; and the least moment is that of all.
+pub record IsAgendaOf (a : Agenda) (stamp : Stamp) (all : List FarEnd) : Type 0 where
+  pub due : a.due ≡ least_due all
+  pub rest : a.at_once ≡ false → AllByRecursion (IsAtRest stamp) all
+
+-- connections at rest were passed over
+abbrev pub agenda_past : Agenda → List FarEnd → Agenda
+agenda_past a all = record a { due = least_with a.due all }
 
 -- one connection more was looked at: something can be done at once or not, and time alone may queue something at a moment
 abbrev pub agenda_with : Agenda → Bool → Option ℕ → Agenda
@@ -147,8 +190,8 @@ wait_until (Some moment) = Until moment
 abbrev pub wait_of : Agenda → Wait
 wait_of a = if a.at_once then No else wait_until a.due
 
--- How long the door may wait: not at all; or, where all were served, until the least moment of them.
-abbrev pub MayWait : Wait → Stamp → List Wants → Type 0
+-- How long the door may wait: not at all; or, where all are at rest, until the least moment of them.
+abbrev pub MayWait : Wait → Stamp → List FarEnd → Type 0
 MayWait No stamp all = Unit {0}
-MayWait (Until moment) stamp all = AreServed stamp all × (least_due all ≡ Some moment)
-MayWait Forever stamp all = AreServed stamp all × (least_due all ≡ None)
+MayWait (Until moment) stamp all = AllByRecursion (IsAtRest stamp) all × (least_due all ≡ Some moment)
+MayWait Forever stamp all = AllByRecursion (IsAtRest stamp) all × (least_due all ≡ None)

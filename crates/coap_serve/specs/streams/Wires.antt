@@ -1,5 +1,5 @@
 -- What wires pass on, and how serving them ends.
-use Rattle.std.specs.Prelude.{ℕ, ◌≤◌, List, [], take, Result, Ok, Err}
+use Rattle.std.specs.Prelude.{◌≡◌, ℕ, ◌≤◌, Bool, List, [], take, Option, Some, None, Result, Ok, Err}
 use Rattle.coap_serve.specs.declared.wire.Got.{Got}
 use Rattle.coap_serve.specs.declared.wire.Got.TheVariants.{Bytes, Later, End, Failed}
 use Rattle.coap_serve.specs.declared.serve.IoFault.{IoFault}
@@ -25,6 +25,11 @@ count_passed (Bytes n) = n
 count_passed Later = 0
 count_passed End = 0
 count_passed Failed = 0
+
+-- what a wire answers of itself is what it tells, where it tells
+abbrev pub IsTold : (told : Option Bool) (answer : Bool) → Type 0
+IsTold None answer = Unit {0}
+IsTold (Some told) answer = answer ≡ told
 
 -- a fault, if any, is want of memory
 abbrev pub IsMemory : IoFault → Type 0

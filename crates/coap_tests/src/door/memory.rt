@@ -1,7 +1,7 @@
 //! A door that is served while memory is refused. What the test allocates is what it serves, so `rt try --test --fail-alloc N` refuses each
 //! of these in turn: what was written until then is what is written without a refusal, and a run behind it goes as without one.
 
-ghost use Rattle.std.specs.Prelude.{None};
+ghost use Rattle.std.specs.Prelude.{None, Some, true};
 
 use super::Moments;
 use crate::devices::Fixed;
@@ -51,6 +51,10 @@ impl Wire for Line<'_> {
 }
 
 impl Ready for Line<'_> {
+    ghost readable = { λ line. Some true };
+
+    ghost writable = { λ line. Some true };
+
     fn may_read(&self) -> bool {
         true
     }
