@@ -331,10 +331,7 @@ fn pass_over<W: Ready>(peers: &Peers<W>, seen: Seen, stamp: Stamp) -> Seen
     }
     Seen {
         at,
-        agenda: Agenda {
-            due,
-            ..seen.agenda
-        },
+        agenda: Agenda { due, ..seen.agenda },
     }
 }
 

@@ -1,5 +1,5 @@
 -- How long there is to wait, in nanoseconds.
-use Rattle.std.specs.Prelude.{ℕ, ◌+◌, ◌-◌, ◌*◌, ◌/◌, ◌%◌, min, Option, Some, None}
+use Rattle.std.specs.Prelude.{ℕ, ◌-◌, ◌*◌, ◌%◌, min, Option, Some, None}
 
 -- a second
 abbrev pub second : ℕ

@@ -239,7 +239,7 @@ pub served_later : {P : Type 0} (far : P → FarEnd) (es fs : List (ℕ × P)) (
     → stamp ≡ stamp_of was → later ≡ stamp_of is → concerns ≡ (nat_lt 0 i && not (same_stamp later stamp)) → b ≡ agenda_with a concerns None → IsAgendaOf b (stamp_of is) (map (λ e. far e.1) (take i fs))
 served_later far es fs i a b was is stamp later concerns seen same_front before after is_so is_with =
     subst (λ (s : Stamp). IsAgendaOf b s (map (λ e. far e.1) (take i fs))) after
-        (served_step far es fs i a b stamp later concerns (subst (λ (s : Stamp). IsAgendaOf a s (map (λ e. far e.1) (take i es))) (sym before) seen) same_front is_so is_with)
+    (served_step far es fs i a b stamp later concerns (subst (λ (s : Stamp). IsAgendaOf a s (map (λ e. far e.1) (take i es))) (sym before) seen) same_front is_so is_with)
 
 -- one that is dropped
 pub dropped_step : {P : Type 0} (far : P → FarEnd) (fs gs : List (ℕ × P)) (i : ℕ) (b : Agenda) (later : Stamp) → IsAgendaOf b later (map (λ e. far e.1) (take i fs)) → gs ≡ remove fs i → IsAgendaOf b later (map (λ e. far e.1) (take i gs))
@@ -285,7 +285,7 @@ one_more_passed far es from i p q stamp before due later order at again passed r
     let next : i + 1 ≡ suc i = omega arith in
     let more : drop from (take (i + 1) es) ≡ drop from (take i es) ++ there.0 ∷ [] = ap (λ n. drop from (take n es)) next ∙ more_between es from i there.0 order there.1 in
     let ends : map (λ e. far e.1) (drop from (take (i + 1) es)) ≡ map (λ e. far e.1) (drop from (take i es)) ++ far p ∷ [] =
-        ap (map (λ e. far e.1)) more ∙ map-append (λ e. far e.1) (drop from (take i es)) (there.0 ∷ []) ∙ ap (λ x. map (λ e. far e.1) (drop from (take i es)) ++ far x ∷ []) there.2 in
+    ap (map (λ e. far e.1)) more ∙ map-append (λ e. far e.1) (drop from (take i es)) (there.0 ∷ []) ∙ ap (λ x. map (λ e. far e.1) (drop from (take i es)) ++ far x ∷ []) there.2 in
     let here : IsAtRest stamp (far p) = subst (λ x. IsAtRest stamp (far x)) (same_value (values_of es) i p q at again) rests in
     record {
       rest = subst (AllByRecursion (IsAtRest stamp)) (sym ends) (all_both (IsAtRest stamp) (map (λ e. far e.1) (drop from (take i es))) (far p ∷ []) passed.rest (here, tt));
@@ -309,10 +309,10 @@ past_step : {P : Type 0} (far : P → FarEnd) (es : List (ℕ × P)) (from to : 
     → AllByRecursion (IsAtRest stamp) (map (λ e. far e.1) (drop from (take to es))) → b ≡ agenda_past a (map (λ e. far e.1) (drop from (take to es))) → IsAgendaOf b stamp (map (λ e. far e.1) (take to es))
 past_step far es from to a b stamp order seen rest is =
     let all : map (λ e. far e.1) (take to es) ≡ map (λ e. far e.1) (take from es) ++ map (λ e. far e.1) (drop from (take to es)) =
-        ap (map (λ e. far e.1)) (sym (front_between es from to order)) ∙ map-append (λ e. far e.1) (take from es) (drop from (take to es)) in
+    ap (map (λ e. far e.1)) (sym (front_between es from to order)) ∙ map-append (λ e. far e.1) (take from es) (drop from (take to es)) in
     subst (λ (x : Agenda). IsAgendaOf x stamp (map (λ e. far e.1) (take to es))) (sym is)
-        (subst (λ (ws : List FarEnd). IsAgendaOf (agenda_past a (map (λ e. far e.1) (drop from (take to es)))) stamp ws) (sym all)
-            (seen_past a stamp (map (λ e. far e.1) (take from es)) (map (λ e. far e.1) (drop from (take to es))) seen rest))
+    (subst (λ (ws : List FarEnd). IsAgendaOf (agenda_past a (map (λ e. far e.1) (drop from (take to es)))) stamp ws) (sym all)
+    (seen_past a stamp (map (λ e. far e.1) (take from es)) (map (λ e. far e.1) (drop from (take to es))) seen rest))
 
 -- the same, by the stamp of the server
 pub past_on : {P : Type 0} (far : P → FarEnd) (es : List (ℕ × P)) (from to : ℕ) (a b : Agenda) (host : Host) (stamp : Stamp) → stamp ≡ stamp_of host → from ≤ to → IsAgendaOf a (stamp_of host) (map (λ e. far e.1) (take from es))

@@ -1,5 +1,4 @@
-use Rattle.std.proofs.Common.{rules, ◌≡◌, ap, sym, ◌∙◌}
-use Rattle.std.specs.IoError.{error_kind}
+use Rattle.std.proofs.Common.{ap, sym, ◌∙◌}
 use Rattle.coap_sockets.specs.Answers as spec
 use Rattle.coap_sockets.proofs.AnswerLemmas.{another_is_full}
 use Rattle.coap_sockets.proofs.answers.accept_fault.Goals as goal

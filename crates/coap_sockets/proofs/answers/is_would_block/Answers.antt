@@ -1,5 +1,4 @@
-use Rattle.std.proofs.Common.{rules, ◌≡◌, true, false, ap, sym, ◌∙◌}
-use Rattle.std.specs.IoError.{error_kind}
+use Rattle.std.proofs.Common.{ap, sym, ◌∙◌}
 use Rattle.coap_sockets.specs.Answers as spec
 use Rattle.coap_sockets.proofs.AnswerLemmas.{another_is_no_would_block}
 use Rattle.coap_sockets.proofs.answers.is_would_block.Goals as goal
