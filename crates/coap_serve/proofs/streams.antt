@@ -15,3 +15,4 @@ pub mod RestLemmas
 pub mod PeerLemmas
 pub mod AgendaLemmas
 pub mod PassedLemmas
+pub mod NoteLemmas

@@ -5,3 +5,4 @@ pub mod Standing
 pub mod Faults
 pub mod Wires
 pub mod Turns
+pub mod Notes

@@ -1,6 +1,6 @@
 //! What holds of every server, each as the contract of a function that does nothing.
 
-ghost use Rattle.std.specs.Prelude.{◌≡◌, ℕ, Bool, ◌<◌, ◌^◌, ◌≤◌, List, [], ◌∷◌, ◌++◌, length, true, false, Some, None};
+ghost use Rattle.std.specs.Prelude.{◌≡◌, ℕ, Bool, ◌+◌, ◌<◌, ◌^◌, ◌≤◌, List, [], ◌∷◌, ◌++◌, length, true, false, Some, None};
 ghost use Rattle.std.specs.List.{AllByRecursion};
 ghost use Rattle.coap_wire.specs.Message.{Message};
 ghost use Rattle.coap_wire.specs.Stream.{StreamFault};
@@ -16,10 +16,13 @@ ghost use Rattle.coap_store.specs.Store.{StoreValue};
 ghost use Rattle.coap_store.specs.Answer.{answer_of};
 ghost use Rattle.coap_store.specs.Invariant.{IsStore};
 ghost use Rattle.coap_serve.specs.Configs.{ConfigValues};
-ghost use Rattle.coap_serve.specs.values.Servers.{ServerValue, AreSettled, LiesAt};
+ghost use Rattle.coap_serve.specs.values.Servers.{ServerValue, AreSettled, LiesAt, server_opened, server_ticked, server_dropped};
 ghost use Rattle.coap_serve.specs.streams.Turns.{IsServedOnce, can_go_on, is_over_in, wants_of};
+ghost use Rattle.coap_serve.specs.streams.Notes.{IsNoEarlier, KeepsNotes, WhilePassedOver};
+ghost use Rattle.coap_serve.specs.declared.door.Course.{Course};
 ghost use Rattle.coap_serve.specs.declared.door.Course.TheVariants.{Open};
-ghost use Rattle.coap_serve.specs.values.Dues.{WaitsForWhatIsDue, outlook_of};
+ghost use Rattle.coap_serve.specs.declared.server.Stamp.{Stamp};
+ghost use Rattle.coap_serve.specs.values.Dues.{WaitsForWhatIsDue, outlook_of, stamp_of};
 ghost use Rattle.coap_serve.specs.world.Sides.{Side, waiting_on, HearsAll, handles, asks_answer, held_for, moment_after, held_message, next_held, side_after, side_faulted, side_written, side_ended, side_released, settled_once};
 ghost use Rattle.coap_serve.specs.world.Custody.{StandFor, QueuesCustody, IsFirstHeld, KeepsHeld, KeepsHeldOver};
 ghost use Rattle.coap_serve.specs.world.World.{World, Step, Opened, new_world, side_of, step, after_steps};
@@ -82,6 +85,34 @@ pub fn what_is_not_due_stays()
 /// part of a turn may come to nothing. The server and what is left of its reads are then as they were.
 pub fn what_has_nothing_to_do_is_passed_over()
     ensures { (v : ServerValue) (id i : ℕ) (rest : List ℕ) (may_read may_write : Bool) → LiesAt id i v.sessions → AreSettled v.host v.sessions → can_go_on (wants_of v id rest) may_read may_write ≡ false → is_over_in (outlook_of v id) ≡ false → IsServedOnce may_read may_write v id rest v rest Open }
+{}
+
+/// A stamp that was left never comes back. Stamps stand in one order: the later moment comes behind, at one moment the one where more
+/// versions were given, and of these the one where fewer resources are stored. Nothing that a door does to its server makes the stamp
+/// earlier: a connection's part of a turn leaves it no earlier, where a connection is dropped or opened it stays, and the moment does
+/// not go back.
+pub fn stamps_never_come_back()
+    ensures itself { (one : Stamp) → IsNoEarlier one one }
+    ensures on { (one other third : Stamp) → IsNoEarlier one other → IsNoEarlier other third → IsNoEarlier one third }
+    ensures same { (one other : Stamp) → IsNoEarlier one other → IsNoEarlier other one → one ≡ other }
+    ensures back { (one other third : Stamp) → IsNoEarlier one other → IsNoEarlier other third → third ≡ one → other ≡ one }
+    ensures served { (v after : ServerValue) (id : ℕ) (rest left : List ℕ) (may_read may_write : Bool) (course : Course) → IsServedOnce may_read may_write v id rest after left course → IsNoEarlier (stamp_of v.host) (stamp_of after.host) }
+    ensures dropped { (v : ServerValue) (id : ℕ) → stamp_of (server_dropped v id).host ≡ stamp_of v.host }
+    ensures opened { (v : ServerValue) → stamp_of (server_opened v).host ≡ stamp_of v.host }
+    ensures ticked { (v : ServerValue) (later : ℕ) → v.host.now ≤ later → IsNoEarlier (stamp_of v.host) (stamp_of (server_ticked v later).host) }
+{}
+
+/// What was noted of a connection holds while the server has the same stamp, where every connection is settled: what it is to be served
+/// for stays as it was over each part of a turn that another one has, where another one is dropped or opened, and where the moment
+/// moves on, which changes nothing where the stamp is the same; and so over all of these together, one after the other. So a connection
+/// on which nothing could be done may be passed over without a look at the server: its part of a turn may come to nothing.
+pub fn what_was_noted_holds()
+    ensures served { (v after : ServerValue) (id : ℕ) (rest left : List ℕ) (may_read may_write : Bool) (course : Course) → AreSettled v.host v.sessions → IsServedOnce may_read may_write v id rest after left course → KeepsNotes id v after }
+    ensures dropped { (v : ServerValue) (id : ℕ) → AreSettled v.host v.sessions → KeepsNotes id v (server_dropped v id) }
+    ensures opened { (v : ServerValue) → AreSettled v.host v.sessions → KeepsNotes (v.ids + 1) v (server_opened v) }
+    ensures ticked { (v : ServerValue) (later : ℕ) → AreSettled v.host v.sessions → stamp_of (server_ticked v later).host ≡ stamp_of v.host → server_ticked v later ≡ v }
+    ensures throughout { (v after : ServerValue) (id : ℕ) (rest : List ℕ) → AreSettled v.host v.sessions → WhilePassedOver id v after → stamp_of after.host ≡ stamp_of v.host → wants_of after id rest ≡ wants_of v id rest }
+    ensures passed_over { (v after : ServerValue) (id i : ℕ) (rest : List ℕ) (may_read may_write : Bool) → AreSettled v.host v.sessions → WhilePassedOver id v after → stamp_of after.host ≡ stamp_of v.host → LiesAt id i after.sessions → can_go_on (wants_of v id rest) may_read may_write ≡ false → is_over_in (outlook_of v id) ≡ false → IsServedOnce may_read may_write after id rest after rest Open }
 {}
 
 /// The limits are kept, after any events: on each connection no more bytes wait than the queue holds, and no more answers and Pongs

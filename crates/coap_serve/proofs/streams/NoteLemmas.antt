@@ -1,0 +1,326 @@
+-- What was noted of connections stays so while the stamp is the same, and a stamp that changed never comes back.
+use Rattle.std.proofs.Common.{◌≡◌, ◌≢◌, ◌⊎◌, inl, inr, ℕ, zero, suc, ◌+◌, ◌≤◌, Bool, true, false, not, List, [], ◌∷◌, ◌++◌, length, map, filter, drop, Option, Some, None, refl, sym, ap, subst, ◌∙◌, arith}
+use Rattle.std.specs.Prelude.{◌==◌, option_map, if◌then◌else◌}
+use Rattle.std.proofs.lemmas.Bool.{ne_eqb, eqb-true}
+use Rattle.coap_store.specs.Paths.{Path, same_path}
+use Rattle.coap_store.specs.Store.{Resource, removed_at}
+use Rattle.coap_store.specs.Answer.{Change, Nothing, Put, Delete}
+use Rattle.coap_serve.specs.declared.host.Host.{Host}
+use Rattle.coap_serve.specs.declared.server.Stamp.{Stamp}
+use Rattle.coap_serve.specs.declared.server.Outlook.{Outlook}
+use Rattle.coap_serve.specs.declared.door.Course.{Course}
+use Rattle.coap_serve.specs.declared.door.Course.TheVariants.{Open}
+use Rattle.coap_serve.specs.declared.door.Wants.{Wants}
+use Rattle.coap_serve.specs.declared.wire.Got.{Got}
+use Rattle.coap_serve.specs.declared.wire.Got.TheVariants.{Bytes, Later, End, Failed}
+use Rattle.coap_serve.specs.values.Sessions.{SessionValue, Taking, taking, host_changed, session_written, session_ended, session_settled, new_session}
+use Rattle.coap_serve.specs.values.Servers.{ServerValue, LiesAt, AreSettled, session_of, session_becomes, settled_entry, server_opened, server_ticked, server_taken, server_taken_on, server_dropped}
+use Rattle.coap_serve.specs.values.Dues.{stamp_of, session_outlook, outlook_of}
+use Rattle.coap_serve.specs.script.Replay.{Fed, fed_turns, fed, fed_more, goes_on}
+use Rattle.coap_serve.specs.streams.Turns.{IsServedOnce, IsCarriedOn, server_heard, server_wrote, has_failed, is_over_in, wants_in, wants_of, can_go_on}
+use Rattle.coap_serve.specs.streams.Notes.{IsNoEarlier, KeepsNotes, WhilePassedOver, AtFirst, Served, Dropped, Opened, Ticked}
+use Rattle.coap_serve.proofs.streams.PassedLemmas.{passed_over}
+use Rattle.coap_serve.proofs.values.ServerLemmas.{Entries, is_other, all_are_settled, all_settled_stay}
+
+-- ---- stamps
+
+pub no_earlier_itself : (one : Stamp) → IsNoEarlier one one
+no_earlier_itself one = record { moment = omega arith; versions = λ e. omega arith; resources = λ e f. omega arith }
+
+pub no_earlier_on : (one other third : Stamp) → IsNoEarlier one other → IsNoEarlier other third → IsNoEarlier one third
+no_earlier_on one other third first later = record {
+  moment = omega (arith, first.moment, later.moment);
+  versions = λ e. omega (arith, e, first.moment, later.moment, first.versions, later.versions);
+  resources = λ e f. omega (arith, e, f, first.moment, later.moment, first.versions, later.versions, first.resources, later.resources);
+}
+
+same_parts : (one other : Stamp) → one.moment ≡ other.moment → one.versions ≡ other.versions → one.resources ≡ other.resources → one ≡ other
+same_parts one other moment versions resources =
+    ap (λ n. record { moment = n; versions = one.versions; resources = one.resources }) moment
+    ∙ ap (λ n. record { moment = other.moment; versions = n; resources = one.resources }) versions
+    ∙ ap (λ n. record { moment = other.moment; versions = other.versions; resources = n }) resources
+
+pub no_earlier_either_way : (one other : Stamp) → IsNoEarlier one other → IsNoEarlier other one → one ≡ other
+no_earlier_either_way one other on back =
+    let moment : one.moment ≡ other.moment = omega (arith, on.moment, back.moment) in
+    let versions : one.versions ≡ other.versions = omega (arith, on.versions moment, back.versions (sym moment)) in
+    let resources : one.resources ≡ other.resources = omega (arith, on.resources moment versions, back.resources (sym moment) (sym versions)) in
+    same_parts one other moment versions resources
+
+-- a stamp that was left does not come back
+pub never_back : (one other third : Stamp) → IsNoEarlier one other → IsNoEarlier other third → third ≡ one → other ≡ one
+never_back one other third first later back = no_earlier_either_way other one (subst (IsNoEarlier other) back later) first
+
+-- ---- the host
+
+-- another host follows: its stamp is no earlier, and where that is the same, the host is
+record Follows (host later : Host) : Type 0 where
+  no_earlier : IsNoEarlier (stamp_of host) (stamp_of later)
+  same : stamp_of later ≡ stamp_of host → later ≡ host
+
+follows_itself : (host : Host) → Follows host host
+follows_itself host = record { no_earlier = no_earlier_itself (stamp_of host); same = λ e. refl }
+
+follows_as : (host later : Host) → later ≡ host → Follows host later
+follows_as host later is = subst (Follows host) (sym is) (follows_itself host)
+
+-- a removal that removes nothing leaves all as it was
+removed_or_none : (rs : List Resource) (path : Path) → (removed_at rs path ≡ rs) ⊎ (length (removed_at rs path) + 1 ≡ length rs)
+unfolding removed_at
+removed_or_none [] path = inl refl
+removed_or_none (r ∷ rs) path =
+    elim (same_path path r.path) as (λ b. ((if b then rs else (r ∷ removed_at rs path)) ≡ r ∷ rs) ⊎ (length (if b then rs else (r ∷ removed_at rs path)) + 1 ≡ length (r ∷ rs))) [
+      | true ↦ inr (omega arith)
+      | false ↦ elim (removed_or_none rs path) [ inl none ↦ inl (ap (λ (rest : List Resource). r ∷ rest) none) | inr one ↦ inr (omega (arith, one)) ]
+    ]
+
+-- a change of the store either moves the stamp on or is none
+change_follows : (host : Host) (c : Change) → Follows host (host_changed host c)
+change_follows host Nothing = follows_itself host
+change_follows host (Put path format bytes) = record {
+  no_earlier = record { moment = omega arith; versions = λ e. omega arith; resources = λ e more. absurd (let none : ⊥ = omega (arith, more) in none) };
+  same = λ e. absurd (let more = ap (λ (s : Stamp). s.versions) e in let none : ⊥ = omega (arith, more) in none);
+}
+change_follows host (Delete path) = elim (removed_or_none host.store.resources path) [
+  | inl none ↦ follows_as host (host_changed host (Delete path)) (ap (λ (rs : List Resource). record host { store = record host.store { resources = rs } }) none)
+  | inr one ↦ record {
+    no_earlier = record { moment = omega arith; versions = λ e. omega arith; resources = λ e f. omega (arith, one) };
+    same = λ e. absurd (let fewer = ap (λ (s : Stamp). s.resources) e in let none : ⊥ = omega (arith, one, fewer) in none);
+  }
+]
+
+-- ---- the other connections
+
+passed_by : (other : ℕ) (e : ℕ × SessionValue) (es : Entries) → e.0 ≢ other → session_of other (e ∷ es) ≡ session_of other es
+unfolding session_of
+passed_by other e es apart = rw (ne_eqb e.0 other apart) refl
+
+found_behind : (other : ℕ) (e : ℕ × SessionValue) (es now : Entries) → session_of other now ≡ session_of other es → session_of other (e ∷ now) ≡ session_of other (e ∷ es)
+unfolding session_of
+found_behind other e es now same = ap (λ (o : Option SessionValue). if e.0 == other then Some e.1 else o) same
+
+other_stays : (other id : ℕ) (f : SessionValue → SessionValue) (es : Entries) → other ≢ id → session_of other (map (session_becomes id f) es) ≡ session_of other es
+other_stays other id f [] apart = refl
+other_stays other id f (e ∷ es) apart =
+    let again = other_stays other id f es apart in
+    let now : Entries = map (session_becomes id f) es in
+    elim (e.0 == id) as (λ b. (e.0 == id) ≡ b → session_of other ((if b then (e.0, f e.1) else e) ∷ now) ≡ session_of other (e ∷ es)) [
+      | true ↦ λ is.
+          let elsewhere : e.0 ≢ other = λ same. apart (sym same ∙ eqb-true e.0 id is) in
+          passed_by other (e.0, f e.1) now elsewhere ∙ again ∙ sym (passed_by other e es elsewhere)
+      | false ↦ λ is. found_behind other e es now again
+    ] refl
+
+other_is_kept : (other id : ℕ) (es : Entries) → other ≢ id → session_of other (filter (is_other id) es) ≡ session_of other es
+other_is_kept other id [] apart = refl
+other_is_kept other id (e ∷ es) apart =
+    let again = other_is_kept other id es apart in
+    let now : Entries = filter (is_other id) es in
+    elim (e.0 == id) as (λ b. (e.0 == id) ≡ b → session_of other (if not b then (e ∷ now) else now) ≡ session_of other (e ∷ es)) [
+      | true ↦ λ is. again ∙ sym (passed_by other e es (λ same. apart (sym same ∙ eqb-true e.0 id is)))
+      | false ↦ λ is. found_behind other e es now again
+    ] refl
+
+other_is_there : (other id : ℕ) (s : SessionValue) (es : Entries) → other ≢ id → session_of other (es ++ (id, s) ∷ []) ≡ session_of other es
+other_is_there other id s [] apart = passed_by other (id, s) [] (λ same. apart (sym same))
+other_is_there other id s (e ∷ es) apart = found_behind other e es (es ++ (id, s) ∷ []) (other_is_there other id s es apart)
+
+each_settles : (other : ℕ) (host : Host) (es : Entries) → session_of other (map (settled_entry host) es) ≡ option_map (session_settled host) (session_of other es)
+unfolding session_of
+each_settles other host [] = refl
+each_settles other host (e ∷ es) =
+    let again = each_settles other host es in
+    elim (e.0 == other) as (λ b. (if b then Some (session_settled host e.1) else session_of other (map (settled_entry host) es)) ≡ option_map (session_settled host) (if b then Some e.1 else session_of other es)) [
+      | true ↦ refl
+      | false ↦ again
+    ]
+
+-- it was settled, and still is where all settle
+other_is_settled : (other : ℕ) (host : Host) (es now : Entries) → AreSettled host es → session_of other now ≡ session_of other es → session_of other (map (settled_entry host) now) ≡ session_of other es
+other_is_settled other host es now settled same =
+    each_settles other host now ∙ ap (option_map (session_settled host)) same ∙ sym (each_settles other host es) ∙ ap (session_of other) (all_settled_stay host es settled)
+
+-- ---- a server on which something happened
+
+-- The stamp is no earlier, and where it is the same, so is the host. All stay settled, and the connections with these numbers are then
+-- as they were.
+record GoesOn (Spared : ℕ → Type 0) (v after : ServerValue) : Type 0 where
+  no_earlier : IsNoEarlier (stamp_of v.host) (stamp_of after.host)
+  host : stamp_of after.host ≡ stamp_of v.host → after.host ≡ v.host
+  settled : AreSettled v.host v.sessions → AreSettled after.host after.sessions
+  spared : (other : ℕ) → Spared other → AreSettled v.host v.sessions → stamp_of after.host ≡ stamp_of v.host → session_of other after.sessions ≡ session_of other v.sessions
+
+nothing_happens : (Spared : ℕ → Type 0) (v : ServerValue) → GoesOn Spared v v
+nothing_happens Spared v = record { no_earlier = no_earlier_itself (stamp_of v.host); host = λ e. refl; settled = λ all. all; spared = λ other is all e. refl }
+
+one_then_another : (Spared : ℕ → Type 0) (v w after : ServerValue) → GoesOn Spared v w → GoesOn Spared w after → GoesOn Spared v after
+one_then_another Spared v w after first later =
+    let between : stamp_of after.host ≡ stamp_of v.host → stamp_of w.host ≡ stamp_of v.host = never_back (stamp_of v.host) (stamp_of w.host) (stamp_of after.host) first.no_earlier later.no_earlier in
+    let behind : stamp_of after.host ≡ stamp_of v.host → stamp_of after.host ≡ stamp_of w.host = λ e. e ∙ sym (between e) in
+    record {
+      no_earlier = no_earlier_on (stamp_of v.host) (stamp_of w.host) (stamp_of after.host) first.no_earlier later.no_earlier;
+      host = λ e. later.host (behind e) ∙ first.host (between e);
+      settled = λ all. later.settled (first.settled all);
+      spared = λ other is all e. later.spared other is (first.settled all) (behind e) ∙ first.spared other is all (between e);
+    }
+
+fewer_spared : (Spared Fewer : ℕ → Type 0) (v after : ServerValue) → ((other : ℕ) → Fewer other → Spared other) → GoesOn Spared v after → GoesOn Fewer v after
+fewer_spared Spared Fewer v after each on = record { no_earlier = on.no_earlier; host = on.host; settled = on.settled; spared = λ other is all e. on.spared other (each other is) all e }
+
+-- all but one
+abbrev But : ℕ → ℕ → Type 0
+But id other = other ≢ id
+
+-- something happens to one connection, and the host follows
+one_happens : (v : ServerValue) (id : ℕ) (f : SessionValue → SessionValue) (host : Host) → Follows v.host host → GoesOn (But id) v (record v { host = host; sessions = map (settled_entry host) (map (session_becomes id f) v.sessions) })
+one_happens v id f host follows = record {
+  no_earlier = follows.no_earlier;
+  host = follows.same;
+  settled = λ all. all_are_settled host (map (session_becomes id f) v.sessions);
+  spared = λ other apart all e.
+      other_is_settled other host v.sessions (map (session_becomes id f) v.sessions) (subst (λ (h : Host). AreSettled h v.sessions) (sym (follows.same e)) all) (other_stays other id f v.sessions apart);
+}
+
+takes_once : (v : ServerValue) (id : ℕ) (piece : List ℕ) → GoesOn (But id) v (server_taken v id piece)
+unfolding server_taken
+takes_once v id piece = elim (session_of id v.sessions) as (λ o. GoesOn (But id) v (server_taken_on v id piece o)) [
+  | None ↦ nothing_happens (But id) v
+  | Some s ↦
+      let t : Taking = taking v.host s piece in
+      one_happens v id (λ _. t.session) (host_changed v.host t.change) (change_follows v.host t.change)
+]
+
+takes_more : (turns : ℕ) (v : ServerValue) (id : ℕ) (bytes : List ℕ) → GoesOn (But id) v (fed_turns turns v id bytes).server
+unfolding fed_turns
+takes_more zero v id bytes = nothing_happens (But id) v
+takes_more (suc turns) v id bytes =
+    let f : Fed = fed_turns turns v id bytes in
+    let so_far = takes_more turns v id bytes in
+    elim (goes_on bytes f) as (λ b. GoesOn (But id) v (if b then fed_more id (drop f.count bytes) f else f).server) [
+      | true ↦ one_then_another (But id) v f.server (server_taken f.server id (drop f.count bytes)) so_far (takes_once f.server id (drop f.count bytes))
+      | false ↦ so_far
+    ]
+
+-- ---- one connection's part of a turn
+
+hears : (v : ServerValue) (id : ℕ) (heard : Got) → GoesOn (But id) v (server_heard v id heard)
+hears v id (Bytes n) = nothing_happens (But id) v
+hears v id Later = nothing_happens (But id) v
+hears v id End = one_happens v id session_ended v.host (follows_itself v.host)
+hears v id Failed = nothing_happens (But id) v
+
+writes : (v : ServerValue) (id : ℕ) (wrote : Got) → GoesOn (But id) v (server_wrote v id wrote)
+writes v id (Bytes n) = one_happens v id (λ s. session_written s n) v.host (follows_itself v.host)
+writes v id Later = nothing_happens (But id) v
+writes v id End = nothing_happens (But id) v
+writes v id Failed = nothing_happens (But id) v
+
+is_carried_on : (failed may_write : Bool) (v : ServerValue) (id : ℕ) (bytes : List ℕ) (after : ServerValue) (left : List ℕ) (course : Course) → IsCarriedOn failed may_write v id bytes after left course → GoesOn (But id) v after
+is_carried_on true may_write v id bytes after left course carried = subst (GoesOn (But id) v) (sym carried.0) (nothing_happens (But id) v)
+is_carried_on false may_write v id bytes after left course carried =
+    let w : ServerValue = (fed v id bytes).server in
+    subst (GoesOn (But id) v) (sym carried.server) (one_then_another (But id) v w (server_wrote w id carried.wrote) (takes_more (length bytes) v id bytes) (writes w id carried.wrote))
+
+module _ (may_read may_write : Bool) (v : ServerValue) (id : ℕ) (rest : List ℕ) (after : ServerValue) (left : List ℕ) (course : Course) (part : IsServedOnce may_read may_write v id rest after left course) where
+  served_on : GoesOn (But id) v after
+  served_on =
+      let w : ServerValue = server_heard v id part.heard in
+      one_then_another (But id) v w after (hears v id part.heard) (is_carried_on (has_failed part.heard) may_write w id part.bytes after left course part.carried)
+
+  pub served_no_earlier : IsNoEarlier (stamp_of v.host) (stamp_of after.host)
+  served_no_earlier = served_on.no_earlier
+
+-- ---- a connection goes or comes, and the moment moves on
+
+same_host : (Spared : ℕ → Type 0) (v : ServerValue) (ids : ℕ) (es : Entries) → ((other : ℕ) → Spared other → session_of other es ≡ session_of other v.sessions) → GoesOn Spared v (record v { ids = ids; sessions = map (settled_entry v.host) es })
+same_host Spared v ids es same = record {
+  no_earlier = no_earlier_itself (stamp_of v.host);
+  host = λ e. refl;
+  settled = λ all. all_are_settled v.host es;
+  spared = λ other is all e. other_is_settled other v.host v.sessions es all (same other is);
+}
+
+dropped_on : (v : ServerValue) (id : ℕ) → GoesOn (But id) v (server_dropped v id)
+dropped_on v id = same_host (But id) v v.ids (filter (is_other id) v.sessions) (λ other apart. other_is_kept other id v.sessions apart)
+
+opened_on : (v : ServerValue) → GoesOn (But (v.ids + 1)) v (server_opened v)
+opened_on v =
+    let s : SessionValue = new_session v.config.limits in
+    same_host (But (v.ids + 1)) v (v.ids + 1) (v.sessions ++ (v.ids + 1, s) ∷ []) (λ other apart. other_is_there other (v.ids + 1) s v.sessions apart)
+
+pub ticked_no_earlier : (v : ServerValue) (later : ℕ) → v.host.now ≤ later → IsNoEarlier (stamp_of v.host) (stamp_of (server_ticked v later).host)
+ticked_no_earlier v later on = record { moment = on; versions = λ e. omega arith; resources = λ e f. omega arith }
+
+-- where the stamp is the same, the moment is
+pub ticked_to_the_same : (v : ServerValue) (later : ℕ) → AreSettled v.host v.sessions → stamp_of (server_ticked v later).host ≡ stamp_of v.host → server_ticked v later ≡ v
+ticked_to_the_same v later settled same =
+    ap (server_ticked v) (ap (λ (s : Stamp). s.moment) same) ∙ ap (λ (es : Entries). record v { sessions = es }) (all_settled_stay v.host v.sessions settled)
+
+ticked_on : (Spared : ℕ → Type 0) (v : ServerValue) (later : ℕ) → v.host.now ≤ later → GoesOn Spared v (server_ticked v later)
+ticked_on Spared v later on = record {
+  no_earlier = ticked_no_earlier v later on;
+  host = λ e. ap (λ (n : ℕ). record v.host { now = n }) (ap (λ (s : Stamp). s.moment) e);
+  settled = λ all. all_are_settled (record v.host { now = later }) v.sessions;
+  spared = λ other is all e. ap (λ (w : ServerValue). session_of other w.sessions) (ticked_to_the_same v later all e);
+}
+
+-- ---- what was noted
+
+outlook_stays : (Spared : ℕ → Type 0) (v after : ServerValue) (id : ℕ) → GoesOn Spared v after → Spared id → AreSettled v.host v.sessions → stamp_of after.host ≡ stamp_of v.host → outlook_of after id ≡ outlook_of v id
+outlook_stays Spared v after id on is settled e =
+    ap (λ (host : Host). option_map (session_outlook host.now) (session_of id after.sessions)) (on.host e)
+    ∙ ap (option_map (session_outlook v.host.now)) (on.spared id is settled e)
+
+noted_so : (v after : ServerValue) (id : ℕ) (rest : List ℕ) → outlook_of after id ≡ outlook_of v id → stamp_of after.host ≡ stamp_of v.host → wants_of after id rest ≡ wants_of v id rest
+noted_so v after id rest outlook stamp =
+    ap (λ (o : Option Outlook). wants_in o (length rest == 0) (stamp_of after.host)) outlook ∙ ap (wants_in (outlook_of v id) (length rest == 0)) stamp
+
+keeps_notes : (id : ℕ) (v after : ServerValue) → AreSettled v.host v.sessions → GoesOn (But id) v after → KeepsNotes id v after
+keeps_notes id v after settled on = record {
+  settled = on.settled settled;
+  no_earlier = on.no_earlier;
+  noted = λ other rest apart e. noted_so v after other rest (outlook_stays (But id) v after other on apart settled e) e;
+}
+
+pub noted_where_served : (may_read may_write : Bool) (v : ServerValue) (id : ℕ) (rest : List ℕ) (after : ServerValue) (left : List ℕ) (course : Course) → AreSettled v.host v.sessions → IsServedOnce may_read may_write v id rest after left course → KeepsNotes id v after
+noted_where_served may_read may_write v id rest after left course settled part = keeps_notes id v after settled (served_on may_read may_write v id rest after left course part)
+
+pub noted_where_dropped : (v : ServerValue) (id : ℕ) → AreSettled v.host v.sessions → KeepsNotes id v (server_dropped v id)
+noted_where_dropped v id settled = keeps_notes id v (server_dropped v id) settled (dropped_on v id)
+
+pub noted_where_opened : (v : ServerValue) → AreSettled v.host v.sessions → KeepsNotes (v.ids + 1) v (server_opened v)
+noted_where_opened v settled = keeps_notes (v.ids + 1) v (server_opened v) settled (opened_on v)
+
+-- ---- all that is done while a connection is passed over
+
+-- this one alone
+abbrev Only : ℕ → ℕ → Type 0
+Only id other = other ≡ id
+
+spares_one : (id other : ℕ) (v after : ServerValue) → id ≢ other → GoesOn (But other) v after → GoesOn (Only id) v after
+spares_one id other v after apart on = fewer_spared (But other) (Only id) v after (λ k is e. apart (sym is ∙ e)) on
+
+passed_on : (id : ℕ) (v after : ServerValue) → WhilePassedOver id v after → GoesOn (Only id) v after
+passed_on id v after AtFirst = nothing_happens (Only id) v
+passed_on id v after (Served before now other rest left may_read may_write course so_far apart part) =
+    one_then_another (Only id) v before now (passed_on id v before so_far) (spares_one id other before now apart (served_on may_read may_write before other rest now left course part))
+passed_on id v after (Dropped before other so_far apart) =
+    one_then_another (Only id) v before (server_dropped before other) (passed_on id v before so_far) (spares_one id other before (server_dropped before other) apart (dropped_on before other))
+passed_on id v after (Opened before so_far apart) =
+    one_then_another (Only id) v before (server_opened before) (passed_on id v before so_far) (spares_one id (before.ids + 1) before (server_opened before) apart (opened_on before))
+passed_on id v after (Ticked before later so_far on) =
+    one_then_another (Only id) v before (server_ticked before later) (passed_on id v before so_far) (ticked_on (Only id) before later on)
+
+module _ (id : ℕ) (v after : ServerValue) (rest : List ℕ) (settled : AreSettled v.host v.sessions) (passed : WhilePassedOver id v after) (same : stamp_of after.host ≡ stamp_of v.host) where
+  outlook_throughout : outlook_of after id ≡ outlook_of v id
+  outlook_throughout = outlook_stays (Only id) v after id (passed_on id v after passed) refl settled same
+
+  pub noted_throughout : wants_of after id rest ≡ wants_of v id rest
+  noted_throughout = noted_so v after id rest outlook_throughout same
+
+  -- where nothing could be done then, nothing can now
+  pub still_nothing_to_do : (i : ℕ) (may_read may_write : Bool) → LiesAt id i after.sessions → can_go_on (wants_of v id rest) may_read may_write ≡ false → is_over_in (outlook_of v id) ≡ false → IsServedOnce may_read may_write after id rest after rest Open
+  still_nothing_to_do i may_read may_write lies idle on =
+      passed_over after id i rest may_read may_write lies ((passed_on id v after passed).settled settled)
+      (ap (λ (w : Wants). can_go_on w may_read may_write) noted_throughout ∙ idle)
+      (ap is_over_in outlook_throughout ∙ on)

@@ -1,0 +1,30 @@
+-- What was noted of connections, and how long that holds.
+use Rattle.std.specs.Prelude.{◌≡◌, ◌≢◌, ◌≤◌, ◌+◌, ℕ, Bool, List}
+use Rattle.coap_serve.specs.values.Servers.{ServerValue, AreSettled, server_opened, server_ticked, server_dropped}
+use Rattle.coap_serve.specs.values.Dues.{stamp_of}
+use Rattle.coap_serve.specs.streams.Turns.{IsServedOnce, wants_of}
+use Rattle.coap_serve.specs.declared.door.Course.{Course}
+use Rattle.coap_serve.specs.declared.server.Stamp.{Stamp}
+
+-- The other stamp is this one, or behind it: its moment is not before; where that is the same, no fewer versions were given; and where
+-- these are the same too, no more resources are stored.
+pub record IsNoEarlier (one other : Stamp) : Type 0 where
+  pub moment : one.moment ≤ other.moment
+  pub versions : one.moment ≡ other.moment → one.versions ≤ other.versions
+  pub resources : one.moment ≡ other.moment → one.versions ≡ other.versions → other.resources ≤ one.resources
+
+-- Something happened to the connection of a server with this number: every connection is settled, the stamp is no earlier than it was,
+-- and where it is the same, what any other connection is to be served for is as it was, whatever is left of its reads.
+pub record KeepsNotes (id : ℕ) (v after : ServerValue) : Type 0 where
+  pub settled : AreSettled after.host after.sessions
+  pub no_earlier : IsNoEarlier (stamp_of v.host) (stamp_of after.host)
+  pub noted : (other : ℕ) (rest : List ℕ) → other ≢ id → stamp_of after.host ≡ stamp_of v.host → wants_of after other rest ≡ wants_of v other rest
+
+-- What a door makes of its server while it passes over the connection with this number: nothing else at first; then one by one other
+-- connections have their part of a turn, are dropped and are opened, and the moment moves on.
+pub data WhilePassedOver (id : ℕ) (v : ServerValue) : ServerValue → Type 0 where
+  AtFirst : WhilePassedOver id v v
+  Served : (before after : ServerValue) (other : ℕ) (rest left : List ℕ) (may_read may_write : Bool) (course : Course) → WhilePassedOver id v before → id ≢ other → IsServedOnce may_read may_write before other rest after left course → WhilePassedOver id v after
+  Dropped : (before : ServerValue) (other : ℕ) → WhilePassedOver id v before → id ≢ other → WhilePassedOver id v (server_dropped before other)
+  Opened : (before : ServerValue) → WhilePassedOver id v before → id ≢ before.ids + 1 → WhilePassedOver id v (server_opened before)
+  Ticked : (before : ServerValue) (later : ℕ) → WhilePassedOver id v before → before.host.now ≤ later → WhilePassedOver id v (server_ticked before later)
