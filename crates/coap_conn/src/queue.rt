@@ -107,7 +107,11 @@ impl Sink for OutQueue {
         self.buffer.push_reserved(byte);
     }
 
+    // Of the parts of a message many are empty: these cost no call.
     fn append(&mut self, bytes: &[u8]) {
+        if bytes.is_empty() {
+            return;
+        }
         let Ok(()) = self.buffer.extend_from_slice(bytes) else {
             unreachable!()
         };
