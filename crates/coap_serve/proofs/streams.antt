@@ -16,3 +16,4 @@ pub mod PeerLemmas
 pub mod AgendaLemmas
 pub mod PassedLemmas
 pub mod NoteLemmas
+pub mod NotedLemmas

@@ -6,11 +6,12 @@ ghost use Rattle.std.specs.Map.{keys_of};
 ghost use Rattle.coap_serve.specs.script.PartlyFed.{IsPartlyFed};
 ghost use Rattle.coap_serve.specs.script.Replay.{fed};
 ghost use Rattle.coap_serve.specs.streams.Device.{AddsBytes};
+ghost use Rattle.coap_serve.specs.streams.Notes.{AreNoted};
 ghost use Rattle.coap_serve.specs.streams.Turns.{IsServed, IsServedOnce, IsLaidOut, is_heard, server_heard, server_wrote, waiting_once, rest_left, is_over_in, has_failed, course_of, wants_in, wants_of, wait_of, end_of, agenda_past, IsAgendaOf, IsAtRest, IsInTurn, MayWait};
 ghost use Rattle.coap_serve.specs.streams.Wires.{IsWithin, IsMemory, IsMemoryOrTurns, bytes_passed};
 ghost use Rattle.coap_serve.specs.values.Dues.{same_stamp, stamp_of};
 ghost use Rattle.coap_serve.specs.values.ServerAnswers.{open_refusal, stop_on};
-ghost use Rattle.coap_serve.specs.values.Servers.{session_of, is_there, server_opened, server_dropped};
+ghost use Rattle.coap_serve.specs.values.Servers.{AreSettled, session_of, is_there, server_opened, server_dropped};
 ghost use Rattle.coap_serve.specs.declared.door.Course.TheVariants.{Open};
 ghost use Rattle.coap_serve.specs.declared.wire.Got.TheVariants.{Later, End};
 
@@ -212,6 +213,10 @@ fn take_turn<D: Door>(
     peers: &mut Peers<D::Wire>,
     door: &mut D,
 ) -> Result<Wait, IoFault>
+    requires settled { AreSettled server.old.host server.old.sessions }
+    requires noted { AreNoted server.old peers.old.entries }
+    ensures noted { OnOk result (AreNoted server.new peers.new.entries) }
+    ensures settled { OnOk result (AreSettled server.new.host server.new.sessions) }
     ensures waits { IfOk result (λ wait. MayWait wait (stamp_of server.new.host) (map (λ e. end_of D.Wire.readable D.Wire.writable e.1) peers.new.entries)) }
     ensures fault { IfErr result IsMemory }
 {
@@ -231,6 +236,9 @@ fn accept<D: Door>(
     peers: &mut Peers<D::Wire>,
     door: &mut D,
 ) -> Result<bool, IoFault>
+    requires settled { AreSettled server.old.host server.old.sessions }
+    requires noted { AreNoted server.old peers.old.entries }
+    ensures noted { OnOk result (AreNoted server.new peers.new.entries) }
     ensures fault { IfErr result IsMemory }
     // The door is not asked for a wire that no connection could be opened for.
     ensures asks { is_none (open_refusal server.old) ≡ false → (door.new ≡ door.old) × (result ≡ Ok false) }
@@ -265,6 +273,9 @@ fn serve_each<W: Wire + Ready + Drop>(
     server: &mut Server,
     peers: &mut Peers<W>,
 ) -> Result<Agenda, IoFault>
+    requires { AreNoted server.old peers.old.entries }
+    ensures noted { OnOk result (AreNoted server.new peers.new.entries) }
+    ensures settled { OnOk result (AreSettled server.new.host server.new.sessions) }
     // What is left to be done at once, and when: the door waits only where all were served after the last change.
     ensures waits { IfOk result (λ agenda. MayWait (wait_of agenda) (stamp_of server.new.host) (map (λ e. end_of W.readable W.writable e.1) peers.new.entries)) }
     ensures fault { IfErr result IsMemory }
@@ -289,6 +300,8 @@ fn serve_next<W: Wire + Ready + Drop>(
 ) -> Result<Seen, IoFault>
     requires there { seen.at < length peers.old.entries }
     requires fits { length peers.old.entries < 2 ^ 64 }
+    requires noted { AreNoted server.old peers.old.entries }
+    ensures noted { OnOk result (AreNoted server.new peers.new.entries) }
     ensures agenda { IfOk result (λ later. IsAgendaOf seen.agenda (stamp_of server.old.host) (map (λ e. end_of W.readable W.writable e.1) (take seen.at peers.old.entries)) → IsAgendaOf later.agenda (stamp_of server.new.host) (map (λ e. end_of W.readable W.writable e.1) (take later.at peers.new.entries))) }
     ensures within { IfOk result (λ later. later.at ≤ length peers.new.entries) }
     // One fewer is left.
@@ -353,9 +366,14 @@ fn serve_at<W: Wire + Ready>(
     peers: &mut Peers<W>,
     at: usize,
 ) -> Result<Course, IoFault>
-    requires { at < length peers.old.entries }
+    requires there { at < length peers.old.entries }
+    requires settled { AreSettled server.old.host server.old.sessions }
+    requires noted { AreNoted server.old peers.old.entries }
     ensures part { IfSome (slice_get peers.old.entries at) (λ was. IfSome (slice_get peers.new.entries at) (λ is. IfOk result (λ course. IsServed (W.readable was.1.wire) (W.writable was.1.wire) server.old was.0 was.1.rest server.new is.1.rest course))) }
     ensures wants { IfSome (slice_get peers.new.entries at) (λ is. IfOk result (λ course. course ≡ Open → is.1.wants ≡ wants_of server.new is.0 is.1.rest)) }
+    // What was noted of the others still holds, and what was noted of it does where it goes on.
+    ensures others { OnOk result (AreNoted server.new (remove peers.new.entries at)) }
+    ensures noted { IfOk result (λ course. course ≡ Open → AreNoted server.new peers.new.entries) }
     ensures before { take at peers.new.entries ≡ take at peers.old.entries }
     ensures same { keys_of peers.new.entries ≡ keys_of peers.old.entries }
     ensures fault { IfErr result IsMemory }
@@ -368,7 +386,10 @@ fn serve_at<W: Wire + Ready>(
 
 /// Drops the connection at an index.
 fn drop_at<W: Wire + Drop>(server: &mut Server, peers: &mut Peers<W>, at: usize)
-    requires { at < length peers.old.entries }
+    requires there { at < length peers.old.entries }
+    requires settled { AreSettled server.old.host server.old.sessions }
+    requires noted { AreNoted server.old (remove peers.old.entries at) }
+    ensures noted { AreNoted server.new peers.new.entries }
     ensures peers { peers.new.entries ≡ remove peers.old.entries at }
     ensures host { server.new.host ≡ server.old.host }
     ensures server { IfSome (slice_get (keys_of peers.old.entries) at) (λ id. is_there (session_of id server.old.sessions) ≡ true → server.new ≡ server_dropped server.old id) }

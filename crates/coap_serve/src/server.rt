@@ -215,7 +215,7 @@ impl Server {
     ghost use Rattle.coap_wire.specs.Refusal.{RefusedBy};
     ghost use Rattle.coap_conn.specs.Limits.{AreInRange};
     ghost use Rattle.coap_store.specs.Refusals.{RefusedOrMemory, put_refusal, remove_refusal};
-    ghost use Rattle.coap_serve.specs.values.Servers.{new_server, session_of, is_there, server_opened, count_taken, server_taken, server_written, server_ticked, server_put, server_removed, server_ended, server_released, server_dropped};
+    ghost use Rattle.coap_serve.specs.values.Servers.{AreSettled, new_server, session_of, is_there, server_opened, count_taken, server_taken, server_written, server_ticked, server_put, server_removed, server_ended, server_released, server_dropped};
     ghost use Rattle.coap_serve.specs.values.Dues.{outlook_of, stamp_of};
     ghost use Rattle.coap_serve.specs.values.ServerAnswers.{OpenedOrMemory, open_refusal, can_take_on, handled_by, IsNotTaken, written_refusal, released_refusal, front_of, status_of, stop_on};
     ghost use Rattle.coap_serve.specs.streams.Device.{AddsBytes, WritesPart};
@@ -501,9 +501,10 @@ impl Server {
         Ok(())
     }
 
-    /// What may concern every connection, if it changes.
+    /// What may concern every connection, if it changes. As ever between calls, all are settled.
     pub(crate) fn stamp(&self) -> Stamp
-        ensures { result ≡ stamp_of self.now.host }
+        ensures stamp { result ≡ stamp_of self.now.host }
+        ensures settled { AreSettled self.now.host self.now.sessions }
     {
         Stamp {
             moment: self.host.now,

@@ -3,6 +3,7 @@ use Rattle.indexmap.proofs.CallerLemmas.{keys-with_value_at}
 use Rattle.coap_serve.specs.declared.door.Course.TheVariants.{Open}
 use Rattle.coap_serve.specs.streams.Turns.{IsServed, wants_of}
 use Rattle.coap_serve.proofs.streams.AgendaLemmas.{served_so}
+use Rattle.coap_serve.proofs.streams.NotedLemmas.{others_noted, all_noted}
 use Rattle.coap_serve.proofs.streams.PeerLemmas.{written_there, is_written, before_written}
 use Rattle.coap_serve.proofs.door.serve_at.Goals as goal
 
@@ -23,3 +24,13 @@ returns-clause-before g c = before_written c.args.peers.now.entries c.args.at c.
 
 pub returns-clause-same : goal.returns-clause-same
 returns-clause-same g c = keys-with_value_at c.args.peers.now c.args.at c.serve_peer.new.peer
+
+pub returns-clause-others : goal.returns-clause-others
+returns-clause-others g c =
+    others_noted _ _ c.args.server.now _ _ c.serve_peer.new.server _ c.args.peers.now.entries c.args.at c.pair_mut-peer.result.1.now c.serve_peer.new.peer
+    c.requires.settled c.pair_mut-peer.ensures.unique c.pair_mut-peer.ensures.value c.requires.noted c.serve_peer.result c.serve_peer.ensures.part
+
+pub returns-clause-noted : goal.returns-clause-noted
+returns-clause-noted g c =
+    all_noted _ _ c.args.server.now _ _ c.serve_peer.new.server _ c.args.peers.now.entries c.args.at c.pair_mut-peer.result.1.now c.serve_peer.new.peer
+    c.requires.settled c.pair_mut-peer.ensures.unique c.pair_mut-peer.ensures.value c.requires.noted c.serve_peer.result c.serve_peer.ensures.part c.serve_peer.ensures.wants
