@@ -6,7 +6,7 @@ ghost use Rattle.std.specs.Map.{keys_of};
 ghost use Rattle.coap_serve.specs.script.PartlyFed.{IsPartlyFed};
 ghost use Rattle.coap_serve.specs.script.Replay.{fed};
 ghost use Rattle.coap_serve.specs.streams.Device.{AddsBytes};
-ghost use Rattle.coap_serve.specs.streams.Notes.{AreNoted};
+ghost use Rattle.coap_serve.specs.streams.Notes.{AreNoted, true_end};
 ghost use Rattle.coap_serve.specs.streams.Turns.{IsServed, IsServedOnce, IsLaidOut, is_heard, server_heard, server_wrote, waiting_once, rest_left, is_over_in, has_failed, course_of, wants_in, wants_of, wait_of, end_of, agenda_past, IsAgendaOf, IsAtRest, IsInTurn, MayWait};
 ghost use Rattle.coap_serve.specs.streams.Wires.{IsWithin, IsMemory, IsMemoryOrTurns, bytes_passed};
 ghost use Rattle.coap_serve.specs.values.Dues.{same_stamp, stamp_of};
@@ -217,7 +217,8 @@ fn take_turn<D: Door>(
     requires noted { AreNoted server.old peers.old.entries }
     ensures noted { OnOk result (AreNoted server.new peers.new.entries) }
     ensures settled { OnOk result (AreSettled server.new.host server.new.sessions) }
-    ensures waits { IfOk result (λ wait. MayWait wait (stamp_of server.new.host) (map (λ e. end_of D.Wire.readable D.Wire.writable e.1) peers.new.entries)) }
+    // The door waits only where nothing can be done that a connection is to be served for now, whatever was noted of it.
+    ensures waits { IfOk result (λ wait. MayWait wait (stamp_of server.new.host) (map (λ e. true_end D.Wire.readable D.Wire.writable server.new e) peers.new.entries)) }
     ensures fault { IfErr result IsMemory }
 {
     accept(alloc, server, peers, door)?;

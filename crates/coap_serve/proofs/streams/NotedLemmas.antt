@@ -197,8 +197,14 @@ ends_are_true readable writable v (e ∷ es) noted rest =
     ap (λ w. record (end_of readable writable e.1) { wants = w } ∷ map (λ e. end_of readable writable e.1) es) (noted.0.truth rest.0.0)
     ∙ ap (λ ws. true_end readable writable v e ∷ ws) (ends_are_true readable writable v es noted.1 rest.1)
 
-pub may_wait_truly : {W : Type 0} (readable writable : W → Option Bool) (v : ServerValue) (es : List (ℕ × Peer W)) (wait : Wait) → AreNoted v es → MayWait wait (stamp_of v.host) (map (λ e. end_of readable writable e.1) es)
+wait_is_true : {W : Type 0} (readable writable : W → Option Bool) (v : ServerValue) (es : List (ℕ × Peer W)) (wait : Wait) → AreNoted v es → MayWait wait (stamp_of v.host) (map (λ e. end_of readable writable e.1) es)
     → MayWait wait (stamp_of v.host) (map (λ e. true_end readable writable v e) es)
-may_wait_truly readable writable v es No noted may = tt
-may_wait_truly readable writable v es (Until moment) noted may = subst (MayWait (Until moment) (stamp_of v.host)) (ends_are_true readable writable v es noted may.0) may
-may_wait_truly readable writable v es Forever noted may = subst (MayWait Forever (stamp_of v.host)) (ends_are_true readable writable v es noted may.0) may
+wait_is_true readable writable v es No noted may = tt
+wait_is_true readable writable v es (Until moment) noted may = subst (MayWait (Until moment) (stamp_of v.host)) (ends_are_true readable writable v es noted may.0) may
+wait_is_true readable writable v es Forever noted may = subst (MayWait Forever (stamp_of v.host)) (ends_are_true readable writable v es noted may.0) may
+
+-- what it may do by the notes, it may
+pub may_wait_so : {W : Type 0} (readable writable : W → Option Bool) (v : ServerValue) (es : List (ℕ × Peer W)) (wait answer : Wait) → answer ≡ wait → AreNoted v es
+    → MayWait wait (stamp_of v.host) (map (λ e. end_of readable writable e.1) es) → MayWait answer (stamp_of v.host) (map (λ e. true_end readable writable v e) es)
+may_wait_so readable writable v es wait answer is noted may =
+    subst (λ w. MayWait w (stamp_of v.host) (map (λ e. true_end readable writable v e) es)) (sym is) (wait_is_true readable writable v es wait noted may)
