@@ -501,7 +501,7 @@ impl Server {
         Ok(())
     }
 
-    /// What may concern every connection, if it changes. As ever between calls, all are settled.
+    /// What may concern every connection, if it changes. Each of them is settled, as after every call.
     pub(crate) fn stamp(&self) -> Stamp
         ensures stamp { result ≡ stamp_of self.now.host }
         ensures settled { AreSettled self.now.host self.now.sessions }

@@ -26,7 +26,7 @@ use Rattle.coap_serve.proofs.streams.NoteLemmas.{no_earlier_itself, no_earlier_o
 abbrev pub AreOthers : {W : Type 0} → ℕ → List (ℕ × Peer W) → Type 0
 AreOthers id es = AllByRecursion (λ e. e.0 ≢ id) es
 
--- what holds of each other connection after it held before
+-- what follows for each other connection from what held of it, holds of all where all are others
 all_become : {W : Type 0} (P Q : ℕ × Peer W → Type 0) (id : ℕ) (es : List (ℕ × Peer W)) → ((e : ℕ × Peer W) → e.0 ≢ id → P e → Q e) → AreOthers id es → AllByRecursion P es → AllByRecursion Q es
 all_become P Q id [] each apart all = tt
 all_become P Q id (e ∷ es) each apart all = (each e apart.0 all.0, all_become P Q id es each apart.1 all.1)
@@ -77,7 +77,7 @@ noted_beside v (e ∷ es) zero noted = noted.1
 noted_beside v (e ∷ es) (suc i) noted = (noted.0, noted_beside v es i noted.1)
 
 -- those beside one that is written
-beside_written : {W : Type 0} (es : List (ℕ × Peer W)) (i : ℕ) (q : Peer W) → remove (set_value_at es i q) i ≡ remove es i
+pub beside_written : {W : Type 0} (es : List (ℕ × Peer W)) (i : ℕ) (q : Peer W) → remove (set_value_at es i q) i ≡ remove es i
 beside_written [] zero q = refl
 beside_written [] (suc i) q = refl
 beside_written (e ∷ es) zero q = refl

@@ -3,7 +3,7 @@ use Rattle.indexmap.proofs.CallerLemmas.{keys-with_value_at}
 use Rattle.coap_serve.specs.declared.door.Course.TheVariants.{Open}
 use Rattle.coap_serve.specs.streams.Turns.{IsServed, wants_of}
 use Rattle.coap_serve.proofs.streams.AgendaLemmas.{served_so}
-use Rattle.coap_serve.proofs.streams.NotedLemmas.{others_noted, all_noted}
+use Rattle.coap_serve.proofs.streams.NotedLemmas.{beside_written, others_noted, all_noted}
 use Rattle.coap_serve.proofs.streams.PeerLemmas.{written_there, is_written, before_written}
 use Rattle.coap_serve.proofs.door.serve_at.Goals as goal
 
@@ -34,3 +34,6 @@ pub returns-clause-noted : goal.returns-clause-noted
 returns-clause-noted g c =
     all_noted _ _ c.args.server.now _ _ c.serve_peer.new.server _ c.args.peers.now.entries c.args.at c.pair_mut-peer.result.1.now c.serve_peer.new.peer
     c.requires.settled c.pair_mut-peer.ensures.unique c.pair_mut-peer.ensures.value c.requires.noted c.serve_peer.result c.serve_peer.ensures.part c.serve_peer.ensures.wants
+
+pub returns-clause-beside : goal.returns-clause-beside
+returns-clause-beside g c = beside_written c.args.peers.now.entries c.args.at c.serve_peer.new.peer
