@@ -375,6 +375,7 @@ fn serve_at<W: Wire + Ready>(
     // What was noted of the others still holds, and what was noted of it does where it goes on.
     ensures others { OnOk result (AreNoted server.new (remove peers.new.entries at)) }
     ensures noted { IfOk result (λ course. course ≡ Open → AreNoted server.new peers.new.entries) }
+    // No other one is touched.
     ensures beside { remove peers.new.entries at ≡ remove peers.old.entries at }
     ensures before { take at peers.new.entries ≡ take at peers.old.entries }
     ensures same { keys_of peers.new.entries ≡ keys_of peers.old.entries }
