@@ -32,3 +32,8 @@ returns-in-Open-clause-agenda g c seen =
     c.is_ready.ensures
     (stamp_noted (λ (p : Peer g.row.W.Denot). p.wants) (λ (p : Peer g.row.W.Denot). p.rest) c.serve_at.new.peers.entries c.args.seen.at c.index-peer.result.now c.serve_at.new.server c.in_ok-course.course c.index-peer.ensures c.in_ok-course.ensures.wants c.in-Open.is)
     c.with.ensures
+
+pub returns-in-Open-clause-fewer : goal.returns-in-Open-clause-fewer
+returns-in-Open-clause-fewer g c =
+    let as_many = same_length c.serve_at.new.peers.entries c.args.peers.now.entries c.serve_at.ensures.same in
+    omega (arith, as_many, c.requires.there)
