@@ -7,7 +7,7 @@ use Rattle.std.proofs.lemmas.List.{append-nil, map-append, take-map, drop-map, l
 use Rattle.std.proofs.lemmas.List.Recursion.{is_position_or_len}
 use Rattle.std.proofs.lemmas.Option.{slice_get-map}
 use Rattle.coap_conn.specs.declared.pending.Held.{Held}
-use Rattle.coap_conn.specs.Held.{HeldValue, Answer, Pong, come, least_come, is_answer_at, answer_index, pong_index, else_index, due_index, held_at, without_at, first_due, without_due}
+use Rattle.coap_conn.specs.Held.{HeldValue, Answer, Pong, least_come, is_answer_at, answer_index, pong_index, else_index, due_index, held_at, without_at, first_due, without_due}
 use Rattle.coap_conn.specs.HeldViews.{held_value}
 use Rattle.coap_conn.specs.Reaction.{stay, send, pong_with, due_effect}
 use Rattle.coap_conn.specs.LinkValue.{LinkValue, standing_in, link_with, link_after_due}

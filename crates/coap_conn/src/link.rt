@@ -16,7 +16,7 @@ use crate::pending::{Held, Pending};
 use crate::phase::{Due, Full, Phase, Reject, Reply, RequestFault, Role, SendFault, Verdict};
 use crate::queue::OutQueue;
 use crate::reason::Reason;
-use coap_wire::{Builder, Code, MessageRef, Token, uint_bytes};
+use coap_wire::{Builder, Code, MessageBuilder, MessageRef, Token, uint_bytes};
 use std::alloc::{AllocError, Global};
 use std::marker::Model;
 
@@ -229,7 +229,7 @@ impl Link {
     /// Sends a response as it fits the peer: whole, or else its bare code and token, where a code other than 2.01, 2.02 and
     /// 2.04 becomes 5.00, or else the connection stops. There must be room for the greatest message sent, and the connection
     /// must be open or releasing.
-    pub fn reply(&mut self, response: &Builder) -> Reply
+    pub fn reply<const N: usize>(&mut self, response: &MessageBuilder<N>) -> Reply
         requires ready { IsReady self.old }
         requires answering { IsAnswering self.old.phase }
         ensures reply { result ≡ fit (limit_in self.old) response.now (bare_response response.now) }
@@ -446,7 +446,10 @@ impl Link {
     ///
     /// In this order: `TooBig` where it is greater than what may be sent, `NoRoom` where fewer bytes are free. Nothing has changed
     /// then.
-    fn queue_asked(&mut self, message: &Builder) -> Result<(), RequestFault>
+    fn queue_asked<const N: usize>(
+        &mut self,
+        message: &MessageBuilder<N>,
+    ) -> Result<(), RequestFault>
         ensures answer { RefusedBy result (size_refusal (asking_in self.old) (length (spelling message.now))) }
         ensures after { OnOk result (self.new ≡ record self.old { waiting = self.old.waiting ++ bytes_of (message.now ∷ []) }) }
         ensures err { OnErr result (self.new ≡ self.old) }
@@ -506,7 +509,11 @@ impl Link {
     }
 
     /// Queues a message as it fits the peer, or less in its place, or neither.
-    fn queue_fitted(&mut self, whole: &Builder, less: &Builder) -> Reply
+    fn queue_fitted<const N: usize, const M: usize>(
+        &mut self,
+        whole: &MessageBuilder<N>,
+        less: &MessageBuilder<M>,
+    ) -> Reply
         requires { IsReady self.old }
         ensures reply { result ≡ fit (limit_in self.old) whole.now less.now }
         ensures after { self.new ≡ record self.old { waiting = self.old.waiting ++ bytes_of (fitted whole.now less.now result) } }
@@ -524,7 +531,11 @@ impl Link {
     }
 
     /// Sends a message as it fits the peer, or less in its place, or stops.
-    fn send(&mut self, whole: &Builder, less: &Builder) -> Reply
+    fn send<const N: usize, const M: usize>(
+        &mut self,
+        whole: &MessageBuilder<N>,
+        less: &MessageBuilder<M>,
+    ) -> Reply
         requires { IsReady self.old }
         ensures reply { result ≡ fit (limit_in self.old) whole.now less.now }
         ensures after { self.new ≡ link_with self.old (send (standing_in self.old) whole.now less.now) }
@@ -541,7 +552,7 @@ impl Link {
     }
 
     /// Sends a response as it fits the peer, or a bare one in its place. (Apart from `reply`, since a function clears all its locals.)
-    fn reply_bare(&mut self, response: &Builder) -> Reply
+    fn reply_bare<const N: usize>(&mut self, response: &MessageBuilder<N>) -> Reply
         requires { IsReady self.old }
         ensures reply { result ≡ fit (limit_in self.old) response.now (bare_response response.now) }
         ensures after { self.new ≡ link_with self.old (send (standing_in self.old) response.now (bare_response response.now)) }
@@ -701,7 +712,8 @@ impl Link {
         ensures after { self.new ≡ link_with self.old (sends (standing_in self.old) (pong_with custody token.now.items) (pong_with false token.now.items)).effect }
     {
         let pong = pong_to(token, custody);
-        self.answer(&pong, &Builder::new(Code::PONG, token))
+        let plain: MessageBuilder<0> = MessageBuilder::new(Code::PONG, token);
+        self.answer(&pong, &plain)
     }
 
     /// Handles a request: the caller answers it at the server, and at the client it is not implemented.
@@ -722,13 +734,20 @@ impl Link {
         ensures verdict { verdict_value result ≡ (request_reaction (standing_in self.old) message.now role.Client).verdict }
         ensures after { self.new ≡ link_with self.old (request_reaction (standing_in self.old) message.now role.Client).effect }
     {
-        let response = Builder::new(Code::NOT_IMPLEMENTED, message.token());
+        let response: MessageBuilder<0> = MessageBuilder::new(
+            Code::NOT_IMPLEMENTED,
+            message.token(),
+        );
         let bare = bare_of(&response);
         self.answer(&response, &bare)
     }
 
     /// Sends the answer to a message.
-    fn answer(&mut self, whole: &Builder, less: &Builder) -> Verdict
+    fn answer<const N: usize, const M: usize>(
+        &mut self,
+        whole: &MessageBuilder<N>,
+        less: &MessageBuilder<M>,
+    ) -> Verdict
         requires { IsReady self.old }
         ensures verdict { verdict_value result ≡ told_of (fit (limit_in self.old) whole.now less.now) }
         ensures after { self.new ≡ link_with self.old (send (standing_in self.old) whole.now less.now) }

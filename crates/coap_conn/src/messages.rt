@@ -11,7 +11,7 @@ ghost use Rattle.coap_conn.specs.QueueValue.{free_of};
 use crate::csm::{CUSTODY, MAX_MESSAGE_SIZE};
 use crate::queue::OutQueue;
 use crate::reason::Reason;
-use coap_wire::{Builder, Code, Token, uint_bytes};
+use coap_wire::{Code, MessageBuilder, Token, uint_bytes};
 
 /// Bad-CSM-Option, an option of Abort (RFC 8323 section 5.6).
 const BAD_CSM_OPTION: u16 = 2;
@@ -23,7 +23,7 @@ pub(crate) fn announce(queue: &mut OutQueue, max_message: usize)
     ensures small { length (bytes_of (own_csm max_message ∷ [])) ≤ 24 }
 {
     let size = uint_bytes(max_message as u64);
-    let mut csm = Builder::new(Code::CSM, &Token::new());
+    let mut csm: MessageBuilder<1> = MessageBuilder::new(Code::CSM, &Token::new());
     let Ok(()) = csm.option(MAX_MESSAGE_SIZE, &size) else {
         unreachable!()
     };
@@ -36,14 +36,15 @@ pub(crate) fn queue_release(queue: &mut OutQueue)
     ensures queued { queue.new ≡ record queue.old { waiting = queue.old.waiting ++ bytes_of (release ∷ []) } }
     ensures small { length (bytes_of (release ∷ [])) ≡ 2 }
 {
-    queue.put(&Builder::new(Code::RELEASE, &Token::new()));
+    let release: MessageBuilder<0> = MessageBuilder::new(Code::RELEASE, &Token::new());
+    queue.put(&release);
 }
 
 /// A Pong to the Ping with this token, with Custody or not (RFC 8323 section 5.4).
-pub(crate) fn pong_to(token: &Token, custody: bool) -> Builder<'static>
+pub(crate) fn pong_to(token: &Token, custody: bool) -> MessageBuilder<'static, 1>
     ensures { result ≡ pong_with custody token.now.items }
 {
-    let mut pong = Builder::new(Code::PONG, token);
+    let mut pong = MessageBuilder::new(Code::PONG, token);
     if custody {
         let Ok(()) = pong.option(CUSTODY, &[]) else {
             unreachable!()
@@ -53,10 +54,10 @@ pub(crate) fn pong_to(token: &Token, custody: bool) -> Builder<'static>
 }
 
 /// A Ping with this token, with Custody or not (RFC 8323 section 5.4).
-pub(crate) fn ping_to(token: &Token, custody: bool) -> Builder<'static>
+pub(crate) fn ping_to(token: &Token, custody: bool) -> MessageBuilder<'static, 1>
     ensures { result ≡ ping_with custody token.now.items }
 {
-    let mut ping = Builder::new(Code::PING, token);
+    let mut ping = MessageBuilder::new(Code::PING, token);
     if custody {
         let Ok(()) = ping.option(CUSTODY, &[]) else {
             unreachable!()
@@ -67,7 +68,7 @@ pub(crate) fn ping_to(token: &Token, custody: bool) -> Builder<'static>
 
 /// What is sent in place of a response that is too large: its code and token, where a code other than 2.01, 2.02 and 2.04
 /// becomes 5.00.
-pub(crate) fn bare_of(response: &Builder) -> Builder<'static>
+pub(crate) fn bare_of<const N: usize>(response: &MessageBuilder<N>) -> MessageBuilder<'static, 0>
     ensures { result ≡ bare_response response.now }
 {
     let code = response.code();
@@ -76,7 +77,7 @@ pub(crate) fn bare_of(response: &Builder) -> Builder<'static>
     } else {
         Code::INTERNAL_SERVER_ERROR
     };
-    Builder::new(bare, response.token())
+    MessageBuilder::new(bare, response.token())
 }
 
 /// The number that Bad-CSM-Option tells.
@@ -111,12 +112,16 @@ pub(crate) fn abort_text(reason: Reason) -> Option<&'static [u8]>
 }
 
 /// An Abort with this text, and with Bad-CSM-Option where there is a number (RFC 8323 section 5.6).
-pub(crate) fn abort_with<'a>(number: Option<u16>, bytes: &'a [u8], text: &'a [u8]) -> Builder<'a>
+pub(crate) fn abort_with<'a>(
+    number: Option<u16>,
+    bytes: &'a [u8],
+    text: &'a [u8],
+) -> MessageBuilder<'a, 1>
     requires short { length bytes.now ≤ 8 }
     requires small { length text.now ≤ 100 }
     ensures { result ≡ abort_message (told_options number bytes.now) text.now }
 {
-    let mut abort = Builder::new(Code::ABORT, &Token::new());
+    let mut abort = MessageBuilder::new(Code::ABORT, &Token::new());
     if let Some(_) = number {
         let Ok(()) = abort.option(BAD_CSM_OPTION, bytes) else {
             unreachable!()

@@ -2,7 +2,7 @@
 
 ghost use Rattle.std.specs.Prelude.{◌≡◌, ◌≤◌};
 
-use coap_wire::{Builder, Sink};
+use coap_wire::{MessageBuilder, Sink};
 use std::alloc::{AllocError, Global};
 use std::marker::Model;
 
@@ -74,7 +74,7 @@ impl OutQueue {
     }
 
     /// Queues the spelling of a message, for which there must be room.
-    pub(crate) fn put(&mut self, message: &Builder)
+    pub(crate) fn put<const N: usize>(&mut self, message: &MessageBuilder<N>)
         requires { length (spelling message.now) ≤ free_of self.old }
         ensures { self.new ≡ record self.old { waiting = self.old.waiting ++ spelling message.now } }
     {

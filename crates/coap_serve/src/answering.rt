@@ -4,10 +4,10 @@ ghost use Rattle.std.specs.Prelude.{◌≡◌, ◌<◌, ◌≤◌, ◌++◌, ◌
 ghost use Rattle.coap_conn.specs.Phases.{IsAnswering, is_open};
 ghost use Rattle.coap_conn.specs.Held.{HeldValue, first_due};
 ghost use Rattle.coap_conn.specs.LinkValue.{IsReady, can_hold, link_after_hold, link_after_reply};
-ghost use Rattle.coap_store.specs.Answer.{unheld};
+ghost use Rattle.coap_store.specs.Answer.{changed, unheld};
 ghost use Rattle.coap_store.specs.Messages.{response_message};
 ghost use Rattle.coap_store.specs.Requests.{path_of};
-ghost use Rattle.coap_store.specs.Changes.{IsPut, changes};
+ghost use Rattle.coap_store.specs.Changes.{IsPut, TakesChange, changes};
 ghost use Rattle.coap_store.specs.Watching.{MayWatch};
 ghost use Rattle.coap_serve.specs.world.Observers.{asks_entry as asks, is_whole as is_sent_whole};
 ghost use Rattle.coap_serve.specs.values.Sessions.{ObserverValue, answer_on, hold_on, held_in, host_changed, is_stale, link_sent, new_entry, notification_on, without_entry};
@@ -18,7 +18,7 @@ use crate::host::{Host, mark_at};
 use crate::observers::{Observer, Observers};
 use crate::response::respond;
 use coap_conn::{Due, Link, Reply};
-use coap_store::{Change, Plan, State, Watch, held_response, request_path};
+use coap_store::{Plan, State, Store, Watch, held_response, request_path};
 use coap_wire::{Code, MessageRef, Token};
 use std::alloc::AllocError;
 
@@ -52,22 +52,35 @@ pub(crate) fn answer(
         answer_late(link, observers, request, plan, moment);
         return Ok(false);
     }
-    let change = plan.change();
-    if let Change::Nothing = change {
-        observers.forget(request.token());
-        let observes = asks_entry(plan.watch()) && !observers.is_full();
-        let reply = respond(link, request.token(), &plan, observes);
-        if observes && is_whole(reply) {
-            enter(observers, host, request);
-        }
-        Ok(false)
-    } else {
+    if plan.changes() {
         let plan = plan.without_payload();
-        host.store.apply(change)?;
+        change(&mut host.store, &plan)?;
         observers.forget(request.token());
         respond(link, request.token(), &plan, false);
-        Ok(true)
+        return Ok(true);
     }
+    observers.forget(request.token());
+    let observes = asks_entry(plan.watch()) && !observers.is_full();
+    let reply = respond(link, request.token(), &plan, observes);
+    if observes && is_whole(reply) {
+        enter(observers, host, request);
+    }
+    Ok(false)
+}
+
+/// Makes the change of an answer that this store gave. (Apart from `answer`, since a function clears all its locals.)
+///
+/// # Errors
+///
+/// Where memory is refused for the representation that is stored. The store is then as before.
+#[inline(never)]
+fn change(store: &mut Store, plan: &Plan) -> Result<(), AllocError>
+    requires { TakesChange store.old plan.now.change }
+    ensures ok { OnOk result (store.new ≡ changed store.old plan.now.change) }
+    ensures put { OnErr result (IsPut plan.now.change) }
+    ensures err { OnErr result (store.new ≡ store.old) }
+{
+    store.apply(plan.change())
 }
 
 /// Holds the answer to a request until a moment, or refuses it for now where no more can be held. The observer with its token goes.

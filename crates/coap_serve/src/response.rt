@@ -14,7 +14,13 @@ ghost use Rattle.coap_store.specs.Messages.{response_with_observe, option_at, em
 use coap_conn::{Link, Reply};
 use coap_store::{Plan, UriPath};
 use coap_wire::option_numbers::{CONTENT_FORMAT, ETAG, LOCATION_PATH, MAX_AGE, OBSERVE, SIZE1};
-use coap_wire::{Builder, Token, uint_bytes};
+use coap_wire::{MessageBuilder, Token, uint_bytes};
+
+/// The most options of a response that tells no path: ETag, Observe, Content-Format, Max-Age and Size1.
+const FEW: usize = 5;
+
+/// The most options of any response: a path has 16 segments at most.
+const MANY: usize = 21;
 
 /// Sends the response of a plan to the request with this token, as it fits the peer (RFC 7252 section 5.10), with Observe where
 /// it is a notification too (RFC 7641 section 4.2). Answers what was sent.
@@ -25,13 +31,37 @@ pub(crate) fn respond(link: &mut Link, token: &Token, plan: &Plan, observes: boo
     ensures reply { let response = response_with_observe token.now.items observes plan.now.response in result ≡ fit (limit_in link.old) response (bare_response response) }
     ensures after { link.new ≡ link_after_reply link.old (response_with_observe token.now.items observes plan.now.response) }
 {
+    match plan.location() {
+        None => respond_from::<FEW>(link, token, plan, observes, None),
+        Some(path) => respond_from::<MANY>(link, token, plan, observes, Some(path)),
+    }
+}
+
+/// The same with room for `N` options, where this is the path that is told.
+fn respond_from<'a, const N: usize>(
+    link: &mut Link,
+    token: &Token,
+    plan: &'a Plan,
+    observes: bool,
+    path: Option<UriPath<'a>>,
+) -> Reply
+    requires ready { IsReady link.old }
+    requires answering { IsAnswering link.old.phase }
+    requires short { length plan.now.response.payload ≤ 1048576 }
+    requires path { IfSome path (λ path. is_path path ≡ true) }
+    requires told { path_or_root path ≡ plan.now.response.location }
+    requires room { length plan.now.response.location + 5 ≤ N }
+    requires few { N ≤ 40 }
+    ensures reply { let response = response_with_observe token.now.items observes plan.now.response in result ≡ fit (limit_in link.old) response (bare_response response) }
+    ensures after { link.new ≡ link_after_reply link.old (response_with_observe token.now.items observes plan.now.response) }
+{
     let format = number_bytes(wide(plan.format()));
     let max_age = number_bytes(plan.max_age());
     let size1 = number_bytes(plan.size1());
-    let mut response = Builder::new(plan.code(), token);
+    let mut response: MessageBuilder<N> = MessageBuilder::new(plan.code(), token);
     add_etag(&mut response, plan.etag());
     add_observe(&mut response, observes);
-    add_location(&mut response, plan.location());
+    add_location(&mut response, path);
     add_number(&mut response, CONTENT_FORMAT, &format);
     add_number(&mut response, MAX_AGE, &max_age);
     add_number(&mut response, SIZE1, &size1);
@@ -60,9 +90,10 @@ fn number_bytes(number: Option<u32>) -> Option<Token>
 
 /// Adds an option for which there is room.
 #[tactic(auto, using(crate::proofs::values::ResponseLemmas::last_added))]
-fn add<'a>(response: &mut Builder<'a>, number: u16, value: &'a [u8])
+fn add<'a, const N: usize>(response: &mut MessageBuilder<'a, N>, number: u16, value: &'a [u8])
     requires order { last_number 0 response.old.options ≤ number }
-    requires few { length response.old.options < 40 }
+    requires room { length response.old.options < N }
+    requires few { N ≤ 40 }
     requires short { length value.now ≤ 65804 }
     ensures added { response.new ≡ with_option response.old number value.now }
     ensures order { last_number 0 response.new.options ≡ number }
@@ -74,8 +105,10 @@ fn add<'a>(response: &mut Builder<'a>, number: u16, value: &'a [u8])
 }
 
 /// Adds ETag first, where there is one (RFC 7252 section 5.10.6).
-fn add_etag<'a>(response: &mut Builder<'a>, etag: Option<&'a [u8]>)
+fn add_etag<'a, const N: usize>(response: &mut MessageBuilder<'a, N>, etag: Option<&'a [u8]>)
     requires first { response.old.options ≡ [] }
+    requires room { 1 ≤ N }
+    requires few { N ≤ 40 }
     requires short { IfSome etag (λ etag. length etag.now ≤ 8) }
     ensures added { response.new ≡ record response.old { options = response.old.options ++ option_at numbers.etag (option_map (λ etag. etag.now) etag.entry) } }
     ensures order { last_number 0 response.new.options ≤ 4 }
@@ -87,12 +120,13 @@ fn add_etag<'a>(response: &mut Builder<'a>, etag: Option<&'a [u8]>)
 }
 
 /// Adds an empty Observe, where the response is a notification (RFC 8323 section 7.1).
-fn add_observe(response: &mut Builder, observes: bool)
+fn add_observe<const N: usize>(response: &mut MessageBuilder<N>, observes: bool)
     requires order { last_number 0 response.old.options ≤ 4 }
-    requires few { length response.old.options ≤ 1 }
+    requires room { length response.old.options < N }
+    requires few { N ≤ 40 }
     ensures added { response.new ≡ record response.old { options = response.old.options ++ empty_at numbers.observe observes } }
     ensures order { last_number 0 response.new.options ≤ 6 }
-    ensures few { length response.new.options ≤ 2 }
+    ensures few { length response.new.options ≤ length response.old.options + 1 }
 {
     if observes {
         add(response, OBSERVE, &[]);
@@ -100,13 +134,14 @@ fn add_observe(response: &mut Builder, observes: bool)
 }
 
 /// Adds the path of a resource that was made, where there is one (RFC 7252 section 5.10.7).
-fn add_location<'a>(response: &mut Builder<'a>, path: Option<UriPath<'a>>)
+fn add_location<'a, const N: usize>(response: &mut MessageBuilder<'a, N>, path: Option<UriPath<'a>>)
     requires path { IfSome path (λ path. is_path path ≡ true) }
     requires order { last_number 0 response.old.options ≤ 8 }
-    requires few { length response.old.options ≤ 2 }
+    requires room { length response.old.options + length (path_or_root path) ≤ N }
+    requires few { N ≤ 40 }
     ensures added { response.new ≡ record response.old { options = response.old.options ++ each_at numbers.location_path (path_or_root path.entry) } }
     ensures order { last_number 0 response.new.options ≤ 8 }
-    ensures few { length response.new.options ≤ 18 }
+    ensures few { length response.new.options ≤ length response.old.options + length (path_or_root path.entry) }
 {
     if let Some(path) = path {
         add_path(response, path);
@@ -114,9 +149,14 @@ fn add_location<'a>(response: &mut Builder<'a>, path: Option<UriPath<'a>>)
 }
 
 /// Adds an option with a number, where there is one.
-fn add_number<'a>(response: &mut Builder<'a>, number: u16, bytes: &'a Option<Token>)
+fn add_number<'a, const N: usize>(
+    response: &mut MessageBuilder<'a, N>,
+    number: u16,
+    bytes: &'a Option<Token>,
+)
     requires order { last_number 0 response.old.options ≤ number }
-    requires few { length response.old.options < 40 }
+    requires room { length response.old.options < N }
+    requires few { N ≤ 40 }
     ensures added { response.new ≡ record response.old { options = response.old.options ++ option_at number (option_map (λ b. b.items) bytes.now) } }
     ensures order { last_number 0 response.new.options ≤ number }
     ensures few { length response.new.options ≤ length response.old.options + 1 }
@@ -127,13 +167,14 @@ fn add_number<'a>(response: &mut Builder<'a>, number: u16, bytes: &'a Option<Tok
 }
 
 /// Adds Location-Path, an option for each segment (RFC 7252 section 5.10.7).
-fn add_path<'a>(response: &mut Builder<'a>, path: UriPath<'a>)
+fn add_path<'a, const N: usize>(response: &mut MessageBuilder<'a, N>, path: UriPath<'a>)
     requires path { is_path path ≡ true }
     requires order { last_number 0 response.old.options ≤ 8 }
-    requires few { length response.old.options ≤ 2 }
+    requires room { length response.old.options + length path ≤ N }
+    requires few { N ≤ 40 }
     ensures added { response.new ≡ record response.old { options = response.old.options ++ each_at numbers.location_path path.entry } }
     ensures order { last_number 0 response.new.options ≤ 8 }
-    ensures few { length response.new.options ≤ 18 }
+    ensures few { length response.new.options ≤ length response.old.options + length path.entry }
 {
     for segment in path {
         add(response, LOCATION_PATH, segment);

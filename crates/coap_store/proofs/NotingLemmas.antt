@@ -28,6 +28,24 @@ module _ (field : Notes → Bool) (number : ℕ) (step : (n : Notes) (o : CoapOp
       ∙ or_moved (field n) (o.number == number) (is_given (values_in number os))
       ∙ ap (λ (b : Bool). field n || b) (given_at (has_number number o) o (filter (has_number number) os) (is_given (values_in number os)) refl)
 
+pub or_none_more : (b : Bool) → (b || false) ≡ b
+or_none_more true = refl
+or_none_more false = refl
+
+pub or_one : (b : Bool) → (b || true) ≡ true
+or_one true = refl
+or_one false = refl
+
+-- a value of another option is not kept
+pub not_given : (first : Option (List ℕ)) (value : List ℕ) → first_given first false value ≡ first
+not_given None value = refl
+not_given (Some v) value = refl
+
+-- an option of which nothing is noted
+pub nothing_noted : (n : Notes) (o : CoapOption) → (o.number == numbers.uri_path) ≡ false → (o.number == numbers.if_match) ≡ false → (o.number == numbers.etag) ≡ false → (o.number == numbers.if_none_match) ≡ false → (o.number == numbers.proxy_uri) ≡ false → (o.number == numbers.proxy_scheme) ≡ false → (o.number == numbers.observe) ≡ false → (o.number == numbers.content_format) ≡ false → (o.number == numbers.uri_query) ≡ false → (o.number == numbers.accept) ≡ false → n ≡ noted n o
+unfolding noted
+nothing_noted n o a b c d e f g h i j = rw (a, b, c, d, e, f, g, h, i, j) (simp (or_none_more, not_given))
+
 -- the first of two values
 abbrev or_first : Option (List ℕ) → Option (List ℕ) → Option (List ℕ)
 or_first None second = second

@@ -1,7 +1,7 @@
 //! What the recognised options of a request say, noted in one pass.
 
-ghost use Rattle.std.specs.Prelude.{◌≡◌, option_copied};
-ghost use Rattle.coap_store.specs.Noting.{first_given, led};
+ghost use Rattle.std.specs.Prelude.{◌≡◌, true, option_copied};
+ghost use Rattle.coap_store.specs.Noting.{first_given};
 
 use crate::trail::Trail;
 use coap_wire::OptionRef;
@@ -27,19 +27,12 @@ pub(crate) struct Notes<'r> {
 }
 
 /// Keeps a value where it is the first.
-fn keep_first<'r>(first: &mut Option<&'r [u8]>, is_given: bool, value: &'r [u8])
-    ensures { option_copied first.new ≡ first_given (option_copied first.old) is_given value.now }
+fn keep_first<'r>(first: &mut Option<&'r [u8]>, value: &'r [u8])
+    ensures { option_copied first.new ≡ first_given (option_copied first.old) true value.now }
 {
-    if is_given && first.is_none() {
+    if first.is_none() {
         *first = Some(value);
     }
-}
-
-/// Where a segment leads, where it is one.
-fn lead(trail: Trail, is_segment: bool, value: &[u8]) -> Trail
-    ensures { result ≡ led trail is_segment value.now }
-{
-    if is_segment { trail.with(value) } else { trail }
 }
 
 impl<'r> Notes<'r> {
@@ -70,20 +63,19 @@ impl<'r> Notes<'r> {
     pub(crate) fn note(&mut self, option: &OptionRef<'r>)
         ensures { notes_value self.new ≡ noted (notes_value self.old) (coap_option option.now) }
     {
-        let number = option.number;
-        self.trail = lead(self.trail, number == URI_PATH, option.value);
-        self.has_if_match = self.has_if_match || number == IF_MATCH;
-        self.has_etag = self.has_etag || number == ETAG;
-        self.has_if_none_match = self.has_if_none_match || number == IF_NONE_MATCH;
-        self.has_proxy_uri = self.has_proxy_uri || number == PROXY_URI;
-        self.has_proxy_scheme = self.has_proxy_scheme || number == PROXY_SCHEME;
-        keep_first(&mut self.observe, number == OBSERVE, option.value);
-        keep_first(
-            &mut self.content_format,
-            number == CONTENT_FORMAT,
-            option.value,
-        );
-        keep_first(&mut self.query, number == URI_QUERY, option.value);
-        keep_first(&mut self.accept, number == ACCEPT, option.value);
+        let value = option.value;
+        match option.number {
+            URI_PATH => self.trail = self.trail.with(value),
+            IF_MATCH => self.has_if_match = true,
+            ETAG => self.has_etag = true,
+            IF_NONE_MATCH => self.has_if_none_match = true,
+            PROXY_URI => self.has_proxy_uri = true,
+            PROXY_SCHEME => self.has_proxy_scheme = true,
+            OBSERVE => keep_first(&mut self.observe, value),
+            CONTENT_FORMAT => keep_first(&mut self.content_format, value),
+            URI_QUERY => keep_first(&mut self.query, value),
+            ACCEPT => keep_first(&mut self.accept, value),
+            _ => {}
+        }
     }
 }

@@ -109,20 +109,21 @@ pub enum Watch {
 /// The answer to a request: the response, apart from the request's token, what the request changes, what it asks of the
 /// observers, and for how long the response is held. It borrows the bytes of the store and of the request. Contracts see an
 /// `Answer`.
+// A plan is moved often, so its fields stand by size: no byte lies beside an empty place.
 #[derive(Debug, Drop)]
 pub struct Plan<'s, 'r> {
-    code: Code,
     etag: Option<ArrayVec<u8, 8>>,
-    format: Option<u16>,
-    max_age: Option<u32>,
-    /// Whether the path of the change is told.
-    tells_location: bool,
-    size1: Option<u32>,
     payload: Bytes<'s>,
     effect: Effect<'r>,
-    watch: Watch,
+    max_age: Option<u32>,
+    size1: Option<u32>,
     /// For how many seconds the response is held, where it is.
     hold: Option<u32>,
+    format: Option<u16>,
+    code: Code,
+    /// Whether the path of the change is told.
+    tells_location: bool,
+    watch: Watch,
 }
 
 impl<'s, 'r> Model for Plan<'s, 'r> {

@@ -65,6 +65,14 @@ pub size_more : (xs : List OptionRef) (i size base step : ℕ) (x : OptionRef) �
 size_more xs i size base step x lt size_is base_is step_is =
     rw (spelling_more 0 xs i x lt, size_is, step_is, base_is) (sym (length-append (options_spelling 0 (coap_options (take i xs))) (option_spelling (last_number 0 (coap_options (take i xs))) (coap_option (get_or xs i x)))))
 
+-- the length with one option more at the end
+pub size_pushed : (xs ys : List OptionRef) (o : OptionRef) (size base step : ℕ) → ys ≡ xs ++ o ∷ [] → size ≡ length (options_spelling 0 (coap_options xs)) → base ≡ last_number 0 (coap_options xs)
+    → step ≡ length (option_spelling base (coap_option o)) → size + step ≡ length (options_spelling 0 (coap_options ys))
+size_pushed xs ys o size base step more size_is base_is step_is =
+    let os = coap_options xs in
+    let o_spelling = option_spelling (last_number 0 os) (coap_option o) in
+    rw (more, map_push coap_option xs o, options_spelling-append 0 os (coap_option o ∷ []), size_is, step_is, base_is) (omega (arith, length-append (options_spelling 0 os) (o_spelling ++ []), ap length (append-nil o_spelling)))
+
 -- the last element's number is the number of the last option
 pub last_number_is : (base : ℕ) (x : OptionRef) (xs : List OptionRef) (o : OptionRef) → slice_get (x ∷ xs) (length xs) ≡ Some o → o.number ≡ last_number base (coap_options (x ∷ xs))
 last_number_is base x [] o e = let h : x ≡ o = cc in ap (λ (y : OptionRef). y.number) (sym h)

@@ -32,7 +32,7 @@ GivesPayload (Err e) read = read ≡ Err e
 abbrev pub greatest_payload : ℕ
 greatest_payload = 1048576
 
--- the most options that a builder takes
+-- the most options that any builder takes
 abbrev pub most_options : ℕ
 most_options = 40
 
@@ -44,12 +44,12 @@ pub record CanBeBuilt (m : Message) : Type 0 where
   pub few : length m.options ≤ most_options
   pub payload : length m.payload ≤ greatest_payload
 
--- why a builder does not take an option
-abbrev pub option_refusal : Message → ℕ → List ℕ → Option BuildFault
-option_refusal m number value =
+-- why a builder with room for so many options does not take one
+abbrev pub option_refusal : ℕ → Message → ℕ → List ℕ → Option BuildFault
+option_refusal room m number value =
     if nat_lt number (last_number 0 m.options) then Some Order
     else (if nat_lt greatest_option_form (length value) then Some TooLong
-    else (if nat_lt (length m.options) most_options then None else Some Full))
+    else (if nat_lt (length m.options) room then (if nat_lt (length m.options) most_options then None else Some Full) else Some Full))
 
 -- why a builder does not take a payload
 abbrev pub payload_refusal : List ℕ → Option BuildFault

@@ -10,11 +10,11 @@ use crate::form::form_of_length;
 use crate::options::OptionRef;
 use crate::sink::Sink;
 use crate::token::{Token, token_of};
-use crate::writing::{options_size, write_head, write_options, write_payload};
+use crate::writing::{option_size, write_head, write_options, write_payload};
 use arrayvec::ArrayVec;
 use std::marker::Model;
 
-/// The most options that a builder takes.
+/// The most options that any builder takes.
 const MAX_OPTIONS: usize = 40;
 
 /// The greatest length of an option's value (RFC 7252 section 3.1).
@@ -23,17 +23,23 @@ const MAX_VALUE: usize = 65_804;
 /// The greatest payload that a builder takes.
 const MAX_PAYLOAD: usize = 1_048_576;
 
-/// A message that is being built, of at most 40 options. It borrows the options' values and the payload. Contracts see
-/// the `Message`.
+/// A message that is being built, of at most 40 options.
+pub type Builder<'a> = MessageBuilder<'a, MAX_OPTIONS>;
+
+/// A message that is being built, of at most `N` options, or 40 where that is less. It borrows the options' values and the payload.
+/// Each new one clears the room of its options, so that a message of few options costs less where `N` is small. Contracts see the
+/// `Message`.
 #[derive(Debug, Drop)]
-pub struct Builder<'a> {
-    code: Code,
+pub struct MessageBuilder<'a, const N: usize> {
     token: Token,
-    options: ArrayVec<OptionRef<'a>, MAX_OPTIONS>,
+    options: ArrayVec<OptionRef<'a>, N>,
+    /// The length of the spelling of all options: the size of a message is asked for before it is written, and told in its head.
+    options_size: u64,
     payload: &'a [u8],
+    code: Code,
 }
 
-impl<'a> Model for Builder<'a> {
+impl<'a, const N: usize> Model for MessageBuilder<'a, N> {
     ghost use Rattle.coap_wire.specs.Message.{Message};
 
     ghost Value = { Message };
@@ -45,20 +51,21 @@ impl<'a> Model for Builder<'a> {
     ghost invariant = { CanBuild };
 }
 
-impl<'a> Builder<'a> {
+impl<'a, const N: usize> MessageBuilder<'a, N> {
     ghost use Rattle.std.specs.Prelude.{◌≡◌, ◌+◌, ◌≤◌, ◌++◌, [], length, OnOk, OnErr};
     ghost use Rattle.coap_wire.specs.Spelling.{Spells, spelling, body_spelling, HasSpelling};
     ghost use Rattle.coap_wire.specs.Refusal.{RefusedBy};
     ghost use Rattle.coap_wire.specs.Views.{CanBeBuilt, option_refusal, payload_refusal, with_option};
 
     /// A message with this code and this token, with no options and no payload.
-    pub fn new(code: Code, token: &Token) -> Builder<'a>
+    pub fn new(code: Code, token: &Token) -> MessageBuilder<'a, N>
         ensures { result ≡ record { code = code; token = token.now.items; options = []; payload = [] } }
     {
-        Builder {
+        MessageBuilder {
             code,
             token: token_of(token),
             options: ArrayVec::new(),
+            options_size: 0,
             payload: &[],
         }
     }
@@ -68,22 +75,25 @@ impl<'a> Builder<'a> {
     /// # Errors
     ///
     /// In this order: `Order` where the number is below that of the last option, `TooLong` where the value has more than
-    /// 65,804 bytes, `Full` where 40 options are there. The message is then as before.
+    /// 65,804 bytes, `Full` where `N` options or 40 are there. The message is then as before.
     pub fn option(&mut self, number: u16, value: &'a [u8]) -> Result<(), BuildFault>
-        ensures answer { RefusedBy result (option_refusal self.old number value.now) }
+        ensures answer { RefusedBy result (option_refusal N self.old number value.now) }
         ensures ok { OnOk result (self.new ≡ with_option self.old number value.now) }
         ensures err { OnErr result (self.new ≡ self.old) }
     {
-        if number < last_number(&self.options) {
+        let last = last_number(&self.options);
+        if number < last {
             return Err(BuildFault::Order);
         }
         if value.len() > MAX_VALUE {
             return Err(BuildFault::TooLong);
         }
-        if self.options.is_full() {
+        if self.options.is_full() || self.options.len() >= MAX_OPTIONS {
             return Err(BuildFault::Full);
         }
-        self.options.push(OptionRef { number, value });
+        let option = OptionRef { number, value };
+        self.options_size += option_size(last, &option);
+        self.options.push(option);
         Ok(())
     }
 
@@ -119,13 +129,14 @@ impl<'a> Builder<'a> {
     }
 
     /// The same message with another token.
-    pub fn with_token(&self, token: &Token) -> Builder<'a>
+    pub fn with_token(&self, token: &Token) -> MessageBuilder<'a, N>
         ensures { result ≡ record self.now { token = token.now.items } }
     {
-        Builder {
+        MessageBuilder {
             code: self.code,
             token: token_of(token),
             options: copied(&self.options),
+            options_size: self.options_size,
             payload: self.payload,
         }
     }
@@ -158,11 +169,10 @@ impl<'a> Builder<'a> {
         ensures bound { result ≤ 3680937 }
         ensures spelled { CanBeBuilt self.now }
     {
-        let options = options_size(&self.options);
         if self.payload.is_empty() {
-            options
+            self.options_size
         } else {
-            options + 1 + self.payload.len() as u64
+            self.options_size + 1 + self.payload.len() as u64
         }
     }
 }
@@ -178,9 +188,7 @@ fn last_number(options: &[OptionRef]) -> u16
 }
 
 /// The same options.
-fn copied<'a>(
-    options: &ArrayVec<OptionRef<'a>, MAX_OPTIONS>,
-) -> ArrayVec<OptionRef<'a>, MAX_OPTIONS>
+fn copied<'a, const N: usize>(options: &ArrayVec<OptionRef<'a>, N>) -> ArrayVec<OptionRef<'a>, N>
     ensures { result.items ≡ options.now.items }
 {
     let Ok(same) = ArrayVec::try_from(options.as_slice()) else {

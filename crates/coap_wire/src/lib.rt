@@ -20,7 +20,7 @@ mod token;
 mod uint;
 mod writing;
 
-pub use builder::Builder;
+pub use builder::{Builder, MessageBuilder};
 pub use code::Code;
 pub use fault::{BuildFault, FormatFault, FrameFault};
 pub use frame::Declared;

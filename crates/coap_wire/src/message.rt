@@ -15,12 +15,13 @@ use crate::token::Token;
 use std::marker::Model;
 
 /// A message within the frame that spells it. Contracts see it as a `Message`: code, token, options and payload.
+// A message is moved where it is read, so its one small field stands last: no byte lies beside an empty place.
 #[derive(Debug, Drop)]
 pub struct MessageRef<'a> {
-    code: Code,
     token: Token,
     body: &'a [u8],
     payload: &'a [u8],
+    code: Code,
 }
 
 impl<'a> Model for MessageRef<'a> {
@@ -109,7 +110,7 @@ pub fn parse(frame: &[u8]) -> Result<MessageRef<'_>, FormatFault>
 fn message_in(frame: &[u8]) -> Result<MessageRef<'_>, FormatFault>
     ensures { result ≡ message_of frame.now }
 {
-    let (code, token, body) = head_of(frame)?;
+    let (token, body, code) = head_of(frame)?;
     let payload = payload_of(body)?;
     Ok(MessageRef {
         code,

@@ -77,10 +77,10 @@ fn option_number_after(nibble: u8, bytes: &[u8]) -> Option<(u32, &[u8])>
     Some((u32::from(number) + 269, rest))
 }
 
-/// The code, the token and the body of bytes that are exactly one frame.
+/// The token, the body and the code of bytes that are exactly one frame.
 #[tactic(auto, unfolding(crate::specs::Reading::head_at))]
-pub(crate) fn head_of(frame: &[u8]) -> Result<(Code, Token, &[u8]), FormatFault>
-    ensures { Gives (λ x. record { code = x.0; token = x.1.items; body = x.2.now }) result (head_at frame.now) }
+pub(crate) fn head_of(frame: &[u8]) -> Result<(Token, &[u8], Code), FormatFault>
+    ensures { Gives (λ x. record { code = x.2; token = x.0.items; body = x.1.now }) result (head_at frame.now) }
 {
     let Some((first, rest)) = frame.split_first() else {
         return Err(FormatFault::NotOneFrame);
@@ -97,7 +97,7 @@ pub(crate) fn head_of(frame: &[u8]) -> Result<(Code, Token, &[u8]), FormatFault>
     }
     let token_end = 1 + token_length;
     let token = token_of(&rest[1..token_end]);
-    Ok((Code::new(rest[0]), token, &rest[token_end..]))
+    Ok((token, &rest[token_end..], Code::new(rest[0])))
 }
 
 /// The delta and the length of an option with this first byte, and the bytes after both extensions.

@@ -44,6 +44,17 @@ fn significant(bytes: &[u8]) -> &[u8]
     rest
 }
 
+/// The fewest bytes that mean a number below 256: one, or none for 0.
+fn small_bytes(number: u8) -> UintBytes
+    ensures { result.items ≡ bytes_of_uint number }
+{
+    let mut bytes = UintBytes::new();
+    if number > 0 {
+        bytes.push(number);
+    }
+    bytes
+}
+
 /// The fewest bytes that mean the number, in network order: none for 0, at most 8.
 #[tactic(auto, unfolding(crate::specs::Uint::bytes_of_uint))]
 pub fn uint_bytes(number: u64) -> UintBytes
@@ -51,6 +62,10 @@ pub fn uint_bytes(number: u64) -> UintBytes
     ensures value { uint_of result.items ≡ number }
     ensures fewest { without_leading_zeros result.items ≡ result.items }
 {
+    // Most numbers that are sent take one byte.
+    if let Ok(small) = u8::try_from(number) {
+        return small_bytes(small);
+    }
     let Ok(fewest) = UintBytes::try_from(significant(&number.to_be_bytes())) else {
         unreachable!()
     };

@@ -27,8 +27,8 @@ fn extension_size(number: u32) -> u64
     }
 }
 
-/// The length of an option's spelling.
-fn option_size(base: u16, option: &OptionRef) -> u64
+/// The length of an option's spelling, whose number counts from `base`.
+pub(crate) fn option_size(base: u16, option: &OptionRef) -> u64
     requires ordered { base ≤ option.now.number }
     requires short { length option.now.value.now ≤ greatest_option_form }
     ensures size { result ≡ length (option_spelling base (coap_option option.now)) }
@@ -37,23 +37,6 @@ fn option_size(base: u16, option: &OptionRef) -> u64
     let delta = u32::from(option.number - base);
     let length = option.value.len() as u32;
     1 + extension_size(delta) + extension_size(length) + u64::from(length)
-}
-
-/// The length of the spelling of all options.
-pub(crate) fn options_size(options: &[OptionRef]) -> u64
-    requires ordered { AreOrdered 0 (coap_options options.now) }
-    requires each { AllByRecursion HasOptionForm (coap_options options.now) }
-    requires few { length options.now ≤ most_options }
-    ensures size { result ≡ length (options_spelling 0 (coap_options options.now)) }
-    ensures bound { result ≤ 2632360 }
-{
-    let mut size = 0;
-    let mut base = 0;
-    for option in options {
-        size += option_size(base, option);
-        base = option.number;
-    }
-    size
 }
 
 /// Writes the first byte, the extension of the length, the code and the token.

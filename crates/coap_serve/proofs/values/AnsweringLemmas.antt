@@ -18,10 +18,7 @@ use Rattle.coap_store.specs.Answer.{Answer, Response, says, answer_of, unheld_by
 use Rattle.coap_store.specs.Changes.{changes}
 use Rattle.coap_store.specs.Messages.{response_message, response_with_observe}
 use Rattle.coap_store.specs.Notifications.{notification_of}
-use Rattle.coap_store.specs.PlanViews.{change_value}
 use Rattle.coap_store.specs.Watching.{MayWatch}
-use Rattle.coap_store.specs.declared.plan.Change.{Change}
-use Rattle.coap_store.specs.declared.plan.Change.TheVariants as change
 use Rattle.coap_store.specs.declared.plan.Watch.{Watch}
 use Rattle.coap_store.specs.declared.plan.Watch.TheVariants as watch
 use Rattle.coap_store.proofs.HoldLaws.{held_of, held_unwatched, same_change, same_at_once}
@@ -62,10 +59,10 @@ pub entries_unobserved : (host : Host) (l : LinkValue) (m : Message) (room : ℕ
 entries_unobserved host l m room others does = rw (unobserved host m room others does) refl
 
 -- what is not nothing is a change
-pub is_change : (c : Change) → (c ≡ change.Nothing → ⊥) → true ≡ changes (change_value c)
-is_change change.Nothing other = absurd (other refl)
-is_change (change.Put path format bytes) other = refl
-is_change (change.Delete path) other = refl
+pub nothing_changed : (c : answer.Change) → changes c ≡ false → c ≡ answer.Nothing
+nothing_changed answer.Nothing e = refl
+nothing_changed (answer.Put path format bytes) e = absurd cc
+nothing_changed (answer.Delete path) e = absurd cc
 
 -- ---- a request whose answer asks to be held
 

@@ -6,11 +6,10 @@ use Rattle.coap_store.specs.Store.{StoreValue}
 use Rattle.coap_store.specs.Answer.{Answer, unheld, changed}
 use Rattle.coap_store.specs.Changes.{IsPut, changes}
 use Rattle.coap_store.specs.Messages.{response_message, response_with_observe}
-use Rattle.coap_store.specs.PlanViews.{change_value}
 use Rattle.coap_serve.specs.world.Observers.{asks_entry, is_whole, with_entry}
 use Rattle.coap_serve.specs.values.Sessions.{ObserverValue, ObserversValue, hold_on, host_changed, new_entry, without_entry}
 use Rattle.coap_serve.specs.values.Entries.{is_observed}
-use Rattle.coap_serve.proofs.values.AnsweringLemmas.{is_change, response_unobserved, late_changes, late_host, late_link, late_entries, prompt_is, prompt_link, prompt_entries, change_link, change_entries, observed_where_asked, observed_where_unasked, may_watch}
+use Rattle.coap_serve.proofs.values.AnsweringLemmas.{nothing_changed, response_unobserved, late_changes, late_host, late_link, late_entries, prompt_is, prompt_link, prompt_entries, change_link, change_entries, observed_where_asked, observed_where_unasked, may_watch}
 use Rattle.coap_serve.proofs.values.FlushLemmas.{on_any_fault}
 use Rattle.coap_serve.proofs.answering.answer.Goals.{then-asks_entry, else-asks_entry, else-observes-via-then-observes+else-is_whole, else-observes-via-else-observes}
 use Rattle.coap_serve.proofs.answering.answer.Goals as goal
@@ -66,18 +65,18 @@ returns-then-is_whole c =
     let others : List ObserverValue = without_entry m.token before.entries in
     let none : hold_on host m ≡ None = ap (λ (a : Answer). a.hold) (sym c.answer-plan.ensures.answer) ∙ sym c.hold.ensures.seconds ∙ c.in_default.is in
     let answer = prompt_is host m plan c.answer-plan.ensures.answer none in
-    let quiet = ap (λ (a : Answer). a.change) (sym answer) ∙ sym c.change-change.ensures ∙ ap change_value c.in-Nothing.is in
-    let forgotten = c.forget.ensures ∙ ap (λ (t : List ℕ). record before { entries = without_entry t before.entries }) c.token.ensures in
+    let quiet = nothing_changed _ (ap (λ (a : Answer). changes a.change) (sym answer) ∙ sym c.changes.ensures ∙ c.if-changes.false) in
+    let forgotten = c.forget-2.ensures ∙ ap (λ (t : List ℕ). record before { entries = without_entry t before.entries }) c.token-2.ensures in
     let asks = c.asks_entry.ensures ∙ ap asks_entry c.watch.ensures ∙ ap (λ (a : Answer). asks_entry a.watch) answer in
     let observed : observes ≡ is_observed host room others m = elim c.if-asks_entry.branch [
       | then-asks_entry w ↦ observed_where_asked host m room others _ _ _ asks w.if-asks_entry.true (w.is_full.ensures ∙ ap (λ (o : ObserversValue). not (nat_lt (length o.entries) o.room)) forgotten) w.observes-is
       | else-asks_entry w ↦ observed_where_unasked host m room others _ _ asks w.if-asks_entry.false (w.observes-is ∙ w.if-asks_entry.false)
     ] in
-    let sent = c.respond-reply.ensures.reply ∙ ap (λ (t : List ℕ). fit (limit_in l) (response_with_observe t observes plan.response) (bare_response (response_with_observe t observes plan.response))) c.token-in-Nothing.ensures in
+    let sent = c.respond-reply.ensures.reply ∙ ap (λ (t : List ℕ). fit (limit_in l) (response_with_observe t observes plan.response) (bare_response (response_with_observe t observes plan.response))) c.token-3.ensures in
     let enters : (observes && is_whole reply) ≡ true = ap (λ (b : Bool). b && is_whole reply) c.if-observes.true ∙ sym c.is_whole.ensures ∙ c.if-is_whole.true in
     record {
       changed = ap changes (sym quiet);
-      link = c.respond-reply.ensures.after ∙ ap (λ (t : List ℕ). link_after_reply l (response_with_observe t observes plan.response)) c.token-in-Nothing.ensures ∙ prompt_link host m l room others plan observes none answer observed;
+      link = c.respond-reply.ensures.after ∙ ap (λ (t : List ℕ). link_after_reply l (response_with_observe t observes plan.response)) c.token-3.ensures ∙ prompt_link host m l room others plan observes none answer observed;
       entries =
           c.enter.ensures ∙ ap (λ (o : ObserversValue). record o { entries = o.entries ++ new_entry host m ∷ [] }) forgotten
           ∙ ap (λ (b : Bool). record before { entries = with_entry b others (new_entry host m) }) (sym enters)
@@ -102,21 +101,21 @@ returns-else-observes c =
     let others : List ObserverValue = without_entry m.token before.entries in
     let none : hold_on host m ≡ None = ap (λ (a : Answer). a.hold) (sym c.answer-plan.ensures.answer) ∙ sym c.hold.ensures.seconds ∙ c.in_default.is in
     let answer = prompt_is host m plan c.answer-plan.ensures.answer none in
-    let quiet = ap (λ (a : Answer). a.change) (sym answer) ∙ sym c.change-change.ensures ∙ ap change_value c.in-Nothing.is in
-    let forgotten = c.forget.ensures ∙ ap (λ (t : List ℕ). record before { entries = without_entry t before.entries }) c.token.ensures in
+    let quiet = nothing_changed _ (ap (λ (a : Answer). changes a.change) (sym answer) ∙ sym c.changes.ensures ∙ c.if-changes.false) in
+    let forgotten = c.forget-2.ensures ∙ ap (λ (t : List ℕ). record before { entries = without_entry t before.entries }) c.token-2.ensures in
     let asks = c.asks_entry.ensures ∙ ap asks_entry c.watch.ensures ∙ ap (λ (a : Answer). asks_entry a.watch) answer in
     let observed : observes ≡ is_observed host room others m = elim c.if-asks_entry.branch [
       | then-asks_entry w ↦ observed_where_asked host m room others _ _ _ asks w.if-asks_entry.true (w.is_full.ensures ∙ ap (λ (o : ObserversValue). not (nat_lt (length o.entries) o.room)) forgotten) w.observes-is
       | else-asks_entry w ↦ observed_where_unasked host m room others _ _ asks w.if-asks_entry.false (w.observes-is ∙ w.if-asks_entry.false)
     ] in
-    let sent = c.respond-reply.ensures.reply ∙ ap (λ (t : List ℕ). fit (limit_in l) (response_with_observe t observes plan.response) (bare_response (response_with_observe t observes plan.response))) c.token-in-Nothing.ensures in
+    let sent = c.respond-reply.ensures.reply ∙ ap (λ (t : List ℕ). fit (limit_in l) (response_with_observe t observes plan.response) (bare_response (response_with_observe t observes plan.response))) c.token-3.ensures in
     let misses : (observes && is_whole reply) ≡ false = elim c.else-observes.branch [
       | else-observes-via-then-observes+else-is_whole w ↦ ap (λ (b : Bool). b && is_whole reply) w.if-observes.true ∙ sym w.is_whole.ensures ∙ w.if-is_whole.false
       | else-observes-via-else-observes w ↦ ap (λ (b : Bool). b && is_whole reply) w.if-observes.false
     ] in
     record {
       changed = ap changes (sym quiet);
-      link = c.respond-reply.ensures.after ∙ ap (λ (t : List ℕ). link_after_reply l (response_with_observe t observes plan.response)) c.token-in-Nothing.ensures ∙ prompt_link host m l room others plan observes none answer observed;
+      link = c.respond-reply.ensures.after ∙ ap (λ (t : List ℕ). link_after_reply l (response_with_observe t observes plan.response)) c.token-3.ensures ∙ prompt_link host m l room others plan observes none answer observed;
       entries =
           forgotten
           ∙ ap (λ (b : Bool). record before { entries = with_entry b others (new_entry host m) }) (sym misses)
@@ -129,16 +128,16 @@ returns-else-observes c =
     }
 
 -- a change whose memory was refused, and one that was made
-pub returns-in_err-apply-clause-put : goal.returns-in_err-apply-clause-put
-returns-in_err-apply-clause-put c =
+pub returns-in_err-change-clause-put : goal.returns-in_err-change-clause-put
+returns-in_err-change-clause-put c =
     let host = c.args.host.now in
     let m = c.args.request.now in
     let none : hold_on host m ≡ None = ap (λ (a : Answer). a.hold) (sym c.answer-plan.ensures.answer) ∙ sym c.hold.ensures.seconds ∙ c.in_default.is in
     let answer = prompt_is host m c.answer-plan.result c.answer-plan.ensures.answer none in
-    on_any_fault c.from_residual.result _ (subst IsPut (c.change-change.ensures ∙ ap (λ (a : Answer). a.change) answer) c.in_err-apply.ensures.put)
+    on_any_fault c.from_residual.result _ (subst IsPut (ap (λ (a : Answer). a.change) (c.without_payload-plan.ensures) ∙ ap (λ (a : Answer). a.change) answer) c.in_err-change.ensures.put)
 
-pub returns-in_ok-apply : goal.returns-in_ok-apply
-returns-in_ok-apply c =
+pub returns-then-changes : goal.returns-then-changes
+returns-then-changes c =
     let host = c.args.host.now in
     let m = c.args.request.now in
     let l = c.args.link.now in
@@ -146,23 +145,23 @@ returns-in_ok-apply c =
     let others : List ObserverValue = without_entry m.token c.args.observers.now.entries in
     let none : hold_on host m ≡ None = ap (λ (a : Answer). a.hold) (sym c.answer-plan.ensures.answer) ∙ sym c.hold.ensures.seconds ∙ c.in_default.is in
     let answer = prompt_is host m c.answer-plan.result c.answer-plan.ensures.answer none in
-    let change = c.change-change.ensures ∙ ap (λ (a : Answer). a.change) answer in
-    let does = sym (is_change c.change-change.result c.in_default-change.not-Nothing ∙ ap changes change) in
+    let change = ap (λ (a : Answer). a.change) c.without_payload-plan.ensures ∙ ap (λ (a : Answer). a.change) answer in
+    let does = ap (λ (a : Answer). changes a.change) (sym answer) ∙ sym c.changes.ensures ∙ c.if-changes.true in
     let bare = subst (λ (a : Answer). changes a.change ≡ true → a.response.payload ≡ []) answer c.answer-plan.ensures.bare in
     record {
       changed = sym does;
       link =
           c.respond.ensures.after
           ∙ change_link host m l room others _ none (
-          ap (λ (t : List ℕ). response_with_observe t false c.without_payload-plan.result.response) c.token-in_default-change-2.ensures
+          ap (λ (t : List ℕ). response_with_observe t false c.without_payload-plan.result.response) c.token-then-changes.ensures
           ∙ ap (λ (a : Answer). response_with_observe m.token false a.response) c.without_payload-plan.ensures
           ∙ ap (λ (a : Answer). response_with_observe m.token false (record a.response { payload = [] })) answer
           ∙ response_unobserved host m room others does (bare does));
       entries =
-          c.forget-in_default-change.ensures
-          ∙ ap (λ (t : List ℕ). record c.args.observers.now { entries = without_entry t c.args.observers.now.entries }) c.token-in_default-change.ensures
+          c.forget.ensures
+          ∙ ap (λ (t : List ℕ). record c.args.observers.now { entries = without_entry t c.args.observers.now.entries }) c.token.ensures
           ∙ ap (λ (os : List ObserverValue). record c.args.observers.now { entries = os }) (change_entries host m l room others none does);
-      host = ap (λ (s : StoreValue). record host { store = s }) (c.in_ok-apply.ensures.ok ∙ ap (changed host.store) change);
+      host = ap (λ (s : StoreValue). record host { store = s }) (c.in_ok-change.ensures.ok ∙ ap (changed host.store) change);
       put = tt;
       unchanged = tt;
       silent = tt;

@@ -2,23 +2,24 @@ use Rattle.std.proofs.Common.{ap, length, arith}
 use Rattle.coap_wire.specs.OptionNumbers as numbers
 use Rattle.coap_store.specs.Paths.{Path, written_length}
 use Rattle.coap_store.specs.Messages.{each_at}
-use Rattle.coap_serve.proofs.values.ResponseLemmas.{with_options, few_left, short_left, segment_added}
+use Rattle.coap_serve.proofs.values.ResponseLemmas.{with_options, short_left, segment_added}
 use Rattle.coap_serve.proofs.response.add_path.Goals as goal
 
 pub loop-segment-init : goal.loop-segment-init
-loop-segment-init c =
+loop-segment-init g c =
     let same = c.into_iter-segment-iterator.ensures.into_iter_gives in
     record {
       goes = tt;
       ends = tt;
       added = ap (λ (p : Path). with_options c.args.response.now (each_at numbers.location_path p)) same;
       order = c.requires.order;
-      few = omega (arith, few_left _ _ same c.requires.path, c.requires.few);
+      few = omega (arith, ap (λ (p : Path). length p) same);
+      room = c.requires.room;
       short = short_left _ _ same c.requires.path;
     }
 
 pub loop-segment-preserved : goal.loop-segment-preserved
-loop-segment-preserved c =
+loop-segment-preserved g c =
     let steps = c.in-Some.ensures.steps in
     let so_far = c.loop-segment.invariant in
     record {
@@ -27,5 +28,6 @@ loop-segment-preserved c =
       added = segment_added c.args.response.now c.loop-segment.response c.add.new.response c.args.path c.loop-segment.segment-iterator c.next.new.self c.in-Some.segment.now steps c.add.ensures.added so_far.added;
       order = omega (arith, c.add.ensures.order);
       few = omega (arith, c.add.ensures.few, so_far.few, ap (λ (p : Path). length p) steps);
+      room = so_far.room;
       short = omega (arith, so_far.short, ap written_length steps);
     }

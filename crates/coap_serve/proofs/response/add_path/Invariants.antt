@@ -7,11 +7,12 @@ use Rattle.coap_serve.proofs.response.add_path.Given as goal
 
 -- the segments that are left are added behind those that were, and there is room for them
 abbrev pub invariant-loop-segment : goal.invariant-loop-segment
-invariant-loop-segment l = record {
-  goes : (goal.iterator-loop-segment).can_next l.segment-iterator;
-  ends : (goal.iterator-loop-segment).is_finite l.segment-iterator;
+invariant-loop-segment g l = record {
+  goes : (goal.iterator-loop-segment g).can_next l.segment-iterator;
+  ends : (goal.iterator-loop-segment g).is_finite l.segment-iterator;
   added : record l.response { options = l.response.options ++ each_at numbers.location_path l.segment-iterator } ≡ record l.fn.response { options = l.fn.response.options ++ each_at numbers.location_path l.fn.path };
   order : last_number 0 l.response.options ≤ 8;
-  few : length l.response.options + length l.segment-iterator ≤ 18;
+  few : length l.response.options + length l.segment-iterator ≤ length l.fn.response.options + length l.fn.path;
+  room : length l.fn.response.options + length l.fn.path ≤ g.row.N;
   short : written_length l.segment-iterator ≤ 255;
 }

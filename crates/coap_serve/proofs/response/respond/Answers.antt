@@ -1,47 +1,8 @@
-use Rattle.std.proofs.Common.{ℕ, List, [], Option, option_map, ap, ◌∙◌}
-use Rattle.coap_wire.specs.Message.{Message}
-use Rattle.coap_wire.specs.OptionNumbers as numbers
-use Rattle.coap_conn.specs.Fit.{fit, bare_response}
-use Rattle.coap_conn.specs.LinkValue.{limit_in, link_after_reply}
+use Rattle.std.proofs.Common.{length, refl, ap, arith}
 use Rattle.coap_store.specs.Paths.{Path}
-use Rattle.coap_store.specs.Messages.{option_at, number_at, each_at}
-use Rattle.coap_serve.proofs.values.ResponseLemmas.{with_options, is_response}
+use Rattle.coap_serve.proofs.values.ResponseLemmas.{few_left}
 use Rattle.coap_serve.proofs.response.respond.Goals as goal
 
-pub returns : goal.returns
-returns c =
-    let r = c.args.plan.now.response in
-    let token = c.args.token.now.items in
-    let bare : Message = record { code = r.code; token = token; options = []; payload = [] } in
-    let fresh = c.new-response.ensures ∙ ap (λ (k : ℕ). record bare { code = k }) c.code.ensures in
-    let tagged : Message = c.add_etag.new.response in
-    let observed : Message = c.add_observe.new.response in
-    let located : Message = c.add_location.new.response in
-    let formatted : Message = c.add_number.new.response in
-    let aged : Message = c.add_number-2.new.response in
-    let sized : Message = c.add_number-3.new.response in
-    let built = is_response token c.args.observes r tagged observed located formatted aged sized c.payload-2.new.self (record {
-      etag =
-          c.add_etag.ensures.added
-          ∙ ap (λ (m : Message). with_options m (option_at numbers.etag (option_map (λ e. e.now) c.etag.result))) fresh
-          ∙ ap (λ (e : Option (List ℕ)). with_options bare (option_at numbers.etag e)) c.etag.ensures.value;
-      observe = c.add_observe.ensures.added;
-      location = c.add_location.ensures.added ∙ ap (λ (p : Path). with_options observed (each_at numbers.location_path p)) c.location.ensures.value;
-      format =
-          c.add_number.ensures.added
-          ∙ ap (with_options located) (c.number_bytes-format.ensures numbers.content_format)
-          ∙ ap (λ (n : Option ℕ). with_options located (number_at numbers.content_format n)) (c.wide.ensures ∙ c.format.ensures);
-      max_age =
-          c.add_number-2.ensures.added
-          ∙ ap (with_options formatted) (c.number_bytes-max_age.ensures numbers.max_age)
-          ∙ ap (λ (n : Option ℕ). with_options formatted (number_at numbers.max_age n)) c.max_age.ensures;
-      size1 =
-          c.add_number-3.ensures.added
-          ∙ ap (with_options aged) (c.number_bytes-size1.ensures numbers.size1)
-          ∙ ap (λ (n : Option ℕ). with_options aged (number_at numbers.size1 n)) c.size1.ensures;
-      payload = c.in-Ok.ensures.ok ∙ ap (λ (p : List ℕ). record sized { payload = p }) c.payload.ensures;
-    }) in
-    record {
-      reply = c.reply.ensures.reply ∙ ap (λ (m : Message). fit (limit_in c.args.link.now) m (bare_response m)) built;
-      after = c.reply.ensures.after ∙ ap (link_after_reply c.args.link.now) built;
-    }
+pub respond_from-requires-in-Some-clause-room : goal.respond_from-requires-in-Some-clause-room
+respond_from-requires-in-Some-clause-room c =
+    omega (arith, few_left c.in-Some.path c.in-Some.path refl c.in-Some.ensures.path, ap (λ (p : Path). length p) c.in-Some.ensures.value)

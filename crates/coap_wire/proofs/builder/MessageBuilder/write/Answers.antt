@@ -4,7 +4,7 @@ use Rattle.coap_wire.specs.Spelling.{body_spelling}
 use Rattle.coap_wire.proofs.SpellingLaws.{spelling_spells}
 use Rattle.coap_wire.specs.BuilderViews.{built_message}
 use Rattle.coap_wire.proofs.BuiltLemmas.{head_room, options_room, payload_room, all_written, all_room}
-use Rattle.coap_wire.proofs.builder.Builder.write.Goals as goal
+use Rattle.coap_wire.proofs.builder.MessageBuilder.write.Goals as goal
 
 pub write_head-requires-clause-room : goal.write_head-requires-clause-room
 write_head-requires-clause-room g c =
