@@ -1,6 +1,7 @@
 //! Sends the answers to requests.
 
-ghost use Rattle.std.specs.Prelude.{◌≡◌, ◌≤◌, ◌<◌, ◌+◌, ◌++◌, true, [], ℕ, length, option_map, IfSome};
+ghost use Rattle.std.specs.Prelude.{◌≡◌, ◌≤◌, ◌<◌, ◌+◌, ◌++◌, true, [], length, option_map, unwrap_or, IfSome};
+ghost use Rattle.std.specs.Int.{w64, to_be_bytes};
 ghost use Rattle.coap_wire.specs.Message.{last_number};
 ghost use Rattle.coap_wire.specs.Views.{with_option};
 ghost use Rattle.coap_wire.specs.OptionNumbers as numbers;
@@ -14,7 +15,7 @@ ghost use Rattle.coap_store.specs.Messages.{response_with_observe, option_at, em
 use coap_conn::{Link, Reply};
 use coap_store::{Plan, UriPath};
 use coap_wire::option_numbers::{CONTENT_FORMAT, ETAG, LOCATION_PATH, MAX_AGE, OBSERVE, SIZE1};
-use coap_wire::{MessageBuilder, Token, uint_bytes};
+use coap_wire::{MessageBuilder, Token, significant_bytes};
 
 /// The most options of a response that tells no path: ETag, Observe, Content-Format, Max-Age and Size1.
 const FEW: usize = 5;
@@ -55,16 +56,17 @@ fn respond_from<'a, const N: usize>(
     ensures reply { let response = response_with_observe token.now.items observes plan.now.response in result ≡ fit (limit_in link.old) response (bare_response response) }
     ensures after { link.new ≡ link_after_reply link.old (response_with_observe token.now.items observes plan.now.response) }
 {
-    let format = number_bytes(wide(plan.format()));
-    let max_age = number_bytes(plan.max_age());
-    let size1 = number_bytes(plan.size1());
+    let format = wide(plan.format());
+    let format_bytes = number_bytes(format);
+    let max_age_bytes = number_bytes(plan.max_age());
+    let size1_bytes = number_bytes(plan.size1());
     let mut response: MessageBuilder<N> = MessageBuilder::new(plan.code(), token);
     add_etag(&mut response, plan.etag());
     add_observe(&mut response, observes);
     add_location(&mut response, path);
-    add_number(&mut response, CONTENT_FORMAT, &format);
-    add_number(&mut response, MAX_AGE, &max_age);
-    add_number(&mut response, SIZE1, &size1);
+    add_number(&mut response, CONTENT_FORMAT, format, &format_bytes);
+    add_number(&mut response, MAX_AGE, plan.max_age(), &max_age_bytes);
+    add_number(&mut response, SIZE1, plan.size1(), &size1_bytes);
     let Ok(()) = response.payload(plan.payload()) else {
         unreachable!()
     };
@@ -78,14 +80,11 @@ fn wide(number: Option<u16>) -> Option<u32>
     number.map(u32::from)
 }
 
-/// The fewest bytes of a number, where there is one (RFC 7252 section 3.2).
-fn number_bytes(number: Option<u32>) -> Option<Token>
-    ensures { (k : ℕ) → option_at k (option_map (λ bytes. bytes.items) result) ≡ number_at k number }
+/// The bytes of a number in network order, those of 0 where there is none.
+fn number_bytes(number: Option<u32>) -> [u8; 8]
+    ensures { result ≡ to_be_bytes w64 (unwrap_or number 0) }
 {
-    match number {
-        Some(number) => Some(uint_bytes(u64::from(number))),
-        None => None,
-    }
+    u64::from(number.unwrap_or(0)).to_be_bytes()
 }
 
 /// Adds an option for which there is room.
@@ -148,21 +147,24 @@ fn add_location<'a, const N: usize>(response: &mut MessageBuilder<'a, N>, path: 
     }
 }
 
-/// Adds an option with a number, where there is one.
+/// Adds an option with a number, where there is one, in the fewest bytes (RFC 7252 section 3.2). These are its bytes.
+#[tactic(auto, unfolding(coap_wire::specs::Uint::bytes_of_uint))]
 fn add_number<'a, const N: usize>(
     response: &mut MessageBuilder<'a, N>,
     number: u16,
-    bytes: &'a Option<Token>,
+    value: Option<u32>,
+    bytes: &'a [u8; 8],
 )
+    requires bytes { bytes.now ≡ to_be_bytes w64 (unwrap_or value 0) }
     requires order { last_number 0 response.old.options ≤ number }
     requires room { length response.old.options < N }
     requires few { N ≤ 40 }
-    ensures added { response.new ≡ record response.old { options = response.old.options ++ option_at number (option_map (λ b. b.items) bytes.now) } }
+    ensures added { response.new ≡ record response.old { options = response.old.options ++ number_at number value } }
     ensures order { last_number 0 response.new.options ≤ number }
     ensures few { length response.new.options ≤ length response.old.options + 1 }
 {
-    if let Some(bytes) = bytes {
-        add(response, number, bytes);
+    if let Some(_) = value {
+        add(response, number, significant_bytes(bytes));
     }
 }
 

@@ -1,5 +1,5 @@
 -- What is known of a socket without asking the system.
-use Rattle.std.specs.Prelude.{ℕ, ◌==◌, nat_lt, Bool, true, false, not, ◌||◌, Result, Ok, Err}
+use Rattle.std.specs.Prelude.{ℕ, ◌==◌, nat_lt, Bool, true, false, not, ◌||◌, ◌&&◌, Result, Ok, Err}
 use Rattle.std.specs.IoError.{error_kind}
 use Rattle.std.specs.declared.io.Error.{Error}
 use Rattle.mio.specs.declared.event.event.Event.{Event}
@@ -11,16 +11,19 @@ use Rattle.coap_sockets.specs.declared.readiness.Readiness.{Readiness}
 
 -- of a socket that nothing is known of, both are to be tried
 abbrev pub unknown : Readiness
-unknown = record { readable = true; writable = true; at_end = false }
+unknown = record { readable = true; writable = true; at_end = false; yields = false; has_yielded = false }
 
--- after an event: what failed, and what the peer has closed, is found by the next read and the next write
-abbrev pub woken : Readiness → Event → Readiness
-woken r e =
+-- After an event: what failed, and what the peer has closed, is found by the next read and the next write. Of many that can be read, those
+-- behind the first few are to be read before any of them is written, but none twice between two writes.
+abbrev pub woken : Readiness → Event → (behind_many : Bool) → Readiness
+woken r e behind_many =
     let failed = is_error e || is_read_closed e in
     record {
       readable = r.readable || is_readable e || failed;
       writable = r.writable || is_writable e || is_write_closed e || is_error e;
       at_end = r.at_end || failed;
+      yields = behind_many && is_readable e && not r.has_yielded;
+      has_yielded = r.has_yielded;
     }
 
 -- After a read with so much room another may give something: not where nothing was there, nor where fewer bytes came than there was room for,
@@ -30,7 +33,7 @@ stays_readable at_end room (Ok count) = (count == 0) || not (nat_lt count room) 
 stays_readable at_end room (Err e) = not (is_would_block (error_kind e))
 
 abbrev pub read_with : Readiness → ℕ → Result ℕ Error → Readiness
-read_with r room answer = record { readable = stays_readable r.at_end room answer; writable = r.writable; at_end = r.at_end }
+read_with r room answer = record r { readable = stays_readable r.at_end room answer }
 
 -- After a write of so many bytes another may take some: not where none was taken for want of room, nor where fewer were taken.
 abbrev pub stays_writable : ℕ → Result ℕ Error → Bool
@@ -38,7 +41,11 @@ stays_writable offered (Ok count) = (count == 0) || not (nat_lt count offered)
 stays_writable offered (Err e) = not (is_would_block (error_kind e))
 
 abbrev pub written_with : Readiness → ℕ → Result ℕ Error → Readiness
-written_with r offered answer = record { readable = r.readable; writable = stays_writable offered answer; at_end = r.at_end }
+written_with r offered answer = record r { writable = stays_writable offered answer; yields = false; has_yielded = false }
+
+-- after a write that was put off
+abbrev pub put_off : Readiness → Readiness
+put_off r = record r { yields = false; has_yielded = true }
 
 -- a write of so many bytes that came to this left some, for want of room
 abbrev pub is_blocked_by : ℕ → Got → Bool

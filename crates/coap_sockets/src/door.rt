@@ -61,6 +61,11 @@ type Shared = Rc<Cell<Readiness>>;
 /// The token of the listener. No wire has it: a wire's is the index of its place.
 const LISTENER: Token = Token(usize::MAX);
 
+/// How many sockets that one wait tells of are written as soon as they were read. Each write may wake its peer, which costs more than
+/// the write where the peer is another process of the same machine; so of many sockets those behind these are all read first, and
+/// their writes stand together.
+const AT_ONCE: usize = 8;
+
 /// One accepted connection. Its socket is closed where it is dropped.
 pub struct SocketWire {
     stream: TcpStream,
@@ -259,9 +264,9 @@ impl<'a, R: Net + time::Clock> SocketDoor<'a, R> {
 
     /// Tells the events of a wait to the wires and to the door.
     fn tell(&mut self) {
-        for event in self.events.iter() {
+        for (before, event) in self.events.iter().enumerate() {
             match self.places.get(event.token().0) {
-                Some(place) => place.set(place.get().woken(event)),
+                Some(place) => place.set(place.get().woken(event, before >= AT_ONCE)),
                 None => self.may_accept = true,
             }
         }

@@ -1,6 +1,6 @@
 //! What is known of a socket without asking the system.
 
-ghost use Rattle.std.specs.Prelude.{◌≡◌, false, length};
+ghost use Rattle.std.specs.Prelude.{◌≡◌, true, false, length};
 ghost use Rattle.coap_serve.specs.streams.Wires.{IsWithin};
 ghost use Rattle.coap_serve.specs.declared.wire.Got.TheVariants.{Later};
 ghost use Rattle.coap_sockets.specs.Ready as spec;
@@ -23,6 +23,10 @@ pub struct Readiness {
     pub writable: bool,
     /// Whether the peer sends no more, or the socket has failed: then a read finds that, behind the bytes that are there.
     pub at_end: bool,
+    /// Whether the next write is put off once, until the other sockets that were told of with this one have been read.
+    pub yields: bool,
+    /// Whether that was done and nothing was written since: then the next write is not put off.
+    pub has_yielded: bool,
 }
 
 impl Readiness {
@@ -34,12 +38,14 @@ impl Readiness {
             readable: true,
             writable: true,
             at_end: false,
+            yields: false,
+            has_yielded: false,
         }
     }
 
-    /// That after an event of the system.
-    pub(crate) fn woken(self, event: &Event) -> Readiness
-        ensures { result ≡ spec.woken self event.now }
+    /// That after an event of the system, which was told behind many others at once or not.
+    pub(crate) fn woken(self, event: &Event, behind_many: bool) -> Readiness
+        ensures { result ≡ spec.woken self event.now behind_many }
     {
         let failed = event.is_error() || event.is_read_closed();
         Readiness {
@@ -49,6 +55,8 @@ impl Readiness {
                 || event.is_write_closed()
                 || event.is_error(),
             at_end: self.at_end || failed,
+            yields: behind_many && event.is_readable() && !self.has_yielded,
+            has_yielded: self.has_yielded,
         }
     }
 
@@ -71,7 +79,23 @@ impl Readiness {
             Ok(count) => count == 0 || !(count < offered),
             Err(error) => !is_would_block(error),
         };
-        Readiness { writable, ..self }
+        Readiness {
+            writable,
+            yields: false,
+            has_yielded: false,
+            ..self
+        }
+    }
+
+    /// That after a write that was put off.
+    fn put_off(self) -> Readiness
+        ensures { result ≡ spec.put_off self }
+    {
+        Readiness {
+            yields: false,
+            has_yielded: true,
+            ..self
+        }
     }
 
     /// Reads once, where a read may come to something, and keeps what was learnt of the socket.
@@ -89,13 +113,21 @@ impl Readiness {
         read_got(answer)
     }
 
-    /// Writes once, where a write may come to something, and keeps what was learnt of the socket.
+    /// Writes once, where a write may come to something and is not put off, and keeps what was learnt of the socket.
     pub(crate) fn write<S: Write>(&mut self, stream: &mut S, bytes: &[u8]) -> Got
         ensures within { IsWithin (length bytes.now) result }
         // The system is not asked where nothing can come of it.
         ensures idle { self.old.writable ≡ false → (stream.new ≡ stream.old) × (self.new ≡ self.old) × (result ≡ Later) }
+        // Nor where the write is put off, which happens once.
+        ensures later { self.old.writable ≡ true → self.old.yields ≡ true → (stream.new ≡ stream.old) × (self.new ≡ spec.put_off self.old) × (result ≡ Later) }
+        // A write that is made ends that.
+        ensures made { self.old.writable ≡ true → self.old.yields ≡ false → (self.new.yields ≡ false) × (self.new.has_yielded ≡ false) }
     {
         if !self.writable {
+            return Got::Later;
+        }
+        if self.yields {
+            *self = self.put_off();
             return Got::Later;
         }
         let answer = stream.write(bytes);

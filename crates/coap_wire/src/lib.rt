@@ -31,4 +31,4 @@ pub use recognition::Known;
 pub use sink::{Sink, SliceSink};
 pub use size::declared;
 pub use token::Token;
-pub use uint::{UintBytes, uint_bytes, uint_value};
+pub use uint::{UintBytes, significant_bytes, uint_bytes, uint_value};

@@ -26,9 +26,9 @@ pub fn uint_value(bytes: &[u8]) -> Option<u32>
     }
 }
 
-/// The bytes from the first one that is not 0.
+/// The bytes from the first one that is not 0: the fewest that mean the same number in network order.
 #[tactic(auto, using(crate::proofs::UintLemmas::zeros))]
-fn significant(bytes: &[u8]) -> &[u8]
+pub fn significant_bytes(bytes: &[u8]) -> &[u8]
     ensures rest { result.now ≡ without_leading_zeros bytes.now }
     ensures value { uint_of result.now ≡ uint_of bytes.now }
     ensures few { length result.now ≤ length bytes.now }
@@ -44,17 +44,6 @@ fn significant(bytes: &[u8]) -> &[u8]
     rest
 }
 
-/// The fewest bytes that mean a number below 256: one, or none for 0.
-fn small_bytes(number: u8) -> UintBytes
-    ensures { result.items ≡ bytes_of_uint number }
-{
-    let mut bytes = UintBytes::new();
-    if number > 0 {
-        bytes.push(number);
-    }
-    bytes
-}
-
 /// The fewest bytes that mean the number, in network order: none for 0, at most 8.
 #[tactic(auto, unfolding(crate::specs::Uint::bytes_of_uint))]
 pub fn uint_bytes(number: u64) -> UintBytes
@@ -62,11 +51,7 @@ pub fn uint_bytes(number: u64) -> UintBytes
     ensures value { uint_of result.items ≡ number }
     ensures fewest { without_leading_zeros result.items ≡ result.items }
 {
-    // Most numbers that are sent take one byte.
-    if let Ok(small) = u8::try_from(number) {
-        return small_bytes(small);
-    }
-    let Ok(fewest) = UintBytes::try_from(significant(&number.to_be_bytes())) else {
+    let Ok(fewest) = UintBytes::try_from(significant_bytes(&number.to_be_bytes())) else {
         unreachable!()
     };
     fewest

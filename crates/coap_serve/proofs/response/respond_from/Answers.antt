@@ -27,18 +27,9 @@ returns g c =
           ∙ ap (λ (e : Option (List ℕ)). with_options bare (option_at numbers.etag e)) c.etag.ensures.value;
       observe = c.add_observe.ensures.added;
       location = c.add_location.ensures.added ∙ ap (λ (p : Path). with_options observed (each_at numbers.location_path p)) c.requires.told;
-      format =
-          c.add_number.ensures.added
-          ∙ ap (with_options located) (c.number_bytes-format.ensures numbers.content_format)
-          ∙ ap (λ (n : Option ℕ). with_options located (number_at numbers.content_format n)) (c.wide.ensures ∙ c.format.ensures);
-      max_age =
-          c.add_number-2.ensures.added
-          ∙ ap (with_options formatted) (c.number_bytes-max_age.ensures numbers.max_age)
-          ∙ ap (λ (n : Option ℕ). with_options formatted (number_at numbers.max_age n)) c.max_age.ensures;
-      size1 =
-          c.add_number-3.ensures.added
-          ∙ ap (with_options aged) (c.number_bytes-size1.ensures numbers.size1)
-          ∙ ap (λ (n : Option ℕ). with_options aged (number_at numbers.size1 n)) c.size1.ensures;
+      format = c.add_number.ensures.added ∙ ap (λ (n : Option ℕ). with_options located (number_at numbers.content_format n)) (c.wide-format.ensures ∙ c.format.ensures);
+      max_age = c.add_number-2.ensures.added ∙ ap (λ (n : Option ℕ). with_options formatted (number_at numbers.max_age n)) c.max_age-2.ensures;
+      size1 = c.add_number-3.ensures.added ∙ ap (λ (n : Option ℕ). with_options aged (number_at numbers.size1 n)) c.size1-2.ensures;
       payload = c.in-Ok.ensures.ok ∙ ap (λ (p : List ℕ). record sized { payload = p }) c.payload.ensures;
     }) in
     record {

@@ -1,6 +1,6 @@
 use Rattle.std.proofs.Common.{◌≡◌, ◌≤◌, length}
 use Rattle.coap_wire.specs.Uint.{without_leading_zeros, uint_of}
-use Rattle.coap_wire.proofs.uint.significant.Given as goal
+use Rattle.coap_wire.proofs.uint.significant_bytes.Given as goal
 
 abbrev pub invariant-loop-first : goal.invariant-loop-first
 invariant-loop-first l =
