@@ -53,11 +53,11 @@ struct Peer<W> {
 impl<W: Ready> Peer<W> {
     ghost use Rattle.coap_serve.specs.streams.Turns.{IsAsked, CanGoOn, IsRestAnswer, end_of};
 
-    /// Whether its wire is to be read, and may be.
+    /// Whether its wire is to be read, and may be. (The wire is asked first: of most connections it may not be read.)
     fn can_read(&self) -> bool
         ensures { IsAsked self.now.wants.read (W.readable self.now.wire) result }
     {
-        self.wants.read && self.wire.may_read()
+        self.wire.may_read() && self.wants.read
     }
 
     /// Whether its wire is to be written, and may be.
@@ -340,7 +340,10 @@ fn pass_over<W: Ready>(peers: &Peers<W>, seen: Seen, stamp: Stamp) -> Seen
     let mut at = seen.at;
     let mut due = seen.agenda.due;
     while at < peers.len() && peers[at].is_at_rest(stamp) {
-        due = sooner(due, peers[at].wants.due);
+        let moment = peers[at].wants.due;
+        if moment.is_some() {
+            due = sooner(due, moment);
+        }
         at += 1;
     }
     Seen {

@@ -1,6 +1,6 @@
 -- What the connections leave to be done, one after the other.
 use Rattle.std.proofs.Common.{◌≡◌, ℕ, zero, suc, ◌+◌, ◌<◌, ◌≤◌, Bool, true, false, List, [], ◌∷◌, ◌++◌, length, map, take, drop, Option, Some, None, Result, Ok, Err, refl, sym, ap, subst, ◌∙◌, inl, inr, arith}
-use Rattle.std.specs.Prelude.{◌||◌, ◌&&◌, ◌⊎◌, ◌==◌, not, nat_lt, slice_get, if◌then◌else◌, IfOk, IfSome}
+use Rattle.std.specs.Prelude.{◌||◌, ◌&&◌, ◌⊎◌, ◌==◌, not, nat_lt, is_some, slice_get, if◌then◌else◌, IfOk, IfSome}
 use Rattle.std.specs.List.{AllByRecursion, remove}
 use Rattle.std.specs.Map.{keys_of, values_of}
 use Rattle.std.proofs.lemmas.List.{map-append, length-map}
@@ -277,6 +277,12 @@ none_passed far es from stamp before = record {
   rest = subst (λ xs. AllByRecursion (IsAtRest stamp) (map (λ e. far e.1) xs)) (sym (nothing_between es from)) tt;
   due = ap (λ xs. least_with before (map (λ e. far e.1) xs)) (sym (nothing_between es from));
 }
+
+-- where there is no other moment, the lesser one is this one
+pub not_sooner : (one other : Option ℕ) → is_some other ≡ false → one ≡ sooner one other
+not_sooner None None e = refl
+not_sooner (Some one) None e = refl
+not_sooner one (Some other) e = absurd cc
 
 pub one_more_passed : {P : Type 0} (far : P → FarEnd) (es : List (ℕ × P)) (from i : ℕ) (p q : P) (stamp : Stamp) (before due later : Option ℕ) → from ≤ i → slice_get (values_of es) i ≡ Some p → slice_get (values_of es) i ≡ Some q
     → ArePassed far es from i stamp before due → IsAtRest stamp (far q) → later ≡ sooner due (far p).wants.due → ArePassed far es from (i + 1) stamp before later

@@ -1,6 +1,8 @@
-use Rattle.std.proofs.Common.{ap, arith}
+use Rattle.std.proofs.Common.{◌≡◌, sym, ap, ◌∙◌, arith}
+use Rattle.coap_serve.specs.values.Dues.{sooner}
 use Rattle.coap_serve.specs.streams.Turns.{end_of, IsInTurn}
-use Rattle.coap_serve.proofs.streams.AgendaLemmas.{none_passed, one_more_passed, none_next, one_next}
+use Rattle.coap_serve.proofs.streams.AgendaLemmas.{not_sooner, none_passed, one_more_passed, none_next, one_next}
+use Rattle.coap_serve.proofs.door.pass_over.Goals.{then-is_some, else-is_some}
 use Rattle.coap_serve.proofs.door.pass_over.Goals as goal
 
 pub loop-at-init : goal.loop-at-init
@@ -10,12 +12,16 @@ pub loop-at-smaller : goal.loop-at-smaller
 loop-at-smaller g c = omega (arith, c.loop-at-test.true, c.len.ensures.len)
 
 pub loop-at-preserved : goal.loop-at-preserved
-loop-at-preserved g c = (
-  omega (arith, c.loop-at.invariant.0),
-  omega (arith, c.loop-at-test.true, c.len.ensures.len),
-  one_more_passed (end_of g.W.Ready.readable g.W.Ready.writable) c.args.peers.now.entries c.args.seen.at c.loop-at.at c.index-in-loop-at.result.now c.index.result.now c.args.stamp c.args.seen.agenda.due c.loop-at.due c.sooner-due.result
-      c.loop-at.invariant.0 c.index-in-loop-at.ensures c.index.ensures c.loop-at.invariant.2 c.if-is_at_rest.ensures c.sooner-due.ensures,
-)
+loop-at-preserved g c =
+    let later : c.if-is_some.due ≡ sooner c.loop-at.due c.index-in-loop-at.result.now.wants.due = elim c.if-is_some.branch [
+      | then-is_some w ↦ w.due-is ∙ w.sooner-due.ensures
+      | else-is_some w ↦ w.due-is ∙ not_sooner c.loop-at.due c.index-in-loop-at.result.now.wants.due (sym c.is_some.ensures ∙ w.if-is_some.false)
+    ] in (
+      omega (arith, c.loop-at.invariant.0),
+      omega (arith, c.loop-at-test.true, c.len.ensures.len),
+      one_more_passed (end_of g.W.Ready.readable g.W.Ready.writable) c.args.peers.now.entries c.args.seen.at c.loop-at.at c.index-in-loop-at.result.now c.index.result.now c.args.stamp c.args.seen.agenda.due c.loop-at.due c.if-is_some.due
+          c.loop-at.invariant.0 c.index-in-loop-at.ensures c.index.ensures c.loop-at.invariant.2 c.if-is_at_rest.ensures later,
+    )
 
 pub returns-else-is_at_rest-clause-from : goal.returns-else-is_at_rest-clause-from
 returns-else-is_at_rest-clause-from g c = c.loop-at.invariant.0
