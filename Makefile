@@ -15,9 +15,12 @@ SOURCES := $(shell find crates -name out -prune -o -type f -print) crates.txt
 bin/coap-server bin/coap-client &: $(SOURCES)
 	tests/build coap_server coap_client_main
 
-# Runs the main job on a short recorded stream, and tells what each message means.
-run: bin/coap-server
-	python3 tests/show.py bin/coap-server
+# Runs the main job on short recorded streams, and tells what each message means: at once the same source unproved, where the program
+# is not built yet; then the proofs; then the program that is built from them.
+run:
+	@$(MAKE) --silent --question bin/coap-server || python3 tests/show.py --try
+	@$(MAKE) --silent bin/coap-server
+	@python3 tests/show.py bin/coap-server
 
 # The gate: every proof, test, edit and program from nothing, and then what was built, from outside.
 test:

@@ -2,7 +2,7 @@
 one server through `coap-server --script -`, with what each line means.
 
     tests/show.py bin/coap-server
-    tests/show.py --try                 the first stream alone, by `rt try`, which runs the program before any proof
+    tests/show.py --try                 the first stream alone, by `rt try`, which runs the same source before any proof
 """
 
 import os
@@ -110,8 +110,9 @@ def run_script(command):
 
 def main(words):
     if words == ["--try"]:
-        print("Running the program UNPROVED, by `rt try`: some 20 seconds.")
+        print("First the main job UNPROVED: `rt try` runs the same source before any proof, which takes up to a minute.", flush=True)
         return run(["rt", "try", "--", "--stdio"], *STREAMS[0], folder=CRATE)
+    print(f"Now {words[0]}, built from the proved crates:")
     statuses = []
     for number, (title, stream) in enumerate(STREAMS):
         if number:
