@@ -1,0 +1,50 @@
+//! Plays rows of text from standard input on the values of the crates up to the server, and writes a line for each (`coap_told`).
+#![tactic(auto)]
+
+mod frame;
+
+use coap_frame::Framer;
+use coap_told::{Layers, Told, cut};
+use std::alloc::{AllocError, Global};
+use std::process::ExitCode;
+
+/// What the rows are about.
+#[derive(Drop)]
+enum Value {
+    /// Nothing yet.
+    Nothing,
+    /// A framer.
+    Frame(Framer),
+}
+
+/// The value that an opening names, and nothing where memory was refused.
+fn opened(alloc: Global, opening: &str, told: &mut Told) -> Value {
+    let (layer, rest) = cut(opening);
+    match layer {
+        "frame" => match frame::opened(alloc, rest) {
+            Some(Ok(framer)) => return Value::Frame(framer),
+            Some(Err(AllocError)) => told.word("memory"),
+            None => told.word("refused"),
+        },
+        _ => told.word("strange"),
+    }
+    Value::Nothing
+}
+
+impl Layers for Value {
+    fn open(&mut self, alloc: Global, opening: &str, told: &mut Told) {
+        *self = opened(alloc, opening, told);
+    }
+
+    fn act(&mut self, alloc: Global, event: &str, bytes: &mut Vec<u8>, told: &mut Told) {
+        match self {
+            Value::Nothing => told.word("nothing"),
+            Value::Frame(framer) => frame::play(framer, event, bytes, told),
+        }
+    }
+}
+
+fn main(rt: HostRuntime) -> ExitCode {
+    let mut value = Value::Nothing;
+    coap_told::run(&rt, &mut value)
+}
