@@ -1,7 +1,9 @@
-//! Framers: `= frame MAX`, and then `next BYTES`, `each BYTES` one by one, `unread BYTES`, `clear` and `look`.
+//! Framers: `= frame MAX`, and then `next BYTES`, `each BYTES` one by one, `all BYTES` frame by frame,
+//! `unread BYTES`, `clear` and `look`.
 
-use coap_told::{Told, cut, number, read_hex};
+use crate::faults::tell_fault;
 use coap_frame::{Found, Framed, Framer};
+use coap_told::{Told, cut, number, read_hex};
 use std::alloc::{AllocError, Global};
 
 /// A framer for frames of at most so many bytes; none for a number that is out of its range.
@@ -21,10 +23,7 @@ fn found(framed: &Framed, told: &mut Told) {
             told.word("Frame");
             told.hex(frame);
         }
-        Found::Fault(fault) => {
-            told.word("Fault");
-            told.number(fault as u64);
-        }
+        Found::Fault(fault) => tell_fault(&fault, fault as u8, told),
     }
     told.word("taken");
     told.number(framed.taken as u64);
@@ -34,10 +33,27 @@ fn found(framed: &Framed, told: &mut Told) {
 fn each(framer: &mut Framer, bytes: &[u8], told: &mut Told) {
     told.word("More");
     for byte in bytes {
-        if !matches!(framer.next(&[*byte]).what, Found::More) {
+        let framed = framer.next(&[*byte]);
+        if framed.taken != 1 || !matches!(framed.what, Found::More) {
             told.word("not for each");
         }
     }
+}
+
+/// Hands over all bytes of a piece, and tells what was found each time, and how many bytes were left.
+fn all(framer: &mut Framer, piece: &[u8], told: &mut Told) {
+    let mut rest = piece;
+    for _ in 0..piece.len() {
+        if rest.is_empty() {
+            break;
+        }
+        let framed = framer.next(rest);
+        let taken = framed.taken;
+        found(&framed, told);
+        rest = &rest[taken..];
+    }
+    told.word("left");
+    told.number(rest.len() as u64);
 }
 
 /// Takes back the frame that was just given, with its last piece: a split one, or an empty Capabilities and Settings message
@@ -53,20 +69,29 @@ fn unread(framer: &mut Framer, piece: &[u8], told: &mut Told) {
     }
 }
 
-/// Plays an event.
+/// Makes an event happen that finds nothing.
+fn act(framer: &mut Framer, word: &str, bytes: &[u8], told: &mut Told) {
+    match word {
+        "unread" => unread(framer, bytes, told),
+        "clear" => framer.clear(),
+        "look" => {}
+        _ => told.word("strange"),
+    }
+}
+
+/// Plays an event, and tells how many bytes are kept and how many are spent.
 pub(crate) fn play(framer: &mut Framer, event: &str, bytes: &mut Vec<u8>, told: &mut Told) {
     let (word, rest) = cut(event);
     read_hex(rest, bytes);
     match word {
         "next" => found(&framer.next(bytes), told),
         "each" => each(framer, bytes, told),
-        "unread" => unread(framer, bytes, told),
-        "clear" => framer.clear(),
-        "look" => {
+        "all" => all(framer, bytes, told),
+        _ => {
+            act(framer, word, bytes, told);
             told.word("max");
             told.number(framer.max() as u64);
         }
-        _ => told.word("strange"),
     }
     told.word("kept");
     told.number(framer.kept() as u64);

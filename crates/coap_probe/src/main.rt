@@ -1,8 +1,13 @@
 //! Plays rows of text from standard input on the values of the crates up to the server, and writes a line for each (`coap_told`).
 #![tactic(auto)]
 
+mod faults;
 mod frame;
+mod limits;
+mod queue;
+mod wire;
 
+use coap_conn::OutQueue;
 use coap_frame::Framer;
 use coap_told::{Layers, Told, cut};
 use std::alloc::{AllocError, Global};
@@ -15,6 +20,12 @@ enum Value {
     Nothing,
     /// A framer.
     Frame(Framer),
+    /// Messages, which need no value.
+    Wire,
+    /// Limits and configurations, which need none either.
+    Limits,
+    /// A queue of bytes.
+    Queue(OutQueue),
 }
 
 /// The value that an opening names, and nothing where memory was refused.
@@ -26,6 +37,13 @@ fn opened(alloc: Global, opening: &str, told: &mut Told) -> Value {
             Some(Err(AllocError)) => told.word("memory"),
             None => told.word("refused"),
         },
+        "queue" => match queue::opened(alloc, rest) {
+            Some(Ok(queue)) => return Value::Queue(queue),
+            Some(Err(AllocError)) => told.word("memory"),
+            None => told.word("refused"),
+        },
+        "wire" => return Value::Wire,
+        "limits" => return Value::Limits,
         _ => told.word("strange"),
     }
     Value::Nothing
@@ -40,6 +58,9 @@ impl Layers for Value {
         match self {
             Value::Nothing => told.word("nothing"),
             Value::Frame(framer) => frame::play(framer, event, bytes, told),
+            Value::Wire => wire::play(event, bytes, told),
+            Value::Limits => limits::play(event, told),
+            Value::Queue(queue) => queue::play(queue, event, bytes, told),
         }
     }
 }

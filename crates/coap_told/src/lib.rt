@@ -16,8 +16,11 @@ use std::io;
 use std::io::Read;
 use std::process::ExitCode;
 
-/// The greatest line, and the most bytes that a row names.
+/// The most bytes that a row names.
 const ROOM: usize = 4_194_304;
+
+/// The greatest line: as many bytes in hex digits, and some words.
+const LINE_ROOM: usize = 8_454_144;
 
 /// Room for the rows: had at once, so that as many allocations come before the rows whatever these are.
 const ROWS_ROOM: usize = 67_108_864;
@@ -59,7 +62,7 @@ fn read_and_play<L: Layers>(
     let mut text = Vec::with_capacity(rt.alloc(), ROWS_ROOM).ok()?;
     rt.reader().read_to_end(&mut text).ok()?;
     let mut bytes = Vec::with_capacity(rt.alloc(), ROOM).ok()?;
-    let mut told = Told::new(rt.alloc(), ROOM).ok()?;
+    let mut told = Told::new(rt.alloc(), LINE_ROOM).ok()?;
     let rows = str::from_utf8(&text).ok()?;
     play_all(rt, layers, rows, &mut bytes, &mut told);
     Some(())
