@@ -1,0 +1,100 @@
+//! Framers: `= frame MAX`, and then `next BYTES`, `each BYTES` one by one, `all BYTES` frame by frame,
+//! `unread BYTES`, `clear` and `look`.
+
+use crate::faults::tell_fault;
+use coap_frame::{Found, Framed, Framer};
+use coap_told::{Told, cut, number, read_hex};
+use std::alloc::{AllocError, Global};
+
+/// A framer for frames of at most so many bytes; none for a number that is out of its range.
+pub(crate) fn opened(alloc: Global, text: &str) -> Option<Result<Framer, AllocError>> {
+    let max = number(text)?;
+    if max < 1_152 || max > 1_048_576 {
+        return None;
+    }
+    Some(Framer::new(alloc, max))
+}
+
+/// Tells what was found in a piece, and how many of its bytes were taken.
+fn found(framed: &Framed, told: &mut Told) {
+    match framed.what {
+        Found::More => told.word("More"),
+        Found::Frame(frame) => {
+            told.word("Frame");
+            told.hex(frame);
+        }
+        Found::Fault(fault) => tell_fault(&fault, fault as u8, told),
+    }
+    told.word("taken");
+    told.number(framed.taken as u64);
+}
+
+/// Hands over bytes one by one, and tells what was found with the last one.
+fn each(framer: &mut Framer, bytes: &[u8], told: &mut Told) {
+    told.word("More");
+    for byte in bytes {
+        let framed = framer.next(&[*byte]);
+        if framed.taken != 1 || !matches!(framed.what, Found::More) {
+            told.word("not for each");
+        }
+    }
+}
+
+/// Hands over all bytes of a piece, and tells what was found each time, and how many bytes were left.
+fn all(framer: &mut Framer, piece: &[u8], told: &mut Told) {
+    let mut rest = piece;
+    for _ in 0..piece.len() {
+        if rest.is_empty() {
+            break;
+        }
+        let framed = framer.next(rest);
+        let taken = framed.taken;
+        found(&framed, told);
+        rest = &rest[taken..];
+    }
+    told.word("left");
+    told.number(rest.len() as u64);
+}
+
+/// Takes back the frame that was just given, with its last piece: a split one, or an empty Capabilities and Settings message
+/// that lay whole in its piece.
+#[tactic(auto, unfolding(coap_wire::specs::Beginning::beginning, coap_wire::specs::Reading::declared_of, coap_wire::specs::Reading::length_at))]
+fn unread(framer: &mut Framer, piece: &[u8], told: &mut Told) {
+    if framer.spent() > 0 {
+        framer.unread(piece);
+    } else if piece == [0x00, 0xe1].as_slice() && framer.max() == 1_152 && framer.kept() == 0 {
+        framer.unread(&[0x00, 0xe1]);
+    } else {
+        told.word("refused");
+    }
+}
+
+/// Makes an event happen that finds nothing.
+fn act(framer: &mut Framer, word: &str, bytes: &[u8], told: &mut Told) {
+    match word {
+        "unread" => unread(framer, bytes, told),
+        "clear" => framer.clear(),
+        "look" => {}
+        _ => told.word("strange"),
+    }
+}
+
+/// Plays an event, and tells how many bytes are kept and how many are spent.
+pub(crate) fn play(framer: &mut Framer, event: &str, bytes: &mut Vec<u8>, told: &mut Told) {
+    let (word, rest) = cut(event);
+    read_hex(rest, bytes);
+    match word {
+        "next" => found(&framer.next(bytes), told),
+        "each" => each(framer, bytes, told),
+        "all" => all(framer, bytes, told),
+        _ => {
+            act(framer, word, bytes, told);
+            told.word("max");
+            told.number(framer.max() as u64);
+        }
+    }
+    told.word("kept");
+    told.number(framer.kept() as u64);
+    told.word("spent");
+    told.number(framer.spent() as u64);
+}

@@ -1,0 +1,129 @@
+//! Limits and configurations: `limits` and six numbers, `config` and twelve, `starts`, and `faults`. They need no value: `= limits`.
+
+use crate::faults::tell_fault;
+use coap_conn::{LimitFault, Limits, Reason, SendFault};
+use coap_serve::{Config, IoFault, Starts};
+use coap_told::{Told, cut, next_number};
+use std::fmt::Write;
+
+/// The limits that six numbers name, or their fault, and the text behind them.
+fn limits_of<'a>(text: &'a str) -> (Result<Limits, LimitFault>, &'a str) {
+    let (max_message, text) = next_number(text);
+    let (max_sent, text) = next_number(text);
+    let (queue, text) = next_number(text);
+    let (pending, text) = next_number(text);
+    let (observers, text) = next_number(text);
+    let (outstanding, text) = next_number(text);
+    let limits = Limits::new(
+        max_message,
+        max_sent,
+        queue,
+        pending,
+        observers,
+        outstanding,
+    );
+    (limits, text)
+}
+
+/// Tells each limit as it is read back.
+fn tell_limits(limits: &Limits, told: &mut Told) {
+    told.number(limits.max_message() as u64);
+    told.number(limits.max_sent() as u64);
+    told.number(limits.queue() as u64);
+    told.number(limits.pending() as u64);
+    told.number(limits.observers() as u64);
+    told.number(limits.outstanding() as u64);
+}
+
+/// Tells where counts begin.
+fn tell_starts(starts: Starts, told: &mut Told) {
+    told.number(starts.moment);
+    told.number(starts.versions);
+    told.number(starts.ids);
+}
+
+/// Makes a configuration of limits and six further numbers, and tells each of its values as it is read back, or the fault.
+fn config(limits: Limits, text: &str, told: &mut Told) {
+    let (connections, text) = next_number(text);
+    let (dynamic, text) = next_number(text);
+    let (rep, text) = next_number(text);
+    let (turns, text) = next_number(text);
+    let (moment, text) = next_number(text);
+    let (versions, text) = next_number(text);
+    let (ids, _) = next_number(text);
+    let starts = Starts {
+        moment: moment as u64,
+        versions: versions as u64,
+        ids: ids as u64,
+    };
+    match Config::new(limits, connections, dynamic, rep, turns as u64, starts) {
+        Ok(config) => {
+            tell_limits(&config.limits(), told);
+            told.number(config.connections() as u64);
+            told.number(config.dynamic_max() as u64);
+            told.number(config.rep_max() as u64);
+            told.number(config.turns());
+            tell_starts(config.starts(), told);
+        }
+        Err(fault) => tell_fault(&fault, fault as u8, told),
+    }
+}
+
+/// Tells the faults of a kind that no row here meets, or the reasons for which connections stop.
+fn tell_faults(kind: &str, told: &mut Told) {
+    match kind {
+        "send" => {
+            for fault in [
+                SendFault::NotOpen,
+                SendFault::NoRoom,
+                SendFault::PeerTooSmall,
+            ] {
+                tell_fault(&fault, fault as u8, told);
+            }
+        }
+        "io" => {
+            for fault in [
+                IoFault::Read,
+                IoFault::Write,
+                IoFault::Memory,
+                IoFault::Turns,
+            ] {
+                tell_fault(&fault, fault as u8, told);
+            }
+        }
+        _ => {
+            for reason in [
+                Reason::Format,
+                Reason::TooLarge,
+                Reason::TokenLength,
+                Reason::ReservedCode,
+                Reason::CsmExpected,
+                Reason::BadCsm(9),
+                Reason::BadSignalOption,
+                Reason::PeerAbort,
+                Reason::PeerRelease,
+                Reason::PeerTooSmall,
+                Reason::Ended,
+                Reason::Cut,
+                Reason::ReleasedHere,
+            ] {
+                let _ = write!(told, "{reason:?} {} ", reason.number());
+            }
+        }
+    }
+}
+
+/// Plays an event.
+pub(crate) fn play(event: &str, told: &mut Told) {
+    let (word, rest) = cut(event);
+    match word {
+        "limits" | "config" => match limits_of(rest) {
+            (Ok(limits), text) if word == "config" => config(limits, text, told),
+            (Ok(limits), _) => tell_limits(&limits, told),
+            (Err(fault), _) => tell_fault(&fault, fault as u8, told),
+        },
+        "starts" => tell_starts(Starts::default(), told),
+        "faults" => tell_faults(rest, told),
+        _ => told.word("strange"),
+    }
+}

@@ -1,0 +1,71 @@
+//! Plays rows of text from standard input on the values of the crates up to the server, and writes a line for each (`coap_told`).
+#![tactic(auto)]
+
+mod faults;
+mod frame;
+mod limits;
+mod queue;
+mod wire;
+
+use coap_conn::OutQueue;
+use coap_frame::Framer;
+use coap_told::{Layers, Told, cut};
+use std::alloc::{AllocError, Global};
+use std::process::ExitCode;
+
+/// What the rows are about.
+#[derive(Drop)]
+enum Value {
+    /// Nothing yet.
+    Nothing,
+    /// A framer.
+    Frame(Framer),
+    /// Messages, which need no value.
+    Wire,
+    /// Limits and configurations, which need none either.
+    Limits,
+    /// A queue of bytes.
+    Queue(OutQueue),
+}
+
+/// The value that an opening names, and nothing where memory was refused.
+fn opened(alloc: Global, opening: &str, told: &mut Told) -> Value {
+    let (layer, rest) = cut(opening);
+    match layer {
+        "frame" => match frame::opened(alloc, rest) {
+            Some(Ok(framer)) => return Value::Frame(framer),
+            Some(Err(AllocError)) => told.word("memory"),
+            None => told.word("refused"),
+        },
+        "queue" => match queue::opened(alloc, rest) {
+            Some(Ok(queue)) => return Value::Queue(queue),
+            Some(Err(AllocError)) => told.word("memory"),
+            None => told.word("refused"),
+        },
+        "wire" => return Value::Wire,
+        "limits" => return Value::Limits,
+        _ => told.word("strange"),
+    }
+    Value::Nothing
+}
+
+impl Layers for Value {
+    fn open(&mut self, alloc: Global, opening: &str, told: &mut Told) {
+        *self = opened(alloc, opening, told);
+    }
+
+    fn act(&mut self, alloc: Global, event: &str, bytes: &mut Vec<u8>, told: &mut Told) {
+        match self {
+            Value::Nothing => told.word("nothing"),
+            Value::Frame(framer) => frame::play(framer, event, bytes, told),
+            Value::Wire => wire::play(event, bytes, told),
+            Value::Limits => limits::play(event, told),
+            Value::Queue(queue) => queue::play(queue, event, bytes, told),
+        }
+    }
+}
+
+fn main(rt: HostRuntime) -> ExitCode {
+    let mut value = Value::Nothing;
+    coap_told::run(&rt, &mut value)
+}

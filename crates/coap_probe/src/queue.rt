@@ -1,0 +1,38 @@
+//! Queues of bytes that wait to be written: `= queue COUNT`, and then `append BYTES`, `push BYTE`, `write COUNT` and `look`.
+
+use coap_conn::OutQueue;
+use coap_told::{Told, cut, number, read_hex};
+use coap_wire::Sink;
+use std::alloc::{AllocError, Global};
+
+/// A queue of so many bytes; none for a number that is out of its range.
+pub(crate) fn opened(alloc: Global, text: &str) -> Option<Result<OutQueue, AllocError>> {
+    let bytes = number(text)?;
+    if bytes < 1_152 || bytes > 4_194_304 {
+        return None;
+    }
+    Some(OutQueue::new(alloc, bytes))
+}
+
+/// Plays an event on a queue.
+fn act(queue: &mut OutQueue, word: &str, rest: &str, bytes: &mut Vec<u8>, told: &mut Told) {
+    let count = number(rest).unwrap_or(0);
+    match (word, bytes.as_slice()) {
+        ("append", more) if more.len() <= queue.room() => queue.append(more),
+        ("push", [byte]) if queue.room() > 0 => queue.push(*byte),
+        ("write", _) if count <= queue.waiting() => queue.written(count),
+        ("look", _) => {}
+        _ => told.word("refused"),
+    }
+}
+
+/// Plays an event, and tells the bytes that are free, the room for more, how many bytes wait, and these.
+pub(crate) fn play(queue: &mut OutQueue, event: &str, bytes: &mut Vec<u8>, told: &mut Told) {
+    let (word, rest) = cut(event);
+    read_hex(rest, bytes);
+    act(queue, word, rest, bytes, told);
+    told.number(queue.free() as u64);
+    told.number(queue.room() as u64);
+    told.number(queue.waiting() as u64);
+    told.hex(queue.front());
+}

@@ -1,0 +1,199 @@
+//! Messages: `write BYTES LENGTH PART..`, `read BYTES`, `known BYTES`, `declared BYTES`, `code BYTES`, `codes`, `kind NUMBER`,
+//! `uint NUMBER` and `value BYTES`. They need no value: `= wire`.
+
+use crate::faults::tell_fault;
+use coap_told::{Told, cut, next_number, number, read_hex};
+use coap_wire::{
+    Builder, Code, MessageRef, OptionRef, Sink, SliceSink, Token, declared, kind, parse,
+    uint_bytes, uint_value,
+};
+use std::fmt::Write;
+
+/// How many bytes a message has at most beside those of its parts.
+const FORMS: usize = 1_024;
+
+/// The codes that have names, in the order of their bytes.
+const CODES: [Code; 26] = [
+    Code::EMPTY,
+    Code::GET,
+    Code::POST,
+    Code::PUT,
+    Code::DELETE,
+    Code::CREATED,
+    Code::DELETED,
+    Code::VALID,
+    Code::CHANGED,
+    Code::CONTENT,
+    Code::BAD_REQUEST,
+    Code::BAD_OPTION,
+    Code::NOT_FOUND,
+    Code::METHOD_NOT_ALLOWED,
+    Code::NOT_ACCEPTABLE,
+    Code::PRECONDITION_FAILED,
+    Code::REQUEST_ENTITY_TOO_LARGE,
+    Code::INTERNAL_SERVER_ERROR,
+    Code::NOT_IMPLEMENTED,
+    Code::SERVICE_UNAVAILABLE,
+    Code::PROXYING_NOT_SUPPORTED,
+    Code::CSM,
+    Code::PING,
+    Code::PONG,
+    Code::RELEASE,
+    Code::ABORT,
+];
+
+/// Tells the byte of each code, and its class and its detail.
+fn tell_codes(codes: &[Code], told: &mut Told) {
+    for code in codes {
+        told.hex(&[code.byte()]);
+        let _ = write!(told, "{}.{} ", code.class(), code.detail());
+    }
+}
+
+/// Tells options. Behind the last one there must be none.
+fn tell_options<'a, I: Iterator<Item = OptionRef<'a>>>(options: &mut I, told: &mut Told) {
+    for option in options.by_ref() {
+        let _ = write!(told, "{}=", option.number);
+        told.hex(option.value);
+    }
+    if options.next().is_some() {
+        told.word("more");
+    }
+}
+
+/// Tells a message in words, or the fault of the bytes.
+fn read(bytes: &[u8], told: &mut Told) {
+    match parse(bytes) {
+        Ok(message) => {
+            told.hex(&[message.code().byte()]);
+            told.hex(message.token());
+            tell_options(&mut message.options(), told);
+            told.hex(message.payload());
+        }
+        Err(fault) => tell_fault(&fault, fault as u8, told),
+    }
+}
+
+/// Tells the options of a message that are recognised, and the first critical one that is not.
+fn known(bytes: &[u8], told: &mut Told) {
+    let Ok(message) = parse(bytes) else {
+        return told.word("strange");
+    };
+    told.word("known");
+    tell_options(&mut message.known(), told);
+    if let Some(number) = message.first_critical() {
+        told.word("critical");
+        told.number(u64::from(number));
+    }
+}
+
+/// Tells the code, the token, the size and the bytes of a message.
+fn tell_built(message: &Builder, room: &mut [u8], told: &mut Told) {
+    told.hex(&[message.code().byte()]);
+    told.hex(message.token());
+    told.number(message.size());
+    let mut sink = SliceSink::new(room);
+    if message.size() > sink.room() as u64 {
+        return told.word("refused");
+    }
+    message.write(&mut sink);
+    told.hex(sink.written());
+}
+
+/// Adds the option of a number, or else the payload, and tells the fault where it is refused.
+fn add<'a>(message: &mut Builder<'a>, name: &str, value: &'a [u8], told: &mut Told) {
+    let answer = match name.parse::<u16>() {
+        Ok(number) => message.option(number, value),
+        Err(_) => message.payload(value),
+    };
+    if let Err(fault) = answer {
+        tell_fault(&fault, fault as u8, told);
+    }
+}
+
+/// Builds a message. The bytes are its code, its token of so many, and the values of the parts, each of which is a name, `=` and a
+/// length: of an option its number, of the payload `payload`. `look` tells the message, and `token` the one with another token.
+fn write(text: &str, bytes: &mut Vec<u8>, told: &mut Told) {
+    let count = bytes.len();
+    let room = count.saturating_mul(2).saturating_add(FORMS);
+    if bytes.resize(room, 0).is_err() || count > bytes.len() {
+        return told.word("refused");
+    }
+    let (read, room) = bytes.split_at_mut(count);
+    let (length, text) = next_number(text);
+    let Some((code, rest)) = read.split_first() else {
+        return told.word("strange");
+    };
+    let Some((token, mut rest)) = rest.split_at_checked(length) else {
+        return told.word("strange");
+    };
+    let Ok(token) = Token::try_from(token) else {
+        return told.word("strange");
+    };
+    let mut message = Builder::new(Code::new(*code), &token);
+    for word in text.split(' ') {
+        let (name, length) = word.split_once('=').unwrap_or((word, ""));
+        let Some((value, behind)) = rest.split_at_checked(number(length).unwrap_or(0)) else {
+            return told.word("strange");
+        };
+        rest = behind;
+        match name {
+            "look" => tell_built(&message, room, told),
+            "token" => match Token::try_from(value) {
+                Ok(token) => tell_built(&message.with_token(&token), room, told),
+                Err(_) => told.word("strange"),
+            },
+            _ => add(&mut message, name, value, told),
+        }
+    }
+}
+
+/// Tells the least and the greatest length of the options with a number, and whether a message may have several of them.
+fn tell_kind(number: usize, told: &mut Told) {
+    let Ok(number) = u16::try_from(number) else {
+        return told.word("strange");
+    };
+    let Some(kind) = kind(number) else {
+        return told.word("unknown");
+    };
+    told.word(if kind.repeatable {
+        "several of"
+    } else {
+        "one of"
+    });
+    told.number(u64::from(kind.min));
+    told.word("to");
+    told.number(u64::from(kind.max));
+}
+
+/// Tells the fewest bytes of a number, and what these mean.
+fn tell_uint(number: usize, told: &mut Told) {
+    let bytes = uint_bytes(number as u64);
+    told.hex(&bytes);
+    let _ = write!(told, "{:?}", uint_value(&bytes));
+}
+
+/// Plays an event.
+pub(crate) fn play(event: &str, bytes: &mut Vec<u8>, told: &mut Told) {
+    let (word, rest) = cut(event);
+    let (first, text) = cut(rest);
+    match word {
+        "kind" => return tell_kind(number(rest).unwrap_or(0), told),
+        "uint" => return tell_uint(number(rest).unwrap_or(0), told),
+        _ => read_hex(first, bytes),
+    }
+    match word {
+        "write" => write(text, bytes, told),
+        "read" => read(bytes, told),
+        "known" => known(bytes, told),
+        "declared" => {
+            let _ = write!(told, "{:?}", declared(bytes));
+        }
+        "code" => tell_codes(&[Code::new(bytes.first().copied().unwrap_or(0))], told),
+        "codes" => tell_codes(&CODES, told),
+        "value" => {
+            let _ = write!(told, "{:?}", uint_value(bytes));
+        }
+        _ => told.word("strange"),
+    }
+}

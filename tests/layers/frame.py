@@ -1,0 +1,50 @@
+"""Framers: `= MAX`, and then `next BYTES`, `each BYTES` one by one, `unread BYTES`, `clear` and `look`.
+
+What is told is what was found in a piece and how many of its bytes were taken, or the framer's greatest frame, and then how many bytes
+are kept and how many are spent. `cuts STREAM => FRAME..` cuts a stream at each two places: its frames must be the same.
+"""
+
+import re
+
+from layers import Step
+from spelling import digits, spelled
+
+PROBE = "coap_probe"
+
+LOOKS = ("look",)
+
+
+def found_in(line):
+    """What a framer found in a piece, how many bytes it took of it, and how many are kept."""
+    what, _, kept = line.partition(" left 0 kept ")
+    found = re.findall(r"(Frame [0-9a-f]+|More|\w+ \d+ \".*?\") taken (\d+)", what)
+    return [it for it, _ in found], sum(int(taken) for _, taken in found), kept.split(" ")[0]
+
+
+def piece(stream, ends, first, second):
+    """A step that hands over a piece of a stream of frames, of which each must be found in the piece that has its last byte."""
+    frames = [f"Frame {stream[begin * 2 : end * 2]}" for begin, end in zip([0, *ends], ends) if first < end <= second]
+    begun = max(end for end in (0, *ends) if end <= second)
+    more = ["More"] if begun < second and first < second else []
+    wanted = str((frames + more, second - first, str(second - begun)))
+    return Step(f"all {stream[first * 2 : second * 2]}".strip(), wanted, lambda line: str(found_in(line)))
+
+
+def cuts(stream, frames):
+    """Steps that cut a stream at each two places."""
+    assert "".join(frames) == stream, "other frames than the stream has"
+    ends = [sum(len(frame) // 2 for frame in frames[: count + 1]) for count in range(len(frames))]
+    size = ends[-1]
+    for first in range(size + 1):
+        for second in range(first, size + 1):
+            yield from (piece(stream, ends, *ends_of) for ends_of in ((0, first), (first, second), (second, size)))
+
+
+def steps(opening, rows):
+    yield Step(f"= frame {opening}", "")
+    for row in rows:
+        event, _, wanted = row.partition(" => ")
+        if event.startswith("cuts "):
+            yield from cuts(digits(event.removeprefix("cuts ")), [digits(frame) for frame in wanted.split()])
+        else:
+            yield Step(spelled(event).removesuffix(" -"), spelled(wanted))

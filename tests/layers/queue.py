@@ -1,0 +1,18 @@
+"""Queues of bytes that wait to be written: `= COUNT`, and then `append BYTES`, `push BYTE`, `write COUNT` and `look`.
+
+What is told is the bytes that are free, the room for more, how many bytes wait, and these.
+"""
+
+from layers import Step
+from spelling import spelled
+
+PROBE = "coap_probe"
+
+LOOKS = ("look",)
+
+
+def steps(opening, rows):
+    yield Step(f"= queue {opening}", "")
+    for row in rows:
+        event, _, wanted = row.partition(" => ")
+        yield Step(spelled(event).removesuffix(" -"), spelled(wanted))

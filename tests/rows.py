@@ -1,0 +1,172 @@
+#!/usr/bin/env python3
+"""Plays files of rows on the probes, two proved programs, and compares what these tell.
+
+    tests/rows.py [--by-rattle] [--refuse] [FILE..]
+
+A file is tests/rows/LAYER/NAME.rows. Its lines are rows `EVENT => WANTED`; `= OPENING` opens the value that the rows below it are
+about; `#` begins a comment. How the rows of a layer are spelled for the probe stands in tests/layers/LAYER.py, and what its words mean;
+bytes may be written as text and as messages in words (tests/spelling.py).
+
+--by-rattle plays them on the programs as Rattle's own compiler made them. --refuse refuses each allocation of each file in turn: the row
+that was struck must tell `memory`, all that only asks must tell what it told before, and the row is made again, from where all goes
+as the file says. A line `allocations: N` in the file is their number; where N is not a number, it says why they are not refused.
+The last line is 'N passed, M failed' over the rows, or over the refused allocations, and the status 0 where M is 0.
+"""
+
+import importlib
+import os
+import pathlib
+import subprocess
+import sys
+import tempfile
+from concurrent.futures import ThreadPoolExecutor
+from dataclasses import dataclass, field
+
+TESTS = pathlib.Path(__file__).resolve().parent
+ROWS = TESTS / "rows"
+
+
+@dataclass
+class RowFile:
+    """A file of rows: its values, each an opening and the rows behind it, and what it says of its allocations."""
+
+    path: pathlib.Path
+    allocations: str = ""
+    values: list = field(default_factory=list)
+
+    def name(self):
+        return f"{self.path.parent.name}/{self.path.stem}"
+
+    def layer(self):
+        return importlib.import_module(f"layers.{self.path.parent.name}")
+
+    def steps(self):
+        return [step for opening, rows in self.values for step in self.layer().steps(opening, rows)]
+
+
+def read(path):
+    """Reads a file of rows."""
+    file = RowFile(path)
+    for line in path.read_text(encoding="utf-8").splitlines():
+        if line.startswith("allocations: "):
+            file.allocations = line.partition(": ")[2]
+        elif line.startswith("= "):
+            file.values.append((line[2:], []))
+        elif line and not line.startswith("#"):
+            file.values[-1][1].append(line)
+    return file
+
+
+def probe_of(file, ending=""):
+    """The program that plays the rows of a file, as a compiler made it."""
+    crate = file.layer().PROBE
+    return f"{TESTS.parent}/crates/{crate}/out/{crate}{ending}"
+
+
+def run(probe, events, shim="", number=0):
+    """The lines that the probe writes for these events, or nothing where it could not begin."""
+    environment = {**os.environ, "LD_PRELOAD": shim, "REFUSE_ALLOCATION": str(number)} if number else None
+    sent = "".join(event + "\n" for event in events).encode()
+    ran = subprocess.run([probe], input=sent, env=environment, capture_output=True, timeout=600)
+    return None if ran.returncode else ran.stdout.decode().splitlines()
+
+
+def differences(found, steps):
+    """What is not as wanted, one text for each row."""
+    wrong = []
+    for line, step in zip(found, steps):
+        try:
+            text = step.told(line)
+        except (ValueError, IndexError, KeyError):
+            text = line
+        if text != step.wanted:
+            wrong.append(f"{step.event[:120]}\n    wanted {step.wanted[:300]}\n    found  {text[:300]}")
+    return wrong + [f"{step.event[:120]}\n    no line" for step in steps[len(found) :]]
+
+
+def play(file, ending):
+    """Plays a file, and returns how many rows it has and what is wrong."""
+    steps = file.steps()
+    return len(steps), differences(run(probe_of(file, ending), [step.event for step in steps]) or [], steps)
+
+
+def looks_of(file):
+    """The words of a layer's events that only ask."""
+    return getattr(file.layer(), "LOOKS", ())
+
+
+def again_of(file):
+    """What a layer makes again of an event that was refused memory; the event itself where it says nothing."""
+    return getattr(file.layer(), "again", lambda probe, events, index, found: events[index])
+
+
+def struck_again(file, probe, steps, found, index, shim, number):
+    """What is wrong once the event that was refused memory was made again."""
+    events = [step.event for step in steps]
+    opening = max(at for at, event in enumerate(events[: index + 1]) if event.startswith("= "))
+    asking = dict.fromkeys(it for it in events[opening:] if it.split(" ")[0] in looks_of(file))
+    looks = list(asking) if index > opening else []
+    again = again_of(file)(lambda more: run(probe, more, shim, number), events, index, found)
+    before = run(probe, events[:index] + looks)[index:]
+    lines = run(probe, events[: index + 1] + looks + [again] + events[index + 1 :], shim, number)
+    after, rest = lines[index + 1 : index + 1 + len(looks)], lines[:index] + lines[index + 1 + len(looks) :]
+    if again != events[index]:
+        # what is made again is a part of the event, so that its line tells less, and what is kept is not as before
+        rest[index], before, after = found[index], [], []
+        steps = steps[:index] + [type(steps[index])(again, found[index].strip())] + steps[index + 1 :]
+    wrong = [] if after == before else [f"{events[index][:120]}: {before} became {after}"]
+    return wrong + differences(rest, steps)
+
+
+def refuse_each(file, shim):
+    """Refuses each allocation of a file's rows in turn, and returns their number and what is wrong."""
+    probe, steps, wrong, count = probe_of(file), file.steps(), [], 0
+    events = [step.event for step in steps]
+    # the first ones are the probe's own room, which is had before the first row
+    number = next(it for it in range(1, 100) if run(probe, [], shim, it) is not None)
+    while True:
+        found = run(probe, events, shim, number)
+        index = next((at for at, line in enumerate(found) if "memory" in line.split()), None)
+        if index is None:
+            return count, wrong + differences(found, steps)
+        wrong += [f"allocation {count + 1}: {text}" for text in struck_again(file, probe, steps, found, index, shim, number)]
+        count, number = count + 1, number + 1
+
+
+def refuse(file, shim):
+    """Refuses each allocation of a file, whose number must be the one that the file says."""
+    if not file.allocations.isdigit():
+        return 0, [] if file.allocations else ["it does not say how many allocations it makes"]
+    count, wrong = refuse_each(file, shim)
+    if count != int(file.allocations):
+        wrong.append(f"it makes {count} allocations, and says {file.allocations}")
+    return count, wrong
+
+
+def compiled_shim(room):
+    shim = f"{room}/refuse.so"
+    subprocess.run(["gcc", "-O2", "-shared", "-fPIC", "-o", shim, f"{TESTS}/refuse.c"], check=True)
+    return shim
+
+
+def main(words):
+    flags, named = [it for it in words if it.startswith("--")], [it for it in words if not it.startswith("--")]
+    files = [read(pathlib.Path(it).resolve()) for it in named] or [read(it) for it in sorted(ROWS.glob("*/*.rows"))]
+    with tempfile.TemporaryDirectory(prefix="rows-") as room, ThreadPoolExecutor(len(os.sched_getaffinity(0))) as pool:
+        shim = compiled_shim(room) if "--refuse" in flags else ""
+        ending = ".by-rattle" if "--by-rattle" in flags else ""
+        results = pool.map(lambda file: refuse(file, shim) if shim else play(file, ending), files)
+        count = failed = 0
+        for file, (rows, wrong) in zip(files, results):
+            count, failed = count + rows, failed + len(wrong)
+            for text in wrong[:3]:
+                print(f"{file.name()}: {text}")
+            if len(wrong) > 3:
+                print(f"{file.name()}: and {len(wrong) - 3} more")
+    print(f"{max(count - failed, 0)} passed, {failed} failed")
+    return 1 if failed else 0
+
+
+if __name__ == "__main__":
+    sys.path.insert(0, str(TESTS))
+    sys.exit(main(sys.argv[1:]))

@@ -1,0 +1,127 @@
+"""Spells what rows write in words as hex digits.
+
+Bytes in a row are hex digits, and beside these, one behind the other in one word:
+    -                         no bytes, alone
+    ff+3*7879+00              parts with `+` between them; a count and `*` before what is repeated
+    'coap+tcp'                the bytes of a text
+    (GET /time observe 0)     a message in words, spelled as RFC 8323 section 3.2 has it
+
+A message in words is its code (`GET`, `CSM`, `2.05`), `token HEX`, its options, and behind ` | ` its payload. A path `/a/b` is two
+options Uri-Path, and `/` is none. An option is a name and, but for those that are always empty, its value: a number, a text between
+`'`, hex digits, `-` for none. `option 9 ff` has any number. Options are spelled in the order of their numbers.
+"""
+
+import re
+
+CODES = {
+    "Empty": 0x00, "GET": 0x01, "POST": 0x02, "PUT": 0x03, "DELETE": 0x04, "FETCH": 0x05, "PATCH": 0x06, "iPATCH": 0x07,
+    "CSM": 0xE1, "Ping": 0xE2, "Pong": 0xE3, "Release": 0xE4, "Abort": 0xE5,
+}
+
+# The options of requests and responses, and whether their values are numbers.
+OPTIONS = {
+    "if-match": (1, False), "uri-host": (3, False), "etag": (4, False), "if-none-match": (5, None), "observe": (6, True),
+    "uri-port": (7, True), "location-path": (8, False), "uri-path": (11, False), "content-format": (12, True), "max-age": (14, True),
+    "uri-query": (15, False), "accept": (17, True), "location-query": (20, False), "proxy-uri": (35, False),
+    "proxy-scheme": (39, False), "size1": (60, True),
+    # those of signalling messages
+    "max-message-size": (2, True), "custody": (2, None), "block-wise-transfer": (4, None), "alternative-address": (2, False),
+    "hold-off": (4, True), "bad-csm-option": (2, True),
+}
+
+
+def uint(number):
+    """The fewest bytes of a number (RFC 7252 section 3.2)."""
+    return number.to_bytes((number.bit_length() + 7) // 8, "big")
+
+
+def nibble(value):
+    """The nibble of a delta or a length in an option's first byte, and its extension (RFC 7252 section 3.1)."""
+    if value < 13:
+        return value, b""
+    if value < 269:
+        return 13, bytes([value - 13])
+    return 14, (value - 269).to_bytes(2, "big")
+
+
+def encoded(code, token, options, payload):
+    """The bytes of a message whose options are in order."""
+    body, last = b"", 0
+    for number, value in options:
+        (delta, more), (length, further) = nibble(number - last), nibble(len(value))
+        body += bytes([delta << 4 | length]) + more + further + value
+        last = number
+    body += b"\xff" + payload if payload else b""
+    size = len(body)
+    if size < 13:
+        head, more = size, b""
+    elif size < 269:
+        head, more = 13, bytes([size - 13])
+    elif size < 65_805:
+        head, more = 14, (size - 269).to_bytes(2, "big")
+    else:
+        head, more = 15, (size - 65_805).to_bytes(4, "big")
+    return bytes([head << 4 | len(token)]) + more + bytes([code]) + token + body
+
+
+def code_of(word):
+    """The byte of a code in words."""
+    if word in CODES:
+        return CODES[word]
+    class_, detail = word.split(".")
+    return int(class_) << 5 | int(detail)
+
+
+def value_of(word, is_number):
+    """The bytes of an option's value."""
+    return uint(int(word)) if is_number and word.isdigit() else bytes_of(word)
+
+
+def parts_of(words):
+    """The token that words name, and the options in the order of their numbers."""
+    token, options, words = b"", [], iter(words)
+    for word in words:
+        if word.startswith("/"):
+            options += [(11, segment.encode()) for segment in word[1:].split("/") if word != "/"]
+        elif word == "token":
+            token = bytes_of(next(words))
+        elif word == "option":
+            number = int(next(words))
+            options.append((number, bytes_of(next(words))))
+        else:
+            number, is_number = OPTIONS[word]
+            options.append((number, b"" if is_number is None else value_of(next(words), is_number)))
+    return token, sorted(options, key=lambda option: option[0])
+
+
+def message_of(text):
+    """The bytes of a message in words."""
+    head, _, payload = text.partition(" | ")
+    words = re.findall(r"(?:'[^']*'|[^\s'])+", head)
+    return encoded(code_of(words[0]), *parts_of(words[1:]), bytes_of(payload) if payload else b"")
+
+
+def bytes_of(word):
+    """The bytes that a word names."""
+    return bytes.fromhex("" if word == "-" else digits(word))
+
+
+def digits(word):
+    """The hex digits of a word of bytes."""
+    word = re.sub(r"\(([^()]*)\)", lambda message: message_of(message[1]).hex(), word)
+    word = re.sub(r"'([^']*)'", lambda text: text[1].encode().hex(), word)
+    parts = []
+    for part in word.split("+"):
+        count, star, repeated = part.rpartition("*")
+        parts.append(repeated * int(count) if star else part)
+    return "".join(parts)
+
+
+# A word of bytes that are not all written as hex digits.
+WRITTEN = re.compile(r".*[('].*|[0-9a-f+]*\d+\*[0-9a-f+*]+|[0-9a-f]+(\+[0-9a-f]+)+")
+
+
+def spelled(text):
+    """A text in which every word of bytes is hex digits."""
+    words = re.findall(r"(?:\([^()]*\)|'[^']*'|[^\s'(])+", text)
+    return " ".join(digits(word) if WRITTEN.fullmatch(word) else word for word in words)
