@@ -2,8 +2,12 @@
 #![tactic(auto)]
 
 mod frame;
+mod link;
+mod store;
 
+use coap_conn::Link;
 use coap_frame::Framer;
+use coap_store::Store;
 use coap_told::{Layers, Told, cut};
 use std::alloc::{AllocError, Global};
 use std::process::ExitCode;
@@ -15,6 +19,10 @@ enum Value {
     Nothing,
     /// A framer.
     Frame(Framer),
+    /// A link.
+    Link(Link),
+    /// A store.
+    Store(Store),
 }
 
 /// The value that an opening names, and nothing where memory was refused.
@@ -23,6 +31,16 @@ fn opened(alloc: Global, opening: &str, told: &mut Told) -> Value {
     match layer {
         "frame" => match frame::opened(alloc, rest) {
             Some(Ok(framer)) => return Value::Frame(framer),
+            Some(Err(AllocError)) => told.word("memory"),
+            None => told.word("refused"),
+        },
+        "link" => match link::opened(alloc, rest) {
+            Some(Ok(link)) => return Value::Link(link),
+            Some(Err(AllocError)) => told.word("memory"),
+            None => told.word("refused"),
+        },
+        "store" => match store::opened(alloc, rest) {
+            Some(Ok(store)) => return Value::Store(store),
             Some(Err(AllocError)) => told.word("memory"),
             None => told.word("refused"),
         },
@@ -40,6 +58,8 @@ impl Layers for Value {
         match self {
             Value::Nothing => told.word("nothing"),
             Value::Frame(framer) => frame::play(framer, event, bytes, told),
+            Value::Link(link) => link::play(link, event, bytes, told),
+            Value::Store(store) => store::play(store, event, bytes, told),
         }
     }
 }
