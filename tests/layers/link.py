@@ -4,8 +4,8 @@
 number behind such a name has the peer announce then that it takes so many bytes (at most 255), `open` has it announce nothing. Behind
 ` | ` the first row can follow at once.
 
-The events: `hear` a message, `reply` with one, `hold` the answer to a token until a moment, `due` at a moment, `release`, `ping`
-(`plain`, `custody`), `reject` bytes (`format`, `large`, `token`), `end` (`cut`, `whole`), `write` so many bytes, `count` what is pending
+The events: `hear` a message, `reply` with one, `hold` the answer to a token until a moment, `due` at a moment, `release`, `request` with
+a message (`plain`, `observe`), `cancel` with one that has the token, `ping` (`plain`, `custody`), `reject` bytes (`format`, `large`, `token`), `end` (`cut`, `whole`), `write` so many bytes, `count` what is pending
 and outstanding, and `look`. What is told is the event's answer, or `-`, and then the phase, the greatest message that the peer takes,
 the bytes that are free, whether the link is ready, whether it is finished, and the bytes that wait.
 """
@@ -55,8 +55,11 @@ def first_of(opening):
 def event_of(text):
     """The line for the probe: the event, its bytes, and its last word."""
     word, _, rest = text.partition(" ")
-    if word in ("hear", "reply"):
+    if word in ("hear", "reply", "cancel"):
         return f"{word} {digits(rest)}"
+    if word == "request":
+        how, _, message = rest.partition(" ")
+        return f"{word} {digits(message)} {how}"
     if word in ("due", "ping", "reject", "end", "write"):
         return f"{word} - {rest}"
     return text

@@ -155,7 +155,7 @@ def exchange(word, rest, wanted):
 
 def inside(word, rest, wanted):
     """A row of what the program itself does, or asks, at a path."""
-    head, _, payload = rest.partition(" | ")
+    head, _, payload = f" {rest}".partition(" | ")
     words = head.split()
     moment = words.pop(0) if word in ("state", "notify") else ""
     form = "".join(it[7:] for it in words if it.startswith("format="))

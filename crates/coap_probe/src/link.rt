@@ -1,5 +1,6 @@
-//! Links: `= link ROLE` and the six limits, and then `hear MESSAGE`, `reply MESSAGE`, `hold TOKEN MOMENT`, `due - MOMENT`, `release`,
-//! `reject - FAULT`, `end - cut` or `end - whole`, `write - COUNT`, `count` and `look`. Answers are told as Debug has them.
+//! Links: `= link ROLE` and the six limits, and then `hear MESSAGE`, `reply MESSAGE`, `request MESSAGE plain`
+//! (or `observe`), `cancel MESSAGE`, `ping - plain` (or `custody`), `hold TOKEN MOMENT`, `due - MOMENT`, `release`, `reject - FAULT`,
+//! `end - cut` or `end - whole`, `write - COUNT`, `count` and `look`. Answers are told as Debug has them.
 
 use coap_conn::{Limits, Link, Phase, Reject, Role};
 use coap_told::{Told, cut, next_number, number, read_hex};
@@ -55,31 +56,32 @@ fn hear(link: &mut Link, bytes: &[u8], told: &mut Told) {
     }
 }
 
-/// The response that a message spells.
-fn response<'a>(message: &MessageRef<'a>) -> Result<Builder<'a>, BuildFault> {
-    let mut response = Builder::new(message.code(), message.token());
+/// The message that another one spells.
+fn built<'a>(message: &MessageRef<'a>) -> Result<Builder<'a>, BuildFault> {
+    let mut built = Builder::new(message.code(), message.token());
     for option in message.options() {
-        response.option(option.number, option.value)?;
+        built.option(option.number, option.value)?;
     }
-    response.payload(message.payload())?;
-    Ok(response)
+    built.payload(message.payload())?;
+    Ok(built)
 }
 
-/// Sends a response, and tells what became of it.
-fn reply(link: &mut Link, bytes: &[u8], told: &mut Told) {
+/// Sends a response, a request, or a cancellation under the token that the message has, and tells what became of it.
+fn send(link: &mut Link, word: &str, bytes: &[u8], how: &str, told: &mut Told) {
     let Ok(message) = parse(bytes) else {
         return told.word("strange");
     };
-    let Ok(response) = response(&message) else {
+    let Ok(built) = built(&message) else {
         return told.word("strange");
     };
-    match link.phase() {
-        Phase::Open | Phase::Releasing(_) if link.ready() => {
-            let reply = link.reply(&response);
-            let _ = write!(told, "{reply:?} ");
+    let _ = match (word, link.phase()) {
+        ("request", _) => write!(told, "{:?} ", link.request(&built, how == "observe")),
+        ("cancel", _) => write!(told, "{:?} ", link.cancel(message.token(), &built)),
+        (_, Phase::Open | Phase::Releasing(_)) if link.ready() => {
+            write!(told, "{:?} ", link.reply(&built))
         }
-        _ => told.word("refused"),
-    }
+        _ => write!(told, "refused "),
+    };
 }
 
 /// Holds the answer to the request with a token until a moment, and tells whether it is.
@@ -137,7 +139,7 @@ fn act(link: &mut Link, word: &str, bytes: &[u8], last: &str, told: &mut Told) {
     let moment = number(last).unwrap_or(0);
     match word {
         "hear" => hear(link, bytes, told),
-        "reply" => reply(link, bytes, told),
+        "reply" | "request" | "cancel" => send(link, word, bytes, last, told),
         "hold" => hold(link, bytes, moment as u64, told),
         "due" => due(link, moment as u64, told),
         "release" => {
