@@ -4,10 +4,11 @@
 number behind such a name has the peer announce then that it takes so many bytes (at most 255), `open` has it announce nothing. Behind
 ` | ` the first row can follow at once.
 
-The events: `hear` a message, `reply` with one, `hold` the answer to a token until a moment, `due` at a moment, `release`, `request` with
-a message (`plain`, `observe`), `cancel` with one that has the token, `ping` (`plain`, `custody`), `reject` bytes (`format`, `large`, `token`), `end` (`cut`, `whole`), `write` so many bytes, `count` what is pending
-and outstanding, and `look`. What is told is the event's answer, or `-`, and then the phase, the greatest message that the peer takes,
-the bytes that are free, whether the link is ready, whether it is finished, and the bytes that wait.
+The events: `hear` a message, `reply` with one, `hold` the answer to a token until a moment, `due` at a moment, `release`, `request`
+with a message (`plain`, `observe`), `cancel` with one that has the token, `ping` (`plain`, `custody`), `reject` bytes (`format`,
+`large`, `token`), `end` (`cut`, `whole`), `write` so many bytes, `count` what is pending and outstanding, and `look`. What is told is
+the event's answer, or `-`, and then the phase, the greatest message that the peer takes, the bytes that are free, whether the link is
+ready, whether it is finished, and the bytes that wait.
 """
 
 import re
