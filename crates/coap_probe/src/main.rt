@@ -4,11 +4,14 @@
 mod faults;
 mod frame;
 mod limits;
+mod link;
 mod queue;
+mod store;
 mod wire;
 
-use coap_conn::OutQueue;
+use coap_conn::{Link, OutQueue};
 use coap_frame::Framer;
+use coap_store::Store;
 use coap_told::{Layers, Told, cut};
 use std::alloc::{AllocError, Global};
 use std::process::ExitCode;
@@ -26,6 +29,10 @@ enum Value {
     Limits,
     /// A queue of bytes.
     Queue(OutQueue),
+    /// A link.
+    Link(Link),
+    /// A store.
+    Store(Store),
 }
 
 /// The value that an opening names, and nothing where memory was refused.
@@ -39,6 +46,16 @@ fn opened(alloc: Global, opening: &str, told: &mut Told) -> Value {
         },
         "queue" => match queue::opened(alloc, rest) {
             Some(Ok(queue)) => return Value::Queue(queue),
+            Some(Err(AllocError)) => told.word("memory"),
+            None => told.word("refused"),
+        },
+        "link" => match link::opened(alloc, rest) {
+            Some(Ok(link)) => return Value::Link(link),
+            Some(Err(AllocError)) => told.word("memory"),
+            None => told.word("refused"),
+        },
+        "store" => match store::opened(alloc, rest) {
+            Some(Ok(store)) => return Value::Store(store),
             Some(Err(AllocError)) => told.word("memory"),
             None => told.word("refused"),
         },
@@ -61,6 +78,8 @@ impl Layers for Value {
             Value::Wire => wire::play(event, bytes, told),
             Value::Limits => limits::play(event, told),
             Value::Queue(queue) => queue::play(queue, event, bytes, told),
+            Value::Link(link) => link::play(link, event, bytes, told),
+            Value::Store(store) => store::play(store, event, bytes, told),
         }
     }
 }

@@ -1,0 +1,187 @@
+//! Links: `= link ROLE` and the six limits, and then `hear MESSAGE`, `reply MESSAGE`, `request MESSAGE plain`
+//! (or `observe`), `cancel MESSAGE`, `ping - plain` (or `custody`), `hold TOKEN MOMENT`, `due - MOMENT`, `release`, `reject - FAULT`,
+//! `end - cut` or `end - whole`, `write - COUNT`, `count` and `look`. Answers are told as Debug has them.
+
+use coap_conn::{Limits, Link, Phase, Reject, Role};
+use coap_told::{Told, cut, next_number, number, read_hex};
+use coap_wire::{BuildFault, Builder, MessageRef, Token, parse};
+use std::alloc::{AllocError, Global};
+use std::fmt::Write;
+
+/// The limits that six numbers name; none where one is out of its range.
+fn limits(text: &str) -> Option<Limits> {
+    let (max_message, text) = next_number(text);
+    let (max_sent, text) = next_number(text);
+    let (queue, text) = next_number(text);
+    let (pending, text) = next_number(text);
+    let (observers, text) = next_number(text);
+    let (outstanding, _) = next_number(text);
+    match Limits::new(
+        max_message,
+        max_sent,
+        queue,
+        pending,
+        observers,
+        outstanding,
+    ) {
+        Ok(limits) => Some(limits),
+        Err(_) => None,
+    }
+}
+
+/// A link of a role and six limits; none where a limit is out of its range.
+pub(crate) fn opened(alloc: Global, text: &str) -> Option<Result<Link, AllocError>> {
+    let (role, rest) = cut(text);
+    let Some(limits) = limits(rest) else {
+        return None;
+    };
+    let role = match role {
+        "client" => Role::Client,
+        _ => Role::Server,
+    };
+    Some(Link::open(alloc, role, limits, 0))
+}
+
+/// Hands a message to the link, and tells what it was.
+fn hear(link: &mut Link, bytes: &[u8], told: &mut Told) {
+    let Ok(message) = parse(bytes) else {
+        return told.word("strange");
+    };
+    match link.phase() {
+        Phase::Waiting | Phase::Open if link.ready() => {
+            let verdict = link.on(&message);
+            let _ = write!(told, "{verdict:?} ");
+        }
+        _ => told.word("refused"),
+    }
+}
+
+/// The message that another one spells.
+fn built<'a>(message: &MessageRef<'a>) -> Result<Builder<'a>, BuildFault> {
+    let mut built = Builder::new(message.code(), message.token());
+    for option in message.options() {
+        built.option(option.number, option.value)?;
+    }
+    built.payload(message.payload())?;
+    Ok(built)
+}
+
+/// Sends a response, a request, or a cancellation under the token that the message has, and tells what became of it.
+fn send(link: &mut Link, word: &str, bytes: &[u8], how: &str, told: &mut Told) {
+    let Ok(message) = parse(bytes) else {
+        return told.word("strange");
+    };
+    let Ok(built) = built(&message) else {
+        return told.word("strange");
+    };
+    let _ = match (word, link.phase()) {
+        ("request", _) => write!(told, "{:?} ", link.request(&built, how == "observe")),
+        ("cancel", _) => write!(told, "{:?} ", link.cancel(message.token(), &built)),
+        (_, Phase::Open | Phase::Releasing(_)) if link.ready() => {
+            write!(told, "{:?} ", link.reply(&built))
+        }
+        _ => write!(told, "refused "),
+    };
+}
+
+/// Holds the answer to the request with a token until a moment, and tells whether it is.
+fn hold(link: &mut Link, token: &[u8], moment: u64, told: &mut Told) {
+    let Ok(token) = Token::try_from(token) else {
+        return told.word("strange");
+    };
+    match link.phase() {
+        Phase::Open => {
+            let held = link.hold(token, moment);
+            let _ = write!(told, "{held:?} ");
+        }
+        _ => told.word("refused"),
+    }
+}
+
+/// Tells what is due at a moment.
+fn due(link: &mut Link, moment: u64, told: &mut Told) {
+    if !link.ready() {
+        return told.word("refused");
+    }
+    let due = link.due(moment);
+    let _ = write!(told, "{due:?} ");
+}
+
+/// Rejects what is behind the messages so far.
+fn reject(link: &mut Link, fault: &str, told: &mut Told) {
+    let fault = match fault {
+        "format" => Reject::Format,
+        "large" => Reject::TooLarge,
+        "token" => Reject::TokenLength,
+        _ => return told.word("strange"),
+    };
+    match link.phase() {
+        Phase::Waiting | Phase::Open if link.ready() => {
+            link.reject(fault);
+            told.word("-");
+        }
+        _ => told.word("refused"),
+    }
+}
+
+/// Writes so many bytes of those that wait.
+fn written(link: &mut Link, count: usize, told: &mut Told) {
+    if count <= link.waiting() {
+        link.written(count);
+        told.word("-");
+    } else {
+        told.word("refused");
+    }
+}
+
+/// Makes an event happen, and tells its answer.
+fn act(link: &mut Link, word: &str, bytes: &[u8], last: &str, told: &mut Told) {
+    let moment = number(last).unwrap_or(0);
+    match word {
+        "hear" => hear(link, bytes, told),
+        "reply" | "request" | "cancel" => send(link, word, bytes, last, told),
+        "hold" => hold(link, bytes, moment as u64, told),
+        "due" => due(link, moment as u64, told),
+        "release" => {
+            let answer = link.release();
+            let _ = write!(told, "{answer:?} ");
+        }
+        "ping" => {
+            let answer = link.ping(last == "custody");
+            let _ = write!(told, "{answer:?} ");
+        }
+        "reject" => reject(link, last, told),
+        "end" => {
+            link.end(last == "cut");
+            told.word("-");
+        }
+        "write" => written(link, moment, told),
+        "count" => {
+            let (pending, outstanding) = (link.pending(), link.outstanding());
+            let _ = write!(told, "pending {pending} outstanding {outstanding} ");
+        }
+        "look" => told.word("-"),
+        _ => told.word("strange"),
+    }
+}
+
+/// Plays an event: its answer, and then the phase, the greatest message that the peer takes, the bytes that are free, whether the link
+/// is ready, whether it is finished, and the bytes that wait.
+pub(crate) fn play(link: &mut Link, event: &str, bytes: &mut Vec<u8>, told: &mut Told) {
+    let (word, rest) = cut(event);
+    let (digits, last) = cut(rest);
+    read_hex(digits, bytes);
+    act(link, word, bytes, last, told);
+    let (phase, peer_max, free) = (link.phase(), link.peer_max(), link.free());
+    let _ = write!(told, "{phase:?} {peer_max} {free} ");
+    told.word(if link.ready() { "ready" } else { "unready" });
+    told.word(if link.finished() {
+        "finished"
+    } else {
+        "unfinished"
+    });
+    if link.waiting() != link.front().len() {
+        told.word("another count waits");
+    }
+    told.hex(link.front());
+}

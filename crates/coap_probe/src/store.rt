@@ -1,0 +1,178 @@
+//! Stores: `= store RESOURCES BYTES VERSION`, and then `ask REQUEST MOMENT`, `make REQUEST` whose change is made too, and what the
+//! program itself does: `put REQUEST FORMAT` with the path and the payload of a request, `remove REQUEST`, `state REQUEST MOMENT` and
+//! `notify REQUEST MOMENT FORMAT`. Where no FORMAT stands, there is none. `path REQUEST` tells the key that its segments are.
+
+use arrayvec::ArrayVec;
+use coap_store::{Change, PathKey, Plan, State, Store, StoreFault, UriPath, Watch, request_path};
+use coap_told::{Told, cut, next_number, number, read_hex};
+use coap_wire::option_numbers::URI_PATH;
+use coap_wire::{MessageRef, parse};
+use std::alloc::{AllocError, Global};
+use std::fmt::Write;
+
+/// A store for so many resources of so many bytes, after a version; none where a number is out of its range.
+pub(crate) fn opened(alloc: Global, text: &str) -> Option<Result<Store, AllocError>> {
+    let (dynamic_max, rest) = next_number(text);
+    let (rep_max, rest) = next_number(rest);
+    let (versions, _) = next_number(rest);
+    if dynamic_max > 1_000 || rep_max > 1_048_576 {
+        return None;
+    }
+    Some(Store::new(alloc, dynamic_max, rep_max, versions as u64))
+}
+
+/// The format that a word names, where it names one.
+fn format_of(word: &str) -> Option<u16> {
+    u16::try_from(number(word)?).ok()
+}
+
+/// Tells the path of a new resource.
+fn tell_location(location: Option<UriPath>, told: &mut Told) {
+    let Some(path) = location else {
+        return;
+    };
+    for segment in path {
+        told.word("location");
+        told.hex(segment);
+    }
+}
+
+/// Tells a number that may be there, behind its name.
+fn tell_number(name: &str, number: Option<u32>, told: &mut Told) {
+    if let Some(number) = number {
+        told.word(name);
+        told.number(u64::from(number));
+    }
+}
+
+/// The word of a change.
+fn word_of_change(change: &Change) -> &'static str {
+    match change {
+        Change::Nothing => "-",
+        Change::Put { .. } => "Put",
+        Change::Delete(_) => "Delete",
+    }
+}
+
+/// The word of what becomes of the observer.
+fn word_of_watch(watch: Watch) -> &'static str {
+    match watch {
+        Watch::Nothing => "-",
+        Watch::Add => "Add",
+        Watch::Drop => "Drop",
+    }
+}
+
+/// Tells an answer: its code, what it changes, what becomes of the observer, each part that the response has, the payload, and once more
+/// what becomes of the observer, as the answer without its payload tells it.
+fn tell_plan(plan: Plan, told: &mut Told) {
+    told.number(u64::from(plan.code().byte()));
+    told.word(word_of_change(&plan.change()));
+    told.word(word_of_watch(plan.watch()));
+    tell_number("held", plan.hold(), told);
+    if let Some(etag) = plan.etag() {
+        told.word("etag");
+        told.hex(etag);
+    }
+    tell_number("format", plan.format().map(u32::from), told);
+    tell_number("max-age", plan.max_age(), told);
+    tell_location(plan.location(), told);
+    tell_number("size1", plan.size1(), told);
+    told.hex(plan.payload());
+    told.word(word_of_watch(plan.without_payload().watch()));
+}
+
+/// Makes the change that a request asks for, and tells where memory was refused.
+fn make(store: &mut Store, request: &MessageRef, told: &mut Told) {
+    // The plan without its payload borrows the request alone.
+    let plan = store.answer(request, 0).without_payload();
+    if store.apply(plan.change()).is_err() {
+        told.word("memory");
+    }
+}
+
+/// The key that the segments of a request are, of which 17 count.
+fn path_of(request: &MessageRef) -> Option<PathKey> {
+    let mut segments: ArrayVec<&[u8], 17> = ArrayVec::new();
+    for option in request.options() {
+        if option.number == URI_PATH {
+            let _ = segments.try_push(option.value);
+        }
+    }
+    PathKey::from_segments(segments.as_slice())
+}
+
+/// Tells the segments of a key, whether its copy is the same, and whether the request asks for it.
+fn tell_path(path: &PathKey, request: &MessageRef, told: &mut Told) {
+    told.word("key");
+    for segment in path.segments() {
+        told.hex(segment);
+    }
+    told.word(if path.duplicate() == *path {
+        "same"
+    } else {
+        "other"
+    });
+    told.word(match request_path(request) {
+        Some(asked) if asked == *path => "asked",
+        _ => "not asked",
+    });
+}
+
+/// Tells a state.
+fn tell_state(state: &State, told: &mut Told) {
+    let State::Present(present) = state else {
+        return told.word("absent");
+    };
+    told.word("version");
+    told.number(present.version());
+    tell_number("format", present.format().map(u32::from), told);
+    told.hex(present.bytes());
+}
+
+/// Does to a store what the program itself may do at the path of a request, and tells what comes of it.
+fn change(store: &mut Store, word: &str, request: &MessageRef, rest: &str, told: &mut Told) {
+    let Some(path) = path_of(request) else {
+        return told.word("none");
+    };
+    let (moment, format) = cut(rest);
+    let moment = number(moment).unwrap_or(0) as u64;
+    match word {
+        "path" => tell_path(&path, request, told),
+        "put" => match store.put(&path, format_of(rest), request.payload()) {
+            Ok(version) => told.number(version),
+            Err(StoreFault::Memory) => told.word("memory"),
+            Err(fault) => {
+                let _ = write!(told, "{fault:?} ");
+            }
+        },
+        "remove" => {
+            let answer = store.remove(&path);
+            let _ = write!(told, "{answer:?} ");
+        }
+        "state" => tell_state(&store.state(&path, moment), told),
+        "notify" => tell_plan(store.notification(&path, format_of(format), moment), told),
+        _ => told.word("strange"),
+    }
+}
+
+/// Plays an event.
+pub(crate) fn play(store: &mut Store, event: &str, bytes: &mut Vec<u8>, told: &mut Told) {
+    let (word, rest) = cut(event);
+    let (digits, rest) = cut(rest);
+    read_hex(digits, bytes);
+    let Ok(request) = parse(bytes) else {
+        return told.word("strange");
+    };
+    match word {
+        "ask" => {
+            let moment = number(rest).unwrap_or(0) as u64;
+            tell_plan(store.answer(&request, moment), told);
+        }
+        "make" => {
+            tell_plan(store.answer(&request, 0), told);
+            make(store, &request, told);
+        }
+        _ => change(store, word, &request, rest, told),
+    }
+}

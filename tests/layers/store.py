@@ -1,0 +1,196 @@
+"""Stores: `= RESOURCES BYTES VERSION` is one for so many resources of so many bytes each, behind a version.
+
+- `GET /a => 2.05 etag=01 | 'x'` has a request without a token: a method, options (`/a` for a segment of the path, `accept=32` for another
+  option, `16#/a` for 16 of the same) and, behind ` | `, its payload. What is told of the answer is its code, `Put` or `Delete` where it
+  changes something, `Add` or `Drop` where something becomes of the observer, each option and the payload. Behind `do` the change is made.
+- `ask MESSAGE => MESSAGE`, `make MESSAGE => MESSAGE`, whose change is made, and `at MOMENT MESSAGE => MESSAGE` have whole messages.
+- `put /a format=0 | 'x' => 1` puts bytes at a path from inside, with a format or none; what is told is the version or the fault.
+  `remove /a => Ok(())` removes what is there. `state 10 /a => version=1 format=0 | 'x'` tells the state at a moment, or `absent`.
+  `notify 10 /a format=0 => ..` tells what an observer of this format is told at a moment.
+- `path /a / => key 61 - same asked` tells the key that segments are (its segments, whether its copy is the same, and whether it is what
+  a request with these options asks for), or `none`.
+- `listed => ..` has what the listing says behind the built-in resources: `0..500` for the resources `0` to `499`, `bytes` for `x` and
+  each byte, other words for themselves.
+- `each 1000 ..` stands before a row that is played for each number below 1,000: `{n}` is the number, `{hex}` its byte, and `{etag}` the
+  ETag of the version above it.
+"""
+
+from layers import Step
+from spelling import OPTIONS, bytes_of, code_of, encoded, spelled, uint
+
+PROBE = "coap_probe"
+
+# What only asks.
+LOOKS = ("ask", "state", "notify", "path")
+
+NUMBERS = {"path": 11, "query": 15, "format": 12, **{name: number for name, (number, _) in OPTIONS.items()}}
+
+BUILT_IN = "</>;ct=0,</time>;ct=0;obs,</async>;ct=0"
+
+# The bytes that stand for themselves in a listing (RFC 3986 section 2.3).
+UNRESERVED = b"ABCDEFGHIJKLMNOPQRSTUVWXYZabcdefghijklmnopqrstuvwxyz0123456789-._~"
+
+LISTING = encoded(1, b"", [(11, b".well-known"), (11, b"core")], b"").hex()
+
+
+def options_of(words):
+    """The options that words name, in the order in which they stand."""
+    options = []
+    for word in words:
+        count, mark, one = word.rpartition("#")
+        name, equals, value = one.partition("=")
+        if equals:
+            option = (NUMBERS[name] if name in NUMBERS else int(name), bytes_of(value))
+        else:
+            option = (NUMBERS["path"], one[1:].encode())
+        options += [option] * (int(count) if mark else 1)
+    return options
+
+
+def payload_of(text):
+    return bytes_of(text) if text else b""
+
+
+def request_of(text):
+    """The hex digits of a request without a token."""
+    head, _, payload = text.partition(" | ")
+    words = head.split()
+    code = int(words[0]) if words[0].isdigit() else code_of(words[0])
+    return encoded(code, b"", options_of(words[1:]), payload_of(payload)).hex()
+
+
+def parts_of(line):
+    """What a plan's line tells, by its names."""
+    words = line.split()
+    if len(words) % 2 == 0 or words[-1] != words[2]:
+        raise ValueError(line)
+    plan = {"code": int(words[0]), "change": words[1], "watch": words[2], "location": [], "payload": payload_of(words[-2])}
+    for name, value in zip(words[3:-2:2], words[4:-2:2]):
+        if name == "location":
+            plan["location"].append(bytes_of(value))
+        else:
+            plan[name] = value
+    return plan
+
+
+def response_of(line, token):
+    """The hex digits of the response with this token that a plan makes."""
+    plan = parts_of(line)
+    options = [(4, bytes_of(plan["etag"]))] if "etag" in plan else []
+    options += [(8, segment) for segment in plan["location"]]
+    for name, number in (("format", 12), ("max-age", 14), ("size1", 60)):
+        if name in plan:
+            options.append((number, uint(int(plan[name]))))
+    return encoded(plan["code"], token, options, plan["payload"]).hex()
+
+
+def told_plan(line):
+    """A plan's line as rows tell an answer, whose bytes are hex digits."""
+    plan = parts_of(line)
+    text = f"{plan['code'] >> 5}.{plan['code'] & 31:02}"
+    text += "".join(f" {plan[name]}" for name in ("change", "watch") if plan[name] != "-")
+    text += "".join(f" {name}={plan[name]}" for name in ("held", "etag", "format", "max-age") if name in plan)
+    text += " location=" + "".join(f"/{segment.hex() or '-'}" for segment in plan["location"]) if plan["location"] else ""
+    text += f" size1={plan['size1']}" if "size1" in plan else ""
+    return text + (f" | {plan['payload'].hex()}" if plan["payload"] else "")
+
+
+def told_state(line):
+    """A state's line as rows tell it."""
+    words = line.split()
+    if words[0] == "absent":
+        return "absent"
+    text = f"version={words[1]}" + (f" format={words[3]}" if words[2] == "format" else "")
+    return text + (f" | {words[-1]}" if words[-1] != "-" else "")
+
+
+def told_listing(line):
+    """The text of a listing, which has a format and nothing else beside it."""
+    head, _, payload = told_plan(line).partition(" | ")
+    return bytes.fromhex(payload).decode() if head == "2.05 format=40" else line
+
+
+def wanted_of(text):
+    """What is wanted of an answer or a state, whose bytes are hex digits."""
+    head, bar, payload = text.partition(" | ")
+    words = []
+    for word in head.split():
+        name, equals, value = word.partition("=")
+        if name == "etag":
+            value = bytes_of(value).hex()
+        elif name == "location":
+            value = "".join(f"/{bytes_of(segment).hex() or '-'}" for segment in value[1:].split("/"))
+        words.append(name + equals + value)
+    return " ".join(words) + (bar + bytes_of(payload).hex() if bar else "")
+
+
+def entries(words):
+    """The text that words of a listing stand for."""
+    text = ""
+    for word in words.split():
+        low, dots, high = word.partition("..")
+        if dots:
+            text += "".join(f",</{number}>;obs" for number in range(int(low), int(high)))
+        elif word == "bytes":
+            text += "".join(f",</x{chr(byte) if byte in UNRESERVED else f'%{byte:02X}'}>;obs" for byte in range(256))
+        else:
+            text += word
+    return text
+
+
+def token_of(message):
+    """The token of a message."""
+    form = message[0] >> 4
+    begin = 2 + (max(0, form - 12) if form < 15 else 4)
+    return message[begin : begin + (message[0] & 15)]
+
+
+def exchange(word, rest, wanted):
+    """A row of whole messages."""
+    moment, rest = rest.split(" ", 1) if word == "at" else ("0", rest)
+    sent = bytes_of(rest)
+    event = f"make {sent.hex()}" if word == "make" else f"ask {sent.hex()} {moment}"
+    return Step(event, bytes_of(wanted).hex(), lambda line: response_of(line, token_of(sent)))
+
+
+def inside(word, rest, wanted):
+    """A row of what the program itself does, or asks, at a path."""
+    head, _, payload = f" {rest}".partition(" | ")
+    words = head.split()
+    moment = words.pop(0) if word in ("state", "notify") else ""
+    form = "".join(it[7:] for it in words if it.startswith("format="))
+    path = options_of(it for it in words if not it.startswith("format="))
+    event = " ".join(filter(None, [word, encoded(3, b"", path, payload_of(payload)).hex(), moment, form]))
+    told = {"state": told_state, "notify": told_plan}.get(word)
+    if told:
+        return Step(event, wanted_of(wanted), told)
+    return Step(event, spelled(wanted) if word == "path" else wanted)
+
+
+def step_of(row):
+    event, _, wanted = row.partition(" => ")
+    word, _, rest = event.partition(" ")
+    if word == "listed":
+        return Step(f"ask {LISTING}", BUILT_IN + entries(wanted), told_listing)
+    if word in ("make", "ask", "at"):
+        return exchange(word, rest, wanted)
+    if word in ("put", "remove", "state", "notify", "path"):
+        return inside(word, rest, wanted)
+    made, text = word == "do", event.removeprefix("do ")
+    return Step(("make " if made else "ask ") + request_of(text), wanted_of(wanted), told_plan)
+
+
+def each(count, row):
+    """The rows of the numbers below a count."""
+    for number in range(count):
+        yield row.replace("{n}", str(number)).replace("{hex}", f"{number:02x}").replace("{etag}", uint(number + 1).hex())
+
+
+def steps(opening, rows):
+    yield Step(f"= store {opening}", "")
+    for row in rows:
+        if row.startswith("each "):
+            _, count, row = row.split(" ", 2)
+            yield from (step_of(one) for one in each(int(count), row))
+        else:
+            yield step_of(row)
