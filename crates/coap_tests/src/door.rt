@@ -14,7 +14,7 @@ ghost use Rattle.coap_serve.specs.streams.Wires.{IsWithin};
 mod memory;
 
 use crate::rows::{digits, same, spelled};
-use crate::serve::{configured, set_all, usual};
+use crate::settings::{configured, set_all};
 use coap_serve::{Clock, Door, Got, IoFault, Ready, Wait, Wire, serve_door};
 use std::alloc::Global;
 use std::cell::RefCell;
@@ -320,7 +320,7 @@ fn served(rt: &(impl Abort + AllocGlobal), opening: &str) -> Result<String, Fail
         Some(setting) => (true, setting),
         None => (false, setting),
     };
-    let setting = set_all(rt, usual(), setting)?;
+    let setting = set_all(rt, setting)?;
     let book = Book::new(rt.alloc(), tells_waits);
     let mut door = Hall {
         wires,

@@ -1,30 +1,16 @@
-//! Tests of the crates up to the server over their public items, most of them as rows of text: events, and what is to be told of each.
-//! Only the tests have code.
+//! What only a proved test can show: laws called from another crate, the law of `serve_one` at devices that tell all, and runs of
+//! `serve_door` over a door, wires and a clock in memory. All else is rows of text (docs/TESTING.md). Only the tests have code.
 #![tactic(auto)]
 
-#[cfg(test)]
-mod config;
 #[cfg(test)]
 mod devices;
 #[cfg(test)]
 mod door;
 #[cfg(test)]
-mod frame;
-#[cfg(test)]
-mod limits;
-#[cfg(test)]
-mod link;
-#[cfg(test)]
-mod queue;
-#[cfg(test)]
-mod replay;
+mod laws;
 #[cfg(test)]
 mod rows;
 #[cfg(test)]
-mod script;
+mod settings;
 #[cfg(test)]
-mod serve;
-#[cfg(test)]
-mod store;
-#[cfg(test)]
-mod wire;
+mod told;

@@ -1,0 +1,67 @@
+//! A run of `serve_one` over devices that tell all: what its law says is then one of what they tell.
+
+ghost use Rattle.std.specs.Prelude.{◌≡◌, ◌+◌, ◌<◌, ◌^◌, false, [], map, vec_items};
+ghost use Rattle.coap_serve.specs.streams.StdioRun.{IsStdioRun};
+
+use crate::devices::{Ledger, Pieces};
+use crate::settings::{configured, usual};
+use coap_serve::{Config, IoFault, Report, serve_one};
+use std::alloc::Global;
+use std::process::Abort;
+
+/// Serves one connection over devices that tell all.
+fn serve_told(
+    alloc: Global,
+    source: &mut Pieces,
+    outlet: &mut Ledger,
+    config: &Config,
+) -> Result<Report, IoFault>
+    requires source_works { source.old.failed ≡ false }
+    requires outlet_works { outlet.old.failed ≡ false }
+    requires nothing_given { source.old.given.items ≡ [] }
+    requires nothing_written { outlet.old.bytes.items ≡ [] }
+    requires id_left { config.now.starts.ids + 1 < 2 ^ 64 }
+    ensures { IsStdioRun config.now (map vec_items source.new.given.items) outlet.new.bytes.items result }
+{
+    serve_one(alloc, source, outlet, config)
+}
+
+/// Serves Capabilities and Settings and a Ping, by reads of two bytes, a write of which behind so many fails, and tells whether these
+/// bytes were written.
+fn writes(
+    rt: &(impl Abort + AllocGlobal),
+    write_fails: Option<usize>,
+    wanted: &[u8],
+) -> Result<Report, IoFault> {
+    let config = configured(rt, &usual());
+    let input: &[u8] = b"\x00\xe1\x02\xe2\x01\x02";
+    let mut source = Pieces::new(rt.alloc(), input, 2, [0, 0], None);
+    let mut outlet = Ledger::new(rt.alloc(), 4, usize::MAX, write_fails);
+    assert!(rt; config.starts().ids < u64::MAX);
+    let result = serve_told(rt.alloc(), &mut source, &mut outlet, &config);
+    assert!(rt; outlet.bytes.as_slice() == wanted);
+    assert!(rt; !source.failed);
+    assert!(rt; outlet.failed == (result == Err(IoFault::Write)));
+    result
+}
+
+#[test]
+fn serves_over_devices_that_tell_all(rt: HostRuntime) {
+    let result = writes(&rt, None, b"\x40\xe1\x23\x01\x00\x00\x02\xe3\x01\x02");
+    assert!(&rt;
+        matches!(
+            result,
+            Ok(Report {
+                read: 6,
+                messages: 2,
+                ..
+            })
+        )
+    );
+}
+
+#[test]
+fn tells_what_was_written_before_a_fault(rt: HostRuntime) {
+    let result = writes(&rt, Some(1), b"\x40\xe1\x23\x01");
+    assert!(&rt; result == Err(IoFault::Write));
+}
