@@ -16,7 +16,7 @@ LOOKS = ("look",)
 
 def found_in(line):
     """What a framer found in a piece, how many bytes it took of it, and how many are kept."""
-    what, _, kept = line.partition(" left 0 kept ")
+    what, _, kept = line.partition("left 0 kept ")
     found = re.findall(r"(Frame [0-9a-f]+|More|\w+ \d+ \".*?\") taken (\d+)", what)
     return [it for it, _ in found], sum(int(taken) for _, taken in found), kept.split(" ")[0]
 

@@ -4,8 +4,7 @@
 use crate::faults::tell_fault;
 use coap_told::{Told, cut, next_number, number, read_hex};
 use coap_wire::{
-    Builder, Code, MessageRef, OptionRef, Sink, SliceSink, Token, declared, kind, parse,
-    uint_bytes, uint_value,
+    Builder, Code, OptionRef, Sink, SliceSink, Token, declared, kind, parse, uint_bytes, uint_value,
 };
 use std::fmt::Write;
 
@@ -50,37 +49,44 @@ fn tell_codes(codes: &[Code], told: &mut Told) {
     }
 }
 
-/// Tells options. Behind the last one there must be none.
-fn tell_options<'a, I: Iterator<Item = OptionRef<'a>>>(options: &mut I, told: &mut Told) {
-    for option in options.by_ref() {
-        let _ = write!(told, "{}=", option.number);
-        told.hex(option.value);
-    }
-    if options.next().is_some() {
-        told.word("more");
-    }
+/// Tells an option.
+fn tell_option(option: &OptionRef, told: &mut Told) {
+    let _ = write!(told, "{}=", option.number);
+    told.hex(option.value);
 }
 
-/// Tells a message in words, or the fault of the bytes.
+/// Tells a message in words, or the fault of the bytes. Behind its last option there must be none.
 fn read(bytes: &[u8], told: &mut Told) {
     match parse(bytes) {
         Ok(message) => {
             told.hex(&[message.code().byte()]);
             told.hex(message.token());
-            tell_options(&mut message.options(), told);
+            let mut options = message.options();
+            for option in options.by_ref() {
+                tell_option(&option, told);
+            }
+            if options.next().is_some() {
+                told.word("more");
+            }
             told.hex(message.payload());
         }
         Err(fault) => tell_fault(&fault, fault as u8, told),
     }
 }
 
-/// Tells the options of a message that are recognised, and the first critical one that is not.
+/// Tells the options of a message that are recognised, behind which there must be none, and the first critical one that is not.
 fn known(bytes: &[u8], told: &mut Told) {
     let Ok(message) = parse(bytes) else {
         return told.word("strange");
     };
     told.word("known");
-    tell_options(&mut message.known(), told);
+    let mut options = message.known();
+    for option in options.by_ref() {
+        tell_option(&option, told);
+    }
+    if options.next().is_some() {
+        told.word("more");
+    }
     if let Some(number) = message.first_critical() {
         told.word("critical");
         told.number(u64::from(number));

@@ -8,13 +8,12 @@
 mod told;
 mod words;
 
-pub use told::Told;
-pub use words::{cut, next_number, number, read_hex};
-
 use std::alloc::Global;
 use std::io;
 use std::io::Read;
 use std::process::ExitCode;
+pub use told::Told;
+pub use words::{cut, next_number, number, read_hex};
 
 /// The most bytes that a row names.
 const ROOM: usize = 4_194_304;
@@ -55,10 +54,7 @@ fn play_all<L: Layers>(
 }
 
 /// Reads the rows and plays them. Room for what they tell is had before, so that a refusal of memory is the first, or a row's own.
-fn read_and_play<L: Layers>(
-    rt: &(impl Input + Print + AllocGlobal),
-    layers: &mut L,
-) -> Option<()> {
+fn read_and_play<L: Layers>(rt: &(impl Input + Print + AllocGlobal), layers: &mut L) -> Option<()> {
     let mut text = Vec::with_capacity(rt.alloc(), ROWS_ROOM).ok()?;
     rt.reader().read_to_end(&mut text).ok()?;
     let mut bytes = Vec::with_capacity(rt.alloc(), ROOM).ok()?;
