@@ -3,7 +3,7 @@
 
     tests/edits.py               the edits of the gate, and that it tells a harmless edit from a wrong body (the control)
     tests/edits.py --all         all edits, and the control
-    tests/edits.py [--all] CRATE ..    those of these crates
+    tests/edits.py [--all] CRATE ..  those of these crates
     tests/edits.py --control     the control alone
 
 An edit is a file tests/edits/CRATE/NAME.edit. Its first line says which clause refuses it and whether the gate tries it. Each of
@@ -18,10 +18,11 @@ its parts has four lines:
 
 Edits of different functions go into one copy of the crate, a round, which is checked once over what earlier checks proved: what
 the crate's own check keeps in out/incremental, or, where there is none, a folder of this run, in which the crate's first round
-is proved from nothing and the second one in turn. So a crate is proved once here, with the wrong bodies in it. An edit is refused where a goal of a function that it edits stays
-open. That the function calls one that is not proved does not count, and where a function that nobody edited has an open goal of
-its own, the round is cut in two. An edit that no round refused is tried alone, and so is one of a constant, for which any
-function's goal counts. Rounds run side by side, one for each processor, those of the largest crates first.
+is proved from nothing, and the second one behind it. So a crate is proved once here, with the wrong bodies in it.
+An edit is refused where a goal of a function that it edits stays open. That the function calls one that is not proved does not
+count, and where a function that nobody edited has an open goal of its own, the round is cut in two. An edit that no round
+refused is tried alone, and so is one of a constant, for which any function's goal counts. Rounds run side by side, one for each
+processor, those of the largest crates first.
 The libraries below a crate are taken from out/rlib, and proved where they are not there or older than their files.
 The last line is 'N passed, M failed', and the status 0 where M is 0.
 """
