@@ -1,7 +1,7 @@
 # Proves, builds, runs, tests and measures. Needs Rattle's toolchain (`rt`) and Python 3; `make test` also installs Debian's
 # gcc, libc6-dev, libcoap3-bin, mandoc, tshark and valgrind where they are missing, and `make bench` all of these but mandoc and tshark.
 
-.PHONY: all run test bench try install uninstall clean
+.PHONY: all run test edits bench try install uninstall clean
 
 # Where `make install` puts the programs, their manuals and the unit of systemd; DESTDIR stands before it for what is packed.
 PREFIX ?= /usr/local
@@ -25,6 +25,10 @@ run:
 # The gate: every proof, test, edit and program from nothing, and then what was built, from outside.
 test:
 	tests/gate
+
+# Tries all wrong bodies, of which the gate tries a third, or those of some crates: make edits CRATES="coap_conn coap_wire".
+edits:
+	tests/edits.py --all $(CRATES)
 
 # Measures the server beside libcoap's, and then counts instructions and memory. It fails where either misses a target.
 bench: bin/coap-server

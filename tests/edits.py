@@ -1,28 +1,35 @@
 #!/usr/bin/env python3
 """Tries wrong bodies, many in a check: the prover must refuse each.
 
-    tests/edits.py               the edits of all crates, and that it tells a harmless edit from a wrong body (the control)
-    tests/edits.py NAME ..       the edits of these crates
+    tests/edits.py               the edits of the gate, and that it tells a harmless edit from a wrong body (the control)
+    tests/edits.py --all         all edits, and the control
+    tests/edits.py [--all] CRATE ..  those of these crates
     tests/edits.py --control     the control alone
 
-An edit is a file tests/edits/CRATE/NAME.edit. Each of its parts has four lines:
+An edit is a file tests/edits/CRATE/NAME.edit. Its first line says which clause refuses it and whether the gate tries it. Each of
+its parts has four lines:
 
+    gate: refused by 'after' of Link::on      or `all: refused by ..`, where the gate does not try it
     file: src/limits.rt          a file of the crate
     in: Limits::queue            a function of that file, as a check names it without crate and module (the impl of a trait
                                  for a type is both names in one, as SliceSinkSink::push), or `const NAME`
     old: self.queue              a text that stands once in the function's body, or in the constant
     new: self.max_sent           what stands there in the wrong body
 
-Edits of different functions go into one copy of the crate, a round, which `rt check` checks once over what the last proof
-kept in out/ (the crates are proved first where they are not). An edit is refused where a goal of a function that it edits stays open. That the function calls one that is
-not proved does not count, and where a function that nobody edited has an open goal of its own, the round is cut in two.
-An edit that no round refused is tried alone, and so is one of a constant, for which any function's goal counts. Rounds
-run side by side, one for each processor.
+Edits of different functions go into one copy of the crate, a round, which is checked once over what earlier checks proved: what
+the crate's own check keeps in out/incremental, or, where there is none, a folder of this run, in which the crate's first round
+is proved from nothing, and the second one behind it. So a crate is proved once here, with the wrong bodies in it.
+An edit is refused where a goal of a function that it edits stays open. That the function calls one that is not proved does not
+count, and where a function that nobody edited has an open goal of its own, the round is cut in two. An edit that no round
+refused is tried alone, and so is one of a constant, for which any function's goal counts. Rounds run side by side, one for each
+processor, those of the largest crates first.
+The libraries below a crate are taken from out/rlib, and proved where they are not there or older than their files.
 The last line is 'N passed, M failed', and the status 0 where M is 0.
 """
 
 import os
 import re
+import resource
 import shutil
 import subprocess
 import sys
@@ -31,6 +38,10 @@ from concurrent.futures import FIRST_COMPLETED, ThreadPoolExecutor, wait
 from dataclasses import dataclass, field
 
 ROOT = os.path.dirname(os.path.dirname(os.path.abspath(__file__)))
+KIT = os.path.dirname(os.path.dirname(os.path.realpath(shutil.which("rt") or "/opt/rattle/bin/rt")))
+PARTS = ("src", "specs", "proofs")
+# How many rounds of a crate without kept work run in turn over its folder: behind two, nearly every function was once proved.
+IN_TURN = 2
 FUNCTION = re.compile(r"( *)(?:pub(?:\([a-z ]+\))? )?(?:const )?fn (\w+)")
 BLOCK = re.compile(r"(?:pub(?:\([a-z]+\))? )?(?:impl(<.*?>)? (?:(.+?) for )?(.+?)|trait (\w+).*?) ?\{?$")
 VERDICT = re.compile(r"fn (\w+)::(.*?): (no proof|not proved)(.*)")
@@ -40,15 +51,20 @@ class BadEdit(Exception):
     """Why an edit cannot be tried."""
 
 
-def crates():
-    """The crates of the repository with those below each, lowest first."""
+def listed():
+    """The crates of the repository with the libraries that each uses."""
     found = {}
     with open(f"{ROOT}/crates.txt", encoding="utf-8") as lines:
         for line in lines:
             name, _, uses = line.partition("#")[0].partition(":")
             if name.strip():
                 found[name.strip()] = uses.split()
-    below = {}
+    return found
+
+
+def crates():
+    """The crates of the repository with those below each, lowest first."""
+    found, below = listed(), {}
     for name, uses in found.items():
         own = [it for it in uses if it in found]
         below[name] = [*dict.fromkeys(it for one in own for it in [*below[one], one])]
@@ -140,6 +156,7 @@ class Edit:
 
     crate: str
     name: str
+    layer: str = ""
     parts: list = field(default_factory=list)
 
     def functions(self):
@@ -162,26 +179,31 @@ class Edit:
 def read_edit(crate, file):
     edit, said = Edit(crate, os.path.basename(file).removesuffix(".edit")), {}
     with open(file, encoding="utf-8") as lines:
-        for line in lines.read().splitlines():
+        for number, line in enumerate(lines.read().splitlines()):
             word, colon, text = line.partition(":")
+            if number == 0 and re.fullmatch(r"(gate|all): refused by \S.*|control: \S.*", line):
+                edit.layer = word
+                continue
             if not colon or word not in ("file", "in", "old", "new"):
                 raise BadEdit(f"{file}: not understood: {line}")
             said[word] = text.removeprefix(" ")
             if word == "new":
                 edit.parts.append(Part(said["file"], said["in"], said["old"], said["new"]))
+    if not edit.layer:
+        raise BadEdit(f"{file}: its first line does not say which clause refuses it")
     if not edit.parts:
         raise BadEdit(f"{file}: nothing is edited")
     return edit
 
 
-def edits_of(folder, names):
-    """The edits in a folder with one folder for each crate."""
+def edits_of(folder, names, layers):
+    """The edits of these layers in a folder with one folder for each crate."""
     found = []
     for crate in names:
         if os.path.isdir(f"{folder}/{crate}"):
             for name in sorted(os.listdir(f"{folder}/{crate}")):
                 found.append(read_edit(crate, f"{folder}/{crate}/{name}"))
-    return found
+    return [it for it in found if it.layer in layers]
 
 
 def rounds_of(edits):
@@ -197,40 +219,32 @@ def rounds_of(edits):
     return rounds
 
 
-def linked(source, target):
-    """Copies a file that nobody writes to."""
-    try:
-        os.link(source, target)
-    except OSError:
-        shutil.copy2(source, target)
+def words_to_check(name):
+    """The words of a check of the crate over the libraries in out/rlib."""
+    uses, below = listed()[name], crates()[name]
+    words = [f"{KIT}/bin/rattle", "check", "--crate-name", name, "src/main.rt" if is_program(name) else "src/lib.rt"]
+    for it in ["std", *uses]:
+        words += ["--extern", f"{it}={rlib(it) if it in listed() else f'{KIT}/rlibs/{it}.rlib'}"]
+    for folder in [f"{KIT}/rlibs", *(os.path.dirname(rlib(it)) for it in below)]:
+        words += ["-L", f"dependency={folder}"]
+    words += ["--antt-project", f"{KIT}/rattle/logic/antt-project.json", "--logic-built", f"{KIT}/logic_built"]
+    return [*words, "--links", f"{name}=", "--jobs", "1"]
 
 
-def copy_crates(room, name, below):
-    """Copies a crate with what its last proof kept, and the proved libraries below it."""
-    os.makedirs(f"{room}/.git")
-    shutil.copy(f"{ROOT}/crates.txt", room)
-    for crate in crates():
-        # rt reads the list of crates, and so wants the folder of each
-        for part in ("src", "specs", "proofs"):
-            if os.path.isdir(f"{ROOT}/crates/{crate}/{part}"):
-                shutil.copytree(f"{ROOT}/crates/{crate}/{part}", f"{room}/crates/{crate}/{part}")
-    for crate in below:
-        shutil.copytree(f"{ROOT}/crates/{crate}/out/rlib", f"{room}/crates/{crate}/out/rlib", copy_function=linked)
-    shutil.copytree(f"{ROOT}/crates/{name}/out/incremental", f"{room}/crates/{name}/out/incremental")
-
-
-def check(name, below, edits):
-    """The lines of a check of the crate with these edits."""
+def check(name, kept, edits):
+    """The lines of a check of the crate with these edits, over what is kept in that folder."""
     texts = {}
     for edit in edits:
         texts = edit.applied(texts)
     with tempfile.TemporaryDirectory(prefix="edits-", ignore_cleanup_errors=True) as room:
-        copy_crates(room, name, below)
+        for part in PARTS:
+            if os.path.isdir(f"{ROOT}/crates/{name}/{part}"):
+                shutil.copytree(f"{ROOT}/crates/{name}/{part}", f"{room}/{part}")
         for file, text in texts.items():
-            with open(f"{room}/crates/{name}/{file}", "w", encoding="utf-8") as it:
+            with open(f"{room}/{file}", "w", encoding="utf-8") as it:
                 it.write(text)
-        how = {"cwd": f"{room}/crates/{name}", "stdin": subprocess.DEVNULL, "stdout": subprocess.PIPE}
-        ran = subprocess.run(["rt", "check", "--jobs", "1"], stderr=subprocess.STDOUT, text=True, errors="replace", **how)
+        how = {"cwd": room, "stdin": subprocess.DEVNULL, "stdout": subprocess.PIPE, "stderr": subprocess.STDOUT}
+        ran = subprocess.run([*words_to_check(name), "--incremental", kept], text=True, errors="replace", **how)
     return ran.stdout.splitlines()
 
 
@@ -262,9 +276,14 @@ class Outcome:
     bad: str = ""
 
 
-def try_round(name, below, edits):
+def try_round(name, kept, is_own, edits):
+    """Checks a round over a folder of what is kept, or, where it is not the round's own, over a copy of it."""
     try:
-        lines = check(name, below, edits)
+        if is_own:
+            lines = check(name, kept, edits)
+        else:
+            with tempfile.TemporaryDirectory(prefix="edits-", ignore_cleanup_errors=True) as room:
+                lines = check(name, shutil.copytree(kept, f"{room}/kept"), edits)
     except (BadEdit, OSError, shutil.Error) as why:
         # what the machine refused may be had by a smaller round
         return Outcome([], edits, str(why) or repr(why))
@@ -288,38 +307,104 @@ def tell(edit, refused, how):
     return refused
 
 
-def judge(edits, below):
+@dataclass
+class Work:
+    """What is left to be tried of a crate, and over what."""
+
+    crate: str
+    kept: str
+    rounds: list
+    # how many more rounds run in turn over the folder itself
+    in_turn: int
+    is_busy: bool = False
+
+    def may_start(self):
+        return self.rounds and not (self.in_turn and self.is_busy)
+
+
+def work_on(crate, edits, room):
+    """A crate's rounds, over what its own check kept or over a new folder."""
+    kept = f"{ROOT}/crates/{crate}/out/incremental"
+    if os.path.isdir(kept) and os.listdir(kept):
+        return Work(crate, kept, rounds_of(edits), 0)
+    os.mkdir(f"{room}/{crate}")
+    return Work(crate, f"{room}/{crate}", rounds_of(edits), IN_TURN)
+
+
+def size_of(crate):
+    """How many bytes its files have, by which the dearest crate is told."""
+    return sum(os.path.getsize(it) for it in files_of(crate))
+
+
+def left_of(one, outcome):
+    """The rounds in which what this one left is tried."""
+    if len(one) == 1 or not outcome.left:
+        return []
+    if outcome.refused:
+        return [[it] for it in outcome.left]
+    half = len(outcome.left) // 2
+    return [outcome.left[:half], outcome.left[half:]]
+
+
+def judge(edits):
     """Tries all edits, rounds side by side, and returns for each whether it was refused."""
-    verdicts, running = {}, {}
-    with ThreadPoolExecutor(len(os.sched_getaffinity(0))) as pool:
-
-        def start(one):
-            running[pool.submit(try_round, one[0].crate, below[one[0].crate], one)] = one
-
-        for crate in dict.fromkeys(it.crate for it in edits):
-            for one in rounds_of([it for it in edits if it.crate == crate]):
-                start(one)
-        while running:
+    verdicts, running, lanes = {}, {}, len(os.sched_getaffinity(0))
+    with tempfile.TemporaryDirectory(prefix="edits-", ignore_cleanup_errors=True) as room, ThreadPoolExecutor(lanes) as pool:
+        names = sorted(dict.fromkeys(it.crate for it in edits), key=size_of, reverse=True)
+        works = [work_on(it, [edit for edit in edits if edit.crate == it], room) for it in names]
+        while running or any(it.rounds for it in works):
+            for work in works:
+                while len(running) < lanes and work.may_start():
+                    one, is_own = work.rounds.pop(0), work.in_turn > 0
+                    work.is_busy = is_own
+                    running[pool.submit(try_round, work.crate, work.kept, is_own, one)] = work, one, is_own
             for done in wait(running, return_when=FIRST_COMPLETED).done:
-                one, outcome = running.pop(done), done.result()
+                (work, one, is_own), outcome = running.pop(done), done.result()
+                if is_own:
+                    work.is_busy, work.in_turn = False, work.in_turn - (not outcome.bad)
                 for edit in outcome.refused:
                     verdicts[edit.crate, edit.name] = tell(edit, True, f"one of {len(one)} in a check")
                 if len(one) == 1 and outcome.left:
                     verdicts[one[0].crate, one[0].name] = tell(one[0], False, outcome.bad or "alone")
-                elif outcome.refused:
-                    for edit in outcome.left:
-                        start([edit])
-                elif outcome.left:
-                    half = len(outcome.left) // 2
-                    start(outcome.left[:half])
-                    start(outcome.left[half:])
+                work.rounds += left_of(one, outcome)
     return verdicts
 
 
-def prove():
-    """Proves the crates, so that a round checks the edited functions alone. A proof that ended for want of memory is begun again."""
-    if subprocess.run([f"{ROOT}/tests/build"]).returncode and subprocess.run([f"{ROOT}/tests/build"]).returncode:
-        raise SystemExit("0 passed, 1 failed")
+def rlib(library):
+    return f"{ROOT}/crates/{library}/out/rlib/{library}.rlib"
+
+
+def is_program(crate):
+    return os.path.exists(f"{ROOT}/crates/{crate}/src/main.rt")
+
+
+def files_of(crate):
+    return [f"{at}/{it}" for part in PARTS for at, _, names in os.walk(f"{ROOT}/crates/{crate}/{part}") for it in names]
+
+
+def is_made(library, below):
+    """Whether the library lies there as `rt ci` leaves it, with no stamp by which `rt` could tell, and nothing of it or below it
+    is newer."""
+    made = rlib(library)
+    if not os.path.isdir(made) or os.path.exists(f"{os.path.dirname(made)}/stamp"):
+        return False
+    from_what = [*files_of(library), *(file for it in below for file in [rlib(it), *files_of(it)])]
+    return all(os.path.getmtime(it) <= os.path.getmtime(made) for it in from_what)
+
+
+def make_libraries(names, below):
+    """Proves the libraries below these crates where they are not there, lowest first. A proof that ended for want of memory is
+    begun again."""
+    for library in dict.fromkeys(it for name in names for it in below[name]):
+        if is_made(library, below[library]):
+            continue
+        make = ["rt", "lib"]
+        for _ in range(2):
+            ran = subprocess.run(make, cwd=f"{ROOT}/crates/{library}", stdin=subprocess.DEVNULL, capture_output=True, text=True, errors="replace")
+            if not ran.returncode:
+                break
+        else:
+            raise SystemExit(f"{ran.stdout}{library} is not proved\n0 passed, 1 failed")
 
 
 def wrong_in(control, verdicts):
@@ -330,18 +415,23 @@ def wrong_in(control, verdicts):
     return len(wrong)
 
 
-def main(names):
-    below = crates()
-    prove()
-    control, edits = edits_of(f"{ROOT}/tests/edits/control", below), edits_of(f"{ROOT}/tests/edits", below)
-    if names == ["--control"]:
+def main(words):
+    below, is_all = crates(), "--all" in words
+    names = [it for it in words if not it.startswith("--")]
+    unknown = [it for it in words if it not in below and it not in ("--all", "--control")]
+    if unknown:
+        raise SystemExit(f"no crate {unknown[0]}\n0 passed, 1 failed")
+    control = [] if names else edits_of(f"{ROOT}/tests/edits/control", below, ["control"])
+    edits = edits_of(f"{ROOT}/tests/edits", names or below, ["gate", "all"] if is_all else ["gate"])
+    if "--control" in words:
         edits = []
-    elif names:
-        control, edits = [], [it for it in edits if it.crate in names]
+    make_libraries(dict.fromkeys(it.crate for it in control + edits), below)
     if control:
         print("The edits named harmless_ are a control, and must be told as NOT REFUSED.", flush=True)
-    verdicts = judge(control + edits, below)
+    verdicts = judge(control + edits)
     wrong = wrong_in(control, verdicts) + sum(not verdicts[it.crate, it.name] for it in edits)
+    used = resource.getrusage(resource.RUSAGE_CHILDREN)
+    print(f"{used.ru_utime + used.ru_stime:.0f} s of processor time, and at most {used.ru_maxrss // 1000} MB in a process")
     print(f"{len(control) + len(edits) - wrong} passed, {wrong} failed")
     return 1 if wrong else 0
 
