@@ -1,7 +1,7 @@
 //! Framers: `= frame MAX`, and then `next BYTES`, `each BYTES` one by one, `unread BYTES`, `clear` and `look`.
 
-use coap_told::{Told, cut, number, read_hex};
 use coap_frame::{Found, Framed, Framer};
+use coap_told::{Told, cut, number, read_hex};
 use std::alloc::{AllocError, Global};
 
 /// A framer for frames of at most so many bytes; none for a number that is out of its range.
