@@ -25,7 +25,8 @@ def said_of(opening):
 
 
 def spelled_lines(text):
-    return "|".join(spelled(line) for line in text.split("|"))
+    """Lines with `|` between them, spelled. The ` | ` within a message in words is another one."""
+    return "|".join(spelled(line) for line in re.split(r"(?<! )\|(?! )", text))
 
 
 def lines_of(rows):

@@ -12,7 +12,10 @@
                           writes of one byte, of three and of all
     = calls BYTES SETTINGS
                           the calls of the devices as lines, and the answer: `read ROOM gave COUNT` or `read ROOM failed`, and
-                          `write BYTES`, behind that `took COUNT` where that is not all, or `failed`
+                          `write BYTES`, behind that `took COUNT` where that is not all, or `failed`. Where `refused?` stands, memory
+                          may be refused: the run then ends with the calls above it
+    = many COUNT SETTINGS  SETTINGS => ANSWER: so many Pings and GETs of the root in turn, with tokens of one byte, behind Capabilities and
+                          Settings; each is answered
     = faults              the number and the text of each fault
 """
 
@@ -34,6 +37,13 @@ OWN = bytes.fromhex("40e123010000")
 
 
 @dataclass
+class RunStep(Step):
+    """A step that is a run."""
+
+    run: object = None
+
+
+@dataclass
 class Run:
     """A run: what is set, what comes in, and what is wanted: the bytes written, or the calls as lines, and the answer; the reads and the
     writes where they are counted."""
@@ -43,6 +53,7 @@ class Run:
     answer: str
     written: bytes = b""
     calls: list = None
+    refusals: list = None
     counts: dict = field(default_factory=dict)
 
     def wanted(self):
@@ -175,8 +186,26 @@ def talk_runs(rest, rows):
 
 def call_runs(rest, rows):
     word, _, text = rest.partition(" ")
-    lines = [spelled_row(row) for row in rows]
-    yield Run(settings(text), bytes_of(word), lines[-1], calls=lines[:-1])
+    calls, refusals = [], []
+    for row in rows:
+        if row == "refused?":
+            refusals.append(len(calls))
+        else:
+            calls.append(spelled_row(row))
+    yield Run(settings(text), bytes_of(word), calls.pop(), calls=calls, refusals=refusals)
+
+
+def many_runs(rest, rows):
+    count, _, text = rest.partition(" ")
+    sent, written = bytes.fromhex("00e1"), OWN
+    for number in range(int(count)):
+        token = bytes([number % 251])
+        sent += (b"\x01\x01" if number % 2 else b"\x01\xe2") + token
+        written += b"\xa1\x45" + token + b"\xc0\xffcoap+tcp" if number % 2 else b"\x01\xe3" + token
+    for row in rows:
+        event, _, wanted = row.partition(" => ")
+        _, answer, counts = understood("- " + wanted)
+        yield Run({**settings(text), **settings(event)}, sent, answer, written, counts=counts)
 
 
 def runs(opening, rows):
@@ -186,6 +215,8 @@ def runs(opening, rows):
         return message_runs(rows)
     if form == "talk":
         return talk_runs(rest, rows)
+    if form == "many":
+        return many_runs(rest, rows)
     return call_runs(rest, rows) if form == "calls" else usual_runs(opening, rows)
 
 
@@ -199,10 +230,15 @@ def steps(opening, rows):
         if run.opening() != last:
             last = run.opening()
             yield Step(last, "")
-        yield Step(run.event(), run.wanted(), run.told)
+        yield RunStep(run.event(), run.wanted(), run.told, run)
 
 
 def struck(step, line, again, line_again):
-    """What is wrong where memory was refused for a run: what its devices told until then is how the run begins that is not refused."""
-    begun, whole = line.rpartition("memory")[0], line_again
-    return [] if whole.startswith(begun) else [f"{again[:120]}: {begun} is not how {whole} begins"]
+    """What is wrong where memory was refused for a run: what its devices told until then is how the run begins that is not refused, and
+    ends where the row says."""
+    begun, run = line.rpartition("memory")[0], getattr(step, "run", None)
+    if not line_again.startswith(begun):
+        return [f"{again[:120]}: {begun} is not how {line_again} begins"]
+    if run and run.refusals is not None and len(calls_of(begun)[0]) not in run.refusals:
+        return [f"{again[:120]}: refused behind {begun or 'nothing'}"]
+    return []

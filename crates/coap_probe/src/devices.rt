@@ -39,13 +39,13 @@ pub(crate) fn devices_set<'a>(text: &'a str) -> (Setting, &'a str) {
 
 /// A reader over bytes, and where it tells its calls: the room of each, and the bytes that it gave.
 #[derive(Drop)]
-pub(crate) struct Reader<'a, 't> {
+pub(crate) struct Reader<'a> {
     pub(crate) setting: Setting,
     pub(crate) rest: &'a [u8],
-    pub(crate) page: &'a RefCell<&'t mut Told>,
+    pub(crate) page: &'a RefCell<Told>,
 }
 
-impl Reader<'_, '_> {
+impl Reader<'_> {
     /// How many bytes the next read gives at most.
     fn most(&self) -> usize {
         let [first, second] = self.setting.cuts;
@@ -72,7 +72,7 @@ impl Reader<'_, '_> {
     }
 }
 
-impl Read for Reader<'_, '_> {
+impl Read for Reader<'_> {
     fn read(&mut self, buf: &mut [u8]) -> io::Result<usize> {
         let room = buf.len();
         let given = self.give(buf);
@@ -90,12 +90,12 @@ impl Read for Reader<'_, '_> {
 
 /// A writer, and where it tells its calls: the bytes of each, and how many it took.
 #[derive(Drop)]
-pub(crate) struct Writer<'a, 't> {
+pub(crate) struct Writer<'a> {
     pub(crate) setting: Setting,
-    pub(crate) page: &'a RefCell<&'t mut Told>,
+    pub(crate) page: &'a RefCell<Told>,
 }
 
-impl Writer<'_, '_> {
+impl Writer<'_> {
     /// Takes bytes, unless this write fails.
     fn take(&mut self, count: usize) -> Option<usize> {
         self.setting.write_fails = self.setting.write_fails.checked_sub(1)?;
@@ -105,7 +105,7 @@ impl Writer<'_, '_> {
     }
 }
 
-impl Write for Writer<'_, '_> {
+impl Write for Writer<'_> {
     fn write(&mut self, buf: &[u8]) -> io::Result<usize> {
         let taken = self.take(buf.len());
         if let Ok(mut told) = self.page.try_borrow_mut() {
