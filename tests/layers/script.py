@@ -18,7 +18,7 @@ def event_of(event):
 
 def told(line):
     """The probe's line with each semicolon behind its event, and the segments of a path in one word."""
-    return re.sub(r"(?<=[0-9a-f-]) /", "/", line.replace(" ;", ";")).strip() or "nothing"
+    return re.sub(r"(/[0-9a-f-]+) (?=/)", r"\1", line.replace(" ;", ";")).strip() or "nothing"
 
 
 def steps(opening, rows):

@@ -84,7 +84,10 @@ impl Read for Reader<'_> {
                 None => told.word("failed"),
             }
         }
-        given.ok_or(io::ErrorKind::Other.into())
+        match given {
+            Some(count) => Ok(count.min(room)),
+            None => Err(io::ErrorKind::Other.into()),
+        }
     }
 }
 
@@ -116,7 +119,10 @@ impl Write for Writer<'_> {
                 None => told.word("failed"),
             }
         }
-        taken.ok_or(io::ErrorKind::Other.into())
+        match taken {
+            Some(count) => Ok(count.min(buf.len())),
+            None => Err(io::ErrorKind::Other.into()),
+        }
     }
 
     fn flush(&mut self) -> io::Result<()> {
