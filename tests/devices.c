@@ -1,14 +1,13 @@
 /* Standard input and output as a run sets them. READ_BY: a read gives so many bytes at most; READ_CUTS: two places, past neither of which
    a read gives bytes; READ_FAILS: the read behind so many fails. WRITE_TAKING: a write takes so many bytes at most; WRITE_ROOM: all
    writes together; WRITE_FAILS: the write behind so many fails. Where it is not set, a device gives and takes all.
-   Each call is told on descriptor 9, in one line: `read ROOM GIVEN` and `write BYTES TAKEN`, where `failed` may stand for the count. */
+   Each call is told on the descriptor DEVICES_TOLD, in one line: `read ROOM GIVEN` and `write BYTES TAKEN`, where `failed` may stand for the count. */
 #include <errno.h>
 #include <stdio.h>
 #include <stdlib.h>
 #include <sys/syscall.h>
 #include <unistd.h>
 
-#define TOLD 9
 #define ALL (1L << 40)
 
 static long reads, writes, given, taken;
@@ -18,7 +17,7 @@ static long set(const char *name, long usual) {
     return value ? atol(value) : usual;
 }
 
-static void tell(const char *text, size_t size) { syscall(SYS_write, TOLD, text, size); }
+static void tell(const char *text, size_t size) { syscall(SYS_write, (int)set("DEVICES_TOLD", 2), text, size); }
 
 static void tell_count(long count) {
     char text[32];

@@ -41,8 +41,8 @@ def played(program, shim, run):
     """Runs the program, and returns what its devices told, its status and what it said."""
     words = [word for name, value in run.said.items() if name in OPTIONS for word in (OPTIONS[name], str(value))]
     with tempfile.TemporaryFile() as told:
-        shell = ["sh", "-c", f'exec "$0" "$@" 9>&{told.fileno()}', program, "--stdio", *words]
-        ran = subprocess.run(shell, input=run.sent, env=environment_of(run.said, shim), capture_output=True, pass_fds=[told.fileno()], timeout=60)
+        set_ = {**environment_of(run.said, shim), "DEVICES_TOLD": str(told.fileno())}
+        ran = subprocess.run([program, "--stdio", *words], input=run.sent, env=set_, capture_output=True, pass_fds=[told.fileno()], timeout=60)
         told.seek(0)
         return told.read().decode(), ran.returncode, ran.stdout, ran.stderr.decode()
 
@@ -52,8 +52,9 @@ def wrong_of(program, shim, run):
     told, status, written, said = played(program, shim, run)
     found = run.told(f"{told} {run.answer}")
     is_right = (status, said) == (0, "") if run.answer not in FAULTS else status == 3 and FAULTS[run.answer] in said
-    told_written = b"".join(stdio.bytes_of(handed)[: int(came)] for word, handed, came in stdio.calls_of(told)[0] if (word, came) != ("write", "failed") and word == "write")
-    if found == run.wanted() and is_right and written == told_written:
+    writes = [call for call in stdio.calls_of(told)[0] if call[0] == "write" and call[2] != "failed"]
+    is_written = written == b"".join(stdio.bytes_of(handed)[: int(count)] for _, handed, count in writes)
+    if found == run.wanted() and is_right and is_written:
         return ""
     return f"{run.event()[:160]}\n    wanted {run.wanted()[:300]}\n    found  {found[:300]}, status {status} {said}"
 
