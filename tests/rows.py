@@ -106,6 +106,7 @@ def struck_again(file, probe, steps, found, index, shim, number):
     opening = max(at for at, event in enumerate(events[: index + 1]) if event.startswith("= "))
     asking = dict.fromkeys(it for it in events[opening:] if it.split(" ")[0] in looks_of(file))
     looks = list(asking) if index > opening else []
+    step = steps[index]
     again = again_of(file)(lambda more: run(probe, more, shim, number), events, index, found)
     before = run(probe, events[:index] + looks)[index:]
     lines = run(probe, events[: index + 1] + looks + [again] + events[index + 1 :], shim, number)
@@ -115,6 +116,8 @@ def struck_again(file, probe, steps, found, index, shim, number):
         rest[index], before, after = found[index], [], []
         steps = steps[:index] + [type(steps[index])(again, found[index].strip())] + steps[index + 1 :]
     wrong = [] if after == before else [f"{events[index][:120]}: {before} became {after}"]
+    judge = getattr(file.layer(), "struck", lambda step, line, again, line_again: [])
+    wrong += judge(step, lines[index], again, lines[index + 1 + len(looks)])
     return wrong + differences(rest, steps)
 
 

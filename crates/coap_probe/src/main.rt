@@ -1,16 +1,21 @@
 //! Plays rows of text from standard input on the values of the crates up to the server, and writes a line for each (`coap_told`).
 #![tactic(auto)]
 
+mod devices;
 mod faults;
 mod frame;
 mod limits;
 mod link;
 mod queue;
+mod script;
+mod serve;
+mod stdio;
 mod store;
 mod wire;
 
 use coap_conn::{Link, OutQueue};
 use coap_frame::Framer;
+use coap_serve::{Config, Server};
 use coap_store::Store;
 use coap_told::{Layers, Told, cut};
 use std::alloc::{AllocError, Global};
@@ -33,6 +38,12 @@ enum Value {
     Link(Link),
     /// A store.
     Store(Store),
+    /// A server.
+    Serve(Server),
+    /// Texts of scripts, which need no value.
+    Script,
+    /// The configuration of runs over one input and one output.
+    Stdio(Config),
 }
 
 /// The value that an opening names, and nothing where memory was refused.
@@ -59,6 +70,16 @@ fn opened(alloc: Global, opening: &str, told: &mut Told) -> Value {
             Some(Err(AllocError)) => told.word("memory"),
             None => told.word("refused"),
         },
+        "serve" => match serve::opened(alloc, rest) {
+            Some(Ok(server)) => return Value::Serve(server),
+            Some(Err(AllocError)) => told.word("memory"),
+            None => told.word("refused"),
+        },
+        "stdio" => match serve::config_of(rest) {
+            Some(config) => return Value::Stdio(config),
+            None => told.word("refused"),
+        },
+        "script" => return Value::Script,
         "wire" => return Value::Wire,
         "limits" => return Value::Limits,
         _ => told.word("strange"),
@@ -80,6 +101,9 @@ impl Layers for Value {
             Value::Queue(queue) => queue::play(queue, event, bytes, told),
             Value::Link(link) => link::play(link, event, bytes, told),
             Value::Store(store) => store::play(store, event, bytes, told),
+            Value::Serve(server) => serve::play(alloc, server, event, bytes, told),
+            Value::Script => script::play(alloc, event, bytes, told),
+            Value::Stdio(config) => stdio::play(alloc, config, event, bytes, told),
         }
     }
 }

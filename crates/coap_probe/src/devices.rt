@@ -1,0 +1,131 @@
+//! A reader and a writer that are set by a row, and tell each of their calls.
+
+use coap_told::{Told, next_number};
+use std::cell::RefCell;
+use std::io;
+use std::io::{Read, Write};
+
+/// How devices are set: the bytes that a read gives and a write takes at most, what no read gives bytes past, the room for all
+/// writes, and how many reads and writes there are before one that fails.
+#[derive(Clone, Copy)]
+pub(crate) struct Setting {
+    by: usize,
+    cuts: [usize; 2],
+    read_fails: usize,
+    taking: usize,
+    room: usize,
+    write_fails: usize,
+}
+
+/// The setting that seven numbers name, and the text behind them.
+pub(crate) fn devices_set<'a>(text: &'a str) -> (Setting, &'a str) {
+    let (by, text) = next_number(text);
+    let (first, text) = next_number(text);
+    let (second, text) = next_number(text);
+    let (read_fails, text) = next_number(text);
+    let (taking, text) = next_number(text);
+    let (room, text) = next_number(text);
+    let (write_fails, text) = next_number(text);
+    let setting = Setting {
+        by,
+        cuts: [first, second],
+        read_fails,
+        taking,
+        room,
+        write_fails,
+    };
+    (setting, text)
+}
+
+/// A reader over bytes, and where it tells its calls: the room of each, and the bytes that it gave.
+#[derive(Drop)]
+pub(crate) struct Reader<'a> {
+    pub(crate) setting: Setting,
+    pub(crate) rest: &'a [u8],
+    pub(crate) page: &'a RefCell<Told>,
+}
+
+impl Reader<'_> {
+    /// How many bytes the next read gives at most.
+    fn most(&self) -> usize {
+        let [first, second] = self.setting.cuts;
+        let cut = if 0 < first {
+            first
+        } else if 0 < second {
+            second
+        } else {
+            usize::MAX
+        };
+        cut.min(self.setting.by)
+    }
+
+    /// Gives bytes, unless this read fails.
+    fn give(&mut self, buf: &mut [u8]) -> Option<usize> {
+        self.setting.read_fails = self.setting.read_fails.checked_sub(1)?;
+        let room = buf.len().min(self.most());
+        let mut rest = self.rest;
+        let count = rest.read(&mut buf[..room]).ok()?;
+        self.rest = rest;
+        let [first, second] = self.setting.cuts;
+        self.setting.cuts = [first.saturating_sub(count), second.saturating_sub(count)];
+        Some(count)
+    }
+}
+
+impl Read for Reader<'_> {
+    fn read(&mut self, buf: &mut [u8]) -> io::Result<usize> {
+        let room = buf.len();
+        let given = self.give(buf);
+        if let Ok(mut told) = self.page.try_borrow_mut() {
+            told.word("read");
+            told.number(room as u64);
+            match given {
+                Some(count) => told.number(count as u64),
+                None => told.word("failed"),
+            }
+        }
+        match given {
+            Some(count) => Ok(count.min(room)),
+            None => Err(io::ErrorKind::Other.into()),
+        }
+    }
+}
+
+/// A writer, and where it tells its calls: the bytes of each, and how many it took.
+#[derive(Drop)]
+pub(crate) struct Writer<'a> {
+    pub(crate) setting: Setting,
+    pub(crate) page: &'a RefCell<Told>,
+}
+
+impl Writer<'_> {
+    /// Takes bytes, unless this write fails.
+    fn take(&mut self, count: usize) -> Option<usize> {
+        self.setting.write_fails = self.setting.write_fails.checked_sub(1)?;
+        let taken = count.min(self.setting.taking).min(self.setting.room);
+        self.setting.room = self.setting.room.saturating_sub(taken);
+        Some(taken)
+    }
+}
+
+impl Write for Writer<'_> {
+    fn write(&mut self, buf: &[u8]) -> io::Result<usize> {
+        let taken = self.take(buf.len());
+        if let Ok(mut told) = self.page.try_borrow_mut() {
+            told.word("write");
+            told.hex(buf);
+            match taken {
+                Some(count) => told.number(count as u64),
+                None => told.word("failed"),
+            }
+        }
+        match taken {
+            Some(count) => Ok(count.min(buf.len())),
+            None => Err(io::ErrorKind::Other.into()),
+        }
+    }
+
+    fn flush(&mut self) -> io::Result<()> {
+        Ok(())
+    }
+}

@@ -1,0 +1,89 @@
+//! Texts of scripts: `= script`, and then `read BYTES`, which tells the events that are read, each before a semicolon, or the number
+//! and the text of the fault; and `faults`, which tells each fault so.
+
+use coap_serve::{Event, ScriptFault, script};
+use coap_store::PathKey;
+use coap_told::{Told, cut, read_hex};
+use std::alloc::Global;
+use std::fmt::Write;
+
+/// Tells a path: the hex digits of each segment behind a slash.
+fn path(path: &PathKey, told: &mut Told) {
+    for segment in path.segments() {
+        let _ = told.write_str("/");
+        told.hex(segment);
+    }
+}
+
+/// Tells what an event does with a connection, and its number.
+fn on(word: &str, connection: u64, told: &mut Told) {
+    told.word(word);
+    told.number(connection);
+}
+
+/// Tells what is put where.
+fn put(at: &PathKey, format: Option<u16>, payload: &[u8], told: &mut Told) {
+    told.word("Put");
+    path(at, told);
+    let _ = write!(told, "{format:?} ");
+    told.hex(payload);
+}
+
+/// Tells an event.
+fn event(event: &Event, told: &mut Told) {
+    match event {
+        Event::Open => told.word("Open"),
+        Event::In { connection, bytes } => {
+            on("In", *connection, told);
+            told.hex(bytes);
+        }
+        Event::Drain { connection, most } => {
+            on("Drain", *connection, told);
+            let _ = write!(told, "{most:?} ");
+        }
+        Event::Tick { moment } => on("Tick", *moment, told),
+        Event::Put {
+            path,
+            format,
+            payload,
+        } => put(path, *format, payload, told),
+        Event::Remove { path: at, text } => {
+            told.word("Remove");
+            path(at, told);
+            told.hex(text);
+        }
+        Event::End { connection } => on("End", *connection, told),
+        Event::Release { connection } => on("Release", *connection, told),
+        Event::Drop { connection } => on("Drop", *connection, told),
+        Event::Status { connection } => on("Status", *connection, told),
+    }
+    told.word(";");
+}
+
+/// Tells the number and the text of a fault.
+fn fault(fault: ScriptFault, told: &mut Told) {
+    told.number(u64::from(fault.number()));
+    let _ = write!(told, "{fault} ");
+}
+
+/// Plays an event.
+pub(crate) fn play(alloc: Global, row: &str, bytes: &mut Vec<u8>, told: &mut Told) {
+    let (word, rest) = cut(row);
+    read_hex(rest, bytes);
+    match word {
+        "read" => match script(alloc, bytes) {
+            Ok(events) => {
+                for one in &events {
+                    event(one, told);
+                }
+            }
+            Err(ScriptFault::Memory) => told.word("memory"),
+            Err(line) => fault(line, told),
+        },
+        "faults" => {
+            fault(ScriptFault::Line(12), told);
+            fault(ScriptFault::Memory, told);
+        }
+        _ => told.word("strange"),
+    }
+}
