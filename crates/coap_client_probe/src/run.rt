@@ -10,13 +10,13 @@ use coap_told::{Told, cut, read_hex};
 use std::alloc::Global;
 use std::fmt::Write;
 
-/// Tells the status of a run, or its fault.
-fn tell_status(answer: Result<u8, ClientFault>, told: &mut Told) {
+/// Tells the status of a run, or its fault, which may be want of memory where nothing was written.
+fn tell_status(answer: Result<u8, ClientFault>, is_clean: bool, told: &mut Told) {
     match answer {
         Ok(status) => told.number(u64::from(status)),
         Err(fault) => {
             if fault == ClientFault::Memory {
-                told.word("memory");
+                told.word(if is_clean { "memory" } else { "refused" });
             }
             let _ = write!(told, "{fault:?} {} ({fault}) ", fault as u64);
         }
@@ -36,7 +36,8 @@ fn run(
     let mut out = Page::new(kind == "full");
     let mut err = Page::new(kind == "mute");
     let result = run_client(alloc, &mut wire, &mut clock, &mut out, &mut err, plan);
-    tell_status(result, told);
+    let is_clean = out.bytes.is_empty() && err.bytes.is_empty() && wire.written.is_empty();
+    tell_status(result, is_clean, told);
     told.hex(&out.bytes);
     told.hex(&err.bytes);
     told.hex(&wire.written);

@@ -21,17 +21,15 @@ pub(crate) struct Words<'a> {
 impl<'a> Words<'a> {
     /// The words of a text.
     pub(crate) fn of(text: &'a str) -> Words<'a> {
-        let mut words = Words {
-            words: [""; MOST],
-            count: 0,
-        };
+        let mut words = [""; MOST];
+        let mut count = 0usize;
         for word in text.split_whitespace() {
-            if let Some(place) = words.words.get_mut(words.count) {
+            if let Some(place) = words.get_mut(count) {
                 *place = word;
-                words.count = words.count.saturating_add(1);
+                count = count.saturating_add(1);
             }
         }
-        words
+        Words { words, count }
     }
 
     /// The same as a slice.
