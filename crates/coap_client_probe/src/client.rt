@@ -1,0 +1,181 @@
+//! Clients: `= client` and the six limits and the number before that of the first token, and then `take HEX`, `send METHOD TARGET` and
+//! `cancel TARGET` with what is asked for (`asked`), `ping custody` or `ping plain`, `written COUNT`, `end` and `look`. Behind each, what waits is
+//! written, but not where `keep` stands before it.
+
+use crate::asked::{method, read_asked};
+use crate::target::tell_fault;
+use coap_client::{Client, Event, Target};
+use coap_conn::RequestFault;
+use coap_serve::Limits;
+use coap_told::{Told, cut, next_number, number, read_hex};
+use coap_wire::{MessageRef, Token};
+use std::alloc::{AllocError, Global};
+use std::fmt::Write;
+
+/// A new client; none where a limit is out of its range.
+pub(crate) fn opened(alloc: Global, text: &str) -> Option<Result<Client, AllocError>> {
+    let (max_message, text) = next_number(text);
+    let (max_sent, text) = next_number(text);
+    let (queue, text) = next_number(text);
+    let (pending, text) = next_number(text);
+    let (observers, text) = next_number(text);
+    let (outstanding, tokens) = next_number(text);
+    let limits = Limits::new(
+        max_message,
+        max_sent,
+        queue,
+        pending,
+        observers,
+        outstanding,
+    )
+    .ok()?;
+    let tokens = tokens.parse::<u64>().ok()?;
+    Some(Client::open(alloc, limits, tokens))
+}
+
+/// Tells the code, the token and the payload of a message.
+fn tell_message(message: &MessageRef, told: &mut Told) {
+    let code = message.code();
+    let _ = write!(told, "{}.{:02} ", code.class(), code.detail());
+    told.hex(message.token().as_slice());
+    told.hex(message.payload());
+}
+
+/// Tells what a client told.
+pub(crate) fn tell_event(event: &Event, told: &mut Told) {
+    match event {
+        Event::Ready => told.word("ready"),
+        Event::Response(message) => {
+            told.word("response");
+            tell_message(message, told);
+        }
+        Event::Notification(message) => {
+            told.word("notification");
+            tell_message(message, told);
+        }
+        Event::Rejected { token, number } => {
+            told.word("rejected");
+            told.hex(token.as_slice());
+            told.number(u64::from(*number));
+        }
+        Event::Pong { token, custody } => {
+            told.word("pong");
+            told.hex(token.as_slice());
+            told.word(if *custody { "true" } else { "false" });
+        }
+        Event::Stranger => told.word("stranger"),
+        Event::Stopped(reason) => {
+            told.word("stopped");
+            told.number(u64::from(reason.number()));
+        }
+    }
+}
+
+/// Hands bytes to a client, and tells how many it took and what it told.
+fn take(client: &mut Client, bytes: &[u8], told: &mut Told) {
+    let taken = client.take(bytes);
+    told.number(taken.bytes as u64);
+    match taken.event() {
+        Some(event) => tell_event(&event, told),
+        None => told.word("-"),
+    }
+}
+
+/// Tells the fault of a request.
+fn tell_refusal(fault: RequestFault, told: &mut Told) {
+    let _ = write!(told, "{fault:?} {} ({fault}) ", fault as u64);
+}
+
+/// Tells the token that was given, or the fault.
+fn tell_token(given: Result<Token, RequestFault>, told: &mut Told) {
+    match given {
+        Ok(token) => told.hex(token.as_slice()),
+        Err(fault) => tell_refusal(fault, told),
+    }
+}
+
+/// Sends a request, and tells its token.
+fn send(alloc: Global, client: &mut Client, text: &str, bytes: &mut Vec<u8>, told: &mut Told) {
+    let (name, text) = cut(text);
+    let (to, text) = cut(text);
+    let asked = read_asked(text, bytes);
+    match Target::read(alloc, to) {
+        Ok(target) => tell_token(client.send(method(name), &target, &asked.extras), told),
+        Err(fault) => tell_fault(fault, told),
+    }
+}
+
+/// Cancels an observation, and tells how that went.
+fn cancel(alloc: Global, client: &mut Client, text: &str, bytes: &mut Vec<u8>, told: &mut Told) {
+    let (to, text) = cut(text);
+    let asked = read_asked(text, bytes);
+    let Ok(token) = Token::try_from(asked.token) else {
+        return told.word("strange");
+    };
+    match Target::read(alloc, to) {
+        Ok(target) => match client.cancel(&token, &target, &asked.extras) {
+            Ok(()) => told.word("Ok"),
+            Err(fault) => tell_refusal(fault, told),
+        },
+        Err(fault) => tell_fault(fault, told),
+    }
+}
+
+/// So many bytes were written.
+fn written(client: &mut Client, count: usize, told: &mut Told) {
+    if count > client.waiting() {
+        return told.word("refused");
+    }
+    client.written(count);
+    told.word("-");
+}
+
+/// Makes an event happen, and tells its answer.
+pub(crate) fn act(
+    alloc: Global,
+    client: &mut Client,
+    event: &str,
+    bytes: &mut Vec<u8>,
+    told: &mut Told,
+) {
+    let (word, rest) = cut(event);
+    match word {
+        "take" => {
+            read_hex(rest, bytes);
+            take(client, bytes, told);
+        }
+        "send" => send(alloc, client, rest, bytes, told),
+        "cancel" => cancel(alloc, client, rest, bytes, told),
+        "ping" => tell_token(client.ping(rest == "custody"), told),
+        "written" => written(client, number(rest).unwrap_or(0), told),
+        "end" => {
+            client.ended();
+            told.word("-");
+        }
+        "look" => told.word("-"),
+        _ => told.word("strange"),
+    }
+}
+
+/// Plays an event, tells how the client stands then, and writes what waits, but behind `keep`.
+pub(crate) fn play(
+    alloc: Global,
+    client: &mut Client,
+    row: &str,
+    bytes: &mut Vec<u8>,
+    told: &mut Told,
+) {
+    let kept = row.strip_prefix("keep ");
+    act(alloc, client, kept.unwrap_or(row), bytes, told);
+    let _ = write!(told, "{:?} ", client.phase());
+    told.number(client.outstanding() as u64);
+    let count = client.waiting();
+    let front = client.front();
+    if front.len() != count {
+        told.word("uneven");
+    }
+    told.hex(front);
+    if kept.is_none() {
+        client.written(count);
+    }
+}

@@ -1,0 +1,135 @@
+//! A wire, a clock and outlets in memory, in room of their own.
+
+ghost use Rattle.std.specs.Prelude.{◌≡◌, ◌≤◌, false, None, Some, length};
+ghost use Rattle.coap_serve.specs.streams.Wires.{IsWithin};
+
+use arrayvec::ArrayVec;
+use coap_serve::{Clock, Got, Outlet, Wire};
+use coap_told::number;
+
+/// The most bytes that are written to a device.
+const ROOM: usize = 1_024;
+
+/// A wire whose reads a text names: `later`, `end`, `failed`, or how many bytes they give; and `later` behind them. Its writes take all,
+/// or one byte (`slow`), none (`deaf`), or come to `end` (`shut`) or `failed` (`torn`).
+#[derive(Drop)]
+pub(crate) struct Line<'a> {
+    pub reads: &'a str,
+    pub bytes: &'a [u8],
+    pub kind: &'a str,
+    pub written: ArrayVec<u8, ROOM>,
+}
+
+impl Line<'_> {
+    /// Gives so many bytes.
+    fn give(&mut self, count: usize, buffer: &mut [u8]) -> Got
+        ensures { IsWithin (length buffer.new) result }
+    {
+        let count = count.min(buffer.len()).min(self.bytes.len());
+        if count == 0 {
+            return Got::Failed;
+        }
+        buffer[..count].copy_from_slice(&self.bytes[..count]);
+        self.bytes = &self.bytes[count..];
+        Got::Bytes(count)
+    }
+
+    /// Takes so many bytes.
+    fn take(&mut self, bytes: &[u8], count: usize) -> Got
+        ensures { IsWithin (length bytes.now) result }
+    {
+        let count = count.min(bytes.len());
+        if count == 0 {
+            return Got::Later;
+        }
+        match self.written.try_extend_from_slice(&bytes[..count]) {
+            Ok(()) => Got::Bytes(count),
+            Err(_) => Got::Failed,
+        }
+    }
+}
+
+impl Wire for Line<'_> {
+    ghost given = { λ line. None };
+
+    ghost written = { λ line. None };
+
+    fn read(&mut self, buffer: &mut [u8]) -> Got {
+        let (word, rest) = self.reads.split_once(',').unwrap_or((self.reads, ""));
+        self.reads = rest;
+        match word {
+            "" => Got::Later,
+            "later" => Got::Later,
+            "end" => Got::End,
+            "failed" => Got::Failed,
+            _ => self.give(number(word).unwrap_or(0), buffer),
+        }
+    }
+
+    fn write(&mut self, bytes: &[u8]) -> Got {
+        match self.kind {
+            "deaf" => Got::Later,
+            "slow" => self.take(bytes, 1),
+            "torn" => Got::Failed,
+            "shut" => Got::End,
+            _ => self.take(bytes, usize::MAX),
+        }
+    }
+}
+
+/// A clock that tells the moments that a text names, and the last one behind them.
+#[derive(Drop)]
+pub(crate) struct Moments<'a> {
+    pub text: &'a str,
+}
+
+impl Clock for Moments<'_> {
+    fn now(&mut self) -> u64 {
+        let (word, rest) = self.text.split_once(',').unwrap_or((self.text, self.text));
+        self.text = rest;
+        word.parse::<u64>().unwrap_or(0)
+    }
+}
+
+/// A page that keeps what is written to it, as far as it has room.
+#[derive(Drop)]
+pub(crate) struct Page {
+    pub bytes: ArrayVec<u8, ROOM>,
+    is_full: bool,
+    failed: bool,
+}
+
+impl Page {
+    /// An empty page, which may take nothing.
+    pub(crate) fn new(is_full: bool) -> Page
+        ensures { result.failed ≡ false }
+    {
+        Page {
+            bytes: ArrayVec::new(),
+            is_full,
+            failed: false,
+        }
+    }
+}
+
+impl Outlet for Page {
+    ghost written = { λ page. Some page.bytes.items };
+
+    ghost is_failed = { λ page. page.failed };
+
+    fn write(&mut self, bytes: &[u8]) -> Option<usize> {
+        if self.is_full {
+            self.failed = true;
+            return None;
+        }
+        let Ok(()) = self.bytes.try_extend_from_slice(bytes) else {
+            self.failed = true;
+            return None;
+        };
+        Some(bytes.len())
+    }
+
+    fn failed(&self) -> bool {
+        self.failed
+    }
+}

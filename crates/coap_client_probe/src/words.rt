@@ -1,0 +1,142 @@
+//! Command lines: `= words`, and then `server WORDS` and `client WORDS`, and `server-text WORDS` and `client-text WORDS` for the text of
+//! the fault.
+
+use crate::target::tell_target;
+use coap_client::{ClientPlan, Mode, ServerPlan, WordsFault, client_words, server_words};
+use coap_told::{Told, cut};
+use std::alloc::Global;
+use std::fmt;
+use std::fmt::Write;
+
+/// How many words there are at most.
+const MOST: usize = 32;
+
+/// The words of a text, as many as there is room for.
+#[derive(Drop)]
+pub(crate) struct Words<'a> {
+    words: [&'a str; MOST],
+    count: usize,
+}
+
+impl<'a> Words<'a> {
+    /// The words of a text.
+    pub(crate) fn of(text: &'a str) -> Words<'a> {
+        let mut words = [""; MOST];
+        let mut count = 0usize;
+        for word in text.split_whitespace() {
+            if let Some(place) = words.get_mut(count) {
+                *place = word;
+                count = count.saturating_add(1);
+            }
+        }
+        Words { words, count }
+    }
+
+    /// The same as a slice.
+    pub(crate) fn as_slice(&self) -> &[&'a str] {
+        self.words.get(..self.count).unwrap_or_default()
+    }
+}
+
+/// A line in which `\n` stands for a newline.
+#[derive(Drop)]
+struct Line<'a> {
+    told: &'a mut Told,
+}
+
+impl fmt::Write for Line<'_> {
+    fn write_str(&mut self, text: &str) -> fmt::Result {
+        for (at, part) in text.split('\n').enumerate() {
+            if at > 0 {
+                self.told.write_str("\\n")?;
+            }
+            self.told.write_str(part)?;
+        }
+        Ok(())
+    }
+}
+
+/// Tells a fault: of words that `clap` refuses the kind, of all others the text.
+pub(crate) fn tell_fault(fault: &WordsFault, told: &mut Told) {
+    let number = fault.number();
+    match fault {
+        WordsFault::Usage(error) => {
+            let asks = fault.is_help_or_version();
+            told.word(if asks { "asks" } else { "usage" });
+            let _ = write!(told, "{:?} {number} ", error.kind());
+        }
+        WordsFault::Memory => {
+            let _ = write!(told, "memory {number} ({fault}) ");
+        }
+        _ => {
+            let _ = write!(told, "fault {number} ({fault}) ");
+        }
+    }
+}
+
+/// Tells a plan of `coap-server`.
+fn tell_server(plan: &ServerPlan, told: &mut Told) {
+    let _ = match &plan.mode {
+        Mode::Listen(address, port) => write!(told, "listen {address} {port} "),
+        Mode::Stdio => write!(told, "stdio "),
+        Mode::Script(name) => write!(told, "script {name} "),
+    };
+    let limits = &plan.limits;
+    told.number(limits.max_message() as u64);
+    told.number(limits.max_sent() as u64);
+    told.number(limits.queue() as u64);
+    told.number(limits.pending() as u64);
+    told.number(limits.observers() as u64);
+    told.number(limits.outstanding() as u64);
+    told.number(plan.connections as u64);
+    told.number(plan.dynamic_max as u64);
+    told.number(plan.turns);
+}
+
+/// Tells a plan of `coap-client`.
+fn tell_client(plan: &ClientPlan, told: &mut Told) {
+    let _ = write!(told, "{:?} ", plan.method);
+    tell_target(&plan.target, told);
+    let _ = write!(told, "{:?} {} ", plan.observe, plan.wait);
+    let _ = write!(told, "{} {} ", plan.plain, plan.newline);
+    let _ = write!(told, "{:?} {:?} ", plan.content_format, plan.accept);
+    match &plan.option {
+        Some((number, value)) => {
+            told.number(u64::from(*number));
+            told.hex(value);
+        }
+        None => told.word("None"),
+    }
+    told.hex(&plan.payload);
+    let _ = write!(told, "{:?} {:?} ", plan.input, plan.output);
+}
+
+/// Tells the text of a fault.
+fn tell_text<P: Drop>(read: Result<P, WordsFault>, told: &mut Told) {
+    match read {
+        Ok(_) => told.word("none"),
+        Err(WordsFault::Memory) => told.word("memory"),
+        Err(fault) => {
+            let _ = write!(Line { told }, "{fault}");
+        }
+    }
+}
+
+/// Reads the words of a command line, and tells what they ask for.
+pub(crate) fn play(alloc: Global, event: &str, told: &mut Told) {
+    let (word, rest) = cut(event);
+    let words = Words::of(rest);
+    match word {
+        "server" => match server_words(alloc, words.as_slice()) {
+            Ok(plan) => tell_server(&plan, told),
+            Err(fault) => tell_fault(&fault, told),
+        },
+        "client" => match client_words(alloc, words.as_slice()) {
+            Ok(plan) => tell_client(&plan, told),
+            Err(fault) => tell_fault(&fault, told),
+        },
+        "server-text" => tell_text(server_words(alloc, words.as_slice()), told),
+        "client-text" => tell_text(client_words(alloc, words.as_slice()), told),
+        _ => told.word("strange"),
+    }
+}
