@@ -21,7 +21,7 @@ use std::alloc::{AllocError, Global};
 use std::marker::Model;
 
 /// What a `take` tells its caller.
-#[derive(Debug, Drop)]
+#[derive(Drop)]
 pub enum Event<'a> {
     /// The peer's first Capabilities and Settings: requests can be sent (RFC 8323 section 5.3).
     Ready,
@@ -51,7 +51,7 @@ pub enum Event<'a> {
 }
 
 /// What came of the bytes taken, apart from the message.
-#[derive(Clone, Copy, Debug)]
+#[derive(Clone, Copy)]
 enum Heard {
     Nothing,
     Ready,
@@ -62,7 +62,7 @@ enum Heard {
 }
 
 /// What was taken of a piece, and what is to be told of it.
-#[derive(Clone, Copy, Debug)]
+#[derive(Clone, Copy)]
 pub struct Taken<'a> {
     /// How many bytes.
     pub bytes: usize,
@@ -87,7 +87,7 @@ impl<'a> Taken<'a> {
 }
 
 /// A client: its framer and its link. Contracts see a `ClientValue`, and which calls it shows.
-#[derive(Debug, Drop)]
+#[derive(Drop)]
 pub struct Client {
     framer: Framer,
     link: Link,

@@ -6,7 +6,7 @@ use coap_conn::Limits;
 use std::net::IpAddr;
 
 /// What `coap-server` does.
-#[derive(Debug, Drop)]
+#[derive(Drop)]
 pub enum Mode {
     /// It listens at a numeric address and a port of 1 to 65,535.
     Listen(IpAddr, u16),
@@ -17,7 +17,7 @@ pub enum Mode {
 }
 
 /// What the words of `coap-server` ask for.
-#[derive(Debug, Drop)]
+#[derive(Drop)]
 pub struct ServerPlan {
     /// What it does.
     pub mode: Mode,
@@ -32,7 +32,7 @@ pub struct ServerPlan {
 }
 
 /// What the words of `coap-client` ask for.
-#[derive(Debug, Drop)]
+#[derive(Drop)]
 pub struct ClientPlan {
     /// What the URI names.
     pub target: Target,

@@ -39,7 +39,7 @@ pub enum Method {
 }
 
 /// What a request says beside its method and its target.
-#[derive(Clone, Copy, Debug)]
+#[derive(Clone, Copy)]
 pub struct Extras<'a> {
     /// Whether the target is observed (RFC 7641 section 3.1).
     pub observe: bool,
@@ -56,7 +56,7 @@ pub struct Extras<'a> {
 }
 
 /// The bytes of the formats of a request.
-#[derive(Debug, Drop)]
+#[derive(Drop)]
 pub(crate) struct Formats {
     content_format: Option<UintBytes>,
     accept: Option<UintBytes>,

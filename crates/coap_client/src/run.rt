@@ -70,7 +70,7 @@ enum Heard {
 }
 
 /// A run.
-#[derive(Debug, Drop)]
+#[derive(Drop)]
 struct Run {
     client: Client,
     /// What was read and is not taken.

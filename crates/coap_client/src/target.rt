@@ -69,7 +69,7 @@ impl From<AllocError> for TargetFault {
 }
 
 /// What the parts of a URI name, before its size is judged.
-#[derive(Debug, Drop)]
+#[derive(Drop)]
 struct Named {
     /// The host as it is connected to and sent.
     host: Vec<u8>,
@@ -85,7 +85,7 @@ struct Named {
 
 /// What a URI of the scheme coap+tcp names (RFC 8323 section 8.1): a host, a port, and the parts of the path and of the
 /// query. Contracts see these parts by name.
-#[derive(Debug, Drop)]
+#[derive(Drop)]
 pub struct Target {
     named: Named,
 }

@@ -12,7 +12,7 @@ use std::alloc::{AllocError, Global};
 use std::marker::Model;
 
 /// Something that was asked. Contracts see an `OutstandingValue`.
-#[derive(Debug, Drop)]
+#[derive(Drop)]
 pub(crate) enum Outstanding {
     /// A request, which one response answers.
     Request(Token),
@@ -100,7 +100,7 @@ impl Outstanding {
 
 /// At most so many that are outstanding, in room that was reserved once, in the order in which they were asked. Contracts see an
 /// `AskedValue`.
-#[derive(Debug, Drop)]
+#[derive(Drop)]
 pub(crate) struct Asked {
     room: usize,
     entries: Vec<Outstanding>,

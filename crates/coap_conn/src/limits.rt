@@ -30,7 +30,7 @@ pub enum LimitFault {
 }
 
 /// The limits of one connection. Contracts see its values by name.
-#[derive(Clone, Copy, Debug, PartialEq, Eq)]
+#[derive(Clone, Copy, PartialEq, Eq)]
 pub struct Limits {
     max_message: usize,
     max_sent: usize,

@@ -28,7 +28,7 @@ const RELEASE_SIZE: usize = 2;
 
 /// One side of a connection: what was announced, how it stands, what is held and outstanding, and the bytes that wait to be
 /// written. Contracts see a `LinkValue`, and which history of messages it shows.
-#[derive(Debug, Drop)]
+#[derive(Drop)]
 pub struct Link {
     role: Role,
     limits: Limits,

@@ -10,7 +10,7 @@ use std::alloc::{AllocError, Global};
 use std::marker::Model;
 
 /// What is held. Contracts see a `HeldValue`.
-#[derive(Debug, Drop)]
+#[derive(Drop)]
 pub(crate) enum Held {
     /// The answer to a request, which is due at a moment.
     Answer {
@@ -61,7 +61,7 @@ impl Held {
 
 /// At most so many that are held, in room that was reserved once, in the order in which they came. Contracts see a
 /// `PendingValue`.
-#[derive(Debug, Drop)]
+#[derive(Drop)]
 pub(crate) struct Pending {
     room: usize,
     entries: Vec<Held>,

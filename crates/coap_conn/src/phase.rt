@@ -8,7 +8,7 @@ use coap_wire::{FrameFault, Token};
 use thiserror::Error;
 
 /// Which end of the connection this is.
-#[derive(Clone, Copy, Debug, PartialEq, Eq)]
+#[derive(Clone, Copy, PartialEq, Eq)]
 pub enum Role {
     /// It answers requests.
     Server,
@@ -101,7 +101,7 @@ pub enum Reply {
 }
 
 /// What is wrong with the bytes behind the messages so far.
-#[derive(Clone, Copy, Debug, PartialEq, Eq)]
+#[derive(Clone, Copy, PartialEq, Eq)]
 pub enum Reject {
     /// A frame that spells no message.
     Format,

@@ -8,7 +8,7 @@ use std::marker::Model;
 
 /// A queue of bytes that wait to be written, in room that was reserved once. Contracts see a `QueueValue`: the room of the
 /// whole queue, and the bytes that wait.
-#[derive(Debug, Drop)]
+#[derive(Drop)]
 pub struct OutQueue {
     bytes: usize,
     buffer: Vec<u8>,

@@ -8,7 +8,7 @@ ghost use Rattle.coap_frame.specs.Filling.{IsHead, IsFilled};
 use coap_wire::{Declared, FrameFault, declared};
 
 /// How a buffer stands.
-#[derive(Clone, Copy, Debug)]
+#[derive(Clone, Copy)]
 pub(crate) enum Standing {
     /// More bytes are needed.
     Unfinished,

@@ -12,7 +12,7 @@ use std::alloc::{AllocError, Global};
 use std::marker::Model;
 
 /// What a piece had.
-#[derive(Clone, Copy, Debug)]
+#[derive(Clone, Copy)]
 pub enum Found<'a> {
     /// No whole frame: all of the piece is taken.
     More,
@@ -23,7 +23,7 @@ pub enum Found<'a> {
 }
 
 /// How many bytes of a piece were taken, and what was found.
-#[derive(Clone, Copy, Debug)]
+#[derive(Clone, Copy)]
 pub struct Framed<'a> {
     /// The bytes taken.
     pub taken: usize,
@@ -32,7 +32,7 @@ pub struct Framed<'a> {
 }
 
 /// What lies in a framer's buffer.
-#[derive(Clone, Copy, Debug)]
+#[derive(Clone, Copy)]
 enum Held {
     /// The beginning of a frame.
     Beginning,
@@ -44,7 +44,7 @@ enum Held {
 
 /// Gives the frames of at most `max` bytes of a stream that comes in pieces. It reserves their room once. Contracts see
 /// a `FramerValue`: the greatest frame, the bytes kept of an unfinished frame, and the split frame given last.
-#[derive(Debug, Drop)]
+#[derive(Drop)]
 pub struct Framer {
     max: usize,
     buffer: Vec<u8>,

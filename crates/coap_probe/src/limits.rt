@@ -2,12 +2,12 @@
 
 use crate::faults::tell_fault;
 use coap_conn::{LimitFault, Limits, Reason, SendFault};
-use coap_serve::{Config, IoFault, Starts};
+use coap_serve::{Config, ConfigFault, IoFault, Starts};
 use coap_told::{Told, cut, next_number};
 use std::fmt::Write;
 
 /// The limits that six numbers name, or their fault, and the text behind them.
-fn limits_of<'a>(text: &'a str) -> (Result<Limits, LimitFault>, &'a str) {
+pub(crate) fn limits_of<'a>(text: &'a str) -> (Result<Limits, LimitFault>, &'a str) {
     let (max_message, text) = next_number(text);
     let (max_sent, text) = next_number(text);
     let (queue, text) = next_number(text);
@@ -42,8 +42,8 @@ fn tell_starts(starts: Starts, told: &mut Told) {
     told.number(starts.ids);
 }
 
-/// Makes a configuration of limits and six further numbers, and tells each of its values as it is read back, or the fault.
-fn config(limits: Limits, text: &str, told: &mut Told) {
+/// The configuration of limits and seven further numbers, or its fault.
+pub(crate) fn config_of(limits: Limits, text: &str) -> Result<Config, ConfigFault> {
     let (connections, text) = next_number(text);
     let (dynamic, text) = next_number(text);
     let (rep, text) = next_number(text);
@@ -56,7 +56,12 @@ fn config(limits: Limits, text: &str, told: &mut Told) {
         versions: versions as u64,
         ids: ids as u64,
     };
-    match Config::new(limits, connections, dynamic, rep, turns as u64, starts) {
+    Config::new(limits, connections, dynamic, rep, turns as u64, starts)
+}
+
+/// Makes a configuration, and tells each of its values as it is read back, or the fault.
+fn config(limits: Limits, text: &str, told: &mut Told) {
+    match config_of(limits, text) {
         Ok(config) => {
             tell_limits(&config.limits(), told);
             told.number(config.connections() as u64);

@@ -2,37 +2,17 @@
 //! (or `observe`), `cancel MESSAGE`, `ping - plain` (or `custody`), `hold TOKEN MOMENT`, `due - MOMENT`, `release`, `reject - FAULT`,
 //! `end - cut` or `end - whole`, `write - COUNT`, `count` and `look`. Answers are told as Debug has them.
 
-use coap_conn::{Limits, Link, Phase, Reject, Role};
-use coap_told::{Told, cut, next_number, number, read_hex};
+use crate::limits::limits_of;
+use coap_conn::{Link, Phase, Reject, Role};
+use coap_told::{Told, cut, number, read_hex};
 use coap_wire::{BuildFault, Builder, MessageRef, Token, parse};
 use std::alloc::{AllocError, Global};
 use std::fmt::Write;
 
-/// The limits that six numbers name; none where one is out of its range.
-fn limits(text: &str) -> Option<Limits> {
-    let (max_message, text) = next_number(text);
-    let (max_sent, text) = next_number(text);
-    let (queue, text) = next_number(text);
-    let (pending, text) = next_number(text);
-    let (observers, text) = next_number(text);
-    let (outstanding, _) = next_number(text);
-    match Limits::new(
-        max_message,
-        max_sent,
-        queue,
-        pending,
-        observers,
-        outstanding,
-    ) {
-        Ok(limits) => Some(limits),
-        Err(_) => None,
-    }
-}
-
 /// A link of a role and six limits; none where a limit is out of its range.
 pub(crate) fn opened(alloc: Global, text: &str) -> Option<Result<Link, AllocError>> {
     let (role, rest) = cut(text);
-    let Some(limits) = limits(rest) else {
+    let (Ok(limits), _) = limits_of(rest) else {
         return None;
     };
     let role = match role {

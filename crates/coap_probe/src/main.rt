@@ -75,7 +75,7 @@ fn opened(alloc: Global, opening: &str, told: &mut Told) -> Value {
             Some(Err(AllocError)) => told.word("memory"),
             None => told.word("refused"),
         },
-        "stdio" => match serve::config_of(rest) {
+        "stdio" => match serve::configured(rest) {
             Some(config) => return Value::Stdio(config),
             None => told.word("refused"),
         },

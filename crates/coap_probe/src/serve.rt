@@ -2,62 +2,22 @@
 //! moment, the versions and the connections' numbers begin; and then the lines of a script, one a row, or some with `|` between them,
 //! whose lines are told so too. Where memory was refused, the lines before that are told, and the number of the event.
 
-use coap_serve::{Config, Limits, ReplayFault, ScriptFault, Server, Starts, WriteOutlet, script};
-use coap_told::{Told, next_number};
+use crate::limits::{config_of, limits_of};
+use coap_serve::{Config, ReplayFault, ScriptFault, Server, WriteOutlet, script};
+use coap_told::Told;
 use std::alloc::{AllocError, Global};
 
-/// The limits that six numbers name, and the text behind them; none where one is out of its range.
-fn limits<'a>(text: &'a str) -> Option<(Limits, &'a str)> {
-    let (max_message, text) = next_number(text);
-    let (max_sent, text) = next_number(text);
-    let (queue, text) = next_number(text);
-    let (pending, text) = next_number(text);
-    let (observers, text) = next_number(text);
-    let (outstanding, text) = next_number(text);
-    match Limits::new(
-        max_message,
-        max_sent,
-        queue,
-        pending,
-        observers,
-        outstanding,
-    ) {
-        Ok(limits) => Some((limits, text)),
-        Err(_) => None,
-    }
-}
-
 /// The configuration that thirteen numbers name; none where one is out of its range.
-pub(crate) fn config_of(text: &str) -> Option<Config> {
-    let Some((limits, rest)) = limits(text) else {
+pub(crate) fn configured(text: &str) -> Option<Config> {
+    let (Ok(limits), rest) = limits_of(text) else {
         return None;
     };
-    let (connections, rest) = next_number(rest);
-    let (dynamic_max, rest) = next_number(rest);
-    let (rep_max, rest) = next_number(rest);
-    let (turns, rest) = next_number(rest);
-    let (moment, rest) = next_number(rest);
-    let (versions, rest) = next_number(rest);
-    let (ids, _) = next_number(rest);
-    let starts = Starts {
-        moment: moment as u64,
-        versions: versions as u64,
-        ids: ids as u64,
-    };
-    Config::new(
-        limits,
-        connections,
-        dynamic_max,
-        rep_max,
-        turns as u64,
-        starts,
-    )
-    .ok()
+    config_of(limits, rest).ok()
 }
 
 /// A server; none where a number is out of its range.
 pub(crate) fn opened(alloc: Global, text: &str) -> Option<Result<Server, AllocError>> {
-    match config_of(text) {
+    match configured(text) {
         Some(config) => Some(Server::new(alloc, config)),
         None => None,
     }

@@ -25,7 +25,7 @@ pub enum ConfigFault {
 }
 
 /// Where a server's counts begin.
-#[derive(Clone, Copy, Debug, Default, PartialEq, Eq)]
+#[derive(Clone, Copy, Default, PartialEq, Eq)]
 pub struct Starts {
     /// The moment, in seconds.
     pub moment: u64,
@@ -36,7 +36,7 @@ pub struct Starts {
 }
 
 /// The configuration of a server. Contracts see its values by name.
-#[derive(Clone, Copy, Debug, PartialEq, Eq)]
+#[derive(Clone, Copy, PartialEq, Eq)]
 pub struct Config {
     limits: Limits,
     connections: usize,

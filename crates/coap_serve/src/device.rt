@@ -48,7 +48,7 @@ pub trait Outlet {
 
 /// A reader of std as a source. It tells what bytes are left where the reader does. A read that a signal interrupts
 /// has failed.
-#[derive(Debug, Drop)]
+#[derive(Drop)]
 pub struct ReadSource<R> {
     reader: R,
     failed: bool,
@@ -90,7 +90,7 @@ impl<R: Read> Source for ReadSource<R> {
 }
 
 /// A writer of std as an outlet. It tells what the writer tells. A write that a signal interrupts has failed.
-#[derive(Debug, Drop)]
+#[derive(Drop)]
 pub struct WriteOutlet<W> {
     writer: W,
     failed: bool,

@@ -25,7 +25,7 @@ use indexmap::IndexMap;
 use std::alloc::Global;
 
 /// What a connection is to be served for, as it was left when it was served last.
-#[derive(Clone, Copy, Debug, PartialEq, Eq)]
+#[derive(Clone, Copy, PartialEq, Eq)]
 struct Wants {
     /// What was read before can be taken, or is to be given up.
     take: bool,
@@ -40,7 +40,7 @@ struct Wants {
 }
 
 /// The far end of a connection.
-#[derive(Debug, Drop)]
+#[derive(Drop)]
 struct Peer<W> {
     /// The wire to it.
     wire: W,
@@ -86,7 +86,7 @@ impl<W: Ready> Peer<W> {
 type Peers<W> = IndexMap<u64, Peer<W>>;
 
 /// How far a turn is through the connections.
-#[derive(Clone, Copy, Debug, PartialEq, Eq)]
+#[derive(Clone, Copy, PartialEq, Eq)]
 struct Seen {
     /// How many were looked at: the index of the next one.
     at: usize,
@@ -112,7 +112,7 @@ impl Seen {
 }
 
 /// How a connection came out of its part of a turn.
-#[derive(Clone, Copy, Debug, PartialEq, Eq)]
+#[derive(Clone, Copy, PartialEq, Eq)]
 enum Course {
     /// It goes on.
     Open,
@@ -121,7 +121,7 @@ enum Course {
 }
 
 /// What the connections that were looked at in a turn leave to be done.
-#[derive(Clone, Copy, Debug, PartialEq, Eq)]
+#[derive(Clone, Copy, PartialEq, Eq)]
 struct Agenda {
     /// Whether something can be done at once.
     at_once: bool,

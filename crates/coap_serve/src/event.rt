@@ -3,7 +3,7 @@
 use coap_store::PathKey;
 
 /// What happens to a server of several connections, as a line of a script names it.
-#[derive(Debug, Drop)]
+#[derive(Drop)]
 pub enum Event {
     /// A connection is opened.
     Open,

@@ -8,7 +8,7 @@ use coap_store::{PathKey, Present, State, Store};
 use std::alloc::{AllocError, Global};
 
 /// What a server answers requests from: its resources, and the moment.
-#[derive(Debug, Drop)]
+#[derive(Drop)]
 pub(crate) struct Host {
     /// The resources.
     pub store: Store,

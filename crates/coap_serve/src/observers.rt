@@ -15,7 +15,7 @@ use std::alloc::{AllocError, Global};
 use std::marker::Model;
 
 /// An observer. Contracts see an `ObserverValue`.
-#[derive(Debug, Drop)]
+#[derive(Drop)]
 pub(crate) struct Observer {
     /// The token of the request that entered it.
     pub token: Token,
@@ -51,7 +51,7 @@ impl Observer {
 
 /// At most so many observers, in room that was reserved once, in the order in which they came. Contracts see an
 /// `ObserversValue`.
-#[derive(Debug, Drop)]
+#[derive(Drop)]
 pub(crate) struct Observers {
     room: usize,
     entries: Vec<Observer>,

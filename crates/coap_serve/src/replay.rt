@@ -43,7 +43,7 @@ impl ReplayFault {
 }
 
 /// The line of an event.
-#[derive(Debug, Drop)]
+#[derive(Drop)]
 enum Line {
     /// Built without memory.
     Short(ShortLine),
@@ -66,7 +66,7 @@ impl Line {
 }
 
 /// A line with bytes that wait on a connection, and how many of these it has.
-#[derive(Debug, Drop)]
+#[derive(Drop)]
 struct Drained {
     line: Vec<u8>,
     count: usize,

@@ -10,7 +10,7 @@ use std::marker::Model;
 const ROOM: usize = 16_384;
 
 /// The bytes read from a wire that are not taken yet. Contracts see these bytes.
-#[derive(Debug, Drop)]
+#[derive(Drop)]
 pub struct Rest {
     buffer: Vec<u8>,
     from: usize,

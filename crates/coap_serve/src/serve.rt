@@ -23,7 +23,7 @@ use coap_conn::Reason;
 use std::alloc::Global;
 use thiserror::Error;
 /// What a run over one input and one output did.
-#[derive(Clone, Copy, Debug, PartialEq, Eq)]
+#[derive(Clone, Copy, PartialEq, Eq)]
 pub struct Report {
     /// The bytes that were read.
     pub read: u64,
@@ -54,7 +54,7 @@ pub enum IoFault {
 const PIECE: usize = 4_096;
 
 /// How a turn went.
-#[derive(Clone, Copy, Debug)]
+#[derive(Clone, Copy)]
 struct Turn {
     /// The bytes that were read.
     read: usize,

@@ -45,7 +45,7 @@ pub enum OpenFault {
 pub struct NoSuch;
 
 /// What was taken of a piece.
-#[derive(Clone, Copy, Debug, PartialEq, Eq)]
+#[derive(Clone, Copy, PartialEq, Eq)]
 pub struct Taken {
     /// How many bytes.
     pub bytes: usize,
@@ -54,7 +54,7 @@ pub struct Taken {
 }
 
 /// What a `take` handled.
-#[derive(Clone, Copy, Debug, PartialEq, Eq)]
+#[derive(Clone, Copy, PartialEq, Eq)]
 pub enum Handled {
     /// No message.
     Nothing,
@@ -127,7 +127,7 @@ impl From<SendFault> for ReleaseFault {
 }
 
 /// How a connection is.
-#[derive(Clone, Copy, Debug, PartialEq, Eq)]
+#[derive(Clone, Copy, PartialEq, Eq)]
 pub struct Status {
     /// How it stands.
     pub phase: Phase,
@@ -146,7 +146,7 @@ pub struct Status {
 }
 
 /// What may concern every connection, if it changes: the moment, and what tells the store from those that it was before.
-#[derive(Clone, Copy, Debug, PartialEq, Eq)]
+#[derive(Clone, Copy, PartialEq, Eq)]
 pub(crate) struct Stamp {
     /// The moment, in seconds.
     pub moment: u64,
@@ -157,7 +157,7 @@ pub(crate) struct Stamp {
 }
 
 /// What is to be done on a connection.
-#[derive(Clone, Copy, Debug, PartialEq, Eq)]
+#[derive(Clone, Copy, PartialEq, Eq)]
 pub(crate) struct Outlook {
     /// Whether it takes bytes.
     pub takes: bool,
@@ -172,7 +172,7 @@ pub(crate) struct Outlook {
 }
 
 /// What was done to write what waits on a connection.
-#[derive(Clone, Copy, Debug)]
+#[derive(Clone, Copy)]
 pub(crate) struct Flushed {
     /// Whether anything waited.
     pub waited: bool,
@@ -186,7 +186,7 @@ pub(crate) struct Flushed {
 type Sessions = IndexMap<u64, Session>;
 
 /// A server with all its connections. One event is one call. Contracts see a `ServerValue`, and which world of events it shows.
-#[derive(Debug, Drop)]
+#[derive(Drop)]
 pub struct Server {
     alloc: Global,
     config: Config,

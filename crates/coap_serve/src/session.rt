@@ -18,7 +18,7 @@ use std::alloc::{AllocError, Global};
 use std::marker::Model;
 
 /// What was taken of a piece.
-#[derive(Clone, Copy, Debug)]
+#[derive(Clone, Copy)]
 pub(crate) struct Taking {
     /// How many bytes.
     pub count: usize,
@@ -44,7 +44,7 @@ impl Taking {
 }
 
 /// A connection: its framer, its link, and its observers. Contracts see a `SessionValue`.
-#[derive(Debug, Drop)]
+#[derive(Drop)]
 pub(crate) struct Session {
     framer: Framer,
     link: Link,

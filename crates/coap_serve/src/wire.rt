@@ -5,7 +5,7 @@ ghost use Rattle.coap_serve.specs.streams.Device.{AddsBytes};
 ghost use Rattle.coap_serve.specs.streams.Wires.{IsWithin, IsTold, bytes_passed};
 
 /// What a read or a write of a wire came to.
-#[derive(Clone, Copy, Debug, PartialEq, Eq)]
+#[derive(Clone, Copy, PartialEq, Eq)]
 pub enum Got {
     /// So many bytes, at least 1, were passed on.
     Bytes(usize),
@@ -58,7 +58,7 @@ pub trait Ready {
 }
 
 /// How long a door may wait.
-#[derive(Clone, Copy, Debug, PartialEq, Eq)]
+#[derive(Clone, Copy, PartialEq, Eq)]
 pub enum Wait {
     /// Not at all.
     No,

@@ -9,7 +9,7 @@ use std::io;
 use std::io::ErrorKind;
 
 /// Why an accept gave no connection.
-#[derive(Clone, Copy, Debug, PartialEq, Eq)]
+#[derive(Clone, Copy, PartialEq, Eq)]
 pub(crate) enum Refused {
     /// None waits.
     NoneThere,

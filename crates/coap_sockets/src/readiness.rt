@@ -15,7 +15,7 @@ use std::io::{Read, Write};
 ///
 /// The system tells of changes alone. So what it told holds until a call finds that the socket has nothing to give, or no room to take; and
 /// a call that passed on fewer bytes than it was asked for has found the same.
-#[derive(Clone, Copy, Debug, PartialEq, Eq)]
+#[derive(Clone, Copy, PartialEq, Eq)]
 pub struct Readiness {
     /// Whether a read may come to something else than that nothing is there.
     pub readable: bool,

@@ -14,7 +14,7 @@ use std::marker::Model;
 
 /// The dynamic resources in order of creation, and the bytes of `/.well-known/core`, which are kept ready. Contracts see the
 /// list of the resources.
-#[derive(Debug, Drop)]
+#[derive(Drop)]
 pub(crate) struct Catalogue {
     alloc: Global,
     resources: Resources,

@@ -75,7 +75,7 @@ fn bytes_of(segments: &[&[u8]]) -> ArrayVec<u8, MAX_BYTES>
 /// The path of a resource: at most 16 segments, at most 255 bytes with one more for each segment, no segment `.` or `..`,
 /// and not one empty segment alone (RFC 7252 sections 5.10.1, 6.4). No segment is the root. Contracts see the list of
 /// the segments, and equality is that of these lists.
-#[derive(Debug, Drop, PartialEq, Eq, Hash)]
+#[derive(Drop, PartialEq, Eq, Hash)]
 pub struct PathKey {
     /// Each segment behind its length.
     bytes: ArrayVec<u8, MAX_BYTES>,
@@ -150,7 +150,7 @@ impl PathKey {
 }
 
 /// The segments of a path, in order. Contracts see the list of those that are left.
-#[derive(Debug, Drop)]
+#[derive(Drop)]
 pub struct Segments<'a> {
     /// Each segment behind its length.
     rest: &'a [u8],

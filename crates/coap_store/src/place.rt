@@ -6,7 +6,7 @@ ghost use Rattle.coap_store.specs.State.{place_of as place_named};
 use crate::path::PathKey;
 
 /// Which resource a path names: one that is built in, or one that is stored or may be.
-#[derive(Clone, Copy, Debug, PartialEq, Eq)]
+#[derive(Clone, Copy, PartialEq, Eq)]
 pub enum Place {
     /// The root: a greeting.
     Root,

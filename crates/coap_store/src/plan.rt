@@ -9,7 +9,7 @@ use coap_wire::{Code, MessageRef};
 use std::marker::Model;
 
 /// The bytes of a representation: they lie elsewhere, or are a decimal number.
-#[derive(Debug, Drop)]
+#[derive(Drop)]
 pub enum Bytes<'s> {
     /// They lie in the store.
     Stored(&'s [u8]),
@@ -33,7 +33,7 @@ impl<'s> Bytes<'s> {
 }
 
 /// What a request changes.
-#[derive(Debug, Drop)]
+#[derive(Drop)]
 pub enum Change<'r> {
     /// Nothing.
     Nothing,
@@ -75,7 +75,7 @@ impl<'r> Change<'r> {
 }
 
 /// What a request changes, told by the request.
-#[derive(Clone, Copy, Debug)]
+#[derive(Clone, Copy)]
 pub(crate) enum Effect<'r> {
     /// Nothing.
     Nothing,
@@ -95,7 +95,7 @@ pub(crate) enum Effect<'r> {
 
 /// What a request asks of the observers of its path (RFC 7641 sections 2, 3.6, 4.1). Whoever keeps observers removes an entry
 /// with the request's token before that, whatever this says: a token names one request of its client.
-#[derive(Clone, Copy, Debug, PartialEq, Eq)]
+#[derive(Clone, Copy, PartialEq, Eq)]
 pub enum Watch {
     /// Nothing.
     Nothing,
@@ -110,7 +110,7 @@ pub enum Watch {
 /// observers, and for how long the response is held. It borrows the bytes of the store and of the request. Contracts see an
 /// `Answer`.
 // A plan is moved often, so its fields stand by size: no byte lies beside an empty place.
-#[derive(Debug, Drop)]
+#[derive(Drop)]
 pub struct Plan<'s, 'r> {
     etag: Option<ArrayVec<u8, 8>>,
     payload: Bytes<'s>,

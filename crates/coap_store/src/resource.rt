@@ -17,7 +17,7 @@ use std::alloc::{AllocError, Global};
 pub(crate) type Resources = IndexMap<PathKey, Resource>;
 
 /// What is stored at a path.
-#[derive(Debug, Drop)]
+#[derive(Drop)]
 pub(crate) struct Resource {
     /// The number of the representation among all that were stored.
     pub version: u64,

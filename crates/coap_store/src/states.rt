@@ -7,7 +7,7 @@ use crate::target::Found;
 use std::marker::Model;
 
 /// The state of a path at a moment. It borrows the bytes of the store.
-#[derive(Debug, Drop)]
+#[derive(Drop)]
 pub enum State<'s> {
     /// No resource is there.
     Absent,
@@ -16,7 +16,7 @@ pub enum State<'s> {
 }
 
 /// The representation that a path has at a moment. Contracts see a `Representation`.
-#[derive(Debug, Drop)]
+#[derive(Drop)]
 pub struct Present<'s> {
     found: Found<'s>,
 }

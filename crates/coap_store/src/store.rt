@@ -11,7 +11,7 @@ use std::marker::Model;
 
 /// The resources of a server: those that are built in, and at most so many dynamic ones, in order of creation, each with at
 /// most so many bytes. Contracts see a `StoreValue`.
-#[derive(Debug, Drop)]
+#[derive(Drop)]
 pub struct Store {
     dynamic_max: usize,
     rep_max: usize,

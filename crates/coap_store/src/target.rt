@@ -21,7 +21,7 @@ pub(crate) const TEXT_PLAIN: u16 = 0;
 pub(crate) const LINK_FORMAT: u16 = 40;
 
 /// The representation that a path has at a moment.
-#[derive(Debug, Drop)]
+#[derive(Drop)]
 pub(crate) struct Found<'s> {
     /// Its version, 0 where it is built in.
     pub version: u64,
@@ -32,7 +32,7 @@ pub(crate) struct Found<'s> {
 }
 
 /// What a request is about. Its path is the request's.
-#[derive(Debug, Drop)]
+#[derive(Drop)]
 pub(crate) struct Target<'s> {
     /// Whether the path is one of a resource.
     pub is_path: bool,

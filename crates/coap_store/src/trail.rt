@@ -6,7 +6,7 @@ ghost use Rattle.coap_store.specs.Trails.{first_trail};
 use crate::place::Place;
 
 /// Where the segments of a path so far lead: to a place, or on the way to one.
-#[derive(Clone, Copy, Debug, PartialEq, Eq)]
+#[derive(Clone, Copy, PartialEq, Eq)]
 pub(crate) enum Trail {
     /// No segment yet: the root.
     Root,

@@ -29,7 +29,7 @@ pub type Builder<'a> = MessageBuilder<'a, MAX_OPTIONS>;
 /// A message that is being built, of at most `N` options, or 40 where that is less. It borrows the options' values and the payload.
 /// Each new one clears the room of its options, so that a message of few options costs less where `N` is small. Contracts see the
 /// `Message`.
-#[derive(Debug, Drop)]
+#[derive(Drop)]
 pub struct MessageBuilder<'a, const N: usize> {
     token: Token,
     options: ArrayVec<OptionRef<'a>, N>,

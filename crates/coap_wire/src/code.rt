@@ -7,7 +7,7 @@ use std::marker::Model;
 
 /// A message's code: a class of 3 bits and a detail of 5 bits (RFC 7252 section 3, RFC 8323 section 3.2). Contracts
 /// see its byte, class * 32 + detail.
-#[derive(Clone, Copy, Debug, PartialEq, Eq)]
+#[derive(Clone, Copy, PartialEq, Eq)]
 pub struct Code {
     byte: u8,
 }

@@ -6,7 +6,7 @@ ghost use Rattle.coap_wire.specs.Recognition.{kind_of, once, repeated};
 use crate::option_numbers;
 
 /// What is known of the options with one number.
-#[derive(Clone, Copy, Debug, PartialEq, Eq)]
+#[derive(Clone, Copy, PartialEq, Eq)]
 pub struct OptionKind {
     /// The least length of the value in bytes (RFC 7252 section 5.4.3).
     pub min: u16,

@@ -16,7 +16,7 @@ use std::marker::Model;
 
 /// A message within the frame that spells it. Contracts see it as a `Message`: code, token, options and payload.
 // A message is moved where it is read, so its one small field stands last: no byte lies beside an empty place.
-#[derive(Debug, Drop)]
+#[derive(Drop)]
 pub struct MessageRef<'a> {
     token: Token,
     body: &'a [u8],

@@ -7,7 +7,7 @@ use std::marker::Model;
 pub(crate) const PAYLOAD_MARKER: u8 = 0xff;
 
 /// An option: its number, and its value within the bytes that it was read from or is written from.
-#[derive(Clone, Copy, Debug, Default)]
+#[derive(Clone, Copy, Default)]
 pub struct OptionRef<'a> {
     /// The option number, which says what the option means (RFC 7252 section 5.10).
     pub number: u16,
@@ -16,7 +16,7 @@ pub struct OptionRef<'a> {
 }
 
 /// The options of a message, in order of number. Contracts see the list of those that are left.
-#[derive(Debug, Drop)]
+#[derive(Drop)]
 pub struct Options<'a> {
     base: u16,
     rest: &'a [u8],

@@ -40,7 +40,7 @@ pub(crate) fn critical_of(options: Options) -> Option<u16>
 }
 
 /// The recognised options of a message, in order of number. Contracts see the list of those that are left.
-#[derive(Debug, Drop)]
+#[derive(Drop)]
 pub struct Known<'a> {
     before: Option<u16>,
     options: Options<'a>,

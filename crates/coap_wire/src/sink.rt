@@ -51,7 +51,7 @@ impl Sink for Vec<u8> {
 }
 
 /// A slice of fixed length, filled from its front.
-#[derive(Debug, Drop)]
+#[derive(Drop)]
 pub struct SliceSink<'a> {
     bytes: &'a mut [u8],
     filled: usize,

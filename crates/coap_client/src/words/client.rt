@@ -125,7 +125,7 @@ fn observe(matches: &ArgMatches<'_>) -> Result<Option<u32>, &'static str>
 }
 
 /// The values of all options but the last one whose text may mean nothing.
-#[derive(Clone, Copy, Debug)]
+#[derive(Clone, Copy)]
 pub(super) struct RequestValues {
     pub(super) method: Method,
     pub(super) content_format: Option<u16>,

@@ -15,7 +15,7 @@ use std::alloc::{AllocError, Global};
 use std::net::{IpAddr, Ipv4Addr};
 
 /// The values of all options but the two that choose a mode.
-#[derive(Clone, Copy, Debug)]
+#[derive(Clone, Copy)]
 pub(super) struct ServerValues {
     pub(super) address: IpAddr,
     pub(super) port: u16,
