@@ -192,7 +192,7 @@ def call_runs(rest, rows):
             refusals.append(len(calls))
         else:
             calls.append(spelled_row(row))
-    yield Run(settings(text), bytes_of(word), calls.pop(), calls=calls, refusals=refusals)
+    yield Run(settings(text), bytes_of(word), calls.pop(), calls=calls, refusals=refusals or None)
 
 
 def many_runs(rest, rows):
