@@ -9,13 +9,15 @@ bytes may be written as text and as messages in words (tests/spelling.py).
 
 --by-rattle plays them on the programs as Rattle's own compiler made them. --refuse refuses each allocation of each file in turn: the row
 that was struck must tell `memory`, all that only asks must tell what it told before, and the row is made again, from where all goes
-as the file says. A line `allocations: N` in the file is their number; where N is not a number, it says why they are not refused.
+as the file says; a refusal that no row tells must change nothing. A line `allocations: N` in the file is their number; where N is not a
+number, it says why they are not refused.
 The last line is 'N passed, M failed' over the rows, or over the refused allocations, and the status 0 where M is 0.
 """
 
 import importlib
 import os
 import pathlib
+import re
 import subprocess
 import sys
 import tempfile
@@ -25,8 +27,8 @@ from dataclasses import dataclass, field
 TESTS = pathlib.Path(__file__).resolve().parent
 ROWS = TESTS / "rows"
 
-# So many allocations, one behind the other, may be made up for.
-UNSEEN = 8
+# How a row tells that memory was refused.
+MEMORY = re.compile(r"\bmemory\b", re.IGNORECASE)
 
 
 @dataclass
@@ -66,12 +68,21 @@ def probe_of(file, ending=""):
     return f"{TESTS.parent}/crates/{crate}/out/{crate}{ending}"
 
 
+@dataclass
+class Ran:
+    """A run of a probe: its lines, whether it came to its end, and whether an allocation was refused."""
+
+    lines: list
+    ended: bool
+    refused: bool
+
+
 def run(probe, events, shim="", number=0):
-    """The lines that the probe writes for these events, or nothing where it could not begin."""
+    """Has the probe play these events, with the allocation of a number refused."""
     environment = {**os.environ, "LD_PRELOAD": shim, "REFUSE_ALLOCATION": str(number)} if number else None
     sent = "".join(event + "\n" for event in events).encode()
     ran = subprocess.run([probe], input=sent, env=environment, capture_output=True, timeout=600)
-    return None if ran.returncode else ran.stdout.decode().splitlines()
+    return Ran(ran.stdout.decode().splitlines(), ran.returncode == 0, ran.stderr.endswith(b"refused\n"))
 
 
 def differences(found, steps):
@@ -90,7 +101,7 @@ def differences(found, steps):
 def play(file, ending):
     """Plays a file, and returns how many rows it has and what is wrong."""
     steps = file.steps()
-    return len(steps), differences(run(probe_of(file, ending), [step.event for step in steps]) or [], steps)
+    return len(steps), differences(run(probe_of(file, ending), [step.event for step in steps]).lines, steps)
 
 
 def looks_of(file):
@@ -110,9 +121,9 @@ def struck_again(file, probe, steps, found, index, shim, number):
     asking = dict.fromkeys(it for it in events[opening:] if it.split(" ")[0] in looks_of(file))
     looks = list(asking) if index > opening else []
     step = steps[index]
-    again = again_of(file)(lambda more: run(probe, more, shim, number), events, index, found)
-    before = run(probe, events[:index] + looks)[index:]
-    lines = run(probe, events[: index + 1] + looks + [again] + events[index + 1 :], shim, number)
+    again = again_of(file)(lambda more: run(probe, more, shim, number).lines, events, index, found)
+    before = run(probe, events[:index] + looks).lines[index:]
+    lines = run(probe, events[: index + 1] + looks + [again] + events[index + 1 :], shim, number).lines
     after, rest = lines[index + 1 : index + 1 + len(looks)], lines[:index] + lines[index + 1 + len(looks) :]
     if again != events[index]:
         # what is made again is a part of the event, so that its line tells less, and what is kept is not as before
@@ -126,22 +137,22 @@ def struck_again(file, probe, steps, found, index, shim, number):
 
 def refuse_each(file, shim):
     """Refuses each allocation of a file's rows in turn, and returns their number and what is wrong."""
-    probe, steps, wrong, count, unseen = probe_of(file), file.steps(), [], 0, 0
+    probe, steps, wrong, count = probe_of(file), file.steps(), [], 0
     events = [step.event for step in steps]
+    usual = run(probe, events).lines
     # the first ones are the probe's own room, which is had before the first row
-    number = next(it for it in range(1, 100) if run(probe, [], shim, it) is not None)
+    first = next(it for it in range(1, 100) if run(probe, [], shim, it).ended)
     while True:
-        found = run(probe, events, shim, number)
-        index = next((at for at, line in enumerate(found) if "memory" in line.split()), None)
-        if index is None:
-            # one that is made up for is not told: behind the last one there is none that is
-            unseen, number = unseen + 1, number + 1
-            wrong += differences(found, steps)
-            if unseen > UNSEEN:
-                return count, wrong
-            continue
-        wrong += [f"allocation {count + 1}: {text}" for text in struck_again(file, probe, steps, found, index, shim, number)]
-        count, number, unseen = count + 1, number + 1, 0
+        ran = run(probe, events, shim, first + count)
+        if not ran.refused:
+            return count, wrong
+        index = next((at for at, (line, before) in enumerate(zip(ran.lines, usual)) if line != before), None)
+        # where every row tells what it tells with memory, the refusal was made up for
+        if index is not None:
+            found = struck_again(file, probe, steps, ran.lines, index, shim, first + count)
+            told = [] if MEMORY.search(ran.lines[index]) else [f"{events[index][:120]}: no memory is told: {ran.lines[index][:120]}"]
+            wrong += [f"allocation {count + 1}: {text}" for text in told + found]
+        count += 1
 
 
 def refuse(file, shim):

@@ -1,11 +1,11 @@
-//! A run of `serve_one` over devices that tell all: what its law says is then one of what they tell.
+//! Runs of `serve_one` over devices that tell all, where its law is one of what they tell, and over a slice and a vector.
 
 ghost use Rattle.std.specs.Prelude.{◌≡◌, ◌+◌, ◌<◌, ◌^◌, false, [], map, vec_items};
 ghost use Rattle.coap_serve.specs.streams.StdioRun.{IsStdioRun};
 
 use crate::devices::{Ledger, Pieces};
 use crate::settings::{configured, usual};
-use coap_serve::{Config, IoFault, Report, serve_one};
+use coap_serve::{Config, IoFault, Outlet, ReadSource, Report, Source, WriteOutlet, serve_one};
 use std::alloc::Global;
 use std::process::Abort;
 
@@ -58,6 +58,29 @@ fn serves_over_devices_that_tell_all(rt: HostRuntime) {
             })
         )
     );
+}
+
+#[test]
+fn serves_over_slices_and_vectors(rt: HostRuntime) {
+    let input: &[u8] = b"\x00\xe1\x02\xe2\x01\x02";
+    let mut source = ReadSource::new(input);
+    let mut written = Vec::new(rt.alloc());
+    let mut outlet = WriteOutlet::new(&mut written);
+    let config = configured(&rt, &usual());
+    assert!(&rt; config.starts().ids < u64::MAX);
+    let result = serve_one(rt.alloc(), &mut source, &mut outlet, &config);
+    assert!(&rt; !source.failed() && !outlet.failed());
+    assert!(&rt;
+        matches!(
+            result,
+            Ok(Report {
+                read: 6,
+                messages: 2,
+                ..
+            })
+        )
+    );
+    assert!(&rt; written.as_slice() == b"\x40\xe1\x23\x01\x00\x00\x02\xe3\x01\x02".as_slice());
 }
 
 #[test]
