@@ -41,7 +41,7 @@ def replay(file, steps, at):
     events = [step.event for step in steps]
     cuts = list(cuts_of(events[at]))
     sent = [event for cut in cuts for event in events[:at] + cut + events[at + 1 :]]
-    found = rows.run(rows.probe_of(file), sent) if cuts else []
+    found = rows.run(rows.probe_of(file), sent).lines if cuts else []
     size, wrong = len(events) + 1, []
     for number, cut in enumerate(cuts):
         told = wrong_of(steps, at, found[number * size : (number + 1) * size])

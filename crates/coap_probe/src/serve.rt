@@ -1,10 +1,13 @@
 //! Servers: `= serve` and the six limits of a connection, connections, resources, bytes of a representation, turns, and where the
 //! moment, the versions and the connections' numbers begin; and then the lines of a script, one a row, or some with `|` between them,
-//! whose lines are told so too. Where memory was refused, the lines before that are told, and the number of the event.
+//! whose lines are told so too. Where memory was refused, the lines before that are told, and the number of the event. Beside these
+//! lines `take CONNECTION BYTES` is one call, which tells the bytes that it took and what it handled.
 
 use crate::limits::{config_of, limits_of};
-use coap_serve::{Config, ReplayFault, ScriptFault, Server, WriteOutlet, script};
-use coap_told::Told;
+use coap_serve::{
+    Config, Handled, ReplayFault, ScriptFault, Server, TakeFault, WriteOutlet, script,
+};
+use coap_told::{Told, next_number, read_hex};
 use std::alloc::{AllocError, Global};
 
 /// The configuration that thirteen numbers name; none where one is out of its range.
@@ -32,6 +35,27 @@ fn put_for(bytes: &mut Vec<u8>, old: u8, new: u8) {
     }
 }
 
+/// Has a connection take bytes in one call, and tells how many it took and what it handled, or why it did not.
+fn take(server: &mut Server, text: &str, bytes: &mut Vec<u8>, told: &mut Told) {
+    let (id, digits) = next_number(text);
+    read_hex(digits, bytes);
+    match server.take(id as u64, bytes) {
+        Ok(taken) => {
+            told.number(taken.bytes as u64);
+            told.word(match taken.handled {
+                Handled::Nothing => "nothing",
+                Handled::Message => "message",
+                Handled::Stopped(_) => "stopped",
+            });
+        }
+        Err(TakeFault::NoSuch) => told.word("nosuch"),
+        Err(TakeFault::Memory { bytes }) => {
+            told.word("memory");
+            told.number(bytes as u64);
+        }
+    }
+}
+
 /// Replays the lines of a row, and tells the server's lines.
 pub(crate) fn play(
     alloc: Global,
@@ -40,6 +64,9 @@ pub(crate) fn play(
     bytes: &mut Vec<u8>,
     told: &mut Told,
 ) {
+    if let Some(text) = row.strip_prefix("take ") {
+        return take(server, text, bytes, told);
+    }
     bytes.clear();
     let _ = bytes.extend_from_slice(row.as_bytes());
     let _ = bytes.push(b'\n');
