@@ -21,5 +21,6 @@ def steps(opening, rows):
     for row in rows:
         event, _, wanted = row.partition(" => ")
         yield Step(opened(opening), "")
+        yield Step("look", "- Waiting 0", lambda line: " ".join(line.split()[:-1]))
         yield Step("take 00e1", "2 ready Open 0", lambda line: " ".join(line.split()[:-1]))
         yield Step(event_of(f"send {event}"), spelled(wanted), message)

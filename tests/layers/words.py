@@ -33,7 +33,7 @@ def told_as(wanted):
         words = line.split()
         if words[0] in METHODS:
             return f"{words[0]} {client_told(words)}"
-        if " (" in wanted or re.search(r" \d$", wanted):
+        if " (" in wanted or re.fullmatch(r"(asks|usage) \w+ \d", wanted):
             return line.strip()
         if words[0] == "fault":
             return re.sub(r"fault \d+ \((.*)\)", r"\1", line.strip())
