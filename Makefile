@@ -22,7 +22,7 @@ run:
 	@$(MAKE) --silent bin/coap-server
 	@python3 tests/show.py bin/coap-server
 
-# The gate: every proof, test, edit and program from nothing, and then what was built, from outside.
+# The gate: every proof, row, test and program from nothing, what was built, from outside, and a third of the edits.
 test:
 	tests/gate
 
@@ -34,7 +34,7 @@ edits:
 bench: bin/coap-server
 	bench/throughput; missed=$$?; bench/instructions && exit $$missed
 
-# UNPROVED: runs the program on the recorded stream before any proof, for work in progress.
+# UNPROVED: runs the program on the recorded stream before any proof, in up to a minute, for work in progress.
 try:
 	python3 tests/show.py --try
 
