@@ -37,9 +37,9 @@ import tempfile
 from concurrent.futures import FIRST_COMPLETED, ThreadPoolExecutor, wait
 from dataclasses import dataclass, field
 
-ROOT = os.path.dirname(os.path.dirname(os.path.abspath(__file__)))
+from rooms import PARTS, ROOT, crates, is_program, listed
+
 KIT = os.path.dirname(os.path.dirname(os.path.realpath(shutil.which("rt") or "/opt/rattle/bin/rt")))
-PARTS = ("src", "specs", "proofs")
 # How many rounds of a crate without kept work run in turn over its folder: behind two, nearly every function was once proved.
 IN_TURN = 2
 FUNCTION = re.compile(r"( *)(?:pub(?:\([a-z ]+\))? )?(?:const )?fn (\w+)")
@@ -49,26 +49,6 @@ VERDICT = re.compile(r"fn (\w+)::(.*?): (no proof|not proved)(.*)")
 
 class BadEdit(Exception):
     """Why an edit cannot be tried."""
-
-
-def listed():
-    """The crates of the repository with the libraries that each uses."""
-    found = {}
-    with open(f"{ROOT}/crates.txt", encoding="utf-8") as lines:
-        for line in lines:
-            name, _, uses = line.partition("#")[0].partition(":")
-            if name.strip():
-                found[name.strip()] = uses.split()
-    return found
-
-
-def crates():
-    """The crates of the repository with those below each, lowest first."""
-    found, below = listed(), {}
-    for name, uses in found.items():
-        own = [it for it in uses if it in found]
-        below[name] = [*dict.fromkeys(it for one in own for it in [*below[one], one])]
-    return below
 
 
 def words_of(text, parameters):
@@ -372,10 +352,6 @@ def judge(edits):
 
 def rlib(library):
     return f"{ROOT}/crates/{library}/out/rlib/{library}.rlib"
-
-
-def is_program(crate):
-    return os.path.exists(f"{ROOT}/crates/{crate}/src/main.rt")
 
 
 def files_of(crate):

@@ -9,26 +9,32 @@ import shutil
 ROOT = os.path.dirname(os.path.dirname(os.path.abspath(__file__)))
 
 
-def crates():
-    """The crates of the repository, each with those below it, lowest first."""
+# What a crate is made of.
+PARTS = ("src", "specs", "proofs")
+
+
+def listed():
+    """The crates of the repository with the libraries that each uses."""
     found = {}
     with open(f"{ROOT}/crates.txt", encoding="utf-8") as lines:
         for line in lines:
             name, _, uses = line.partition("#")[0].partition(":")
             if name.strip():
                 found[name.strip()] = uses.split()
-    below = {}
+    return found
 
-    def visit(name):
-        if name not in below:
-            own = [it for it in found[name] if it in found]
-            for it in own:
-                visit(it)
-            below[name] = [*dict.fromkeys(it for one in own for it in [*below[one], one])]
 
-    for name in found:
-        visit(name)
+def crates():
+    """The crates of the repository with those below each, lowest first."""
+    found, below = listed(), {}
+    for name, uses in found.items():
+        own = [it for it in uses if it in found]
+        below[name] = [*dict.fromkeys(it for one in own for it in [*below[one], one])]
     return below
+
+
+def is_program(crate):
+    return os.path.isfile(f"{ROOT}/crates/{crate}/src/main.rt")
 
 
 def linked(source, target):
@@ -46,7 +52,7 @@ def furnish(room, name, below, kept=True):
     for crate in crates():
         # rt reads the list of crates, and so wants the folder of each
         os.makedirs(f"{room}/crates/{crate}", exist_ok=True)
-        for part in ("src", "specs", "proofs"):
+        for part in PARTS:
             if os.path.isdir(f"{ROOT}/crates/{crate}/{part}"):
                 shutil.copytree(f"{ROOT}/crates/{crate}/{part}", f"{room}/crates/{crate}/{part}")
     for crate in below:
