@@ -40,9 +40,12 @@ def environment_of(said, shim):
 def played(program, shim, run):
     """Runs the program, and returns what its devices told, its status and what it said."""
     words = [word for name, value in run.said.items() if name in OPTIONS for word in (OPTIONS[name], str(value))]
-    with tempfile.TemporaryFile() as told:
+    # (from a file, since a read of a pipe may give less than there will be)
+    with tempfile.TemporaryFile() as told, tempfile.TemporaryFile() as sent:
+        sent.write(run.sent)
+        sent.seek(0)
         set_ = {**environment_of(run.said, shim), "DEVICES_TOLD": str(told.fileno())}
-        ran = subprocess.run([program, "--stdio", *words], input=run.sent, env=set_, capture_output=True, pass_fds=[told.fileno()], timeout=60)
+        ran = subprocess.run([program, "--stdio", *words], stdin=sent, env=set_, capture_output=True, pass_fds=[told.fileno()], timeout=60)
         told.seek(0)
         return told.read().decode(), ran.returncode, ran.stdout, ran.stderr.decode()
 
