@@ -12,8 +12,8 @@ import time
 ROOT = os.path.dirname(os.path.dirname(os.path.abspath(__file__)))
 sys.path.insert(0, f"{ROOT}/tests")
 from packages import install  # noqa: E402
-
-HOST = "127.0.0.1"
+from peers import LOCAL as HOST  # noqa: E402
+from peers import free_port  # noqa: E402
 
 # gencat comes with the headers of the C library, which the package gcc alone does not bring
 PACKAGES = {"cc": "gcc", "gencat": "libc6-dev"}
@@ -37,12 +37,6 @@ def prepare(packages):
 def ours(port):
     """The command of the program that is measured."""
     return [f"{ROOT}/bin/coap-server", "-A", HOST, "-p", str(port), "--connections", "256"]
-
-
-def free_port():
-    with socket.socket() as it:
-        it.bind((HOST, 0))
-        return it.getsockname()[1]
 
 
 class Server:

@@ -8,10 +8,8 @@ import tempfile
 import threading
 
 import messages
+from peers import LIMIT
 from program import CSM
-
-# Seconds for each wait of the tests.
-LIMIT = 15
 
 # tshark 4.0 takes the options of Capabilities and Settings for those of a request, where number 2 (here
 # Max-Message-Size) means nothing, and number 4 (here Block-Wise-Transfer, which libcoap 4.3 sends too) is never empty.

@@ -5,6 +5,7 @@
     tests/edits.py --all         all edits, and the control
     tests/edits.py [--all] CRATE ..  those of these crates
     tests/edits.py --control     the control alone
+    tests/edits.py --list [CRATE ..]  tries nothing: a line for each edit, with the function and the clause that refuse it, and its name
 
 An edit is a file tests/edits/CRATE/NAME.edit. Its first line says which clause refuses it and whether the gate tries it. Each of
 its parts has four lines:
@@ -137,7 +138,15 @@ class Edit:
     crate: str
     name: str
     layer: str = ""
+    refusal: str = ""
     parts: list = field(default_factory=list)
+
+    def row(self):
+        """The function whose clause refuses it, that clause, and the edit. Where no one function does, the first that is edited."""
+        clause, _, function = self.refusal.rpartition(" of ")
+        if not clause or " " in function:
+            clause, function = self.refusal, self.parts[0].function
+        return f"{self.crate} {function}", clause, f"{self.name} ({self.layer})"
 
     def functions(self):
         return {it.path() for it in self.parts}
@@ -162,7 +171,7 @@ def read_edit(crate, file):
         for number, line in enumerate(lines.read().splitlines()):
             word, colon, text = line.partition(":")
             if number == 0 and re.fullmatch(r"(gate|all): refused by \S.*|control: \S.*", line):
-                edit.layer = word
+                edit.layer, edit.refusal = word, text.removeprefix(" refused by ")
                 continue
             if not colon or word not in ("file", "in", "old", "new"):
                 raise BadEdit(f"{file}: not understood: {line}")
@@ -394,9 +403,13 @@ def wrong_in(control, verdicts):
 def main(words):
     below, is_all = crates(), "--all" in words
     names = [it for it in words if not it.startswith("--")]
-    unknown = [it for it in words if it not in below and it not in ("--all", "--control")]
+    unknown = [it for it in words if it not in below and it not in ("--all", "--control", "--list")]
     if unknown:
         raise SystemExit(f"no crate {unknown[0]}\n0 passed, 1 failed")
+    if "--list" in words:
+        rows = sorted(it.row() for it in edits_of(f"{ROOT}/tests/edits", names or below, ["gate", "all"]))
+        print("\n".join("  ".join(it) for it in rows))
+        return 0
     control = [] if names else edits_of(f"{ROOT}/tests/edits/control", below, ["control"])
     edits = edits_of(f"{ROOT}/tests/edits", names or below, ["gate", "all"] if is_all else ["gate"])
     if "--control" in words:

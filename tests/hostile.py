@@ -18,11 +18,9 @@ import threading
 import time
 
 import messages
-from capture import LIMIT
-from listening import first_line, free_port, listening
+from peers import LIMIT, LOCAL, Server, free_port, read_bytes, reset
 from program import ABORTS, CSM, GREETING, Checks
 
-HOST = "127.0.0.1"
 CONNECTIONS = 256
 EACH = 25
 
@@ -95,11 +93,6 @@ class Peer:
         with contextlib.suppress(OSError):
             self.connection.shutdown(socket.SHUT_WR)
 
-    def reset(self):
-        """Ends the connection at once, with what is under way."""
-        self.connection.setsockopt(socket.SOL_SOCKET, socket.SO_LINGER, struct.pack("ii", 1, 0))
-        self.connection.close()
-
     async def read(self, size):
         """So many bytes, or fewer at the connection's end."""
         told = b""
@@ -133,7 +126,7 @@ async def slow(peer, number, over):
 async def broken_off(peer, number, over):
     """A reset within a message."""
     await peer.send(PEER_SETTINGS + b"\xe1\x03\x6e" + bytes(number * 40))
-    peer.reset()
+    reset(peer.connection)
     return b"", b""
 
 
@@ -382,18 +375,9 @@ async def be_hostile(checks, address):
     print("the good client waited %.3f s at most" % slowest)
 
 
-def read_exactly(connection, size):
-    """So many bytes, or fewer at the connection's end or where nothing comes."""
-    told = b""
-    with contextlib.suppress(OSError):
-        while len(told) < size and (piece := connection.recv(size - len(told))):
-            told += piece
-    return told
-
-
 def told(connections, wanted):
     """How many of these connections are told this, up to the first that is not."""
-    return len(list(itertools.takewhile(lambda it: read_exactly(it, len(wanted)) == wanted, connections)))
+    return len(list(itertools.takewhile(lambda it: read_bytes(it, len(wanted)) == wanted, connections)))
 
 
 def greeted(connections):
@@ -425,54 +409,45 @@ def check_room(checks, stack, address):
     checks.same("one too many waits", select.select([late], [], [], 0)[0], [])
     taken.pop().close()
     late.sendall(PEER_SETTINGS + GET_ROOT)
-    checks.same("it is served as one leaves", read_exactly(late, len(OWN_SETTINGS + ROOT)), OWN_SETTINGS + ROOT)
+    checks.same("it is served as one leaves", read_bytes(late, len(OWN_SETTINGS + ROOT)), OWN_SETTINGS + ROOT)
 
 
-def processor_time(process):
-    """The seconds of processor time that a process has used."""
-    with open("/proc/%d/stat" % process.pid) as file:
-        fields = file.read().rpartition(")")[2].split()
-    return (int(fields[11]) + int(fields[12])) / os.sysconf("SC_CLK_TCK")
-
-
-def check_idle(checks, process, address):
+def check_idle(checks, server, address):
     """That a server costs next to nothing while nobody says anything."""
     with contextlib.ExitStack() as stack:
         silent = [connect(stack, address) for _ in range(SILENT)]
         checks.same("silent connections", greeted(silent), SILENT)
-        before = processor_time(process)
+        before = server.processor_time()
         time.sleep(IDLE)
-        used = processor_time(process) - before
+        used = server.processor_time() - before
     checks.same("processor time of %d idle seconds" % IDLE, used if used >= IDLE_COSTS else 0, 0)
 
 
-def check_attacked(checks, server, port, stack):
+def check_attacked(checks, program, port, stack):
     """A server that is attacked, asked for all its room, and killed while that is taken."""
-    address = (HOST, port)
-    with listening(server, HOST, port, WORDS) as process:
-        checks.same("it listens", first_line(process), LISTENS % address)
-        asyncio.run(be_hostile(checks, address))
-        check_room(checks, stack, address)
-        checks.same("it still runs", process.poll(), None)
+    with Server(program, WORDS, port=port) as server:
+        checks.same("it listens", server.said, LISTENS % (LOCAL, port))
+        asyncio.run(be_hostile(checks, (LOCAL, port)))
+        check_room(checks, stack, (LOCAL, port))
+        checks.same("it still runs", server.process.poll(), None)
 
 
-def check_again(checks, server, port):
+def check_again(checks, program, port):
     """The server that is started at the same port at once."""
-    address = (HOST, port)
-    with listening(server, HOST, port, WORDS) as process:
-        checks.same("it listens again", first_line(process), LISTENS % address)
-        with socket.create_connection(address, LIMIT) as connection:
+    with Server(program, WORDS, port=port) as server:
+        checks.same("it listens again", server.said, LISTENS % (LOCAL, port))
+        with server.connect() as connection:
             connection.sendall(PEER_SETTINGS + GET_ROOT)
-            checks.same("it serves again", read_exactly(connection, len(OWN_SETTINGS + ROOT)), OWN_SETTINGS + ROOT)
-        check_idle(checks, process, address)
+            checks.same("it serves again", read_bytes(connection, len(OWN_SETTINGS + ROOT)), OWN_SETTINGS + ROOT)
+        check_idle(checks, server, (LOCAL, port))
 
 
-def check_all(checks, server):
+def check_all(checks, program):
     """The attack, and what is left behind it. The connections to the server that is killed stay open until the end."""
-    port = free_port(HOST)
+    port = free_port()
     with contextlib.ExitStack() as stack:
-        check_attacked(checks, server, port, stack)
-        check_again(checks, server, port)
+        check_attacked(checks, program, port, stack)
+        check_again(checks, program, port)
 
 
 def main(words):

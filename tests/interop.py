@@ -10,17 +10,15 @@ import collections
 import os
 import random
 import re
-import socket
 import struct
 import subprocess
 import sys
 import tempfile
-import time
 
 import messages
-from capture import LIMIT, decode, faults, of_side
-from listening import authority, first_line, free_port, listening, takes_connections
+from capture import decode, faults, of_side
 from packages import install
+from peers import LIMIT, Server
 from program import Checks
 from relay import Relay
 
@@ -36,6 +34,7 @@ OUR_RESOURCES = [
     ("/", rb"coap\+tcp"),
     ("/time", rb"[1-9][0-9]{9}"),
     ("/async?0", rb"done"),
+    ("/async?1", rb"done"),
     ("/.well-known/core", re.escape(b"</>;ct=0,</time>;ct=0;obs,</async>;ct=0")),
 ]
 
@@ -72,10 +71,10 @@ WAITS = ["-B", "5"]
 Told = collections.namedtuple("Told", "status output error")
 
 
-def finish(process, stdin=None):
+def finish(process):
     """What a client tells until it ends."""
     try:
-        output, error = process.communicate(stdin, LIMIT)
+        output, error = process.communicate(timeout=LIMIT)
         return Told(process.returncode, output, error.decode(errors="replace"))
     except subprocess.TimeoutExpired:
         process.kill()
@@ -83,9 +82,9 @@ def finish(process, stdin=None):
         return Told("no end within %d s" % LIMIT, output, error.decode(errors="replace"))
 
 
-def start(client, words, uri, stdin=subprocess.DEVNULL):
+def start(client, words, uri):
     """Runs a client."""
-    return subprocess.Popen([client, *words, uri], stdin=stdin, stdout=subprocess.PIPE, stderr=subprocess.PIPE)
+    return subprocess.Popen([client, *words, uri], stdin=subprocess.DEVNULL, stdout=subprocess.PIPE, stderr=subprocess.PIPE)
 
 
 def like(pattern, output):
@@ -123,31 +122,29 @@ class Ends:
     declined = 2
     waits_for_the_end = True
 
-    def __init__(self, checks, name, client, host, port):
+    def __init__(self, checks, name, client, server):
         self.checks = checks
         self.name = name
         self.client = client
-        self.host = host
-        self.port = port
+        self.server = server
         self.conversations = []
 
     def relay(self, name):
         """A relay for one client, and its conversation under a name."""
-        relay = Relay(self.host, self.port)
+        relay = Relay(self.server.host, self.server.port)
         self.conversations.append((name, relay.conversation))
         return relay
 
-    def run(self, name, words, path, stdin=None):
+    def run(self, name, words, path):
         """Runs the client once: what it tells, and the conversation."""
         with self.relay(name) as relay:
-            source = subprocess.DEVNULL if stdin is None else subprocess.PIPE
-            told = finish(start(self.client, WAITS + words, relay.origin + path, source), stdin)
+            told = finish(start(self.client, WAITS + words, relay.origin + path))
         return told, relay.conversation
 
-    def expect(self, words, path, code, pattern, stdin=None):
+    def expect(self, words, path, code, pattern):
         """Runs the client once, checks what it tells and the code that the server sends, and gives the conversation."""
         name = " ".join([self.name + ":", *words, path])
-        told, conversation = self.run(name, words, path, stdin)
+        told, conversation = self.run(name, words, path)
         pattern += self.ending if pattern else b""
         is_error = code >= NOT_FOUND
         wanted = (self.declined if is_error else 0, pattern, code_text(code) if is_error else "")
@@ -173,16 +170,6 @@ def check_resources(ends, resources):
     for path, pattern in resources:
         ends.expect([], path, CONTENT, pattern)
     ends.expect([], "/none", NOT_FOUND, b"")
-
-
-def check_moment(ends):
-    """That our server's moment is that of the system."""
-    name = ends.name + ": the moment"
-    before = int(time.time())
-    told, _ = ends.run(name, [], "/time")
-    after = int(time.time())
-    moment = told.output.decode(errors="replace").strip()
-    ends.checks.same(name, moment in [str(it) for it in range(before, after + 1)] or moment, True)
 
 
 def check_stored(ends):
@@ -273,47 +260,6 @@ def check_rising(ends, name, moments):
     ends.checks.same(name + ": one behind the other", moments, sorted(moments))
 
 
-def check_files(ends):
-    """What our client reads and writes beside its standard output."""
-    ends.expect(["-m", "put", "-f", "-"], "/input", CREATED, b"", b"from standard input")
-    ends.expect([], "/input", CONTENT, b"from standard input")
-    ends.expect(["-w"], "/input", CONTENT, b"from standard input\n")
-    with tempfile.TemporaryDirectory() as folder:
-        name = os.path.join(folder, "output")
-        ends.expect(["-o", name], "/input", CONTENT, b"")
-        ends.checks.same(ends.name + ": -o FILE", content_of(name), b"from standard input")
-    ends.expect(["-o", "-"], "/input", CONTENT, b"from standard input")
-
-
-def check_nobody(ends):
-    """That our client tells where nobody listens."""
-    with socket.socket() as bound:
-        bound.bind(("127.0.0.1", 0))
-        told = finish(start(ends.client, WAITS, "coap+tcp://" + authority(*bound.getsockname())))
-    ends.checks.same(ends.name + ": nobody listens", told, Told(3, b"", "coap-client: cannot connect\n"))
-
-
-def meet(ends, words, closes):
-    """Lets our client connect to a server that says nothing, or closes at once: what the client tells, and its seconds."""
-    with socket.create_server(("127.0.0.1", 0)) as listener:
-        listener.settimeout(LIMIT)
-        began = time.monotonic()
-        process = start(ends.client, words, "coap+tcp://" + authority(*listener.getsockname()))
-        connection, _ = listener.accept()
-        with connection:
-            if closes:
-                connection.close()
-            return finish(process), time.monotonic() - began
-
-
-def check_bad_servers(ends):
-    """What our client tells of a server that says nothing, and of one that closes at once."""
-    told, seconds = meet(ends, ["-B", "1"], False)
-    ends.checks.same(ends.name + ": a silent server", (told, seconds < 2 or seconds), (Told(4, b"", ""), True))
-    told, _ = meet(ends, WAITS, True)
-    ends.checks.same(ends.name + ": a server that closes", told, Told(3, b"", "stopped 11\n"))
-
-
 def check_read(checks, conversations):
     """That tshark reads every message of both sides, with no remark."""
     sent = [conversation.messages() for _, conversation in conversations]
@@ -326,28 +272,23 @@ def check_read(checks, conversations):
         checks.same(name + ": what tshark remarks", faults(rows), [])
 
 
-def check_our_server(checks, server):
+def check_our_server(checks, program):
     """libcoap's client against our server: all that was said."""
-    port = free_port("127.0.0.1")
-    ends = LibcoapAsks(checks, "libcoap's client, our server", "coap-client-notls", "127.0.0.1", port)
-    with listening(server, "127.0.0.1", port, ["-d", "16"]) as process:
-        checks.same("our server listens", first_line(process), "coap-server: listening on 127.0.0.1:%d\n" % port)
+    with Server(program, ["-d", "16"]) as server:
+        ends = LibcoapAsks(checks, "libcoap's client, our server", "coap-client-notls", server)
         check_resources(ends, OUR_RESOURCES)
-        check_moment(ends)
         check_stored(ends)
         check_body(ends)
         check_states(ends)
         check_rising(ends, *check_time(ends, LIBCOAP_WATCHES_TIME))
-        checks.same("our server still runs", process.poll(), None)
+        checks.same("our server still runs", server.process.poll(), None)
     return ends.conversations
 
 
-def check_our_server_at_6(checks, server):
+def check_our_server_at_6(checks, program):
     """The same over IPv6, as far as that matters."""
-    port = free_port("::1")
-    ends = LibcoapAsks(checks, "libcoap's client, our server, IPv6", "coap-client-notls", "::1", port)
-    with listening(server, "::1", port, ["-d", "16"]) as process:
-        checks.same("our server listens, IPv6", first_line(process), "coap-server: listening on [::1]:%d\n" % port)
+    with Server(program, ["-d", "16"], "::1") as server:
+        ends = LibcoapAsks(checks, "libcoap's client, our server, IPv6", "coap-client-notls", server)
         check_resources(ends, OUR_RESOURCES)
         check_stored(ends)
     return ends.conversations
@@ -355,27 +296,22 @@ def check_our_server_at_6(checks, server):
 
 def check_our_client(checks, client):
     """Our client against libcoap's server: all that was said."""
-    port = free_port("127.0.0.1")
-    ends = Ends(checks, "our client, libcoap's server", client, "127.0.0.1", port)
-    with listening("coap-server-notls", "127.0.0.1", port, ["-d", "16"], subprocess.DEVNULL):
-        checks.same("libcoap's server listens", takes_connections(("127.0.0.1", port)), True)
+    with Server("coap-server-notls", ["-d", "16"], says=False) as server:
+        checks.same("libcoap's server listens", server.accepts(), True)
+        ends = Ends(checks, "our client, libcoap's server", client, server)
         check_resources(ends, LIBCOAP_RESOURCES)
         check_stored(ends)
         check_body(ends)
-        check_files(ends)
         check_states(ends)
         check_time(ends, WE_WATCH_TIME)
-    check_nobody(ends)
-    check_bad_servers(ends)
     return ends.conversations
 
 
 def check_our_client_at_6(checks, client):
     """The same over IPv6, as far as that matters."""
-    port = free_port("::1")
-    ends = Ends(checks, "our client, libcoap's server, IPv6", client, "::1", port)
-    with listening("coap-server-notls", "::1", port, ["-d", "16"], subprocess.DEVNULL):
-        checks.same("libcoap's server listens, IPv6", takes_connections(("::1", port)), True)
+    with Server("coap-server-notls", ["-d", "16"], "::1", says=False) as server:
+        checks.same("libcoap's server listens, IPv6", server.accepts(), True)
+        ends = Ends(checks, "our client, libcoap's server, IPv6", client, server)
         check_resources(ends, LIBCOAP_RESOURCES)
         check_stored(ends)
     return ends.conversations

@@ -12,8 +12,9 @@ import struct
 import subprocess
 import sys
 
-from capture import LIMIT, Conversation, decode, faults, messages_of, of_side
+from capture import Conversation, decode, faults, messages_of, of_side
 from packages import install
+from peers import LIMIT, LOCAL
 from program import Checks
 
 PACKAGES = {"coap-client-notls": "libcoap3-bin", "tshark": "tshark"}
@@ -67,7 +68,7 @@ def ask(port, method, path, payload):
     command = ["coap-client-notls", "-m", method, "-B", str(CLIENT_WAITS)]
     if payload:
         command += ["-e", payload]
-    done = subprocess.run(command + ["coap+tcp://127.0.0.1:%d%s" % (port, path)], stdin=subprocess.DEVNULL,
+    done = subprocess.run(command + ["coap+tcp://%s:%d%s" % (LOCAL, port, path)], stdin=subprocess.DEVNULL,
                           capture_output=True, encoding="utf-8", errors="replace", timeout=LIMIT)
     return done.returncode, done.stdout.rstrip("\n"), " ".join(done.stderr.split()[:1])
 
@@ -75,7 +76,7 @@ def ask(port, method, path, payload):
 def talk(program, case):
     """One case: what the client tells, the program's status, and what both sent."""
     conversation = Conversation()
-    with socket.create_server(("127.0.0.1", 0)) as listener, concurrent.futures.ThreadPoolExecutor(1) as pool:
+    with socket.create_server((LOCAL, 0)) as listener, concurrent.futures.ThreadPoolExecutor(1) as pool:
         listener.settimeout(LIMIT)
         status = pool.submit(serve, listener, program, conversation)
         told = ask(listener.getsockname()[1], *case[:3])

@@ -17,6 +17,7 @@ import tempfile
 import textwrap
 
 from packages import install
+from peers import Server
 from program import ROOT, Checks
 
 PACKAGES = {"mandoc": "mandoc"}
@@ -282,29 +283,13 @@ def check_examples(checks, manual, programs):
                     checks.same("%s: what %r writes" % (manual.name, command), (status, output.rstrip()), (0, shown.rstrip()))
 
 
-@contextlib.contextmanager
-def listening(server):
-    """The port of a server on this machine that stores what it is sent."""
-    with closed_port() as port:
-        pass
-    words = [server, "-A", "127.0.0.1", "-p", str(port), "-d", "100"]
-    ran = subprocess.Popen(words, stdin=subprocess.DEVNULL, stderr=subprocess.PIPE)
-    try:
-        # it has said that it listens, or why it ends
-        ran.stderr.readline()
-        yield port
-    finally:
-        ran.terminate()
-        ran.communicate(timeout=LIMIT)
-
-
 def check_answered(checks, manual, server, programs):
     """That the client's examples end well with a server that answers, where they name its port."""
-    with listening(server) as port, tempfile.TemporaryDirectory() as folder:
+    with Server(server, ["-d", "100"]) as listening, tempfile.TemporaryDirectory() as folder:
         for command, _ in (example for block in manual.examples() for example in block):
-            there = re.sub(r"//(127\.0\.0\.1|\[::1\]:5700)/", "//127.0.0.1:%d/" % port, command)
+            there = re.sub(r"//(127\.0\.0\.1|\[::1\]:5700)/", "//127.0.0.1:%d/" % listening.port, command)
             status, _, error = play(there, folder, programs, ANSWERED_LASTS)
-            checks.same("%s: %r is answered" % (manual.name, command), (str(port) in there, status, error), (True, 0, ""))
+            checks.same("%s: %r is answered" % (manual.name, command), (str(listening.port) in there, status, error), (True, 0, ""))
 
 
 @contextlib.contextmanager

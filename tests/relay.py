@@ -4,8 +4,8 @@ import contextlib
 import socket
 import threading
 
-from capture import LIMIT, Conversation
-from listening import authority, family_of
+from capture import Conversation
+from peers import LIMIT, authority, family_of
 
 
 class Relay:

@@ -1,0 +1,83 @@
+"""Counts what a GET, a PUT and a tick cost a server that has many connections, observers or resources.
+
+They are events of a script. From what 1,000 of them cost is taken what 1,000 lines cost that do nothing: the same bytes for a
+connection that is not there, and ticks that leave the moment. So neither reading a line nor starting the program counts.
+"""
+
+import collections
+
+import pictures
+from counting import counted_alone
+from servers import ROOT
+
+TIMES = 1000
+
+# the program, with as many connections, resources and observers as it can have
+COMMAND = [f"{ROOT}/bin/coap-server", "--connections", "256", "-d", "1000", "--script", "-"]
+
+# how many other connections are open, how many observers of another resource they have in all, and how many resources are stored
+Setting = collections.namedtuple("Setting", ["connections", "observers", "resources"])
+
+# the three rows of settings: what changes, and the settings
+ROWS = [
+    ("other connections", "connections", [Setting(it, 0, 1) for it in (0, 16, 64, 128, 255)]),
+    ("observers, beside 255 other connections", "observers", [Setting(255, it, 1) for it in (0, 255, 1020, 2040, 4080)]),
+    ("resources", "resources", [Setting(0, 0, it) for it in (1, 10, 100, 300, 998)]),
+]
+
+# the resource that observers observe, and the one that is asked for and changed
+SEEN, ASKED = b"seen", b"0000"
+
+CSM = "00e1"
+
+
+def request(code, token, options, payload=b""):
+    """A request with options and payload that fit into 12 bytes, in hexadecimal."""
+    body = options + (b"\xff" + payload if payload else b"")
+    return (bytes([len(body) << 4 | len(token), code]) + token + body).hex()
+
+
+GET = request(0x01, b"\x01", b"\xb4" + ASKED)
+PUT = request(0x03, b"\x02", b"\xb4" + ASKED, b"yz")
+
+
+def observation(number):
+    """A GET that registers an observer, with this number as token."""
+    return request(0x01, number.to_bytes(2, "big"), b"\x60\x54" + SEEN)
+
+
+def before(setting):
+    """The lines that make a setting; the last connection is the one that asks."""
+    lines = [f"put /{SEEN.decode()} - 78", *(f"put /{it:04} - 78" for it in range(setting.resources))]
+    lines += ["open"] * (setting.connections + 1)
+    lines += [f"in {it} {CSM}" for it in range(1, setting.connections + 2)]
+    return lines + [f"in {1 + it % setting.connections} {observation(it)}" for it in range(setting.observers)]
+
+
+def kinds(setting):
+    """Each kind of event: its lines, and those that do nothing."""
+    asking, absent = setting.connections + 1, 999
+    for sent in (GET, PUT):
+        yield [f"in {asking} {sent}"] * TIMES, [f"in {absent} {sent}"] * TIMES
+    yield [f"tick {it}" for it in range(1, TIMES + 1)], ["tick 0"] * TIMES
+
+
+def costs(setting):
+    """The instructions of an event of each kind."""
+    for lines, idle in kinds(setting):
+        spent, nothing = (counted_alone(COMMAND, "\n".join([*before(setting), *it, ""]).encode()) for it in (lines, idle))
+        yield round((spent - nothing) / TIMES)
+
+
+def over_settings():
+    """Tells the tables, keeps them and draws them, and tells whether they are drawn."""
+    tables = []
+    for title, changed, settings in ROWS:
+        print(f"\n| {title} | GET | PUT | tick |\n|---|---|---|---|")
+        rows = []
+        for setting in settings:
+            rows.append([getattr(setting, changed), *costs(setting)])
+            print("| %s |" % " | ".join(f"{it:,}" for it in rows[-1]), flush=True)
+        tables.append(pictures.table(title, [changed, "GET", "PUT", "tick"], rows))
+    pictures.keep("instructions", tables)
+    return pictures.draw("instructions")
