@@ -1,5 +1,6 @@
 # Proves, builds, runs, tests and measures. Needs Rattle's toolchain (`rt`) and Python 3; `make test` also installs Debian's
-# gcc, libc6-dev, libcoap3-bin, mandoc, tshark and valgrind where they are missing, and `make bench` all of these but mandoc and tshark.
+# gcc, libc6-dev, libcoap3-bin, mandoc, tshark and valgrind where they are missing, and `make bench` gcc, gnuplot-nox, libc6-dev,
+# libcoap3-bin and valgrind.
 
 .PHONY: all run test edits bench try install uninstall clean
 
@@ -30,7 +31,8 @@ test:
 edits:
 	tests/edits.py --all $(CRATES)
 
-# Measures the server beside libcoap's, and then counts instructions and memory. It fails where either misses a target.
+# Measures the server beside libcoap's, and then counts instructions and memory; draws both anew in docs/pictures. It fails where
+# either misses a target.
 bench: bin/coap-server
 	bench/throughput; missed=$$?; bench/instructions && exit $$missed
 

@@ -19,9 +19,11 @@ set style line 2 lc rgb "#c0392b" lw 2 pt 5 ps 0.7
 set style line 3 lc rgb "#888888" lw 2 pt 9 ps 0.7 dt 2
 
 set title "One connection"
+set xrange [0.9:150]
 set xlabel "outstanding requests"
 plot for [it=2:4] data index 0 using 1:it with linespoints ls it - 1 title columnheader(it)
 
 set title "16 outstanding requests on each connection"
+set xrange [0.9:280]
 set xlabel "connections"
 plot for [it=2:4] data index 1 using 1:it with linespoints ls it - 1 title columnheader(it)

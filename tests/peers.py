@@ -4,7 +4,6 @@ import contextlib
 import os
 import resource
 import select
-import signal
 import socket
 import struct
 import subprocess
@@ -77,20 +76,17 @@ class Server:
             fields = file.read().rpartition(")")[2].split()
         return (int(fields[11]) + int(fields[12])) / os.sysconf("SC_CLK_TCK")
 
-    def end(self, how=signal.SIGTERM):
-        """Ends it by a signal, and tells where it had ended by itself."""
-        if self.process.poll() is not None:
-            said = self.process.stderr.read().decode(errors="replace")
-            print("The server ended by itself, with status %d." % self.process.returncode, said)
-        self.process.send_signal(how)
-        self.process.wait(LIMIT)
-        self.process.stderr.close()
-
     def __enter__(self):
         return self
 
     def __exit__(self, *_):
-        self.end()
+        """Kills it, and tells where it had ended by itself."""
+        has_ended = self.process.poll() is not None
+        self.process.kill()
+        self.process.wait(LIMIT)
+        with self.process.stderr as said:
+            if has_ended:
+                print("The server ended by itself, with status %d." % self.process.returncode, said.read().decode(errors="replace"))
 
 
 def read_bytes(peer, count):

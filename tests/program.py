@@ -49,14 +49,8 @@ ABORTS = {
 GREETING = "c0ff636f61702b746370"
 
 STREAMS = [
-    # what the peer sends, and what it gets behind the own Capabilities and Settings
-    ("", ""),
-    ("00e102e20102", "02e30102"),
-    ("000000e111e20720", "11e30720"),
+    # what the peer sends, and what it gets behind our Capabilities and Settings; tests/stdio.py plays the rows of such runs
     ("00e1" "0000" "11e20720", "11e30720"),
-    ("09", ABORTS["bad token length"]),
-    ("00e1010101", "a14501" + GREETING),
-    ("00e100", ""),
     ("70e123100000202108" "00e2", "00e3"),
     ("f0ffffffff01" "00e1" "00e2", ABORTS["message too large"]),
     # the resources: the moment, the listing, an absent one; nothing can be stored, and what is held at the end is given up
@@ -76,17 +70,13 @@ STREAMS = [
     ("00e1" "e0feef01" + "00" * 65532 + "01e203", "a045" + GREETING + "01e303"),
     ("00e1" "e0fef001", ABORTS["message too large"]),
     # stops, each with more bytes behind it
-    ("01010100e1", ABORTS["CSM expected"]),
     ("00e1" "1001ff" "00e2", ABORTS["bad message"]),
-    ("00e1" "0020" "00e2", ABORTS["reserved code"]),
     ("00e1" "10e210" "00e2", ABORTS["bad signal option"]),
     ("10e110" "00e2", ABORTS["bad CSM option 1"]),
     ("60e1250000000001" "00e2", ABORTS["bad CSM option 2"]),
-    ("00e1" "00e5" "00e2", ""),
     ("00e1" "00e2" "00e4" "00e2", "00e3"),
     # the peer takes few bytes, and less from one message on to the next
     ("20e12103" "11e20620" "010107", "01e306" "01a007"),
-    ("20e12104" "10e110", "20e52101"),
     ("20e12114" "20e12102" "0001" "010107" "0001", "00a0"),
 ]
 
@@ -187,7 +177,7 @@ CLIENT_HELP = (
     + ["-U", "-w", "-h, --help", "-V, --version"],
 )
 
-# the words before --stdio, what is sent, and what is answered behind the own Capabilities and Settings
+# the words before --stdio, what is sent, and what is answered behind our Capabilities and Settings
 STDIO_WORDS = [
     (["--max-message", "1152"], "00e1", "30e1220480", ""),
     (["-d", "1"], "00e1410301b161ff78210102b161", CSM, "0141014145024101ff78"),

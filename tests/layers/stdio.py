@@ -5,7 +5,7 @@
     SETTINGS => WRITTEN ANSWER [reads N] [writes N]
                           further settings or `as-it-is`; what was written, why the run ended, or `Err(Fault)`; `writes` took a byte each.
                           `each-write` has writes of one byte, each of which fails in turn, and then none
-    = messages            BYTES => WRITTEN ANSWER: what comes in, and what is written behind the own Capabilities and Settings, by
+    = messages            BYTES => WRITTEN ANSWER: what comes in, and what is written behind our Capabilities and Settings, by
                           reads and writes of one byte, of two and of all, and with every cut and pair of cuts. `read` is how many
                           bytes there are up to the stop or the end
     = talk SETTINGS       BYTES => BYTES: messages that come in one behind the other in one run, and what each is answered, by reads and
