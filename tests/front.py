@@ -68,8 +68,8 @@ PEER_SETTINGS = bytes.fromhex("00e1")
 
 BODY = random.Random(5684).randbytes(60_000)
 
-# A peer: its address, the protocols that it offers, and its TLS where it insists.
-Kind = collections.namedtuple("Kind", ["source", "protocols", "tls"], defaults=[HOST, ("coap",), None])
+# A peer: its address, the protocols that it offers, and where it insists, its TLS, its only cipher and its certificate.
+Kind = collections.namedtuple("Kind", ["source", "protocols", "tls", "cipher", "certificate"], defaults=[HOST, ("coap",), None, "DEFAULT", None])
 
 
 def spelled(code, token, path="", observes=False, payload=b""):
@@ -87,9 +87,11 @@ def context(folder, kind):
     it = ssl.create_default_context(cafile=os.path.join(folder, "authority.pem"))
     if kind.protocols:
         it.set_alpn_protocols(list(kind.protocols))
+    if kind.certificate:
+        it.load_cert_chain(*(os.path.join(folder, name) for name in kind.certificate))
     if kind.tls:
-        # the system may not let its own programs speak old versions; this peer is to try
-        it.set_ciphers("DEFAULT:@SECLEVEL=0")
+        # the system may not let its own programs speak what is old or short; this peer is to try
+        it.set_ciphers(kind.cipher + ":@SECLEVEL=0")
         with warnings.catch_warnings():
             warnings.simplefilter("ignore", DeprecationWarning)
             it.minimum_version = it.maximum_version = kind.tls
@@ -163,20 +165,8 @@ class Front:
     def __init__(self, server, folder, names, words, places):
         self.server, self.folder, self.words = server, folder, words
         self.port, self.ports = free_port(HOST), {name: free_port(HOST) for name in names}
-        self.places = self.own_places() + places
+        self.places = places_for(folder, self.port, self.ports) + [("/etc/haproxy/coap.pem", "%s/server.pem" % folder)] + places
         self.stack, self.running, self.processes = contextlib.ExitStack(), {}, {}
-
-    def own_places(self):
-        """What each configuration of a test has in place of the file's."""
-        places = ANY_USER + [
-            ("stats socket /run/haproxy/admin.sock mode 660", "stats socket %s/admin" % self.folder),
-            ("bind :::5684 v4v6", "bind %s:%d" % (HOST, self.port)),
-            ("/etc/haproxy/coap.pem", "%s/server.pem" % self.folder),
-        ]
-        for name, port in SERVERS.items():
-            line = "    server %s %s:%d\n" % (name, HOST, port)
-            places.append((line, line.replace(str(port), str(self.ports[name])) if name in self.ports else ""))
-        return places
 
     def start(self, name):
         """Starts a server, with its name stored at /who."""
@@ -278,6 +268,18 @@ class Front:
             return repr(trouble), time.monotonic() - began
         answered = told[0] and told[1] and told[1][:2] == (CONTENT, b"q")
         return told[1][2].decode() if answered else repr(told), time.monotonic() - began
+
+
+def places_for(folder, port, ports):
+    """What stands in place of the file's folder and addresses; a server without a port is not there."""
+    places = ANY_USER + [
+        ("stats socket /run/haproxy/admin.sock mode 660", "stats socket %s/admin" % folder),
+        ("bind :::5684 v4v6", "bind %s:%d" % (HOST, port)),
+    ]
+    for name, standard in SERVERS.items():
+        line = "    server %s %s:%d\n" % (name, HOST, standard)
+        places.append((line, line.replace(str(standard), str(ports[name])) if name in ports else ""))
+    return places
 
 
 def placed(places):
@@ -423,6 +425,27 @@ def check_tls(checks, setting):
             plain.connection.sendall(PEER_SETTINGS + spelled(GET, b"q", "who"))
             told, seconds = plain.end()
         checks.same("a peer without TLS", (OWN_SETTINGS in told, seconds is None), (False, False))
+        checks.same("connections that these had at the server", front.taken() - taken, 0)
+
+
+def check_constrained(checks, setting):
+    """A device that has the one cipher that all devices have, where the configuration has it."""
+    device = Kind(tls=ssl.TLSVersion.TLSv1_2, cipher="ECDHE-ECDSA-AES128-CCM8")
+    with setting.front(places=[("    # ssl-default-bind-ciphers", "    ssl-default-bind-ciphers")]) as front:
+        with front.peer(device) as peer:
+            checks.same("a device with a short tag", (peer.connection.cipher()[0], peer.greet()), (device.cipher, True))
+        checks.same("a usual peer beside it", front.who()[0], "one")
+        checks.same("libcoap beside it", libcoap(front, "/who"), (0, b"one\n", b""))
+
+
+def check_certified(checks, setting):
+    """Peers with certificates, where the configuration wants them."""
+    with setting.front(places=[(" tcp-ut 1m", " tcp-ut 1m verify required ca-file %s/authority.pem" % setting.folder)]) as front:
+        with front.peer(Kind(certificate=("server.pem",))) as peer:
+            checks.same("a peer with a certificate of the authority", peer.greet(), True)
+        taken = front.taken()
+        checks.same("a peer without a certificate", refused(front, Kind()), b"")
+        checks.same("a peer with another one", refused(front, Kind(certificate=("another.pem", "another.key"))), b"")
         checks.same("connections that these had at the server", front.taken() - taken, 0)
 
 
@@ -593,6 +616,18 @@ def check_killed(checks, setting):
         checks.same("connections afterwards", [front.who(found[it])[0] for it in ("one", "two")], ["one", "two"])
 
 
+def check_drained(checks, setting):
+    """A server that is to be replaced: who is connected to it stays, and new connections are another's."""
+    with setting.front(("one", "two")) as front:
+        source = sources_of(front)["one"]
+        with front.greeted(source) as peer:
+            front.tell("set server coap/one state drain")
+            checks.same("a new connection", front.who(source)[0], "two")
+            checks.same("a connection from before", peer.ask(spelled(GET, b"q", "who")), (CONTENT, b"q", b"one"))
+        front.tell("set server coap/one state ready")
+        checks.same("a new connection afterwards", front.who(source)[0], "one")
+
+
 def check_stuck(checks, setting):
     """A server that takes connections and says nothing."""
     with setting.front(("one", "two"), places=QUICK_CHECKS + [("timeout check 2s", "timeout check 1s")]) as front:
@@ -621,19 +656,31 @@ def check_four(checks, setting):
 
 
 CHECKS = [
-    check_file, check_libcoap, check_tls, check_silent, check_places, check_rate, check_idle, check_alive, check_unread, check_full, check_killed, check_stuck, check_four,
+    check_file, check_libcoap, check_tls, check_constrained, check_certified, check_silent, check_places, check_rate, check_idle, check_alive,
+    check_unread, check_full, check_killed, check_drained, check_stuck, check_four,
 ]
+
+# What a check of a server says and must be told.
+EXCHANGE = """    tcp-check send-binary 00e1
+    tcp-check expect binary 40e123010000
+    tcp-check send-binary 00e2
+    tcp-check expect binary 00e3
+"""
 
 # Each configuration that a check must refuse: the check, a text of the configuration that it runs, and what stands in its place.
 BROKEN = [
     (check_file, "mode tcp", "mode http"),
     (check_file, "timeout connect 2s\n", "timeout conect 2s\n"),
     (check_libcoap, " ssl crt ", " crt "),
+    (check_libcoap, "40e123010000", "40e123020000"),
     (check_libcoap, "balance source", "balance source\n    tcp-request content reject if { dst_port gt 0 }"),
     (check_tls, "    tcp-request content reject unless { ssl_fc_alpn coap }\n", ""),
     (check_tls, " alpn coap ssl-min-ver", " ssl-min-ver"),
     (check_tls, "ssl-min-ver TLSv1.2", "ssl-min-ver TLSv1.1 ciphers DEFAULT:@SECLEVEL=0"),
     (check_tls, "ssl-min-ver TLSv1.2", "ssl-min-ver TLSv1.3"),
+    (check_constrained, ":ECDHE-ECDSA-AES128-CCM8", ""),
+    (check_constrained, ":@SECLEVEL=0", ""),
+    (check_certified, " verify required ", " verify optional crt-ignore-err all "),
     (check_silent, "    tcp-request connection reject if { sc0_conn_cur gt 32 }\n", ""),
     (check_silent, "src,ipmask(32,64)", "src,ipmask(8,64)"),
     (check_places, "sc0_conn_cur gt 32", "sc0_conn_cur gt 45"),
@@ -649,7 +696,9 @@ BROKEN = [
     (check_killed, "    option redispatch 1\n", ""),
     (check_killed, "    hash-type consistent\n", ""),
     (check_killed, "balance source", "balance roundrobin"),
-    (check_stuck, "    option tcp-check\n", ""),
+    (check_drained, "level admin", "level operator"),
+    (check_drained, "    hash-type consistent\n", ""),
+    (check_stuck, EXCHANGE, "    tcp-check connect\n"),
     (check_stuck, " on-marked-down shutdown-sessions", ""),
     (check_four, "balance source", "balance roundrobin"),
     (check_four, "balance source", "balance first"),

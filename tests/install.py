@@ -1,4 +1,4 @@
-"""Installs the programs, their manuals and the unit into temporary folders, and takes them away again.
+"""Installs the programs, their manuals, the unit and HAProxy's configuration into temporary folders, and takes them away again.
 
     tests/install.py bin/coap-server bin/coap-client
 
@@ -20,6 +20,8 @@ PROGRAMS = ["coap-server", "coap-client"]
 
 UNIT = "lib/systemd/system/coap-server.service"
 
+FRONT = "share/doc/coap-server/examples/haproxy.cfg"
+
 # what systemd-analyze says of the unit's exposure, at most, of 10; what is left is that it speaks to every network
 EXPOSURE = 1.1
 
@@ -30,7 +32,7 @@ def wanted_files():
     """What is installed below the prefix, each with its mode."""
     files = {"bin/%s" % name: 0o755 for name in PROGRAMS}
     files.update({"share/man/man1/%s.1" % name: 0o644 for name in PROGRAMS})
-    files[UNIT] = 0o644
+    files.update({UNIT: 0o644, FRONT: 0o644})
     return files
 
 
@@ -96,6 +98,7 @@ def check_prefix(checks, tree, prefix):
         for name in PROGRAMS:
             checks.same("%s: %s" % (told, name), read(place, "bin", name) == read(tree, "bin", name), True)
             checks.same("%s: %s.1" % (told, name), read(place, "share/man/man1", name + ".1") == read(tree, "man", name + ".1"), True)
+        checks.same("%s: HAProxy's configuration" % told, read(place, FRONT) == read(tree, "install", "haproxy.cfg"), True)
         unit = read(place, UNIT).decode()
         starts = re.findall(r"(?m)^ExecStart=(.*)$", unit)
         checks.same("%s: what the unit starts" % told, starts, ["%s/bin/coap-server $COAP_SERVER_OPTIONS" % told])
