@@ -15,7 +15,6 @@ With --broken each configuration of BROKEN, a place more, is run by its check, a
 import collections
 import contextlib
 import csv
-import itertools
 import os
 import random
 import select
@@ -367,30 +366,39 @@ def check_body(checks, front):
         checks.same("libcoap over TLS: the body", file.read() == BODY, True)
 
 
-def check_observer(checks, front):
-    """An observer of what another client changes, each time as the last change was told."""
-    states = [b"first", b"second", b"third"]
+@contextlib.contextmanager
+def observing(front, path, words=()):
+    """libcoap's client as it observes: what tells whether it has printed these states, each on a line, once it has or the time is over."""
     output = os.path.join(front.folder, "observed")
-    uri = "coaps+tcp://%s:%d/stored" % (HOST, front.port)
-    line = ["coap-client-openssl", "-R", os.path.join(front.folder, "authority.pem"), "-w", "-s", "60", uri]
+    uri = "coaps+tcp://%s:%d%s" % (HOST, front.port, path)
+    line = ["coap-client-openssl", "-R", os.path.join(front.folder, "authority.pem"), "-w", "-s", "60", *words, uri]
 
     def printed():
         with open(output, "rb") as file:
-            return file.read()
+            return file.read().split(b"\n")[:-1]
+
+    def has_printed(states):
+        front.wait(lambda: printed() == states)
+        return printed()
 
     with open(output, "wb") as sink:
         process = subprocess.Popen(line, stdin=subprocess.DEVNULL, stdout=sink, stderr=sink)
     try:
-        for number, state in enumerate(states):
-            if number:
-                told = libcoap(front, "/stored", ["-m", "put", "-e", state.decode()])
-                checks.same("libcoap over TLS: change %d" % number, told, (0, b"", b""))
-            wanted = b"".join(it + b"\n" for it in states[:number + 1])
-            front.wait(lambda: printed() == wanted)
-            checks.same("libcoap over TLS: the observer was told %r" % state, printed(), wanted)
+        yield has_printed
     finally:
         process.kill()
         process.wait()
+
+
+def check_observer(checks, front):
+    """An observer of what another client changes, each time as the last change was told."""
+    states = [b"first", b"second", b"third"]
+    with observing(front, "/stored") as printed:
+        checks.same("libcoap over TLS: the observer's first state", printed(states[:1]), states[:1])
+        for number in (1, 2):
+            told = libcoap(front, "/stored", ["-m", "put", "-e", states[number].decode()])
+            checks.same("libcoap over TLS: change %d" % number, told, (0, b"", b""))
+            checks.same("libcoap over TLS: the observer after it", printed(states[:number + 1]), states[:number + 1])
 
 
 def refused(front, kind):
@@ -534,23 +542,29 @@ def check_idle(checks, setting):
 
 
 def check_alive(checks, setting):
-    """A peer that sends Pings, and an observer that says nothing but is told changes: both for twice as long as a silent one."""
-    with setting.front(places=IDLE) as front, front.greeted(HOST) as pings, front.greeted(HOST) as observes, Stream(connect(front.ports["one"])) as changes:
+    """Peers that say little, for twice as long as a silent one lasts: one sends Pings; an observer says nothing, but is told changes; and
+    libcoap's client observes what does not change, and sends Pings."""
+    with contextlib.ExitStack() as stack:
+        front = stack.enter_context(setting.front(places=IDLE))
+        pings, observes = (stack.enter_context(front.greeted(HOST)) for _ in range(2))
+        changes = stack.enter_context(Stream(connect(front.ports["one"])))
         changes.greet()
         checks.same("a resource to observe", changes.ask(spelled(PUT, b"p", "seen", payload=b"0")), (CREATED, b"p", b""))
         checks.same("its observer", observes.ask(spelled(GET, b"o", "seen", True)), (CONTENT, b"o", b"0"))
-        began, troubles, pongs = time.monotonic(), [], 0
-        for number in itertools.count(1):
-            if time.monotonic() - began > 2 * TUNNEL or troubles:
-                break
+        printed = stack.enter_context(observing(front, "/who", ["-K", "1"]))
+        checks.same("libcoap's observer", printed([b"one"]), [b"one"])
+        began, troubles, number = time.monotonic(), [], 0
+        while time.monotonic() - began < 2 * TUNNEL and not troubles:
+            number += 1
             state, token = b"%d" % number, bytes([number])
             told = changes.ask(spelled(PUT, b"p", "seen", payload=state)), observes.next(), pings.ask(bytes([1, PING]) + token)
             wanted = (CHANGED, b"p", b""), (CONTENT, b"o", state), (PONG, token, b"")
             troubles += [(number, told)] if told != wanted else []
-            pongs += 1
             time.sleep(TUNNEL / 6)
-        checks.same("Pongs and changes that did not come", troubles, [])
-        checks.same("Pongs enough", pongs > 2 or pongs, True)
+        checks.same("changes and Pongs that did not come", troubles, [])
+        checks.same("changes and Pongs enough", number > 2 or number, True)
+        changes.ask(spelled(PUT, b"p", "who", payload=b"new"))
+        checks.same("libcoap's observer is told a change afterwards", printed([b"one", b"new"]), [b"one", b"new"])
 
 
 def check_unread(checks, setting):
@@ -680,7 +694,7 @@ BROKEN = [
     (check_tls, "ssl-min-ver TLSv1.2", "ssl-min-ver TLSv1.3"),
     (check_constrained, ":ECDHE-ECDSA-AES128-CCM8", ""),
     (check_constrained, ":@SECLEVEL=0", ""),
-    (check_certified, " verify required ", " verify optional crt-ignore-err all "),
+    (check_certified, " tcp-ut 1m verify required ", " tcp-ut 1m verify optional "),
     (check_silent, "    tcp-request connection reject if { sc0_conn_cur gt 32 }\n", ""),
     (check_silent, "src,ipmask(32,64)", "src,ipmask(8,64)"),
     (check_places, "sc0_conn_cur gt 32", "sc0_conn_cur gt 45"),
@@ -690,6 +704,7 @@ BROKEN = [
     (check_idle, "    tcp-request content accept if { req.len ge 2 }\n    tcp-request content reject\n", ""),
     (check_idle, "timeout client 2s", "timeout client 60s"),
     (check_alive, "timeout tunnel 3s", "timeout tunnel 3s\n    option independent-streams"),
+    (check_alive, "timeout tunnel 3s", "timeout tunnel 300ms"),
     (check_unread, " tcp-ut 2s", ""),
     (check_full, "maxconn 3 ", "maxconn 4 "),
     (check_full, "timeout queue 4s", "timeout queue 60s"),

@@ -137,6 +137,20 @@ def check_unit(checks, tree):
         checks.same("the unit's exposure of at most %s" % EXPOSURE, (status, bool(exposure) and float(exposure[1]) <= EXPOSURE), (0, True))
 
 
+def check_numbered_unit(checks, tree):
+    """What systemd says of the unit of several servers, which docs/DEPLOYING.md makes of the installed one."""
+    changes = re.findall(r"-e ('[^']*')", read(ROOT, "docs", "DEPLOYING.md").decode())
+    with tempfile.TemporaryDirectory() as prefix:
+        make(tree, "install", prefix, "")
+        unit = os.path.join(prefix, "coap-server@.service")
+        run(["sh", "-c", "sed -e %s %s > %s" % (" -e ".join(changes), os.path.join(prefix, UNIT), unit)], prefix)
+        said = read(unit).decode().splitlines()
+        for line in ("EnvironmentFile=-/etc/default/coap-server-%i", "ExecStartPre=/bin/sleep %i"):
+            checks.same("%s in the numbered unit" % line, said.count(line), 1)
+        status, said = run(["systemd-analyze", "verify", "--man=no", unit.replace("@", "@1")], prefix)
+        checks.same("what systemd-analyze verifies of it", (status, [line for line in said.splitlines() if "coap-server" in line]), (0, []))
+
+
 def check(programs):
     checks = Checks()
     with tempfile.TemporaryDirectory() as folder:
@@ -147,6 +161,7 @@ def check(programs):
         check_unbuilt(checks, tree)
         if shutil.which("systemd-analyze"):
             check_unit(checks, tree)
+            check_numbered_unit(checks, tree)
         else:
             print("systemd-analyze is not there: it did not look at the unit")
     print("install: %d passed, %d failed" % (checks.passed, checks.failed))
