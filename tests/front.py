@@ -5,9 +5,9 @@
 
 It needs Debian's packages haproxy, openssl and libcoap3-bin, and installs what is missing.
 
-The configuration is the file itself, and what is put into it are places: pairs of texts, of which the first stands in the file once,
-and the second stands in its place. They are what another user than root may not have, the ports, the certificate, and of each check
-the numbers that it names: shorter times, smaller counts. Everything else is as it is installed.
+The configuration is the file itself, and what is put into it are places: pairs of texts, of which the first stands in
+the file once, and the second stands in its place. They are what another user than root may not have, the ports, the
+certificate, and of each check the numbers that it names: shorter times, smaller counts. All else is as it is installed.
 
 With --broken each configuration of BROKEN, a place more, is run by its check, and passes where that check fails.
 """
@@ -68,7 +68,8 @@ PEER_SETTINGS = bytes.fromhex("00e1")
 BODY = random.Random(5684).randbytes(60_000)
 
 # A peer: its address, the protocols that it offers, and where it insists, its TLS, its only cipher and its certificate.
-Kind = collections.namedtuple("Kind", ["source", "protocols", "tls", "cipher", "certificate"], defaults=[HOST, ("coap",), None, "DEFAULT", None])
+FIELDS = ["source", "protocols", "tls", "cipher", "certificate"]
+Kind = collections.namedtuple("Kind", FIELDS, defaults=[HOST, ("coap",), None, "DEFAULT", None])
 
 
 def spelled(code, token, path="", observes=False, payload=b""):
@@ -164,7 +165,7 @@ class Front:
     def __init__(self, server, folder, names, words, places):
         self.server, self.folder, self.words = server, folder, words
         self.port, self.ports = free_port(HOST), {name: free_port(HOST) for name in names}
-        self.places = places_for(folder, self.port, self.ports) + [("/etc/haproxy/coap.pem", "%s/server.pem" % folder)] + places
+        self.places = places_for(folder, self.port, self.ports) + certificate_in(folder) + places
         self.stack, self.running, self.processes = contextlib.ExitStack(), {}, {}
 
     def start(self, name):
@@ -281,19 +282,24 @@ def places_for(folder, port, ports):
     return places
 
 
+def certificate_in(folder):
+    """The certificate of the test in place of the file's."""
+    return [("/etc/haproxy/coap.pem", os.path.join(folder, "server.pem"))]
+
+
 def placed(places):
     """The installed configuration with these texts in place of its own."""
     with open(CONFIGURATION, encoding="utf-8") as file:
         text = file.read()
     for old, new in places:
         if text.count(old) != 1:
-            raise NoPlace("%r stands %d times in %s, with what was put there before" % (old, text.count(old), CONFIGURATION))
+            raise NoPlace("%r stands %d times in the configuration" % (old, text.count(old)))
         text = text.replace(old, new)
     return text
 
 
 class Setting:
-    """What all checks have: the program, a folder with certificates, and a place that breaks the configuration, where one is to."""
+    """What all checks have: the program, a folder with certificates, and what is to break the configuration, if it is to."""
 
     def __init__(self, server, folder, broken=()):
         self.server, self.folder, self.broken = server, folder, list(broken)
@@ -305,14 +311,15 @@ class Setting:
 def certify(folder):
     """Makes an authority, a certificate that it signed for this address, and another authority."""
     key = ["-newkey", "ec", "-pkeyopt", "ec_paramgen_curve:P-256", "-nodes", "-days", "2"]
-    names = ["-subj", "/CN=localhost", "-addext", "subjectAltName=DNS:localhost,IP:%s" % HOST, "-addext", "basicConstraints=critical,CA:FALSE"]
-    signs = ["-CA", "authority.pem", "-CAkey", "authority.key"]
+    names = ["-subj", "/CN=localhost", "-addext", "subjectAltName=DNS:localhost,IP:%s" % HOST]
+    signs = ["-CA", "authority.pem", "-CAkey", "authority.key", "-addext", "basicConstraints=critical,CA:FALSE"]
     for words in (
         ["-subj", "/CN=authority of the test", "-keyout", "authority.key", "-out", "authority.pem"],
         ["-subj", "/CN=another authority", "-keyout", "another.key", "-out", "another.pem"],
         [*signs, *names, "-keyout", "server.key", "-out", "signed.pem"],
     ):
-        subprocess.run(["openssl", "req", "-x509", *key, *words], cwd=folder, stdin=subprocess.DEVNULL, capture_output=True, check=True, timeout=LIMIT)
+        line = ["openssl", "req", "-x509", *key, *words]
+        subprocess.run(line, cwd=folder, stdin=subprocess.DEVNULL, capture_output=True, check=True, timeout=LIMIT)
     with open(os.path.join(folder, "server.pem"), "wb") as both:
         for name in ("signed.pem", "server.key"):
             with open(os.path.join(folder, name), "rb") as part:
@@ -321,11 +328,11 @@ def certify(folder):
 
 def check_file(checks, setting):
     """That HAProxy takes the file as it is installed, but for the certificate, with no remark."""
-    places = [("/etc/haproxy/coap.pem", "%s/server.pem" % setting.folder), *setting.broken]
     name = os.path.join(setting.folder, "installed.cfg")
     with open(name, "w", encoding="utf-8") as file:
-        file.write(placed(places))
-    done = subprocess.run(["haproxy", "-c", "-dW", "-f", name], stdin=subprocess.DEVNULL, capture_output=True, text=True, timeout=LIMIT)
+        file.write(placed(certificate_in(setting.folder) + setting.broken))
+    line = ["haproxy", "-c", "-dW", "-f", name]
+    done = subprocess.run(line, stdin=subprocess.DEVNULL, capture_output=True, text=True, timeout=LIMIT)
     checks.same("haproxy -c", (done.returncode, done.stdout + done.stderr), (0, "Configuration file is valid\n"))
 
 
@@ -350,7 +357,8 @@ def check_libcoap(checks, setting):
         ):
             checks.same("libcoap over TLS: %s" % name, libcoap(front, path, words), wanted)
         told = libcoap(front, "/", [], "another.pem")[1]
-        checks.same("libcoap, which trusts another authority alone", (b"unable to get local issuer" in told, b"coap+tcp" in told), (True, False))
+        told = b"unable to get local issuer" in told, b"coap+tcp" in told
+        checks.same("libcoap, which trusts another authority alone", told, (True, False))
         check_body(checks, front)
         check_observer(checks, front)
 
@@ -360,7 +368,8 @@ def check_body(checks, front):
     there, back = (os.path.join(front.folder, name) for name in ("there", "back"))
     with open(there, "wb") as file:
         file.write(BODY)
-    checks.same("libcoap over TLS: PUT of a body", libcoap(front, "/body", ["-m", "put", "-t", "42", "-f", there]), (0, b"", b""))
+    told = libcoap(front, "/body", ["-m", "put", "-t", "42", "-f", there])
+    checks.same("libcoap over TLS: PUT of a body", told, (0, b"", b""))
     checks.same("libcoap over TLS: GET of a body", libcoap(front, "/body", ["-o", back])[0], 0)
     with open(back, "rb") as file:
         checks.same("libcoap over TLS: the body", file.read() == BODY, True)
@@ -368,7 +377,7 @@ def check_body(checks, front):
 
 @contextlib.contextmanager
 def observing(front, path, words=()):
-    """libcoap's client as it observes: what tells whether it has printed these states, each on a line, once it has or the time is over."""
+    """libcoap's client as it observes, and what waits for it to print these states, and gives what it printed."""
     output = os.path.join(front.folder, "observed")
     uri = "coaps+tcp://%s:%d%s" % (HOST, front.port, path)
     line = ["coap-client-openssl", "-R", os.path.join(front.folder, "authority.pem"), "-w", "-s", "60", *words, uri]
@@ -421,7 +430,8 @@ def check_tls(checks, setting):
                 told = peer.connection.version(), peer.connection.selected_alpn_protocol(), peer.greet()
             checks.same("a peer with %s" % version.name, told, (version.name.replace("_", "."), "coap", True))
         with front.peer(Kind(protocols=("h2", "coap"))) as peer:
-            checks.same("a peer that offers coap too", (peer.connection.selected_alpn_protocol(), peer.greet()), ("coap", True))
+            told = peer.connection.selected_alpn_protocol(), peer.greet()
+        checks.same("a peer that offers coap too", told, ("coap", True))
         taken = front.taken()
         checks.same("a peer without ALPN", refused(front, Kind(protocols=None)), b"")
         checks.same("a peer with another protocol", refused(front, Kind(protocols=("h2",))), b"")
@@ -448,7 +458,8 @@ def check_constrained(checks, setting):
 
 def check_certified(checks, setting):
     """Peers with certificates, where the configuration wants them."""
-    with setting.front(places=[(" tcp-ut 1m", " tcp-ut 1m verify required ca-file %s/authority.pem" % setting.folder)]) as front:
+    wants = " verify required ca-file %s/authority.pem" % setting.folder
+    with setting.front(places=[(" tcp-ut 1m", " tcp-ut 1m" + wants)]) as front:
         with front.peer(Kind(certificate=("server.pem",))) as peer:
             checks.same("a peer with a certificate of the authority", peer.greet(), True)
         taken = front.taken()
@@ -542,8 +553,8 @@ def check_idle(checks, setting):
 
 
 def check_alive(checks, setting):
-    """Peers that say little, for twice as long as a silent one lasts: one sends Pings; an observer says nothing, but is told changes; and
-    libcoap's client observes what does not change, and sends Pings."""
+    """Peers that say little, for twice as long as a silent one lasts: one sends Pings; an observer says nothing, but is
+    told changes; and libcoap's client observes what does not change, and sends Pings."""
     with contextlib.ExitStack() as stack:
         front = stack.enter_context(setting.front(places=IDLE))
         pings, observes = (stack.enter_context(front.greeted(HOST)) for _ in range(2))
@@ -557,7 +568,8 @@ def check_alive(checks, setting):
         while time.monotonic() - began < 2 * TUNNEL and not troubles:
             number += 1
             state, token = b"%d" % number, bytes([number])
-            told = changes.ask(spelled(PUT, b"p", "seen", payload=state)), observes.next(), pings.ask(bytes([1, PING]) + token)
+            told = changes.ask(spelled(PUT, b"p", "seen", payload=state)), observes.next()
+            told += (pings.ask(bytes([1, PING]) + token),)
             wanted = (CHANGED, b"p", b""), (CONTENT, b"o", state), (PONG, token, b"")
             troubles += [(number, told)] if told != wanted else []
             time.sleep(TUNNEL / 6)
@@ -569,10 +581,14 @@ def check_alive(checks, setting):
 
 def check_unread(checks, setting):
     """A peer that asks and never reads."""
-    with setting.front(places=[("tcp-ut 1m", "tcp-ut 2s")]) as front, Stream(connect(front.ports["one"])) as stores, front.greeted(HOST) as peer:
+    with contextlib.ExitStack() as stack:
+        front = stack.enter_context(setting.front(places=[("tcp-ut 1m", "tcp-ut 2s")]))
+        stores = stack.enter_context(Stream(connect(front.ports["one"])))
+        peer = stack.enter_context(front.greeted(HOST))
         stores.greet()
-        stores.connection.sendall(b"\xe0" + (len(BODY) + 6 - 269).to_bytes(2, "big") + bytes([PUT, 0xB4]) + b"body" + b"\xff" + BODY)
-        checks.same("a body that is stored", stores.next(), (CREATED, b"", b""))
+        put = b"\xb4body\xff" + BODY
+        told = stores.ask(b"\xe0" + (len(put) - 269).to_bytes(2, "big") + bytes([PUT]) + put)
+        checks.same("a body that is stored", told, (CREATED, b"", b""))
         # it takes messages as large as we do, and no buffer on the way has room for the answers to all of these
         peer.connection.sendall(OWN_SETTINGS + spelled(GET, b"g", "body") * 1000)
         checks.same("it has its connection at first", front.counts("coaps")["scur"], "1")
@@ -623,6 +639,8 @@ def check_killed(checks, setting):
             told, seconds = front.who(source)
             checks.same("the next connection is the other server's", (told, seconds < AT_ONCE or seconds), ("two", True))
             checks.same("the observer's connection ends", observer.end()[1] is not None, True)
+        with front.greeted(source) as observer:
+            checks.same("it observes again", observer.ask(spelled(GET, b"o", "who", True)), (CONTENT, b"o", b"two"))
         checks.same("the server is told down", front.wait(lambda: front.status("one")[0] == "DOWN"), True)
         checks.same("connections while it is down", front.who(source)[0], "two")
         front.start("one")
@@ -670,8 +688,8 @@ def check_four(checks, setting):
 
 
 CHECKS = [
-    check_file, check_libcoap, check_tls, check_constrained, check_certified, check_silent, check_places, check_rate, check_idle, check_alive,
-    check_unread, check_full, check_killed, check_drained, check_stuck, check_four,
+    check_file, check_libcoap, check_tls, check_constrained, check_certified, check_silent, check_places, check_rate,
+    check_idle, check_alive, check_unread, check_full, check_killed, check_drained, check_stuck, check_four,
 ]
 
 # What a check of a server says and must be told.
@@ -681,19 +699,18 @@ EXCHANGE = """    tcp-check send-binary 00e1
     tcp-check expect binary 00e3
 """
 
-# Each configuration that a check must refuse: the check, a text of the configuration that it runs, and what stands in its place.
+# Each configuration that a check must refuse: the check, a text of what it runs, and what stands in its place.
 BROKEN = [
     (check_file, "mode tcp", "mode http"),
     (check_file, "timeout connect 2s\n", "timeout conect 2s\n"),
     (check_libcoap, " ssl crt ", " crt "),
     (check_libcoap, "40e123010000", "40e123020000"),
-    (check_libcoap, "balance source", "balance source\n    tcp-request content reject if { dst_port gt 0 }"),
+    (check_libcoap, "    tcp-request content accept if { req.len ge 2 }\n", ""),
     (check_tls, "    tcp-request content reject unless { ssl_fc_alpn coap }\n", ""),
     (check_tls, " alpn coap ssl-min-ver", " ssl-min-ver"),
     (check_tls, "ssl-min-ver TLSv1.2", "ssl-min-ver TLSv1.1 ciphers DEFAULT:@SECLEVEL=0"),
     (check_tls, "ssl-min-ver TLSv1.2", "ssl-min-ver TLSv1.3"),
     (check_constrained, ":ECDHE-ECDSA-AES128-CCM8", ""),
-    (check_constrained, ":@SECLEVEL=0", ""),
     (check_certified, " tcp-ut 1m verify required ", " tcp-ut 1m verify optional "),
     (check_silent, "    tcp-request connection reject if { sc0_conn_cur gt 32 }\n", ""),
     (check_silent, "src,ipmask(32,64)", "src,ipmask(8,64)"),
@@ -735,7 +752,8 @@ def check_all(checks, server, folder):
     for check in CHECKS:
         began, counted = time.monotonic(), made(check, server, folder)
         checks.passed, checks.failed = checks.passed + counted.passed, checks.failed + counted.failed
-        print("%s: %d passed, %d failed, %.1f s" % (check.__name__, counted.passed, counted.failed, time.monotonic() - began), flush=True)
+        told = check.__name__, counted.passed, counted.failed, time.monotonic() - began
+        print("%s: %d passed, %d failed, %.1f s" % told, flush=True)
 
 
 def check_broken(checks, server, folder):
