@@ -55,7 +55,7 @@ ANY_USER = [
 QUICK_CHECKS = [("check inter 2s fastinter 500ms", "check inter 200ms fastinter 100ms")]
 
 # Seconds in which a peer is served at once: its handshake, and an answer.
-AT_ONCE = 3
+AT_ONCE = 5
 
 GET, PUT, CREATED, CHANGED, CONTENT, NOT_FOUND = 0x01, 0x03, 0x41, 0x44, 0x45, 0x84
 SETTINGS, PING, PONG = 0xE1, 0xE2, 0xE3
@@ -481,8 +481,8 @@ def held(connections):
 
 
 def check_silent(checks, setting):
-    """Many peers of one source that say nothing at all, and good ones of another source."""
-    with setting.front() as front, contextlib.ExitStack() as stack:
+    """Many peers of one source that say nothing at all, and good ones of another source. None of them leaves meanwhile."""
+    with setting.front(places=[("timeout client 10s", "timeout client 60s")]) as front, contextlib.ExitStack() as stack:
         silent = []
         for _ in range(SILENT):
             # one that is let go at once may be so before it knows that it is connected
