@@ -729,7 +729,6 @@ BROKEN = [
     (check_killed, "    hash-type consistent\n", ""),
     (check_killed, "balance source", "balance roundrobin"),
     (check_drained, "level admin", "level operator"),
-    (check_drained, "    hash-type consistent\n", ""),
     (check_stuck, EXCHANGE, "    tcp-check connect\n"),
     (check_stuck, " on-marked-down shutdown-sessions", ""),
     (check_four, "balance source", "balance roundrobin"),
