@@ -1,10 +1,11 @@
 # Proves, builds, runs, tests and measures. Needs Rattle's toolchain (`rt`) and Python 3; `make test` also installs Debian's
-# gcc, libc6-dev, libcoap3-bin, mandoc, tshark and valgrind where they are missing, and `make bench` gcc, gnuplot-nox, libc6-dev,
-# libcoap3-bin and valgrind.
+# gcc, haproxy, libc6-dev, libcoap3-bin, mandoc, openssl, tshark and valgrind where they are missing, and `make bench` gcc, gnuplot-nox,
+# haproxy, libc6-dev, libcoap3-bin and valgrind.
 
 .PHONY: all run test edits bench try install uninstall clean
 
-# Where `make install` puts the programs, their manuals and the unit of systemd; DESTDIR stands before it for what is packed.
+# Where `make install` puts the programs, their manuals, the unit of systemd and the configuration of HAProxy; DESTDIR stands before it
+# for what is packed.
 PREFIX ?= /usr/local
 DESTDIR ?=
 
@@ -31,10 +32,10 @@ test:
 edits:
 	tests/edits.py --all $(CRATES)
 
-# Measures the server beside libcoap's, and then counts instructions and memory; draws both anew in docs/pictures. It fails where
-# either misses a target.
+# Measures the server beside libcoap's, then through HAProxy, and then counts instructions and memory; draws what it measured anew in
+# docs/pictures. It fails where a target is missed.
 bench: bin/coap-server
-	bench/throughput; missed=$$?; bench/instructions && exit $$missed
+	bench/throughput; missed=$$?; bench/front || missed=1; bench/instructions && exit $$missed
 
 # UNPROVED: runs the program on the recorded stream before any proof, in up to a minute, for work in progress.
 try:
@@ -47,12 +48,14 @@ install:
 	install -D -m 0644 -t "$(DESTDIR)$(PREFIX)/share/man/man1" man/coap-server.1 man/coap-client.1
 	install -D -m 0644 install/coap-server.service.in "$(DESTDIR)$(PREFIX)/lib/systemd/system/coap-server.service"
 	sed -i 's|@PREFIX@|$(PREFIX)|g' "$(DESTDIR)$(PREFIX)/lib/systemd/system/coap-server.service"
+	install -D -m 0644 -t "$(DESTDIR)$(PREFIX)/share/doc/coap-server/examples" install/haproxy.cfg
 
 # Takes away what `make install` put there, and leaves the folders.
 uninstall:
 	rm -f "$(DESTDIR)$(PREFIX)/bin/coap-server" "$(DESTDIR)$(PREFIX)/bin/coap-client"
 	rm -f "$(DESTDIR)$(PREFIX)/share/man/man1/coap-server.1" "$(DESTDIR)$(PREFIX)/share/man/man1/coap-client.1"
 	rm -f "$(DESTDIR)$(PREFIX)/lib/systemd/system/coap-server.service"
+	rm -f "$(DESTDIR)$(PREFIX)/share/doc/coap-server/examples/haproxy.cfg"
 
 clean:
 	rm -rf bin crates/*/out

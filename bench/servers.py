@@ -4,6 +4,7 @@ import collections
 import contextlib
 import os
 import socket
+import statistics
 import subprocess
 import sys
 import tempfile
@@ -20,6 +21,9 @@ PACKAGES = {"cc": "gcc", "gencat": "libc6-dev"}
 
 # Seconds: until a server must accept, until it must have ended, and for one run of the load program.
 STARTS, ENDS, LIMIT = 5, 5, 60
+
+# Seconds of a measurement and how often it is made; the same for --quick; and the least of a run that tells how many requests to send.
+USUAL, QUICK, SAMPLE = (1.5, 3), (0.3, 1), 0.05
 
 # requests that were answered, seconds, requests for each second, and the latencies in microseconds
 Figures = collections.namedtuple("Figures", ["requests", "seconds", "rate", "p50", "p99"])
@@ -112,3 +116,30 @@ class Server:
                 self.trouble += "; " + self.ended()
             return None
         return Figures(*map(float, ran.stdout.split()))
+
+
+def count_for(server, cell, seconds):
+    """How many requests take about so long: the first runs grow until one is long enough to tell."""
+    count = max(200, 4 * cell[0] * cell[1])
+    while figures := server.load(*cell, count):
+        if figures.seconds >= SAMPLE:
+            return max(cell[0] * cell[1], int(figures.rate * seconds))
+        count *= 4
+    return 0
+
+
+def medians(rounds):
+    """The median of each figure over the rounds."""
+    return Figures(*(statistics.median(it) for it in zip(*rounds)))
+
+
+def measure(servers, cell, seconds, rounds):
+    """The figures of each server that answered every request, by its name."""
+    healthy = [it for it in servers if not it.trouble]
+    counts = {it.name: count_for(it, cell, seconds) for it in healthy}
+    taken = {it.name: [] for it in healthy}
+    for _ in range(rounds):
+        for server in healthy:
+            if not server.trouble:
+                taken[server.name].append(server.load(*cell, counts[server.name]))
+    return {it.name: medians(taken[it.name]) for it in healthy if not it.trouble}

@@ -1,4 +1,4 @@
-"""Installs the programs, their manuals and the unit into temporary folders, and takes them away again.
+"""Installs the programs, their manuals, the unit and HAProxy's configuration into temporary folders, and takes them away again.
 
     tests/install.py bin/coap-server bin/coap-client
 
@@ -20,6 +20,8 @@ PROGRAMS = ["coap-server", "coap-client"]
 
 UNIT = "lib/systemd/system/coap-server.service"
 
+FRONT = "share/doc/coap-server/examples/haproxy.cfg"
+
 # what systemd-analyze says of the unit's exposure, at most, of 10; what is left is that it speaks to every network
 EXPOSURE = 1.1
 
@@ -30,7 +32,7 @@ def wanted_files():
     """What is installed below the prefix, each with its mode."""
     files = {"bin/%s" % name: 0o755 for name in PROGRAMS}
     files.update({"share/man/man1/%s.1" % name: 0o644 for name in PROGRAMS})
-    files[UNIT] = 0o644
+    files.update({UNIT: 0o644, FRONT: 0o644})
     return files
 
 
@@ -96,6 +98,7 @@ def check_prefix(checks, tree, prefix):
         for name in PROGRAMS:
             checks.same("%s: %s" % (told, name), read(place, "bin", name) == read(tree, "bin", name), True)
             checks.same("%s: %s.1" % (told, name), read(place, "share/man/man1", name + ".1") == read(tree, "man", name + ".1"), True)
+        checks.same("%s: HAProxy's configuration" % told, read(place, FRONT) == read(tree, "install", "haproxy.cfg"), True)
         unit = read(place, UNIT).decode()
         starts = re.findall(r"(?m)^ExecStart=(.*)$", unit)
         checks.same("%s: what the unit starts" % told, starts, ["%s/bin/coap-server $COAP_SERVER_OPTIONS" % told])
@@ -134,6 +137,20 @@ def check_unit(checks, tree):
         checks.same("the unit's exposure of at most %s" % EXPOSURE, (status, bool(exposure) and float(exposure[1]) <= EXPOSURE), (0, True))
 
 
+def check_numbered_unit(checks, tree):
+    """What systemd says of the unit of several servers, which docs/DEPLOYING.md makes of the installed one."""
+    changes = re.findall(r"-e ('[^']*')", read(ROOT, "docs", "DEPLOYING.md").decode())
+    with tempfile.TemporaryDirectory() as prefix:
+        make(tree, "install", prefix, "")
+        unit = os.path.join(prefix, "coap-server@.service")
+        run(["sh", "-c", "sed -e %s %s > %s" % (" -e ".join(changes), os.path.join(prefix, UNIT), unit)], prefix)
+        said = read(unit).decode().splitlines()
+        for line in ("EnvironmentFile=-/etc/default/coap-server-%i", "ExecStartPre=/bin/sleep %i"):
+            checks.same("%s in the numbered unit" % line, said.count(line), 1)
+        status, said = run(["systemd-analyze", "verify", "--man=no", unit.replace("@", "@1")], prefix)
+        checks.same("what systemd-analyze verifies of it", (status, [line for line in said.splitlines() if "coap-server" in line]), (0, []))
+
+
 def check(programs):
     checks = Checks()
     with tempfile.TemporaryDirectory() as folder:
@@ -144,6 +161,7 @@ def check(programs):
         check_unbuilt(checks, tree)
         if shutil.which("systemd-analyze"):
             check_unit(checks, tree)
+            check_numbered_unit(checks, tree)
         else:
             print("systemd-analyze is not there: it did not look at the unit")
     print("install: %d passed, %d failed" % (checks.passed, checks.failed))

@@ -5,6 +5,9 @@ import shutil
 import subprocess
 import sys
 
+# HAProxy is in a folder that not everybody's PATH has.
+os.environ["PATH"] += os.pathsep + "/usr/sbin"
+
 
 def apt(words):
     quiet = dict(os.environ, DEBIAN_FRONTEND="noninteractive")
