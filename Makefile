@@ -30,8 +30,9 @@ test:
 edits:
 	tests/edits.py --all $(CRATES)
 
-# Measures the server beside libcoap's, and then counts instructions and memory. It fails where either misses a target.
+# Measures the server beside libcoap's, and then counts instructions, copies and memory. It fails where either misses a target.
 bench: bin/coap-server
+	tests/build coap_probe
 	bench/throughput; missed=$$?; bench/instructions && exit $$missed
 
 # UNPROVED: runs the program on the recorded stream before any proof, in up to a minute, for work in progress.
