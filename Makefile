@@ -32,9 +32,10 @@ test:
 edits:
 	tests/edits.py --all $(CRATES)
 
-# Measures the server beside libcoap's, then through HAProxy, and then counts instructions and memory; draws what it measured anew in
+# Measures the server beside libcoap's, then through HAProxy, and then counts instructions, copies and memory; draws what it measured anew in
 # docs/pictures. It fails where a target is missed.
 bench: bin/coap-server
+	tests/build coap_probe
 	bench/throughput; missed=$$?; bench/front || missed=1; bench/instructions && exit $$missed
 
 # UNPROVED: runs the program on the recorded stream before any proof, in up to a minute, for work in progress.

@@ -1,7 +1,9 @@
-"""Framers: `= MAX`, and then `next BYTES`, `each BYTES` one by one, `unread BYTES`, `clear` and `look`.
+"""Framers: `= MAX`, and then `next BYTES`, `each BYTES` one by one, `hold BYTES`, `unread BYTES`, `clear`, `look` and `copied`.
 
-What is told is what was found in a piece and how many of its bytes were taken, or the framer's greatest frame, and then how many bytes
-are kept and how many are spent. `cuts STREAM => FRAME..` cuts a stream at each two places: its frames must be the same.
+What is told is what was found in a piece and how many of its bytes were taken, or the framer's greatest frame, or how many bytes it has
+copied, and then how many bytes are kept and how many are spent. A frame that lies whole in its piece is told as `Whole`, one from the
+framer's buffer as `Frame`. `hold` hands over the bytes behind a whole frame while that is held, and tells it after them. `cuts STREAM =>
+FRAME..` cuts a stream at each two places: its frames must be the same, and whole where no cut is in them.
 """
 
 import re
@@ -11,19 +13,20 @@ from spelling import digits, spelled
 
 PROBE = "coap_probe"
 
-LOOKS = ("look",)
+LOOKS = ("look", "copied")
 
 
 def found_in(line):
     """What a framer found in a piece, how many bytes it took of it, and how many are kept."""
     what, _, kept = line.partition("left 0 kept ")
-    found = re.findall(r"(Frame [0-9a-f]+|More|\w+ \d+ \".*?\") taken (\d+)", what)
+    found = re.findall(r"((?:Frame|Whole) [0-9a-f]+|More|\w+ \d+ \".*?\") taken (\d+)", what)
     return [it for it, _ in found], sum(int(taken) for _, taken in found), kept.split(" ")[0]
 
 
 def piece(stream, ends, first, second):
     """A step that hands over a piece of a stream of frames, of which each must be found in the piece that has its last byte."""
-    frames = [f"Frame {stream[begin * 2 : end * 2]}" for begin, end in zip([0, *ends], ends) if first < end <= second]
+    given = [(begin, end) for begin, end in zip([0, *ends], ends) if first < end <= second]
+    frames = [f"{'Whole' if first <= begin else 'Frame'} {stream[begin * 2 : end * 2]}" for begin, end in given]
     begun = max(end for end in (0, *ends) if end <= second)
     more = ["More"] if begun < second and first < second else []
     wanted = str((frames + more, second - first, str(second - begun)))

@@ -15,7 +15,7 @@ ghost use Rattle.coap_client.specs.declared.client.Heard.TheVariants as heard;
 use crate::request::{Extras, Method, cancellation, formats_of, request};
 use crate::target::Target;
 use coap_conn::{Limits, Link, Phase, Reason, Reject, RequestFault, Role, Verdict};
-use coap_frame::{Found, Framer};
+use coap_frame::Framer;
 use coap_wire::{MessageRef, Token, parse};
 use std::alloc::{AllocError, Global};
 use std::marker::Model;
@@ -301,10 +301,10 @@ fn take_in(framer: &mut Framer, link: &mut Link, piece: &[u8]) -> (usize, Heard)
     ensures link { link.new ≡ (taking_framed framer.old link.old piece.now).client.link }
 {
     let framed = framer.next(piece);
-    let heard = match framed.what {
-        Found::More => Heard::Nothing,
-        Found::Fault(fault) => reject(link, Reject::from(fault)),
-        Found::Frame(frame) => match parse(frame) {
+    let heard = match framed.what.frame() {
+        Ok(None) => Heard::Nothing,
+        Err(fault) => reject(link, Reject::from(fault)),
+        Ok(Some(frame)) => match parse(frame) {
             Err(_) => reject(link, Reject::Format),
             Ok(message) => hear(link, &message),
         },

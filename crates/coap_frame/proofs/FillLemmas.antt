@@ -1,4 +1,4 @@
--- Filling a buffer with the bytes of a frame.
+-- How a piece stands by itself, and filling a buffer with the bytes of a frame.
 use Rattle.std.proofs.Common.{◌≡◌, ℕ, ◌+◌, ◌-◌, ◌<◌, ◌≤◌, List, [], ◌∷◌, ◌++◌, length, get_or, take, drop, refl, sym, ap, ◌∙◌, append_assoc, arith, inl, inr}
 use Rattle.std.proofs.lemmas.Bool.{cases_lt}
 use Rattle.std.proofs.lemmas.List.{append-nil, take-append-drop, take_more, take_all, length-append, length-take, length-drop}
@@ -7,7 +7,7 @@ use Rattle.coap_wire.specs.declared.frame.Declared.{Declared}
 use Rattle.coap_wire.specs.declared.frame.Declared.TheVariants.{Unknown, Size, BadToken}
 use Rattle.coap_wire.specs.declared.fault.FrameFault.{FrameFault}
 use Rattle.coap_wire.specs.declared.fault.FrameFault.TheVariants.{TokenLength, TooLarge}
-use Rattle.coap_wire.specs.Beginning.{Beginning, Unfinished, Whole, Faulty, beginning, fault_bytes, size_bytes}
+use Rattle.coap_wire.specs.Beginning.{Beginning, Unfinished, Whole, Faulty, beginning, fault_size, fault_bytes, size_bytes}
 use Rattle.coap_wire.proofs.StreamSteps.{begin_unknown, begin_bad_token, begin_too_large, begin_short, begin_whole, unfinished_small, size_has_bytes, size_at_last, declared_more, faulty_more, fault_bytes_more, fault_at_last}
 use Rattle.coap_frame.specs.Filling.{IsTakenTo, IsFilled}
 use Rattle.coap_frame.specs.declared.filling.Standing.TheVariants as standing
@@ -31,6 +31,12 @@ told_unfinished M s n unfinished told =
         | inr long ↦ let bad : ◌≡◌ {A = Beginning} Unfinished (Whole (take n s) (drop n s)) = sym unfinished ∙ begin_whole M s n told fits long in absurd cc
       ]
     ]
+
+-- a token length is read in the first byte
+bad_token_has_a_byte : (s : List ℕ) → declared_of s ≡ BadToken → 1 ≤ length s
+unfolding declared_of
+bad_token_has_a_byte [] is = let bad : ◌≡◌ {A = Declared} Unknown BadToken = is in absurd cc
+bad_token_has_a_byte (b ∷ s) is = omega arith
 
 module _ (M : ℕ) (old piece new : List ℕ) (taken : ℕ) (size : Declared) (unfinished : beginning M old ≡ Unfinished) (h : IsTakenTo old piece new taken size) where
   -- the bytes that are not taken
@@ -122,3 +128,32 @@ module _ (M : ℕ) (old piece new : List ℕ) (taken : ℕ) (size : Declared) (u
         within = omega (arith, length_all, length_new, length-append old piece);
         stands = (rest, begin_whole M (old ++ piece) n (size_of_all n is) fits enough ∙ ap (λ (f : List ℕ). Whole f rest) frame, omega (arith, length_all, length_new, length-append old piece));
       }
+
+-- ---- a piece by itself
+
+module _ (M : ℕ) (piece : List ℕ) where
+  -- all of it is taken
+  pub stands_more : beginning M piece ≡ Unfinished → IsFilled M [] piece (take (length piece) piece) (length piece) standing.Unfinished
+  stands_more unfinished = record {
+    within = omega arith;
+    stands = (unfinished, refl, take_all (length piece) piece (omega arith));
+  }
+
+  -- a fault is known at the last of so many bytes
+  stands_fault : (fault : FrameFault) → beginning M piece ≡ Faulty fault → fault_size fault piece ≤ length piece → IsFilled M [] piece (take (fault_size fault piece) piece) (fault_size fault piece) (standing.Fault fault)
+  stands_fault fault faulty some = record {
+    within = some;
+    stands = (faulty, omega (arith, length-take (fault_size fault piece) piece, some));
+  }
+
+  pub stands_bad_token : declared_of piece ≡ BadToken → IsFilled M [] piece (take 1 piece) 1 (standing.Fault TokenLength)
+  stands_bad_token is = stands_fault TokenLength (begin_bad_token M piece is) (bad_token_has_a_byte piece is)
+
+  pub stands_too_large : (n : ℕ) → declared_of piece ≡ Size n → M < n → IsFilled M [] piece (take (size_bytes piece) piece) (size_bytes piece) (standing.Fault TooLarge)
+  stands_too_large n is large = stands_fault TooLarge (begin_too_large M piece n is large) (size_has_bytes piece n is).1
+
+  pub stands_whole : (n : ℕ) → declared_of piece ≡ Size n → n ≤ M → n ≤ length piece → IsFilled M [] piece (take n piece) n standing.Whole
+  stands_whole n is fits long = record {
+    within = long;
+    stands = (drop n piece, begin_whole M piece n is fits long, omega (arith, length-drop n piece, long));
+  }

@@ -1,17 +1,15 @@
--- What a framer does, by how its buffer stands.
-use Rattle.std.proofs.Common.{◌≡◌, ◌≢◌, ℕ, ◌-◌, ◌<◌, ◌≤◌, Bool, not, List, [], ◌∷◌, ◌++◌, length, drop, refl, sym, ap, subst, ◌∙◌, arith, inl, inr, ◌⊎◌}
-use Rattle.std.specs.Prelude.{◌==◌}
-use Rattle.std.proofs.lemmas.Bool.{ne_eqb}
+-- What a framer does, by how its piece or its buffer stands.
+use Rattle.std.proofs.Common.{◌≡◌, ◌≢◌, ℕ, ◌-◌, ◌<◌, ◌≤◌, List, [], ◌∷◌, ◌++◌, length, take, drop, refl, sym, ap, ◌∙◌, arith, inl, inr, ◌⊎◌}
+use Rattle.std.proofs.lemmas.Bool.{cases_lt}
 use Rattle.std.proofs.lemmas.List.{length-append, length-drop, take-append-drop}
 use Rattle.coap_wire.specs.Beginning.{Beginning, Unfinished, Whole, Faulty, beginning, fault_bytes}
 use Rattle.coap_wire.proofs.StreamSteps.{unfinished_empty, unfinished_below, whole_parts, whole_itself, whole_more, faulty_more}
-use Rattle.coap_frame.specs.Framing.{FramerValue, IsFramer, Nothing, AFrame, AFault, split_frame, framing_at, framing, framed, framer_after, without_last, frame_back}
-use Rattle.coap_frame.specs.BufferViews.{framer_of, spent_in, held_of}
+use Rattle.coap_frame.specs.Framing.{FramerValue, IsFramer, Finding, Nothing, AFrame, AFault, Framing, split_frame, framing_at, framing, counted, copied_of, framed, framer_after, without_last, frame_back, with_frame_back, MayUnread}
+use Rattle.coap_frame.specs.BufferViews.{framer_of, spent_in}
 use Rattle.coap_frame.specs.Filling.{IsFilled}
 use Rattle.coap_wire.specs.declared.fault.FrameFault.{FrameFault}
 use Rattle.coap_frame.specs.declared.framer.Held.{Held}
 use Rattle.coap_frame.specs.declared.framer.Held.TheVariants as held
-use Rattle.coap_frame.specs.declared.filling.Standing.{Standing}
 use Rattle.coap_frame.specs.declared.filling.Standing.TheVariants as standing
 
 module _ (max : ℕ) (kept piece new : List ℕ) (taken : ℕ) where
@@ -42,29 +40,92 @@ module _ (max : ℕ) (kept piece new : List ℕ) (taken : ℕ) where
       ap (framing_at kept piece) s.0
       ∙ ap (λ (n : ℕ). record { taken = n; finding = AFault fault; kept = []; spent = [] }) count
 
--- a frame is split where the buffer was not empty
-pub held_is_split : (max : ℕ) (kept new : List ℕ) → framer_of max (held_of (not (length kept == 0))) new ≡ record { max = max; kept = []; spent = split_frame kept new }
-held_is_split max [] new = refl
-held_is_split max (b ∷ kept) new = rw (ne_eqb (length (b ∷ kept)) 0 (omega arith)) refl
+-- ---- nothing was kept
 
--- the same buffer and the same standing
-pub settled : (max : ℕ) (buffer kept piece new : List ℕ) (taken : ℕ) (now then : Standing) → buffer ≡ kept → now ≡ then → IsFilled max buffer piece new taken now → IsFilled max kept piece new taken then
-settled max buffer kept piece new taken now then lies is filled =
-    subst (λ (s : Standing). IsFilled max kept piece new taken s) is (subst (λ (b : List ℕ). IsFilled max b piece new taken now) lies filled)
+module _ (max c taken : ℕ) (piece : List ℕ) where
+  -- a framer that keeps nothing
+  abbrev bare : FramerValue
+  bare = framer_of max held.Beginning [] c
 
--- what the buffer has once its frame is given
-pub given_after : (max : ℕ) (buffer kept new : List ℕ) (count : ℕ) (empty : Bool) (held : Held) → buffer ≡ kept → count ≡ length buffer → empty ≡ (count == 0) → held ≡ held_of (not empty)
-    → framer_of max held new ≡ record { max = max; kept = []; spent = split_frame kept new }
-given_after max buffer kept new count empty held lies counted is given =
-    ap (λ (h : Held). framer_of max h new) (given ∙ ap (λ (e : Bool). held_of (not e)) (is ∙ ap (λ (n : ℕ). n == 0) (counted ∙ ap (λ (b : List ℕ). length b) lies)))
-    ∙ held_is_split max kept new
+  -- the piece begins a frame without ending it
+  pub alone_more : (buffer : List ℕ) (copied : ℕ) → IsFilled max [] piece (take taken piece) taken standing.Unfinished → buffer ≡ piece → copied ≡ counted c taken → framer_of max held.Beginning buffer copied ≡ framer_after bare piece
+  alone_more buffer copied filled lies count =
+      ap (λ (b : List ℕ). framer_of max held.Beginning b copied) (lies ∙ sym (filled.stands.2))
+      ∙ ap (λ (n : ℕ). framer_of max held.Beginning (take taken piece) n) count
+      ∙ sym (ap (framed bare) (framing_unfinished max [] piece (take taken piece) taken filled))
+
+  -- the piece has all of what is found
+  alone_found : (f : Framing) → c ≤ 18446744073709551615 → framing max [] piece ≡ f → f.kept ≡ [] → f.spent ≡ [] → copied_of [] f ≡ 0 → bare ≡ framer_after bare piece
+  alone_found f count is kept spent none =
+      let same : c ≡ counted c (copied_of [] f) = omega (arith, count, none) in
+      ap (λ (n : ℕ). framer_of max held.Beginning [] n) same
+      ∙ ap (λ (k : List ℕ). framer_of max held.Beginning k (counted c (copied_of [] f))) (sym kept)
+      ∙ ap (λ (s : List ℕ). record { max = max; kept = f.kept; spent = s; copied = counted c (copied_of [] f) }) (sym spent)
+      ∙ sym (ap (framed bare) is)
+
+  pub alone_frame : c ≤ 18446744073709551615 → IsFilled max [] piece (take taken piece) taken standing.Whole → bare ≡ framer_after bare piece
+  alone_frame count filled = alone_found _ count (framing_whole max [] piece (take taken piece) taken filled) refl refl refl
+
+  pub alone_fault : (fault : FrameFault) → c ≤ 18446744073709551615 → IsFilled max [] piece (take taken piece) taken (standing.Fault fault) → bare ≡ framer_after bare piece
+  alone_fault fault count filled = alone_found _ count (framing_fault max [] piece (take taken piece) taken fault filled) refl refl refl
+
+-- ---- bytes were kept
+
+copied_behind : (kept : List ℕ) (f : Framing) → 0 < length kept → copied_of kept f ≡ f.taken
+copied_behind [] f some = absurd (omega arith)
+copied_behind (b ∷ kept) f some = refl
+
+split_behind : (kept frame : List ℕ) → 0 < length kept → split_frame kept frame ≡ frame
+split_behind [] frame some = absurd (omega arith)
+split_behind (b ∷ kept) frame some = refl
+
+module _ (max c : ℕ) (kept piece new : List ℕ) (taken copied : ℕ) (some : 0 < length kept) (count : copied ≡ counted c taken) where
+  -- a framer that keeps these bytes
+  abbrev keeping : FramerValue
+  keeping = framer_of max held.Beginning kept c
+
+  behind_found : (f : Framing) → framing max kept piece ≡ f → f.taken ≡ taken → record { max = max; kept = f.kept; spent = f.spent; copied = copied } ≡ framer_after keeping piece
+  behind_found f is all =
+      let more : copied ≡ counted c (copied_of kept f) = count ∙ ap (counted c) (sym all ∙ sym (copied_behind kept f some)) in
+      ap (λ (n : ℕ). record { max = max; kept = f.kept; spent = f.spent; copied = n }) more
+      ∙ sym (ap (framed keeping) is)
+
+  pub behind_more : IsFilled max kept piece new taken standing.Unfinished → framer_of max held.Beginning new copied ≡ framer_after keeping piece
+  behind_more filled = behind_found _ (framing_unfinished max kept piece new taken filled) refl
+
+  pub behind_frame : IsFilled max kept piece new taken standing.Whole → framer_of max held.Split new copied ≡ framer_after keeping piece
+  behind_frame filled =
+      ap (λ (s : List ℕ). record { max = max; kept = []; spent = s; copied = copied }) (sym (split_behind kept new some))
+      ∙ behind_found _ (framing_whole max kept piece new taken filled) refl
+
+  pub behind_fault : (fault : FrameFault) → IsFilled max kept piece new taken (standing.Fault fault) → framer_of max held.Beginning [] copied ≡ framer_after keeping piece
+  behind_fault fault filled = behind_found _ (framing_fault max kept piece new taken fault filled) refl
+
+-- no frame was found
+abbrev HasNoFrame : Finding → Type 0
+HasNoFrame Nothing = Unit {0}
+HasNoFrame (AFrame frame) = ⊥
+HasNoFrame (AFault fault) = Unit {0}
+
+-- without a frame, nothing is spent
+spent_at : (kept piece : List ℕ) (b : Beginning) (finding : Finding) → (framing_at kept piece b).finding ≡ finding → HasNoFrame finding → (framing_at kept piece b).spent ≡ []
+spent_at kept piece Unfinished finding e none = refl
+spent_at kept piece (Whole frame rest) Nothing e none = absurd cc
+spent_at kept piece (Whole frame rest) (AFrame found) e none = absurd none
+spent_at kept piece (Whole frame rest) (AFault fault) e none = absurd cc
+spent_at kept piece (Faulty fault) finding e none = refl
+
+pub none_spent : (max : ℕ) (kept piece : List ℕ) (finding : Finding) → (framing max kept piece).finding ≡ finding → HasNoFrame finding → (framing max kept piece).spent ≡ []
+unfolding framing
+none_spent max kept piece finding e none = spent_at kept piece (beginning max (kept ++ piece)) finding e none
 
 -- ---- what a framer keeps
 
-pub empty_framer : (max : ℕ) (kept : List ℕ) → 1152 ≤ max → max ≤ 1048576 → kept ≡ [] → IsFramer (record { max = max; kept = kept; spent = [] })
-empty_framer max kept low high e = record {
+pub empty_framer : (max : ℕ) (kept : List ℕ) (copied : ℕ) → 1152 ≤ max → max ≤ 1048576 → copied ≤ 18446744073709551615 → kept ≡ [] → IsFramer (record { max = max; kept = kept; spent = []; copied = copied })
+empty_framer max kept copied low high countable e = record {
   low = low;
   high = high;
+  countable = countable;
   unfinished = ap (beginning max) e ∙ unfinished_empty max;
   whole = inl refl;
 }
@@ -74,14 +135,15 @@ split_is_whole max [] frame e = inl refl
 split_is_whole max (b ∷ kept) frame e = inr (e, refl)
 
 framed_by : (v : FramerValue) (piece : List ℕ) (b : Beginning) → IsFramer v → beginning v.max (v.kept ++ piece) ≡ b → IsFramer (framed v (framing_at v.kept piece b))
-framed_by v piece Unfinished is e = record { low = is.low; high = is.high; unfinished = e; whole = inl refl }
+framed_by v piece Unfinished is e = record { low = is.low; high = is.high; countable = omega arith; unfinished = e; whole = inl refl }
 framed_by v piece (Whole frame rest) is e = record {
   low = is.low;
   high = is.high;
+  countable = omega arith;
   unfinished = unfinished_empty v.max;
   whole = split_is_whole v.max v.kept frame (whole_itself v.max (v.kept ++ piece) frame rest e);
 }
-framed_by v piece (Faulty fault) is e = empty_framer v.max [] is.low is.high refl
+framed_by v piece (Faulty fault) is e = empty_framer v.max [] _ is.low is.high (omega arith) refl
 
 -- a framer stays one
 pub framing_is_framer : (v : FramerValue) (piece : List ℕ) → IsFramer v → IsFramer (framer_after v piece)
@@ -146,14 +208,25 @@ back_piece v piece back none = piece_back v piece v.spent refl back none
 -- the bytes of a split frame lie in the buffer
 pub spent_lies : (held : Held) (bytes : List ℕ) → 0 < length (spent_in held bytes) → spent_in held bytes ≡ bytes
 spent_lies held.Beginning bytes some = absurd (omega arith)
-spent_lies held.Whole bytes some = absurd (omega arith)
 spent_lies held.Split bytes some = refl
 
 -- a framer that keeps a frame but its last byte
-pub front_framer : (max : ℕ) (bytes frame : List ℕ) → 1152 ≤ max → max ≤ 1048576 → beginning max frame ≡ Whole frame [] → bytes ≡ without_last frame → IsFramer (record { max = max; kept = bytes; spent = [] })
-front_framer max bytes frame low high whole is = record {
+pub front_framer : (max : ℕ) (bytes frame : List ℕ) (copied : ℕ) → 1152 ≤ max → max ≤ 1048576 → copied ≤ 18446744073709551615 → beginning max frame ≡ Whole frame [] → bytes ≡ without_last frame → IsFramer (record { max = max; kept = bytes; spent = []; copied = copied })
+front_framer max bytes frame copied low high countable whole is = record {
   low = low;
   high = high;
+  countable = countable;
   unfinished = ap (beginning max) is ∙ front_unfinished max frame whole;
   whole = inl refl;
 }
+
+-- a framer that takes back the frame that it gave stays one
+back_is_framer : (v : FramerValue) (piece frame : List ℕ) → IsFramer v → IsBack v piece frame → IsFramer (with_frame_back v piece)
+back_is_framer v piece frame is back = front_framer v.max _ frame _ is.low is.high (omega arith) back.whole (ap without_last back.is)
+
+pub unread_is_framer : (v : FramerValue) (piece : List ℕ) → IsFramer v → MayUnread v piece → IsFramer (with_frame_back v piece)
+unread_is_framer v piece is may =
+    elim (cases_lt 0 (length v.spent)) [
+      | inl some ↦ back_is_framer v piece v.spent is (back_spent v piece is some)
+      | inr none ↦ back_is_framer v piece piece is (back_piece v piece may none)
+    ]

@@ -7,7 +7,7 @@ use Rattle.coap_wire.specs.declared.fault.FrameFault.{FrameFault}
 use Rattle.coap_wire.specs.Beginning.{Beginning, Unfinished, Whole, Faulty, beginning, fault_bytes}
 use Rattle.coap_wire.specs.Frames.{Frames, with_frame, frames_of}
 use Rattle.coap_wire.proofs.StreamSteps.{whole_parts, whole_itself, whole_more, faulty_more, fault_bytes_more, fault_at_last, frames_unfinished, frames_faulty, frames_whole}
-use Rattle.coap_frame.specs.Framing.{FramerValue, IsFramer, Finding, Nothing, AFrame, AFault, Framing, split_frame, framing_at, framing, framing_of, framed, framer_after, without_last, frame_back, with_frame_back, MayUnread}
+use Rattle.coap_frame.specs.Framing.{FramerValue, IsFramer, Finding, Nothing, AFrame, AFault, Framing, split_frame, framing_at, framing, framing_of, framer_after, without_last, frame_back, MayUnread}
 use Rattle.coap_frame.specs.Given.{Given, given_then, given_by, IsGiven, taken_of, unread_after, last_byte}
 use Rattle.coap_frame.proofs.FramingLemmas.{framing_is_framer, frame_is_small, front_unfinished}
 
@@ -171,16 +171,23 @@ module _ (max : ℕ) (kept piece : List ℕ) where
 
 -- ---- an unread frame
 
-after_at : (v : FramerValue) (piece frame : List ℕ) (b : Beginning) → (framing_at v.kept piece b).finding ≡ AFrame frame → framed v (framing_at v.kept piece b) ≡ record v { kept = []; spent = split_frame v.kept frame }
-after_at v piece frame Unfinished e = absurd cc
-after_at v piece frame (Whole found rest) e =
+left_at : (kept piece frame : List ℕ) (b : Beginning) → (framing_at kept piece b).finding ≡ AFrame frame → ((framing_at kept piece b).kept ≡ []) × ((framing_at kept piece b).spent ≡ split_frame kept frame)
+left_at kept piece frame Unfinished e = absurd cc
+left_at kept piece frame (Whole found rest) e =
     let same : found ≡ frame = cc in
-    ap (λ (s : List ℕ). record v { kept = []; spent = split_frame v.kept s }) same
-after_at v piece frame (Faulty fault) e = absurd cc
+    (refl, ap (split_frame kept) same)
+left_at kept piece frame (Faulty fault) e = absurd cc
 
-after_frame : (v : FramerValue) (piece frame : List ℕ) → (framing_of v piece).finding ≡ AFrame frame → framer_after v piece ≡ record v { kept = []; spent = split_frame v.kept frame }
+-- what a frame leaves in the buffer
+frame_leaves : (max : ℕ) (kept piece frame : List ℕ) → (framing max kept piece).finding ≡ AFrame frame → ((framing max kept piece).kept ≡ []) × ((framing max kept piece).spent ≡ split_frame kept frame)
 unfolding framing
-after_frame v piece frame e = after_at v piece frame (beginning v.max (v.kept ++ piece)) e
+frame_leaves max kept piece frame e = left_at kept piece frame (beginning max (kept ++ piece)) e
+
+after_frame : (v : FramerValue) (piece frame : List ℕ) → (framing_of v piece).finding ≡ AFrame frame → framer_after v piece ≡ record (framer_after v piece) { kept = []; spent = split_frame v.kept frame }
+after_frame v piece frame e =
+    let left = frame_leaves v.max v.kept piece frame e in
+    ap (λ (k : List ℕ). record (framer_after v piece) { kept = k }) left.0
+    ∙ ap (λ (s : List ℕ). record (framer_after v piece) { kept = []; spent = s }) left.1
 
 -- a split frame and a frame that lies in its piece are taken back alike
 back_is : (kept bytes frame : List ℕ) → frame ≡ kept ++ bytes → frame_back (split_frame kept frame) bytes ≡ frame
@@ -222,14 +229,18 @@ module _ (v : FramerValue) (piece frame : List ℕ) (is : IsFramer v) (found : (
   bytes : frame ≡ v.kept ++ taken_of v piece
   bytes = frame_taken v.max v.kept piece frame is.unfinished found
 
+  -- how many bytes were copied then
+  abbrev count : ℕ
+  count = (unread_after v piece).copied
+
   -- the framer that keeps the frame but its last byte
   abbrev back : FramerValue
-  back = record v { kept = without_last frame; spent = [] }
+  back = record v { kept = without_last frame; spent = []; copied = count }
 
   unread_is : unread_after v piece ≡ back
   unread_is =
-      ap (λ (after : FramerValue). with_frame_back after (taken_of v piece)) (after_frame v piece frame found)
-      ∙ ap (λ (f : List ℕ). record v { kept = without_last f; spent = [] }) (back_is v.kept (taken_of v piece) frame bytes)
+      let split = ap (λ (s : List ℕ). frame_back s (taken_of v piece)) (frame_leaves v.max v.kept piece frame found).1 in
+      ap (λ (f : List ℕ). record v { kept = without_last f; spent = []; copied = count }) (split ∙ back_is v.kept (taken_of v piece) frame bytes)
 
   -- the bytes taken but the last finish nothing
   kept_but_last : without_last frame ≡ v.kept ++ without_last (taken_of v piece)
@@ -243,12 +254,12 @@ module _ (v : FramerValue) (piece frame : List ℕ) (is : IsFramer v) (found : (
   unread_allowed =
       subst (λ (after : FramerValue). MayUnread after (taken_of v piece)) (sym (after_frame v piece frame found)) (allowed_at v (taken_of v piece) frame v.kept whole bytes)
 
-  -- the framer is then as if the last byte taken had not come
-  pub unread_one_less : unread_after v piece ≡ framer_after v (without_last (taken_of v piece))
+  -- the framer is then as if the last byte taken had not come, but for what it has copied
+  pub unread_one_less : unread_after v piece ≡ record (framer_after v (without_last (taken_of v piece))) { copied = (unread_after v piece).copied }
   unread_one_less =
       unread_is
-      ∙ ap (λ (k : List ℕ). record v { kept = k; spent = [] }) kept_but_last
-      ∙ sym (ap (framed v) but_last)
+      ∙ ap (λ (k : List ℕ). record v { kept = k; spent = []; copied = count }) kept_but_last
+      ∙ sym (ap (λ (f : Framing). record v { kept = f.kept; spent = f.spent; copied = count }) but_last)
 
   pub unread_nothing : (framing_of v (without_last (taken_of v piece))).finding ≡ Nothing
   unread_nothing = ap (λ (f : Framing). f.finding) but_last

@@ -1,3 +1,6 @@
 pub mod FillLemmas
 pub mod FramingLemmas
 pub mod GivenLaws
+pub mod FoundLemmas
+pub mod CopyingLaws
+mod Worked

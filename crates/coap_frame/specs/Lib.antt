@@ -4,3 +4,4 @@ pub mod FramedViews
 pub mod Filling
 pub mod BufferViews
 pub mod Given
+pub mod Copying

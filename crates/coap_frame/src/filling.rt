@@ -1,13 +1,13 @@
-//! Fills a buffer with the bytes of a frame.
+//! Finds a frame in a piece, and fills a buffer with the bytes of a split one.
 
-ghost use Rattle.std.specs.Prelude.{◌≡◌, ◌+◌, ◌≤◌, ◌<◌, ◌++◌, length};
+ghost use Rattle.std.specs.Prelude.{◌≡◌, ◌+◌, ◌≤◌, ◌<◌, ◌++◌, [], length, take};
 ghost use Rattle.std.specs.Vec.{vec_len, vec_capacity};
-ghost use Rattle.coap_wire.specs.Beginning.{Unfinished, beginning};
+ghost use Rattle.coap_wire.specs.Beginning.{Unfinished, beginning, extension_of, size_bytes as size_bytes_of};
 ghost use Rattle.coap_frame.specs.Filling.{IsHead, IsFilled};
 
 use coap_wire::{Declared, FrameFault, declared};
 
-/// How a buffer stands.
+/// How a piece or a buffer stands.
 #[derive(Clone, Copy)]
 pub(crate) enum Standing {
     /// More bytes are needed.
@@ -16,6 +16,47 @@ pub(crate) enum Standing {
     Whole,
     /// It has a fault.
     Fault(FrameFault),
+}
+
+/// How a piece stands by itself, and how many of its bytes that takes.
+pub(crate) fn stand(piece: &[u8], max: usize) -> (usize, Standing)
+    ensures { IsFilled max [] piece.now (take result.0 piece.now) result.0 result.1 }
+{
+    match declared(piece) {
+        Declared::Unknown => (piece.len(), Standing::Unfinished),
+        Declared::BadToken => (1, Standing::Fault(FrameFault::TokenLength)),
+        Declared::Size(size) => {
+            if size > max as u64 {
+                return (size_bytes(piece), Standing::Fault(FrameFault::TooLarge));
+            }
+            if size > piece.len() as u64 {
+                return (piece.len(), Standing::Unfinished);
+            }
+            (size as usize, Standing::Whole)
+        }
+    }
+}
+
+/// How many bytes a frame has up to the last byte of its length (RFC 8323 section 3.2).
+fn size_bytes(frame: &[u8]) -> usize
+    ensures { result ≡ size_bytes_of frame.now }
+{
+    match frame.first() {
+        None => 0,
+        Some(first) => 1 + extension(*first / 16),
+    }
+}
+
+/// How many bytes extend the nibble of a length.
+fn extension(nibble: u8) -> usize
+    ensures { result ≡ extension_of nibble }
+{
+    match nibble {
+        0..=12 => 0,
+        13 => 1,
+        14 => 2,
+        _ => 4,
+    }
 }
 
 /// Appends bytes for which there is room.

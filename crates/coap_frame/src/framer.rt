@@ -1,34 +1,58 @@
 //! A framer: gives the frames of a stream that comes in pieces cut anywhere.
 
-ghost use Rattle.std.specs.Prelude.{◌≡◌, ◌≤◌, length};
+ghost use Rattle.std.specs.Prelude.{◌≡◌, ◌≤◌, ◌<◌, [], length, take};
 ghost use Rattle.std.specs.Vec.{vec_capacity};
 ghost use Rattle.coap_wire.specs.Beginning.{Unfinished, beginning};
-ghost use Rattle.coap_frame.specs.Framing.{framing_of, framer_after};
-ghost use Rattle.coap_frame.specs.BufferViews.{framer_of, kept_in, finding_in, held_of};
+ghost use Rattle.coap_frame.specs.Framing.{framing, framing_of, framer_after};
+ghost use Rattle.coap_frame.specs.BufferViews.{framer_of, kept_in, frame_in, finding_in};
+ghost use Rattle.coap_frame.specs.declared.framer.Held.TheVariants as held_as;
 
-use crate::filling::{Standing, append, fill};
+use crate::filling::{Standing, append, fill, stand};
 use coap_wire::FrameFault;
 use std::alloc::{AllocError, Global};
 use std::marker::Model;
 
 /// What a piece had.
 #[derive(Clone, Copy)]
-pub enum Found<'a> {
+pub enum Found<'a, 'p> {
     /// No whole frame: all of the piece is taken.
     More,
-    /// A frame: the piece is taken to its last byte.
+    /// A split frame, of which bytes were kept, as it lies in the framer's buffer: the piece is taken to its last byte.
     Frame(&'a [u8]),
+    /// A frame of which nothing was kept, as it lies in the piece: that is taken to its last byte.
+    Whole(&'p [u8]),
     /// A fault: the piece is taken to the byte at which it is known, and nothing is kept.
     Fault(FrameFault),
 }
 
+impl<'a> Found<'a, 'a> {
+    ghost use Rattle.std.specs.Prelude.{◌≡◌};
+    ghost use Rattle.coap_frame.specs.FramedViews.{finding_of, finding_read};
+
+    /// The frame, wherever it lies; none where there is no whole one.
+    ///
+    /// # Errors
+    ///
+    /// The fault that was found.
+    pub fn frame(self) -> Result<Option<&'a [u8]>, FrameFault>
+        ensures { finding_read result ≡ finding_of self.entry }
+    {
+        match self {
+            Found::More => Ok(None),
+            Found::Frame(frame) => Ok(Some(frame)),
+            Found::Whole(frame) => Ok(Some(frame)),
+            Found::Fault(fault) => Err(fault),
+        }
+    }
+}
+
 /// How many bytes of a piece were taken, and what was found.
 #[derive(Clone, Copy)]
-pub struct Framed<'a> {
+pub struct Framed<'a, 'p> {
     /// The bytes taken.
     pub taken: usize,
     /// What was found.
-    pub what: Found<'a>,
+    pub what: Found<'a, 'p>,
 }
 
 /// What lies in a framer's buffer.
@@ -36,19 +60,19 @@ pub struct Framed<'a> {
 enum Held {
     /// The beginning of a frame.
     Beginning,
-    /// A frame that lay whole in its piece, and was given.
-    Whole,
     /// A frame of which bytes were kept before its last piece, and that was given.
     Split,
 }
 
-/// Gives the frames of at most `max` bytes of a stream that comes in pieces. It reserves their room once. Contracts see
-/// a `FramerValue`: the greatest frame, the bytes kept of an unfinished frame, and the split frame given last.
+/// Gives the frames of at most `max` bytes of a stream that comes in pieces. It reserves their room once, and copies there
+/// what it keeps of an unfinished frame and the rest of that frame alone. Contracts see a `FramerValue`: the greatest frame,
+/// the bytes kept of an unfinished frame, the split frame given last, and how many bytes were copied.
 #[derive(Drop)]
 pub struct Framer {
     max: usize,
     buffer: Vec<u8>,
     held: Held,
+    copied: u64,
 }
 
 impl Model for Framer {
@@ -79,26 +103,37 @@ impl Framer {
     pub fn new(alloc: Global, max: usize) -> Result<Framer, AllocError>
         requires low { 1152 ≤ max }
         requires high { max ≤ 1048576 }
-        ensures { IfOk result (λ f. f ≡ record { max = max; kept = []; spent = [] }) }
+        ensures { IfOk result (λ f. f ≡ record { max = max; kept = []; spent = []; copied = 0 }) }
     {
         Ok(Framer {
             max,
             buffer: Vec::with_capacity(alloc, max)?,
             held: Held::Beginning,
+            copied: 0,
         })
     }
 
-    /// Takes bytes of the next piece up to the end of the first frame, to the byte of a fault, or all of them.
-    pub fn next<'a>(&'a mut self, piece: &[u8]) -> Framed<'a>
+    /// Takes bytes of the next piece up to the end of the first frame, to the byte of a fault, or all of them. A frame that
+    /// lies whole in the piece is given as it lies there, and nothing of it is copied.
+    pub fn next<'a, 'p>(&'a mut self, piece: &'p [u8]) -> Framed<'a, 'p>
         ensures* writes_back { sem 𝓛 (follows_so the_row the_row self.entry.ghost_name none (λ _ _. ⊤) (λ f. f ≡ framer_after self.old piece.now)) }
         ensures framed { IsFramed result (framing_of self.old piece.now) }
         ensures within { result.taken ≤ length piece.now }
     {
-        let (taken, standing) = advance(&mut self.buffer, &mut self.held, self.max, piece);
+        let (taken, standing) = advance(
+            &mut self.buffer,
+            &mut self.held,
+            &mut self.copied,
+            self.max,
+            piece,
+        );
         let what = match standing {
             Standing::Unfinished => Found::More,
             Standing::Fault(fault) => Found::Fault(fault),
-            Standing::Whole => Found::Frame(&self.buffer),
+            Standing::Whole => match self.held {
+                Held::Beginning => Found::Whole(&piece[..taken]),
+                Held::Split => Found::Frame(&self.buffer),
+            },
         };
         Framed { taken, what }
     }
@@ -119,7 +154,7 @@ impl Framer {
     {
         match self.held {
             Held::Beginning => self.buffer.len(),
-            Held::Whole | Held::Split => 0,
+            Held::Split => 0,
         }
     }
 
@@ -129,7 +164,7 @@ impl Framer {
     {
         match self.held {
             Held::Split => self.buffer.len(),
-            Held::Beginning | Held::Whole => 0,
+            Held::Beginning => 0,
         }
     }
 
@@ -139,7 +174,7 @@ impl Framer {
     {
         match self.held {
             Held::Split => &self.buffer,
-            Held::Beginning | Held::Whole => &[],
+            Held::Beginning => &[],
         }
     }
 
@@ -152,8 +187,15 @@ impl Framer {
         self.max
     }
 
+    /// How many bytes it has copied into its buffer. The count stays at the greatest number of 64 bits.
+    pub fn copied(&self) -> u64
+        ensures { result ≡ self.now.copied }
+    {
+        self.copied
+    }
+
     /// Takes back the last byte of the frame that `next` just gave, with that call's piece cut to the bytes taken: all of
-    /// the frame but that byte is kept.
+    /// the frame but that byte is kept. It is copied from the piece where it lay whole there.
     pub fn unread(&mut self, piece: &[u8])
         requires { MayUnread self.old piece.now }
         ensures { self.new ≡ with_frame_back self.old piece.now }
@@ -162,52 +204,112 @@ impl Framer {
         if spent > 0 {
             self.buffer.truncate(spent - 1);
         } else {
+            let front = &piece[..piece.len() - 1];
             self.buffer.clear();
-            append(&mut self.buffer, &piece[..piece.len() - 1]);
+            append(&mut self.buffer, front);
+            self.copied = self.copied.saturating_add(front.len() as u64);
         }
         self.held = Held::Beginning;
     }
 }
 
 /// Leaves the bytes of an unfinished frame alone in the buffer.
-fn keep_beginning(buffer: &mut Vec<u8>, held: Held)
-    ensures items { buffer.new.items ≡ kept_in held buffer.old.items }
+fn keep_beginning(buffer: &mut Vec<u8>, held: &mut Held)
+    ensures items { buffer.new.items ≡ kept_in held.old buffer.old.items }
+    ensures held { held.new ≡ held_as.Beginning }
     ensures capacity { vec_capacity buffer.old ≤ vec_capacity buffer.new }
 {
-    match held {
+    match *held {
         Held::Beginning => {}
-        Held::Whole | Held::Split => buffer.clear(),
+        Held::Split => {
+            buffer.clear();
+            *held = Held::Beginning;
+        }
     }
 }
 
-/// Takes bytes of a piece into the buffer, behind those of an unfinished frame.
-fn advance(buffer: &mut Vec<u8>, held: &mut Held, max: usize, piece: &[u8]) -> (usize, Standing)
-    requires unfinished { beginning max (framer_of max held.old buffer.old.items).kept ≡ Unfinished }
+/// Takes bytes of a piece: those of an unfinished frame, and behind such bytes all, into the buffer.
+fn advance(
+    buffer: &mut Vec<u8>,
+    held: &mut Held,
+    copied: &mut u64,
+    max: usize,
+    piece: &[u8],
+) -> (usize, Standing)
+    requires unfinished { beginning max (kept_in held.old buffer.old.items) ≡ Unfinished }
+    requires countable { copied.old ≤ 18446744073709551615 }
     requires low { 1152 ≤ max }
     requires room { max ≤ vec_capacity buffer.old }
-    ensures after { framer_of max held.new buffer.new.items ≡ framer_after (framer_of max held.old buffer.old.items) piece.now }
-    ensures taken { result.0 ≡ (framing_of (framer_of max held.old buffer.old.items) piece.now).taken }
+    ensures after { framer_of max held.new buffer.new.items copied.new ≡ framer_after (framer_of max held.old buffer.old.items copied.old) piece.now }
+    ensures taken { result.0 ≡ (framing max (kept_in held.old buffer.old.items) piece.now).taken }
     ensures within { result.0 ≤ length piece.now }
-    ensures found { finding_in buffer.new.items result.1 ≡ (framing_of (framer_of max held.old buffer.old.items) piece.now).finding }
+    ensures found { finding_in (frame_in held.new buffer.new.items (take result.0 piece.now)) result.1 ≡ (framing max (kept_in held.old buffer.old.items) piece.now).finding }
     ensures capacity { max ≤ vec_capacity buffer.new }
 {
-    keep_beginning(buffer, *held);
-    let is_split = !buffer.is_empty();
+    keep_beginning(buffer, held);
+    if buffer.is_empty() {
+        advance_alone(buffer, copied, max, piece)
+    } else {
+        advance_behind(buffer, held, copied, max, piece)
+    }
+}
+
+/// Takes bytes of a piece where nothing is kept: only those of an unfinished frame are copied.
+fn advance_alone(
+    buffer: &mut Vec<u8>,
+    copied: &mut u64,
+    max: usize,
+    piece: &[u8],
+) -> (usize, Standing)
+    requires empty { buffer.old.items ≡ [] }
+    requires countable { copied.old ≤ 18446744073709551615 }
+    requires low { 1152 ≤ max }
+    requires room { max ≤ vec_capacity buffer.old }
+    ensures after { framer_of max held_as.Beginning buffer.new.items copied.new ≡ framer_after (framer_of max held_as.Beginning [] copied.old) piece.now }
+    ensures taken { result.0 ≡ (framing max [] piece.now).taken }
+    ensures within { result.0 ≤ length piece.now }
+    ensures found { finding_in (take result.0 piece.now) result.1 ≡ (framing max [] piece.now).finding }
+    ensures capacity { max ≤ vec_capacity buffer.new }
+{
+    let (taken, standing) = stand(piece, max);
+    match standing {
+        Standing::Unfinished => {
+            append(buffer, piece);
+            *copied = copied.saturating_add(taken as u64);
+        }
+        Standing::Whole => {}
+        Standing::Fault(_) => {}
+    }
+    (taken, standing)
+}
+
+/// Takes bytes of a piece into the buffer, behind those of an unfinished frame.
+fn advance_behind(
+    buffer: &mut Vec<u8>,
+    held: &mut Held,
+    copied: &mut u64,
+    max: usize,
+    piece: &[u8],
+) -> (usize, Standing)
+    requires unfinished { beginning max buffer.old.items ≡ Unfinished }
+    requires some { 0 < length buffer.old.items }
+    requires low { 1152 ≤ max }
+    requires room { max ≤ vec_capacity buffer.old }
+    ensures after { framer_of max held.new buffer.new.items copied.new ≡ framer_after (framer_of max held_as.Beginning buffer.old.items copied.old) piece.now }
+    ensures taken { result.0 ≡ (framing max buffer.old.items piece.now).taken }
+    ensures within { result.0 ≤ length piece.now }
+    ensures found { finding_in (frame_in held.new buffer.new.items (take result.0 piece.now)) result.1 ≡ (framing max buffer.old.items piece.now).finding }
+    ensures capacity { max ≤ vec_capacity buffer.new }
+{
     let (taken, standing) = fill(buffer, max, piece);
+    *copied = copied.saturating_add(taken as u64);
     *held = match standing {
-        Standing::Whole => given(is_split),
         Standing::Unfinished => Held::Beginning,
+        Standing::Whole => Held::Split,
         Standing::Fault(_) => {
             buffer.clear();
             Held::Beginning
         }
     };
     (taken, standing)
-}
-
-/// What the buffer has once its frame is given.
-fn given(is_split: bool) -> Held
-    ensures { result ≡ held_of is_split }
-{
-    if is_split { Held::Split } else { Held::Whole }
 }

@@ -1,5 +1,5 @@
-//! Framers: `= frame MAX`, and then `next BYTES`, `each BYTES` one by one, `all BYTES` frame by frame,
-//! `unread BYTES`, `clear` and `look`.
+//! Framers: `= frame MAX`, and then `next BYTES`, `each BYTES` one by one, `all BYTES` frame by frame, `hold BYTES`,
+//! `unread BYTES`, `clear`, `look` and `copied`.
 
 use crate::faults::tell_fault;
 use coap_frame::{Found, Framed, Framer};
@@ -21,6 +21,10 @@ fn found(framed: &Framed, told: &mut Told) {
         Found::More => told.word("More"),
         Found::Frame(frame) => {
             told.word("Frame");
+            told.hex(frame);
+        }
+        Found::Whole(frame) => {
+            told.word("Whole");
             told.hex(frame);
         }
         Found::Fault(fault) => tell_fault(&fault, fault as u8, told),
@@ -56,6 +60,20 @@ fn all(framer: &mut Framer, piece: &[u8], told: &mut Told) {
     told.number(rest.len() as u64);
 }
 
+/// Hands over a piece, and what stands behind the frame that lies whole in it while that is held; tells what was found there, and
+/// then the frame.
+fn hold(framer: &mut Framer, piece: &[u8], told: &mut Told) {
+    let framed = framer.next(piece);
+    let taken = framed.taken;
+    let Found::Whole(frame) = framed.what else {
+        told.word("split");
+        return;
+    };
+    found(&framer.next(&piece[taken..]), told);
+    told.word("held");
+    told.hex(frame);
+}
+
 /// Takes back the frame that was just given, with its last piece: a split one, or an empty Capabilities and Settings message
 /// that lay whole in its piece.
 #[tactic(auto, unfolding(coap_wire::specs::Beginning::beginning, coap_wire::specs::Reading::declared_of, coap_wire::specs::Reading::length_at))]
@@ -87,6 +105,11 @@ pub(crate) fn play(framer: &mut Framer, event: &str, bytes: &mut Vec<u8>, told: 
         "next" => found(&framer.next(bytes), told),
         "each" => each(framer, bytes, told),
         "all" => all(framer, bytes, told),
+        "hold" => hold(framer, bytes, told),
+        "copied" => {
+            told.word("copied");
+            told.number(framer.copied());
+        }
         _ => {
             act(framer, word, bytes, told);
             told.word("max");

@@ -12,7 +12,7 @@ use crate::answering::{answer, notify, send_due};
 use crate::host::Host;
 use crate::observers::Observers;
 use coap_conn::{Limits, Link, Phase, Reject, Role, SendFault, Verdict};
-use coap_frame::{Found, Framer};
+use coap_frame::Framer;
 use coap_wire::{MessageRef, parse};
 use std::alloc::{AllocError, Global};
 use std::marker::Model;
@@ -124,14 +124,14 @@ impl Session {
         }
         let framed = self.framer.next(piece);
         let count = framed.taken;
-        match framed.what {
-            Found::More => Ok(Taking::without_message(count)),
-            Found::Fault(fault) => {
+        match framed.what.frame() {
+            Ok(None) => Ok(Taking::without_message(count)),
+            Err(fault) => {
                 self.link.reject(Reject::from(fault));
                 give_up(&mut self.framer, &self.link, &mut self.observers);
                 Ok(Taking::without_message(count))
             }
-            Found::Frame(frame) => match parse(frame) {
+            Ok(Some(frame)) => match parse(frame) {
                 Err(_) => {
                     self.link.reject(Reject::Format);
                     give_up(&mut self.framer, &self.link, &mut self.observers);

@@ -8,7 +8,7 @@ use Rattle.coap_wire.specs.Reading.{message_of}
 use Rattle.coap_wire.specs.Beginning.{Beginning, Unfinished, Whole, Faulty, beginning}
 use Rattle.coap_frame.specs.Framing.{FramerValue, IsFramer, Framing, Nothing, AFrame, MayUnread, framing_at, framing, framing_of, framer_after, without_last}
 use Rattle.coap_frame.specs.Given.{taken_of, unread_after}
-use Rattle.coap_frame.proofs.FramingLemmas.{empty_framer, framing_is_framer}
+use Rattle.coap_frame.proofs.FramingLemmas.{empty_framer, framing_is_framer, unread_is_framer}
 use Rattle.coap_frame.proofs.GivenLaws.{taken_within, unread_allowed, unread_one_less, unread_nothing}
 use Rattle.coap_conn.specs.declared.phase.Verdict.{Verdict}
 use Rattle.coap_conn.specs.declared.phase.Verdict.TheVariants as told
@@ -36,7 +36,7 @@ use Rattle.coap_serve.proofs.values.EntryLemmas.{is_first}
 -- ---- what a stop gives up
 
 framer_stays : (l : LinkValue) (f : FramerValue) → IsFramer f → IsFramer (framer_on l f)
-framer_stays l f is = elim (takes_messages l.phase) as (λ b. IsFramer (if b then f else record f { kept = []; spent = [] })) [ true ↦ is | false ↦ empty_framer f.max [] is.low is.high refl ]
+framer_stays l f is = elim (takes_messages l.phase) as (λ b. IsFramer (if b then f else record f { kept = []; spent = [] })) [ true ↦ is | false ↦ empty_framer f.max [] f.copied is.low is.high is.countable refl ]
 
 max_stays : (l : LinkValue) (f : FramerValue) → (framer_on l f).max ≡ f.max
 max_stays l f = elim (takes_messages l.phase) as (λ b. (if b then f else record f { kept = []; spent = [] }).max ≡ f.max) [ true ↦ refl | false ↦ refl ]
@@ -162,7 +162,7 @@ module _ (s : Inside) (is : IsSession s) (piece frame : List ℕ) (found : (fram
   may_unread = unread_allowed s.framer piece frame is.framer found
 
   pub unread_framer : IsFramer (unread_after s.framer piece)
-  unread_framer = subst IsFramer (sym (unread_one_less s.framer piece frame is.framer found)) (framing_is_framer s.framer cut is.framer)
+  unread_framer = unread_is_framer (framer_after s.framer piece) (taken_of s.framer piece) (framing_is_framer s.framer piece is.framer) may_unread
 
   same_framing : (bytes : List ℕ) → framing_of s.framer bytes ≡ framing (session_max (session_value s)) s.framer.kept bytes
   same_framing bytes = ap (λ (n : ℕ). framing n s.framer.kept bytes) is.greatest

@@ -12,7 +12,7 @@ pub invariant_of-self : goal.invariant_of-self
 invariant_of-self c =
     let is = c.self.invariant in
     is_still c.self.inside c.clear.new.self c.end.new.self is (ap (λ (f : FramerValue). f.max) c.clear.ensures)
-    (subst IsFramer (sym c.clear.ensures) (empty_framer c.self.inside.framer.max [] is.framer.low is.framer.high refl))
+    (subst IsFramer (sym c.clear.ensures) (empty_framer c.self.inside.framer.max [] c.self.inside.framer.copied is.framer.low is.framer.high is.framer.countable refl))
     (ap (λ (l : LinkValue). l.limits) c.end.ensures.after ∙ limits_end c.self.inside.link (nat_lt 0 c.kept.result))
 
 pub returns-clause-shows : goal.returns-clause-shows

@@ -19,7 +19,7 @@ append-requires c =
     omega (arith, small.1, same, c.self.invariant.1, c.clear.ensures.capacity, c.clear.ensures.len, length-take (length piece - 1) piece)
 
 abbrev IsKept : Inside → Type 0
-IsKept f = is_framer (record { max = f.max; buffer = f.buffer; held = held.Beginning })
+IsKept f = is_framer (record { max = f.max; buffer = f.buffer; held = held.Beginning; copied = f.copied })
 
 pub invariant_of-self : goal.invariant_of-self
 invariant_of-self c =
@@ -36,10 +36,10 @@ invariant_of-self c =
           let back = back_spent now piece is (omega (arith, w.if-spent-gt0.true, c.spent-spent.ensures)) in
           let whole = ap (λ (m : ℕ). beginning m now.spent) same ∙ back.whole in
           let bytes = w.truncate.ensures.items ∙ ap (λ (n : ℕ). take (n - 1) inside.buffer.items) c.spent-spent.ensures ∙ ap (λ (s : List ℕ). take (length now.spent - 1) s) lies in
-          subst IsKept (sym w.self-inside-is) (front_framer inside.max w.truncate.new.self.items now.spent c.self.invariant.0.low c.self.invariant.0.high whole bytes, omega (arith, c.self.invariant.1, w.truncate.ensures.capacity)))
+          subst IsKept (sym w.self-inside-is) (front_framer inside.max w.truncate.new.self.items now.spent _ c.self.invariant.0.low c.self.invariant.0.high c.self.invariant.0.countable whole bytes, omega (arith, c.self.invariant.1, w.truncate.ensures.capacity)))
       | else-spent-gt0 w ↦ (
           let back = back_piece now piece c.requires (omega (arith, c.spent-spent.ensures, w.if-spent-gt0.false)) in
           let whole = ap (λ (m : ℕ). beginning m piece) same ∙ back.whole in
           let bytes = w.append.ensures.items ∙ ap (λ (s : List ℕ). s ++ take (length piece - 1) piece) w.clear.ensures.items in
-          subst IsKept (sym w.self-inside-is) (front_framer inside.max w.append.new.buffer.items piece c.self.invariant.0.low c.self.invariant.0.high whole bytes, omega (arith, c.self.invariant.1, w.clear.ensures.capacity, w.append.ensures.capacity)))
+          subst IsKept (sym w.self-inside-is) (front_framer inside.max w.append.new.buffer.items piece _ c.self.invariant.0.low c.self.invariant.0.high (omega (arith, w.saturating_add-self-inside.ensures)) whole bytes, omega (arith, c.self.invariant.1, w.clear.ensures.capacity, w.append.ensures.capacity)))
     ]

@@ -1,0 +1,84 @@
+-- What the calls of a framer add to its count.
+use Rattle.std.proofs.Common.{◌≡◌, ◌≢◌, ℕ, ◌+◌, ◌-◌, ◌≤◌, List, [], ◌∷◌, ◌++◌, length, refl, ap, arith}
+use Rattle.std.proofs.lemmas.List.{length-append, length-take}
+use Rattle.coap_wire.specs.Beginning.{Beginning, Unfinished, Whole, Faulty, beginning}
+use Rattle.coap_wire.proofs.StreamSteps.{whole_parts}
+use Rattle.coap_frame.specs.Framing.{FramerValue, IsFramer, Finding, Nothing, AFrame, AFault, Framing, framing_at, framing, framing_of, counted, copied_alone, copied_of, framer_after, without_last, frame_back, copied_back, with_frame_back}
+use Rattle.coap_frame.specs.Copying.{FramerCall, Next, Unread, Clear, MayCall, after_call, IsCountedNext, IsCountedUnread, IsCounted, AreCounted}
+use Rattle.coap_frame.proofs.FramingLemmas.{empty_framer, framing_is_framer, unread_is_framer}
+
+-- ---- a piece
+
+copied_alone_within : (taken : ℕ) (finding : Finding) → copied_alone taken finding ≤ taken
+copied_alone_within taken Nothing = omega arith
+copied_alone_within taken (AFrame frame) = omega arith
+copied_alone_within taken (AFault fault) = omega arith
+
+-- at most what is taken is copied
+copied_within : (kept : List ℕ) (f : Framing) → copied_of kept f ≤ f.taken
+copied_within [] f = copied_alone_within f.taken f.finding
+copied_within (b ∷ kept) f = omega arith
+
+-- of a frame that the piece has by itself nothing is
+none_copied : (kept frame : List ℕ) (f : Framing) → kept ≡ [] → f.finding ≡ AFrame frame → copied_of kept f ≡ 0
+none_copied [] frame f none found = ap (copied_alone f.taken) found
+none_copied (b ∷ kept) frame f none found = absurd cc
+
+-- what lies in the buffer was kept or is copied
+lies_at : (max : ℕ) (kept piece : List ℕ) (b : Beginning) → beginning max (kept ++ piece) ≡ b → length (framing_at kept piece b).kept + length (framing_at kept piece b).spent ≤ length kept + copied_of kept (framing_at kept piece b)
+lies_at max [] piece Unfinished e = omega arith
+lies_at max (b ∷ kept) piece Unfinished e = omega (arith, length-append (b ∷ kept) piece)
+lies_at max [] piece (Whole frame rest) e = omega arith
+lies_at max (b ∷ kept) piece (Whole frame rest) e =
+    let bytes = (whole_parts max ((b ∷ kept) ++ piece) frame rest e).bytes in
+    omega (arith, length-append (b ∷ kept) piece, ap (λ (s : List ℕ). length s) bytes, length-append frame rest)
+lies_at max kept piece (Faulty fault) e = omega arith
+
+lies_within : (max : ℕ) (kept piece : List ℕ) → length (framing max kept piece).kept + length (framing max kept piece).spent ≤ length kept + copied_of kept (framing max kept piece)
+unfolding framing
+lies_within max kept piece = lies_at max kept piece (beginning max (kept ++ piece)) refl
+
+next_counted : (v : FramerValue) (piece : List ℕ) → IsFramer v → IsCountedNext v piece (framer_after v piece)
+next_counted v piece is =
+    let f = framing_of v piece in
+    let within = copied_within v.kept f in
+    record {
+      grows = omega (arith, is.countable);
+      most = omega (arith, within);
+      whole = λ frame none found. omega (arith, is.countable, none_copied v.kept frame f none found);
+      honest = λ below. omega (arith, below, lies_within v.max v.kept piece);
+    }
+
+-- ---- a frame that is taken back
+
+none_back : (spent piece : List ℕ) → spent ≢ [] → copied_back spent piece ≡ 0
+none_back [] piece some = absurd (some refl)
+none_back (b ∷ spent) piece some = refl
+
+lies_back : (spent piece : List ℕ) → length (without_last (frame_back spent piece)) ≤ length spent + copied_back spent piece
+lies_back [] piece = omega (arith, length-take (length piece - 1) piece)
+lies_back (b ∷ spent) piece = omega (arith, length-take (length (b ∷ spent) - 1) (b ∷ spent))
+
+unread_counted : (v : FramerValue) (piece : List ℕ) → IsFramer v → IsCountedUnread v piece (with_frame_back v piece)
+unread_counted v piece is = record {
+  whole = λ none. ap (λ (s : List ℕ). counted v.copied (copied_back s piece)) none;
+  split = λ some. omega (arith, is.countable, none_back v.spent piece some);
+  honest = λ below. omega (arith, below, lies_back v.spent piece);
+}
+
+-- ---- a list of calls
+
+call_counted : (v : FramerValue) (call : FramerCall) → IsFramer v → IsCounted v call (after_call v call)
+call_counted v (Next piece) is = next_counted v piece is
+call_counted v (Unread piece) is = unread_counted v piece is
+call_counted v Clear is = refl
+
+call_is_framer : (v : FramerValue) (call : FramerCall) → IsFramer v → MayCall v call → IsFramer (after_call v call)
+call_is_framer v (Next piece) is may = framing_is_framer v piece is
+call_is_framer v (Unread piece) is may = unread_is_framer v piece is may
+call_is_framer v Clear is may = empty_framer v.max [] v.copied is.low is.high is.countable refl
+
+pub are_counted : (v : FramerValue) (calls : List FramerCall) → IsFramer v → AreCounted v calls
+unfolding AreCounted
+are_counted v [] is = tt
+are_counted v (call ∷ calls) is = λ may. (call_counted v call is, are_counted (after_call v call) calls (call_is_framer v call is may))

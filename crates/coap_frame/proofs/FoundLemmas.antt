@@ -1,0 +1,50 @@
+-- What is given, by what was found and by how the buffer stands.
+use Rattle.std.proofs.Common.{◌≡◌, ℕ, List, [], take, sym, ap, ◌∙◌}
+use Rattle.coap_frame.specs.Framing.{Nothing, AFrame, AFault, framing}
+use Rattle.coap_frame.specs.BufferViews.{spent_in, frame_in, finding_in}
+use Rattle.coap_frame.specs.FramedViews.{finding_of, lent_of, IsFramed}
+use Rattle.coap_frame.specs.declared.framer.Held.{Held}
+use Rattle.coap_frame.specs.declared.framer.Held.TheVariants as held
+use Rattle.coap_frame.specs.declared.framer.Found.{Found}
+use Rattle.coap_frame.specs.declared.framer.Found.TheVariants as found
+use Rattle.coap_frame.specs.declared.filling.Standing.{Standing}
+use Rattle.coap_frame.specs.declared.filling.Standing.TheVariants as standing
+use Rattle.coap_wire.specs.declared.fault.FrameFault.{FrameFault}
+use Rattle.coap_frame.proofs.FramingLemmas.{none_spent}
+
+module _ (max : ℕ) (kept piece buffer : List ℕ) (taken : ℕ) (now : Held) (stands : Standing) (what : Found) (count : taken ≡ (framing max kept piece).taken) (finds : finding_in (frame_in now buffer (take taken piece)) stands ≡ (framing max kept piece).finding) (spends : spent_in now buffer ≡ (framing max kept piece).spent) where
+  pub given_more : stands ≡ standing.Unfinished → what ≡ found.More → IsFramed (record { taken = taken; what = what }) (framing max kept piece)
+  given_more is given =
+      let nothing = sym (ap (finding_in (frame_in now buffer (take taken piece))) is) ∙ finds in
+      record {
+        taken = count;
+        what = ap finding_of given ∙ nothing;
+        lent = ap lent_of given ∙ sym (none_spent max kept piece Nothing (sym nothing) tt);
+      }
+
+  pub given_fault : (fault : FrameFault) → stands ≡ standing.Fault fault → what ≡ found.Fault fault → IsFramed (record { taken = taken; what = what }) (framing max kept piece)
+  given_fault fault is given =
+      let faulty = sym (ap (finding_in (frame_in now buffer (take taken piece))) is) ∙ finds in
+      record {
+        taken = count;
+        what = ap finding_of given ∙ faulty;
+        lent = ap lent_of given ∙ sym (none_spent max kept piece (AFault fault) (sym faulty) tt);
+      }
+
+  pub given_whole : stands ≡ standing.Whole → now ≡ held.Beginning → finding_of what ≡ AFrame (take taken piece) → lent_of what ≡ [] → IsFramed (record { taken = taken; what = what }) (framing max kept piece)
+  given_whole is stays gives lends =
+      let frame = sym (ap (finding_in (frame_in now buffer (take taken piece))) is ∙ ap (λ (h : Held). AFrame (frame_in h buffer (take taken piece))) stays) ∙ finds in
+      record {
+        taken = count;
+        what = gives ∙ frame;
+        lent = lends ∙ sym (ap (λ (h : Held). spent_in h buffer) stays) ∙ spends;
+      }
+
+  pub given_split : stands ≡ standing.Whole → now ≡ held.Split → finding_of what ≡ AFrame buffer → lent_of what ≡ buffer → IsFramed (record { taken = taken; what = what }) (framing max kept piece)
+  given_split is stays gives lends =
+      let frame = sym (ap (finding_in (frame_in now buffer (take taken piece))) is ∙ ap (λ (h : Held). AFrame (frame_in h buffer (take taken piece))) stays) ∙ finds in
+      record {
+        taken = count;
+        what = gives ∙ frame;
+        lent = lends ∙ sym (ap (λ (h : Held). spent_in h buffer) stays) ∙ spends;
+      }
