@@ -9,7 +9,8 @@ use Rattle.coap_conn.specs.Verdicts as verdict
 use Rattle.coap_wire.specs.Codes as code
 use Rattle.coap_conn.specs.Phases.{stop_of, is_waiting}
 use Rattle.coap_conn.specs.Reaction.{Standing, Reaction, live_reaction, react, csm_reaction, is_reserved}
-use Rattle.coap_conn.specs.History.{History, AnnouncedFirst, own_csm}
+use Rattle.coap_conn.specs.History.{History, AnnouncedFirst}
+use Rattle.coap_conn.specs.LinkValue.{own_csm}
 use Rattle.coap_conn.proofs.RequestLemmas.{react_live, react_asks}
 
 -- whatever is queued later stands behind

@@ -67,10 +67,12 @@ impl Link {
     ghost use Rattle.coap_conn.specs.Verdicts as verdict;
     ghost use Rattle.coap_conn.specs.declared.phase.Phase.TheVariants as phase;
     ghost use Rattle.coap_conn.specs.declared.phase.Role.TheVariants as role;
-    ghost use Rattle.coap_conn.specs.History.{History, bytes_of, new_history, after_message, after_reject, after_end, after_reply, after_release, after_written, after_hold, after_due, after_request, after_cancel, after_ping};
+    ghost use Rattle.coap_conn.specs.History.{History, new_history, after, LinkShows};
+    ghost use Rattle.coap_conn.specs.LinkValue.{bytes_of, IsLink, IsReady, free_in, limit_in, standing_in, is_finished, new_link, link_with, link_handled, link_after_csm, can_hold, asking_in};
     ghost use Rattle.coap_conn.specs.Asking.{asking_refusal, cancel_refusal, observation_refusal, new_refusal, size_refusal, next_token, with_token, ping_with};
     ghost use Rattle.coap_conn.specs.OutstandingViews.{outstanding_value};
-    ghost use Rattle.coap_conn.specs.LinkValue.{LinkShows, IsLink, IsReady, free_in, limit_in, standing_in, is_finished, new_link, link_with, link_handled, link_after_message, link_after_csm, link_after_reply, link_after_reject, link_after_end, link_after_release, link_after_written, can_hold, link_after_hold, link_after_due, asking_in, link_after_request, link_after_cancel, link_after_ping};
+    ghost use Rattle.coap_conn.specs.Calls.{link_after};
+    ghost use Rattle.coap_conn.specs.Calls as call;
     ghost use Rattle.coap_conn.specs.LinkViews.{verdict_value};
     ghost use Rattle.coap_conn.specs.Release.{release_refusal};
     ghost use Rattle.coap_conn.specs.contracts.link.Link.{the_row};
@@ -117,8 +119,8 @@ impl Link {
     /// The first so many bytes were written, and wait no more.
     pub fn written(&mut self, count: usize)
         requires { count ≤ length self.old.waiting }
-        ensures after { self.new ≡ link_after_written self.old count }
-        ensures shows { (h : History) → LinkShows self.old h → LinkShows self.new (after_written h count) }
+        ensures after { self.new ≡ link_after self.old (call.Written count) }
+        ensures shows { (h : History) → LinkShows self.old h → LinkShows self.new (after h (call.Written count)) }
     {
         self.queue.written(count);
     }
@@ -197,8 +199,8 @@ impl Link {
         requires ready { IsReady self.old }
         requires live { IsLive self.old.phase }
         ensures verdict { verdict_value result ≡ (react (standing_in self.old) message.now).verdict }
-        ensures after { self.new ≡ link_after_message self.old message.now }
-        ensures shows { (h : History) → LinkShows self.old h → LinkShows self.new (after_message h message.now) }
+        ensures after { self.new ≡ link_after self.old (call.Handle message.now) }
+        ensures shows { (h : History) → LinkShows self.old h → LinkShows self.new (after h (call.Handle message.now)) }
         // A request changes nothing, and can be answered at once.
         ensures unchanged { verdict_value result ≡ verdict.Request → self.new ≡ self.old }
         ensures asked { verdict_value result ≡ verdict.Request → IsReady self.new × IsAnswering self.new.phase }
@@ -210,16 +212,16 @@ impl Link {
     pub fn reject(&mut self, fault: Reject)
         requires ready { IsReady self.old }
         requires live { IsLive self.old.phase }
-        ensures after { self.new ≡ link_after_reject self.old fault }
-        ensures shows { (h : History) → LinkShows self.old h → LinkShows self.new (after_reject h fault) }
+        ensures after { self.new ≡ link_after self.old (call.Reject fault) }
+        ensures shows { (h : History) → LinkShows self.old h → LinkShows self.new (after h (call.Reject fault)) }
     {
         self.abort(reason_of(fault));
     }
 
     /// Stops as the input ends, within a frame where it was cut. Nothing changes where no message is taken any more.
     pub fn end(&mut self, cut: bool)
-        ensures after { self.new ≡ link_after_end self.old cut }
-        ensures shows { (h : History) → LinkShows self.old h → LinkShows self.new (after_end h cut) }
+        ensures after { self.new ≡ link_after self.old (call.End cut) }
+        ensures shows { (h : History) → LinkShows self.old h → LinkShows self.new (after h (call.End cut)) }
     {
         if self.phase.stop().is_none() {
             self.stop(if cut { Reason::Cut } else { Reason::Ended });
@@ -233,8 +235,8 @@ impl Link {
         requires ready { IsReady self.old }
         requires answering { IsAnswering self.old.phase }
         ensures reply { result ≡ fit (limit_in self.old) response.now (bare_response response.now) }
-        ensures after { self.new ≡ link_after_reply self.old response.now }
-        ensures shows { (h : History) → LinkShows self.old h → LinkShows self.new (after_reply h response.now) }
+        ensures after { self.new ≡ link_after self.old (call.Reply response.now) }
+        ensures shows { (h : History) → LinkShows self.old h → LinkShows self.new (after h (call.Reply response.now)) }
     {
         if response.size() <= self.limit() as u64 {
             self.queue.put(response);
@@ -252,8 +254,8 @@ impl Link {
         requires open { is_open self.old.phase ≡ true }
         ensures held { OnOk result (IsTrue (can_hold self.old)) }
         ensures full { OnErr result (IsFalse (can_hold self.old)) }
-        ensures after { OnOk result (self.new ≡ link_after_hold self.old token.items moment) }
-        ensures shows { OnOk result ((h : History) → LinkShows self.old h → LinkShows self.new (after_hold h token.items moment)) }
+        ensures after { OnOk result (self.new ≡ link_after self.old (call.Hold token.items moment)) }
+        ensures shows { OnOk result ((h : History) → LinkShows self.old h → LinkShows self.new (after h (call.Hold token.items moment))) }
         ensures err { OnErr result (self.new ≡ self.old) }
     {
         if self.pending.is_full() {
@@ -270,8 +272,8 @@ impl Link {
     pub fn due(&mut self, now: u64) -> Due
         requires ready { IsReady self.old }
         ensures due { due_value result ≡ due_told (first_due now self.old.held) }
-        ensures after { self.new ≡ link_after_due self.old now }
-        ensures shows { (h : History) → LinkShows self.old h → LinkShows self.new (after_due h now) }
+        ensures after { self.new ≡ link_after self.old (call.Due now) }
+        ensures shows { (h : History) → LinkShows self.old h → LinkShows self.new (after h (call.Due now)) }
         // An answer can be sent at once.
         ensures answer { (token : List ℕ) → due_value result ≡ AnAnswer token → IsReady self.new × IsAnswering self.new.phase }
     {
@@ -295,8 +297,8 @@ impl Link {
     /// where less than 2 bytes may be sent. Nothing has changed then.
     pub fn release(&mut self) -> Result<(), SendFault>
         ensures answer { RefusedBy result (release_refusal self.old) }
-        ensures after { OnOk result (self.new ≡ link_after_release self.old) }
-        ensures shows { OnOk result ((h : History) → LinkShows self.old h → LinkShows self.new (after_release h)) }
+        ensures after { OnOk result (self.new ≡ link_after self.old call.Release) }
+        ensures shows { OnOk result ((h : History) → LinkShows self.old h → LinkShows self.new (after h call.Release)) }
         ensures err { OnErr result (self.new ≡ self.old) }
     {
         let Phase::Open = self.phase else {
@@ -324,8 +326,8 @@ impl Link {
     pub fn request(&mut self, message: &Builder, observe: bool) -> Result<Token, RequestFault>
         ensures answer { RefusedBy result (asking_refusal (asking_in self.old) (with_token message.now (next_token self.old.tokens))) }
         ensures token { IfOk result (λ t. t.items ≡ next_token self.old.tokens) }
-        ensures after { OnOk result (self.new ≡ link_after_request self.old message.now observe) }
-        ensures shows { OnOk result ((h : History) → LinkShows self.old h → LinkShows self.new (after_request h message.now observe)) }
+        ensures after { OnOk result (self.new ≡ link_after self.old (call.Request message.now observe)) }
+        ensures shows { OnOk result ((h : History) → LinkShows self.old h → LinkShows self.new (after h (call.Request message.now observe))) }
         ensures err { OnErr result (self.new ≡ self.old) }
     {
         let token = self.next_token()?;
@@ -352,8 +354,8 @@ impl Link {
     #[tactic(auto, unfolding(crate::specs::Asking::cancel_refusal))]
     pub fn cancel(&mut self, token: &Token, message: &Builder) -> Result<(), RequestFault>
         ensures answer { RefusedBy result (cancel_refusal (asking_in self.old) token.now.items (with_token message.now token.now.items)) }
-        ensures after { OnOk result (self.new ≡ link_after_cancel self.old token.now.items message.now) }
-        ensures shows { OnOk result ((h : History) → LinkShows self.old h → LinkShows self.new (after_cancel h token.now.items message.now)) }
+        ensures after { OnOk result (self.new ≡ link_after self.old (call.Cancel token.now.items message.now)) }
+        ensures shows { OnOk result ((h : History) → LinkShows self.old h → LinkShows self.new (after h (call.Cancel token.now.items message.now))) }
         ensures err { OnErr result (self.new ≡ self.old) }
     {
         let Phase::Open = self.phase else {
@@ -376,8 +378,8 @@ impl Link {
     pub fn ping(&mut self, custody: bool) -> Result<Token, RequestFault>
         ensures answer { RefusedBy result (asking_refusal (asking_in self.old) (ping_with custody (next_token self.old.tokens))) }
         ensures token { IfOk result (λ t. t.items ≡ next_token self.old.tokens) }
-        ensures after { OnOk result (self.new ≡ link_after_ping self.old custody) }
-        ensures shows { OnOk result ((h : History) → LinkShows self.old h → LinkShows self.new (after_ping h custody)) }
+        ensures after { OnOk result (self.new ≡ link_after self.old (call.Ping custody)) }
+        ensures shows { OnOk result ((h : History) → LinkShows self.old h → LinkShows self.new (after h (call.Ping custody))) }
         ensures err { OnErr result (self.new ≡ self.old) }
     {
         let token = self.next_token()?;
