@@ -14,7 +14,7 @@ use Rattle.coap_conn.specs.Announced.{announcement, announced, last_or}
 use Rattle.coap_conn.specs.Held.{HeldValue}
 use Rattle.coap_conn.specs.Outstanding.{OutstandingValue}
 use Rattle.coap_conn.specs.Reaction.{Effect}
-use Rattle.coap_conn.specs.LinkValue.{LinkValue, bytes_of, own_csm, new_link, link_with, link_heard}
+use Rattle.coap_conn.specs.LinkValue.{LinkValue, bytes_of, own_csm, new_link, link_with}
 use Rattle.coap_conn.specs.Calls.{Call, Deed, Handles, Does, Holds, Asks, Writes, doing, link_with_deed, link_after, IsWithin}
 use Rattle.coap_conn.specs.History.{History, IsHistory, LinkShows, link_of, new_history, with_effect, with_deed, after}
 
