@@ -24,7 +24,8 @@ use Rattle.coap_conn.specs.Held as held
 use Rattle.coap_conn.specs.Outstanding.{OutstandingValue, Request, Observation, Ping, is_asked, is_last, is_notification, is_pinged, is_request_entry, cancelled_by, without_asked, without_pinged}
 use Rattle.coap_conn.specs.Asking.{asking_refusal, next_token, with_token, entry_of, ping_with}
 use Rattle.coap_conn.specs.Reaction.{Standing, Effect, Reaction, stay, tells, leaves, told_of, ping_reaction, pong_reaction, csm_reaction, request_reaction, answered, response_reaction, open_reaction, live_reaction, reaction_unless, react, is_reserved, is_signal, is_method, minds_critical_options, asks_custody, pong_with, pong_of, not_implemented, send_as, due_effect}
-use Rattle.coap_conn.specs.Calls.{Call, standing_due, doing, gives_token}
+use Rattle.coap_conn.specs.Calls.{Call, standing_due, doing}
+use Rattle.coap_conn.specs.CallKinds.{gives_token}
 use Rattle.coap_conn.specs.Calls as call
 use Rattle.coap_conn.specs.History.{History, link_of, limit_now, standing_now, asking_now, with_deed, after, after_asking}
 use Rattle.coap_conn.proofs.AskingLaws.{none_where, asked_new}

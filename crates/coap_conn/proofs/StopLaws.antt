@@ -9,7 +9,8 @@ use Rattle.coap_conn.specs.Phases.{stop_of, answers, is_open}
 use Rattle.coap_conn.specs.Verdicts as verdict
 use Rattle.coap_conn.specs.Reaction.{Standing, reaction_unless, react}
 use Rattle.coap_conn.specs.Asking.{asking_refusal, cancel_refusal, next_token, with_token, ping_with}
-use Rattle.coap_conn.specs.Calls.{Call, needs_live}
+use Rattle.coap_conn.specs.Calls.{Call}
+use Rattle.coap_conn.specs.CallKinds.{needs_live}
 use Rattle.coap_conn.specs.Calls as call
 use Rattle.coap_conn.specs.History.{History, asking_now, may_hold, after}
 use Rattle.coap_conn.proofs.AskingLaws.{not_asked, not_cancelled}

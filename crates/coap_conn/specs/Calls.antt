@@ -32,19 +32,6 @@ pub data Call : Type 0 where
   Ping : (custody : Bool) → Call
   Written : (n : ℕ) → Call
 
--- a call that does nothing where no message is taken any more: any but a response, what is held and due, and bytes that are written
-abbrev pub needs_live : Call → Bool
-needs_live (Reply m) = false
-needs_live (Due now) = false
-needs_live (Written n) = false
-needs_live other = true
-
--- a call that gives a token
-abbrev pub gives_token : Call → Bool
-gives_token (Request m observe) = true
-gives_token (Ping custody) = true
-gives_token other = false
-
 -- What is done: a message is handled, with its effect; an effect alone; one more is held; a message is queued, and this is outstanding
 -- and so many tokens were given; bytes were written.
 pub data Deed : Type 0 where

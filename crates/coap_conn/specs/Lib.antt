@@ -15,6 +15,7 @@ pub mod Reaction
 pub mod Asking
 pub mod LinkValue
 pub mod Calls
+pub mod CallKinds
 pub mod History
 pub mod LinkViews
 pub mod QueueValue

@@ -7,7 +7,8 @@ ghost use Rattle.coap_conn.specs.Announced.{bad_csm_option, has_critical_option,
 ghost use Rattle.coap_conn.specs.Fit.{AllFit};
 ghost use Rattle.coap_conn.specs.Limits.{LimitValues, AreInRange};
 ghost use Rattle.coap_conn.specs.History.{History, AnnouncedFirst, new_history, limit_now, standing_now, after, after_send, asking_now, after_asking};
-ghost use Rattle.coap_conn.specs.Calls.{Call, release, needs_live, gives_token};
+ghost use Rattle.coap_conn.specs.Calls.{Call, release};
+ghost use Rattle.coap_conn.specs.CallKinds.{needs_live, gives_token};
 ghost use Rattle.coap_conn.specs.Calls as call;
 ghost use Rattle.coap_conn.specs.Asking.{asking_refusal, cancel_refusal, next_token};
 ghost use Rattle.coap_conn.specs.Outstanding.{OutstandingValue, is_asked, is_pinged, is_notification, is_request_entry, without_asked, without_pinged};
