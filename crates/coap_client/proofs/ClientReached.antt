@@ -16,9 +16,11 @@ use Rattle.coap_conn.specs.Limits.{LimitValues}
 use Rattle.coap_conn.specs.Phases.{takes_messages}
 use Rattle.coap_conn.specs.Rejects.{reject_of}
 use Rattle.coap_conn.specs.Outstanding.{OutstandingValue}
-use Rattle.coap_conn.specs.History.{History, IsHistory, new_history, after_message, after_reject, after_end, after_asking, after_cancel}
-use Rattle.coap_conn.specs.LinkValue.{LinkValue, LinkShows, link_of, free_in, link_after_message, link_after_reject, link_after_end, link_after_written, link_after_request, link_after_cancel, link_after_ping}
-use Rattle.coap_conn.proofs.LinkLemmas.{new_shown, message_shown, reject_shown, end_shown, written_shown, request_shown, ping_shown, cancel_shown}
+use Rattle.coap_conn.specs.History.{History, IsHistory, new_history, after, after_asking, LinkShows, link_of}
+use Rattle.coap_conn.specs.LinkValue.{LinkValue, free_in}
+use Rattle.coap_conn.specs.Calls.{link_after}
+use Rattle.coap_conn.specs.Calls as call
+use Rattle.coap_conn.proofs.LinkLemmas.{new_shown, shows}
 use Rattle.coap_client.specs.declared.request.Method.{Method}
 use Rattle.coap_client.specs.Targets.{TargetValue}
 use Rattle.coap_client.specs.Requests.{ExtrasValue, request_of, cancel_of}
@@ -67,7 +69,7 @@ phase_if false h k e = refl
 pub asking_phase : (h : History) (m : Message) (e : OutstandingValue) → (after_asking h m e).phase ≡ h.phase
 asking_phase h m e = phase_if _ h _ refl
 
-pub cancel_phase : (h : History) (token : List ℕ) (m : Message) → (after_cancel h token m).phase ≡ h.phase
+pub cancel_phase : (h : History) (token : List ℕ) (m : Message) → (after h (call.Cancel token m)).phase ≡ h.phase
 cancel_phase h token m = phase_if _ h _ refl
 
 over_if : (h k : History) (takes : Bool) → takes_messages h.phase ≡ takes → takes_messages k.phase ≡ false → takes_messages (cond takes k h).phase ≡ false
@@ -75,10 +77,10 @@ over_if h k true e over = over
 over_if h k false e over = e
 
 -- a fault and the end of the input end it
-pub reject_over : (h : History) (fault : Reject) → takes_messages (after_reject h fault).phase ≡ false
+pub reject_over : (h : History) (fault : Reject) → takes_messages (after h (call.Reject fault)).phase ≡ false
 reject_over h fault = over_if h _ (takes_messages h.phase) refl refl
 
-pub end_over : (h : History) (cut : Bool) → takes_messages (after_end h cut).phase ≡ false
+pub end_over : (h : History) (cut : Bool) → takes_messages (after h (call.End cut)).phase ≡ false
 end_over h cut = over_if h _ (takes_messages h.phase) refl refl
 
 -- where no message is taken, nothing is kept
@@ -142,11 +144,11 @@ module _ (h : History) (is : IsHistory h) (live : takes_messages h.phase ≡ tru
   taken_fault count fault rest =
       let r : Reject = reject_of fault in
       let over = reject_over h r in
-      let now = reject_shown (link_of h) (link_after_reject (link_of h) r) r refl h (itself h is) in
+      let now = shows (link_of h) (link_after (link_of h) (call.Reject r)) (call.Reject r) tt refl h (itself h is) in
       record {
         count = refl;
         event = refl;
-        client = ap (λ (l : LinkValue). record { frame = []; link = l }) now.same ∙ ap (λ (f : List ℕ). record { frame = f; link = link_of (after_reject h r) }) (sym (kept_none (after_reject h r) rest over));
+        client = ap (λ (l : LinkValue). record { frame = []; link = l }) now.same ∙ ap (λ (f : List ℕ). record { frame = f; link = link_of (after h (call.Reject r)) }) (sym (kept_none (after h (call.Reject r)) rest over));
         is_history = now.is_history;
         live = λ takes. absurd (true_false _ over takes);
       }
@@ -154,11 +156,11 @@ module _ (h : History) (is : IsHistory h) (live : takes_messages h.phase ≡ tru
   taken_message : (count : ℕ) (m : Message) → IsTaken h (taking_read (shown h kept) count (Ok m)) count (Handles m ∷ []) (record { messages = m ∷ []; rest = []; fault = None })
   unfolding after_steps client.step
   taken_message count m =
-      let now = message_shown (link_of h) (link_after_message (link_of h) m) m refl h (itself h is) in
+      let now = shows (link_of h) (link_after (link_of h) (call.Handle m)) (call.Handle m) tt refl h (itself h is) in
       record {
         count = refl;
         event = refl;
-        client = ap (λ (l : LinkValue). record { frame = []; link = l }) now.same ∙ ap (λ (f : List ℕ). record { frame = f; link = link_of (after_message h m) }) (sym (nil_if (takes_messages (after_message h m).phase)));
+        client = ap (λ (l : LinkValue). record { frame = []; link = l }) now.same ∙ ap (λ (f : List ℕ). record { frame = f; link = link_of (after h (call.Handle m)) }) (sym (nil_if (takes_messages (after h (call.Handle m)).phase)));
         is_history = now.is_history;
         live = λ takes. refl;
       }
@@ -366,21 +368,21 @@ module _ (limits : LimitValues) (tokens : ℕ) (calls : List ClientCall) where
   call_reached (Took bytes) before all = took_reached bytes (handles h) refl before all
   call_reached (Sent method target extras) before none =
       let m : Message = request_of method target extras in
-      let now = request_shown (link_of h) (link_after_request (link_of h) m extras.observe) m extras.observe refl h (itself h before.is_history) in
+      let now = shows (link_of h) (link_after (link_of h) (call.Request m extras.observe)) (call.Request m extras.observe) tt refl h (itself h before.is_history) in
       same_reached (Sent method target extras) (Requests m extras.observe) _ refl refl refl before now.is_history (asking_phase h _ _)
   call_reached (Cancelled token target extras) before none =
       let m : Message = cancel_of target extras in
-      let now = cancel_shown (link_of h) (link_after_cancel (link_of h) token m) token m refl h (itself h before.is_history) in
+      let now = shows (link_of h) (link_after (link_of h) (call.Cancel token m)) (call.Cancel token m) tt refl h (itself h before.is_history) in
       same_reached (Cancelled token target extras) (Cancels token m) _ refl refl refl before now.is_history (cancel_phase h token m)
   call_reached (Pinged custody) before none =
-      let now = ping_shown (link_of h) (link_after_ping (link_of h) custody) custody refl h (itself h before.is_history) in
+      let now = shows (link_of h) (link_after (link_of h) (call.Ping custody)) (call.Ping custody) tt refl h (itself h before.is_history) in
       same_reached (Pinged custody) (Pings custody) _ refl refl refl before now.is_history (asking_phase h _ _)
   call_reached (Wrote n) before few =
-      let now = written_shown (link_of h) (link_after_written (link_of h) n) n few refl h (itself h before.is_history) in
+      let now = shows (link_of h) (link_after (link_of h) (call.Written n)) (call.Written n) few refl h (itself h before.is_history) in
       same_reached (Wrote n) (Writes n) _ refl refl refl before now.is_history refl
   call_reached Ended before none =
       let cut : Bool = is_cut so_far.rest in
-      let now = end_shown (link_of h) (link_after_end (link_of h) cut) cut refl h (itself h before.is_history) in
+      let now = shows (link_of h) (link_after (link_of h) (call.End cut)) (call.End cut) tt refl h (itself h before.is_history) in
       step_reached Ended (Ends cut) _ refl refl refl before now.is_history (λ takes. absurd (true_false _ (end_over h cut) takes))
 
 first_reached : (limits : LimitValues) (tokens : ℕ) → IsReached limits tokens []
@@ -420,42 +422,42 @@ module _ (limits : LimitValues) (tokens : ℕ) (calls : List ClientCall) (before
   sent_left method target extras =
       let m : Message = request_of method target extras in
       same_left (Sent method target extras) (Requests m extras.observe) _ _ refl refl refl (asking_phase now _ _)
-      (request_shown (client_of limits tokens calls).link _ m extras.observe refl now (record { is_history = before.is_history; same = client_link })).same
+      (shows (client_of limits tokens calls).link _ (call.Request m extras.observe) tt refl now (record { is_history = before.is_history; same = client_link })).same
 
   pub cancelled_left : (token : List ℕ) (target : TargetValue) (extras : ExtrasValue) → client_cancelled (client_of limits tokens calls) token target extras ≡ client_of limits tokens (calls ++ Cancelled token target extras ∷ [])
   unfolding steps_by client.step
   cancelled_left token target extras =
       let m : Message = cancel_of target extras in
       same_left (Cancelled token target extras) (Cancels token m) _ _ refl refl refl (cancel_phase now token m)
-      (cancel_shown (client_of limits tokens calls).link _ token m refl now (record { is_history = before.is_history; same = client_link })).same
+      (shows (client_of limits tokens calls).link _ (call.Cancel token m) tt refl now (record { is_history = before.is_history; same = client_link })).same
 
   pub pinged_left : (custody : Bool) → client_pinged (client_of limits tokens calls) custody ≡ client_of limits tokens (calls ++ Pinged custody ∷ [])
   unfolding steps_by client.step
   pinged_left custody =
       same_left (Pinged custody) (Pings custody) _ _ refl refl refl (asking_phase now _ _)
-      (ping_shown (client_of limits tokens calls).link _ custody refl now (record { is_history = before.is_history; same = client_link })).same
+      (shows (client_of limits tokens calls).link _ (call.Ping custody) tt refl now (record { is_history = before.is_history; same = client_link })).same
 
   pub wrote_left : (n : ℕ) → n ≤ length (client_of limits tokens calls).link.waiting → client_written (client_of limits tokens calls) n ≡ client_of limits tokens (calls ++ Wrote n ∷ [])
   unfolding steps_by client.step
   wrote_left n few =
       same_left (Wrote n) (Writes n) _ _ refl refl refl refl
-      (written_shown (client_of limits tokens calls).link _ n few refl now (record { is_history = before.is_history; same = client_link })).same
+      (shows (client_of limits tokens calls).link _ (call.Written n) few refl now (record { is_history = before.is_history; same = client_link })).same
 
   -- where no message is taken any more, the end of the input changes nothing
-  ended_if : (takes : Bool) → takes_messages now.phase ≡ takes → link_after_end (link_of now) (is_cut (cond takes rest [])) ≡ link_after_end (link_of now) (is_cut rest)
+  ended_if : (takes : Bool) → takes_messages now.phase ≡ takes → link_after (link_of now) (call.End (is_cut (cond takes rest []))) ≡ link_after (link_of now) (call.End (is_cut rest))
   ended_if true e = refl
   ended_if false e = stays (is_cut []) ∙ sym (stays (is_cut rest))
     where
-      stays : (cut : Bool) → link_after_end (link_of now) cut ≡ link_of now
+      stays : (cut : Bool) → link_after (link_of now) (call.End cut) ≡ link_of now
       stays cut = rw e refl
 
   pub ended_left : client_ended (client_of limits tokens calls) ≡ client_of limits tokens (calls ++ Ended ∷ [])
   unfolding steps_by client.step
   ended_left =
       let cut : Bool = is_cut rest in
-      let k : History = after_end now cut in
+      let k : History = after now (call.End cut) in
       ap client_ended (after_of limits tokens calls)
       ∙ ap (λ (l : LinkValue). record { frame = []; link = l })
-      (ended_if (takes_messages now.phase) refl ∙ (end_shown (link_of now) _ cut refl now (itself now before.is_history)).same)
+      (ended_if (takes_messages now.phase) refl ∙ (shows (link_of now) _ (call.End cut) tt refl now (itself now before.is_history)).same)
       ∙ ap (λ (f : List ℕ). record { frame = f; link = link_of k }) (sym (kept_none k rest (end_over now cut)))
       ∙ sym (step_left limits tokens calls Ended (Ends cut) refl refl)

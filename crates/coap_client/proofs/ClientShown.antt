@@ -8,7 +8,10 @@ use Rattle.coap_conn.specs.declared.phase.RequestFault.TheVariants.{TooBig}
 use Rattle.coap_conn.specs.declared.phase.RequestFault.{RequestFault}
 use Rattle.coap_conn.specs.declared.phase.Role.TheVariants.{Client}
 use Rattle.coap_conn.specs.Limits.{LimitValues}
-use Rattle.coap_conn.specs.LinkValue.{LinkValue, link_of, asking_in, link_after_request, link_after_cancel, link_after_ping}
+use Rattle.coap_conn.specs.LinkValue.{LinkValue, asking_in}
+use Rattle.coap_conn.specs.History.{link_of}
+use Rattle.coap_conn.specs.Calls.{link_after}
+use Rattle.coap_conn.specs.Calls as call
 use Rattle.coap_conn.proofs.LinkLemmas.{new_shown}
 use Rattle.coap_client.specs.declared.request.Method.{Method}
 use Rattle.coap_client.specs.Targets.{TargetValue}
@@ -131,21 +134,21 @@ on_parts : (f : ClientValue → ClientValue) (v : ClientValue) (frame : List ℕ
 on_parts f v frame link new view is = is ∙ ap f view
 
 pub sent_here : {T : Type 0} (r : Result T RequestFault) (v : ClientValue) (frame : List ℕ) (link new : LinkValue) (method : Method) (target : TargetValue) (extras : ExtrasValue) → parts frame link ≡ v → RefusedBy r (send_refusal link method target extras)
-    → OnOk r (new ≡ link_after_request link (request_of method target extras) extras.observe) → OnOk r ((tokens : ℕ) (calls : List ClientCall) → ClientShows v tokens calls → ClientShows (parts frame new) tokens (calls ++ Sent method target extras ∷ []))
+    → OnOk r (new ≡ link_after link (call.Request (request_of method target extras) extras.observe)) → OnOk r ((tokens : ℕ) (calls : List ClientCall) → ClientShows v tokens calls → ClientShows (parts frame new) tokens (calls ++ Sent method target extras ∷ []))
 sent_here (Ok x) v frame link new method target extras view none is =
     sent_shown (Ok x) v (parts frame new) method target extras (ap (λ (u : ClientValue). send_refusal u.link method target extras) (sym view) ∙ none)
     (on_parts (λ u. client_sent u method target extras) v frame link new view (ap (parts frame) is))
 sent_here (Err e) v frame link new method target extras view none is = tt
 
 pub cancelled_here : {T : Type 0} (r : Result T RequestFault) (v : ClientValue) (frame : List ℕ) (link new : LinkValue) (token : List ℕ) (target : TargetValue) (extras : ExtrasValue) → parts frame link ≡ v → RefusedBy r (cancelling_refusal link token target extras)
-    → OnOk r (new ≡ link_after_cancel link token (cancel_of target extras)) → OnOk r ((tokens : ℕ) (calls : List ClientCall) → ClientShows v tokens calls → ClientShows (parts frame new) tokens (calls ++ Cancelled token target extras ∷ []))
+    → OnOk r (new ≡ link_after link (call.Cancel token (cancel_of target extras))) → OnOk r ((tokens : ℕ) (calls : List ClientCall) → ClientShows v tokens calls → ClientShows (parts frame new) tokens (calls ++ Cancelled token target extras ∷ []))
 cancelled_here (Ok x) v frame link new token target extras view none is =
     cancelled_shown (Ok x) v (parts frame new) token target extras (ap (λ (u : ClientValue). cancelling_refusal u.link token target extras) (sym view) ∙ none)
     (on_parts (λ u. client_cancelled u token target extras) v frame link new view (ap (parts frame) is))
 cancelled_here (Err e) v frame link new token target extras view none is = tt
 
 pub pinged_here : {T : Type 0} (r : Result T RequestFault) (v : ClientValue) (frame : List ℕ) (link new : LinkValue) (custody : Bool) → parts frame link ≡ v → RefusedBy r (ping_refusal link custody)
-    → OnOk r (new ≡ link_after_ping link custody) → OnOk r ((tokens : ℕ) (calls : List ClientCall) → ClientShows v tokens calls → ClientShows (parts frame new) tokens (calls ++ Pinged custody ∷ []))
+    → OnOk r (new ≡ link_after link (call.Ping custody)) → OnOk r ((tokens : ℕ) (calls : List ClientCall) → ClientShows v tokens calls → ClientShows (parts frame new) tokens (calls ++ Pinged custody ∷ []))
 pinged_here (Ok x) v frame link new custody view none is =
     pinged_shown (Ok x) v (parts frame new) custody (ap (λ (u : ClientValue). ping_refusal u.link custody) (sym view) ∙ none)
     (on_parts (λ u. client_pinged u custody) v frame link new view (ap (parts frame) is))
@@ -158,7 +161,7 @@ made false m meant is = let same : m ≡ meant = cc in (refl, same)
 
 pub sent_made : {T : Type 0} (r : Result T RequestFault) (v : ClientValue) (frame : List ℕ) (link new : LinkValue) (method : Method) (target : TargetValue) (extras : ExtrasValue) (m : Message) → parts frame link ≡ v
     → ◌≡◌ {A = Option Message} (Some m) (cond (is_too_long extras) None (Some (request_of method target extras)))
-    → RefusedBy r (asking_refusal (asking_in link) (with_token m (next_token link.tokens))) → OnOk r (new ≡ link_after_request link m extras.observe)
+    → RefusedBy r (asking_refusal (asking_in link) (with_token m (next_token link.tokens))) → OnOk r (new ≡ link_after link (call.Request m extras.observe))
     → OnOk r ((tokens : ℕ) (calls : List ClientCall) → ClientShows v tokens calls → ClientShows (parts frame new) tokens (calls ++ Sent method target extras ∷ []))
 sent_made (Ok x) v frame link new method target extras m view is none after =
     let meant : Message = request_of method target extras in
@@ -166,12 +169,12 @@ sent_made (Ok x) v frame link new method target extras m view is none after =
     sent_here (Ok x) v frame link new method target extras view
     (ap (λ (long : Bool). cond long (else_refusal (new_refusal (asking_in link)) (Some TooBig)) (asking_refusal (asking_in link) (with_token meant (next_token link.tokens)))) means.0
     ∙ ap (λ (n : Message). asking_refusal (asking_in link) (with_token n (next_token link.tokens))) (sym means.1) ∙ none)
-    (after ∙ ap (λ (n : Message). link_after_request link n extras.observe) means.1)
+    (after ∙ ap (λ (n : Message). link_after link (call.Request n extras.observe)) means.1)
 sent_made (Err e) v frame link new method target extras m view is none after = tt
 
 pub cancelled_made : {T : Type 0} (r : Result T RequestFault) (v : ClientValue) (frame : List ℕ) (link new : LinkValue) (token : List ℕ) (target : TargetValue) (extras : ExtrasValue) (m : Message) → parts frame link ≡ v
     → ◌≡◌ {A = Option Message} (Some m) (cond (has_long_extra extras) None (Some (cancel_of target extras)))
-    → RefusedBy r (cancel_refusal (asking_in link) token (with_token m token)) → OnOk r (new ≡ link_after_cancel link token m)
+    → RefusedBy r (cancel_refusal (asking_in link) token (with_token m token)) → OnOk r (new ≡ link_after link (call.Cancel token m))
     → OnOk r ((tokens : ℕ) (calls : List ClientCall) → ClientShows v tokens calls → ClientShows (parts frame new) tokens (calls ++ Cancelled token target extras ∷ []))
 cancelled_made (Ok x) v frame link new token target extras m view is none after =
     let meant : Message = cancel_of target extras in
@@ -179,7 +182,7 @@ cancelled_made (Ok x) v frame link new token target extras m view is none after 
     cancelled_here (Ok x) v frame link new token target extras view
     (ap (λ (long : Bool). cond long (else_refusal (observation_refusal (asking_in link) token) (Some TooBig)) (cancel_refusal (asking_in link) token (with_token meant token))) means.0
     ∙ ap (λ (n : Message). cancel_refusal (asking_in link) token (with_token n token)) (sym means.1) ∙ none)
-    (after ∙ ap (λ (n : Message). link_after_cancel link token n) means.1)
+    (after ∙ ap (λ (n : Message). link_after link (call.Cancel token n)) means.1)
 cancelled_made (Err e) v frame link new token target extras m view is none after = tt
 
 -- ---- written, ended

@@ -9,8 +9,7 @@ use Rattle.coap_wire.specs.Message.{Message}
 use Rattle.coap_wire.specs.Stream.{StreamFault, Stream, split, behind, gone_on, split_on}
 use Rattle.coap_conn.specs.declared.phase.Role.TheVariants.{Client}
 use Rattle.coap_conn.specs.Limits.{LimitValues}
-use Rattle.coap_conn.specs.History.{History, new_history}
-use Rattle.coap_conn.specs.LinkValue.{link_of}
+use Rattle.coap_conn.specs.History.{History, new_history, link_of}
 use Rattle.coap_client.specs.ClientValues.{ClientValue, is_cut}
 use Rattle.coap_client.specs.ClientWorld.{ClientCall, Took, Sent, Cancelled, Pinged, Wrote, Ended, ClientStep, Handles, Ends, taken_by, stream_in, new_fault, beyond, steps_by, steps_behind, steps_of, after_steps, client_after, kept_after, client_of}
 use Rattle.coap_client.proofs.ClientSteps.{stream_more, behind_more}

@@ -10,7 +10,9 @@ use Rattle.coap_conn.specs.Fit.{AllFit}
 use Rattle.coap_conn.specs.Outstanding.{OutstandingValue, Ping, with_cancelled}
 use Rattle.coap_conn.specs.Asking.{asking_refusal, cancel_refusal, next_token, with_token, entry_of, ping_with}
 use Rattle.coap_conn.specs.Reaction.{Effect, stop, abort, react}
-use Rattle.coap_conn.specs.History.{History, limit_now, standing_now, asking_now, with_effect, after_asking, after_cancel, end_reason}
+use Rattle.coap_conn.specs.History.{History, limit_now, standing_now, asking_now, with_effect, after_asking, after}
+use Rattle.coap_conn.specs.Calls.{end_reason}
+use Rattle.coap_conn.specs.Calls as call
 use Rattle.coap_conn.proofs.AskingLaws.{none_where}
 use Rattle.coap_conn.proofs.HistoryLaws.{reaction_fits, stopped_fits, asked_fits, cancelled_fits}
 use Rattle.coap_client.specs.ClientWorld.{ClientStep, Handles, Faults, Requests, Cancels, Pings, Writes, Ends, step}
@@ -44,7 +46,7 @@ asked_grows h m e =
     sent_grows h m (h.outstanding ++ e ∷ []) (h.tokens + 1) (is_none (asking_refusal (asking_now h) m))
     (λ may. asked_fits h m (none_where (asking_refusal (asking_now h) m) may))
 
-cancelled_grows : (h : History) (token : List ℕ) (m : Message) → Grows h (after_cancel h token m)
+cancelled_grows : (h : History) (token : List ℕ) (m : Message) → Grows h (after h (call.Cancel token m))
 cancelled_grows h token m =
     let sent : Message = with_token m token in
     sent_grows h sent (with_cancelled token h.outstanding) h.tokens (is_none (cancel_refusal (asking_now h) token sent))

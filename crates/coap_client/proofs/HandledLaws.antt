@@ -17,8 +17,10 @@ use Rattle.coap_conn.specs.Limits.{LimitValues}
 use Rattle.coap_conn.specs.Outstanding.{OutstandingValue, Ping}
 use Rattle.coap_conn.specs.Asking.{asking_refusal, cancel_refusal, next_token, with_token, entry_of, ping_with}
 use Rattle.coap_conn.specs.Reaction.{stop, abort, react}
-use Rattle.coap_conn.specs.History.{History, standing_now, asking_now, with_effect, after_end, after_asking, after_cancel, end_reason}
-use Rattle.coap_conn.specs.LinkValue.{link_of, free_in}
+use Rattle.coap_conn.specs.History.{History, standing_now, asking_now, with_effect, after, after_asking, link_of}
+use Rattle.coap_conn.specs.Calls.{end_reason}
+use Rattle.coap_conn.specs.Calls as call
+use Rattle.coap_conn.specs.LinkValue.{free_in}
 use Rattle.coap_client.specs.ClientValues.{is_cut}
 use Rattle.coap_client.specs.ClientWorld.{ClientCall, ClientStep, Took, Sent, Cancelled, Pinged, Wrote, Ended, Handles, Faults, Requests, Cancels, Pings, Writes, Ends, taken_by, stream_in, steps_by, step, client_after, handles, takes, IsAccepted, AreAccepted}
 use Rattle.coap_client.specs.Requests.{request_of, cancel_of}
@@ -106,13 +108,13 @@ ended_by : (h : History) (why : Reason) (takes : Bool) → takes_messages h.phas
 ended_by h why true is = record { handled = refl; stopped = λ other at. absurd (takes_no_stop h.phase other is at) }
 ended_by h why false is = rests_self h
 
-end_rests : (h : History) (cut : Bool) → Rests h (after_end h cut)
+end_rests : (h : History) (cut : Bool) → Rests h (after h (call.End cut))
 end_rests h cut = ended_by h (end_reason cut) (takes_messages h.phase) refl
 
 asked_rests : (h : History) (m : Message) (e : OutstandingValue) → Rests h (after_asking h m e)
 asked_rests h m e = rests_if h _ (is_none (asking_refusal (asking_now h) m)) refl refl
 
-cancel_rests : (h : History) (token : List ℕ) (m : Message) → Rests h (after_cancel h token m)
+cancel_rests : (h : History) (token : List ℕ) (m : Message) → Rests h (after h (call.Cancel token m))
 cancel_rests h token m = rests_if h _ (is_none (cancel_refusal (asking_now h) token (with_token m token))) refl refl
 
 -- ---- what a connection handled is what its bytes spell

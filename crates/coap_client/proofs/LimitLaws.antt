@@ -25,7 +25,10 @@ use Rattle.coap_conn.specs.Fit.{AllFit, fit, fitted, abort_fitted, without_paylo
 use Rattle.coap_conn.specs.Outstanding.{OutstandingValue, Ping, is_asked, is_last, is_pinged, cancelled_by}
 use Rattle.coap_conn.specs.Asking.{asking_refusal, cancel_refusal, next_token, with_token, entry_of, ping_with}
 use Rattle.coap_conn.specs.Reaction.{Standing, Reaction, stop, abort, send_as, sends, aborts, react, reaction_unless, live_reaction, open_reaction, csm_reaction, request_reaction, answered, pong_reaction, ping_reaction, is_reserved, is_signal, is_method, minds_critical_options, asks_custody, pong_with, pong_of, not_implemented}
-use Rattle.coap_conn.specs.History.{History, IsHistory, new_history, bytes_of, limit_now, standing_now, asking_now, waiting_of, with_effect, after_message, after_end, after_written, after_asking, after_cancel, end_reason}
+use Rattle.coap_conn.specs.History.{History, IsHistory, new_history, limit_now, standing_now, asking_now, waiting_of, with_effect, after, after_asking}
+use Rattle.coap_conn.specs.LinkValue.{bytes_of}
+use Rattle.coap_conn.specs.Calls.{end_reason}
+use Rattle.coap_conn.specs.Calls as call
 use Rattle.coap_conn.proofs.LinkLemmas.{waiting_more}
 use Rattle.coap_conn.proofs.SmallLemmas.{csm_bytes_small}
 use Rattle.coap_conn.proofs.AskingLaws.{none_where, asked_size, cancel_size}
@@ -233,16 +236,16 @@ module _ (limits : LimitValues) (h : History) (same : h.limits ≡ limits) (is :
       wait_if limits.queue h _ (is_none (asking_refusal (asking_now h) m)) few
       (λ may. room_for m (asked_size (asking_now h) m (none_where (asking_refusal (asking_now h) m) may)).room)
 
-  cancel_waits : (token : List ℕ) (m : Message) → wait (after_cancel h token m) ≤ limits.queue
+  cancel_waits : (token : List ℕ) (m : Message) → wait (after h (call.Cancel token m)) ≤ limits.queue
   cancel_waits token m =
       let sent : Message = with_token m token in
       wait_if limits.queue h _ (is_none (cancel_refusal (asking_now h) token sent)) few
       (λ may. room_for sent (cancel_size (asking_now h) token sent (none_where (cancel_refusal (asking_now h) token sent) may)).room)
 
-  written_waits : (n : ℕ) → wait (after_written h n) ≤ limits.queue
+  written_waits : (n : ℕ) → wait (after h (call.Written n)) ≤ limits.queue
   written_waits n = omega (arith, few, length-drop h.written (bytes_of h.queued), length-drop (h.written + n) (bytes_of h.queued))
 
-  end_waits : (cut : Bool) → wait (after_end h cut) ≤ limits.queue
+  end_waits : (cut : Bool) → wait (after h (call.End cut)) ≤ limits.queue
   end_waits cut =
       wait_if limits.queue h (with_effect h (stop (standing_now h) (end_reason cut) [])) (takes_messages h.phase) few
       (λ takes. omega (arith, few, more_wait h [] is))
@@ -262,7 +265,7 @@ module _ (limits : LimitValues) (h : History) (same : h.limits ≡ limits) (is :
           ap (λ (l : LimitValues). l.queue) same,
         )
 
-    message_waits : (m : Message) → wait (after_message h m) ≤ limits.queue
+    message_waits : (m : Message) → wait (after h (call.Handle m)) ≤ limits.queue
     message_waits m =
         wait_if limits.queue h (record (with_effect h (react (standing_now h) m).effect) { handled = h.handled ++ m ∷ [] }) (takes_messages h.phase) few
         (λ takes. one_waits (react (standing_now h) m).effect.queued (react_sparing (standing_now h) m).one (reaction_fits h m))

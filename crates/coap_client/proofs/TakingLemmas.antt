@@ -12,7 +12,9 @@ use Rattle.coap_conn.specs.Limits.{LimitValues, AreInRange}
 use Rattle.coap_conn.specs.Phases.{takes_messages}
 use Rattle.coap_conn.specs.Rejects.{reject_of_frame, reject_reason}
 use Rattle.coap_conn.specs.Reaction.{react}
-use Rattle.coap_conn.specs.LinkValue.{LinkValue, standing_in, link_after_end}
+use Rattle.coap_conn.specs.LinkValue.{LinkValue, standing_in}
+use Rattle.coap_conn.specs.Calls.{link_after}
+use Rattle.coap_conn.specs.Calls as call
 use Rattle.coap_client.specs.ClientValues.{ClientValue, EventValue, Taking, client_takes, event_told, taking_read, taking_found, taking}
 use Rattle.coap_client.specs.EventViews.{client_value, IsClient, heard_value, taking_framed}
 use Rattle.coap_client.specs.declared.client.Client.TheInside.{Inside}
@@ -92,7 +94,7 @@ limits_found w f (AFrame frame) = limits_read w f.taken (message_of frame)
 limits_found w f (AFault fault) = limits_if (takes_messages w.link.phase) w.link _ refl
 
 -- the end of the input leaves the limits
-pub limits_end : (l : LinkValue) (cut : Bool) → (link_after_end l cut).limits ≡ l.limits
+pub limits_end : (l : LinkValue) (cut : Bool) → (link_after l (call.End cut)).limits ≡ l.limits
 limits_end l cut = limits_if (takes_messages l.phase) l _ refl
 
 -- ---- the client

@@ -12,8 +12,8 @@ use Rattle.coap_conn.specs.Limits.{LimitValues}
 use Rattle.coap_conn.specs.Outstanding.{OutstandingValue, Ping}
 use Rattle.coap_conn.specs.Asking.{else_refusal, new_refusal, asking_refusal, cancel_refusal, next_token, with_token, entry_of, ping_with}
 use Rattle.coap_conn.specs.Reaction.{stop, abort, react}
-use Rattle.coap_conn.specs.History.{History, standing_now, asking_now, with_effect, after_asking, end_reason}
-use Rattle.coap_conn.specs.LinkValue.{link_of}
+use Rattle.coap_conn.specs.History.{History, standing_now, asking_now, with_effect, after_asking, link_of}
+use Rattle.coap_conn.specs.Calls.{end_reason}
 use Rattle.coap_conn.proofs.AskedLaws.{tokens_differ, token_left}
 use Rattle.coap_client.specs.declared.request.Method.{Method}
 use Rattle.coap_client.specs.Targets.{TargetValue}

@@ -19,8 +19,7 @@ use Rattle.coap_conn.specs.Announced.{announced}
 use Rattle.coap_conn.specs.Outstanding.{OutstandingValue, Request, Observation, is_notification}
 use Rattle.coap_conn.specs.Asking.{new_refusal, asking_refusal, observation_refusal, cancel_refusal}
 use Rattle.coap_conn.specs.Reaction.{react, live_reaction}
-use Rattle.coap_conn.specs.History.{waiting_of}
-use Rattle.coap_conn.specs.LinkValue.{link_of}
+use Rattle.coap_conn.specs.History.{waiting_of, link_of}
 use Rattle.coap_client.specs.declared.request.Method.TheVariants.{Get}
 use Rattle.coap_client.specs.Targets.{TargetValue}
 use Rattle.coap_client.specs.Requests.{ExtrasValue, host_sent, observe_sent, own_options, insert_option, with_extra, request_of, cancel_of, has_long_extra, is_too_long}

@@ -12,7 +12,7 @@ use Rattle.coap_conn.specs.Outstanding.{Ping}
 use Rattle.coap_conn.specs.Announced.{announced}
 use Rattle.coap_conn.specs.Asking.{new_refusal, asking_refusal}
 use Rattle.coap_conn.specs.Reaction.{react, live_reaction}
-use Rattle.coap_conn.specs.LinkValue.{link_of}
+use Rattle.coap_conn.specs.History.{link_of}
 use Rattle.coap_conn.specs.declared.phase.Phase.TheVariants.{Stopped}
 use Rattle.coap_conn.specs.declared.phase.RequestFault.TheVariants.{TooMany}
 use Rattle.coap_conn.specs.declared.reason.Reason.TheVariants.{TokenLength}

@@ -19,7 +19,9 @@ use Rattle.coap_conn.specs.Verdicts.{VerdictValue}
 use Rattle.coap_conn.specs.Verdicts as verdict
 use Rattle.coap_conn.specs.Reaction.{react}
 use Rattle.coap_conn.specs.Asking.{else_refusal, new_refusal, asking_refusal, observation_refusal, cancel_refusal, next_token, with_token, ping_with}
-use Rattle.coap_conn.specs.LinkValue.{LinkValue, new_link, free_in, standing_in, asking_in, link_after_message, link_after_reject, link_after_end, link_after_written, link_after_request, link_after_cancel, link_after_ping}
+use Rattle.coap_conn.specs.LinkValue.{LinkValue, new_link, free_in, standing_in, asking_in}
+use Rattle.coap_conn.specs.Calls.{link_after}
+use Rattle.coap_conn.specs.Calls as call
 use Rattle.coap_client.specs.declared.request.Method.{Method}
 use Rattle.coap_client.specs.Targets.{TargetValue}
 use Rattle.coap_client.specs.Requests.{ExtrasValue, request_of, cancel_of, is_too_long, has_long_extra}
@@ -80,10 +82,10 @@ pub record Taking : Type 0 where
 
 -- the bytes behind the messages have a fault
 abbrev pub taking_rejected : ClientValue → ℕ → Reject → Taking
-taking_rejected v count fault = record { count = count; client = record { frame = []; link = link_after_reject v.link fault }; event = Some (Stopped (reject_reason fault)) }
+taking_rejected v count fault = record { count = count; client = record { frame = []; link = link_after v.link (call.Reject fault) }; event = Some (Stopped (reject_reason fault)) }
 
 abbrev pub taking_read : ClientValue → ℕ → Result Message FormatFault → Taking
-taking_read v count (Ok m) = record { count = count; client = record { frame = []; link = link_after_message v.link m }; event = event_told m (react (standing_in v.link) m).verdict }
+taking_read v count (Ok m) = record { count = count; client = record { frame = []; link = link_after v.link (call.Handle m) }; event = event_told m (react (standing_in v.link) m).verdict }
 taking_read v count (Err e) = taking_rejected v count reject.Format
 
 abbrev pub taking_found : ClientValue → Framing → Finding → Taking
@@ -104,19 +106,19 @@ abbrev pub is_cut : List ℕ → Bool
 is_cut rest = nat_lt 0 (length rest)
 
 abbrev pub client_written : ClientValue → ℕ → ClientValue
-client_written v n = record v { link = link_after_written v.link n }
+client_written v n = record v { link = link_after v.link (call.Written n) }
 
 abbrev pub client_ended : ClientValue → ClientValue
-client_ended v = record { frame = []; link = link_after_end v.link (is_cut v.frame) }
+client_ended v = record { frame = []; link = link_after v.link (call.End (is_cut v.frame)) }
 
 abbrev pub client_sent : ClientValue → Method → TargetValue → ExtrasValue → ClientValue
-client_sent v method target extras = record v { link = link_after_request v.link (request_of method target extras) extras.observe }
+client_sent v method target extras = record v { link = link_after v.link (call.Request (request_of method target extras) extras.observe) }
 
 abbrev pub client_cancelled : ClientValue → List ℕ → TargetValue → ExtrasValue → ClientValue
-client_cancelled v token target extras = record v { link = link_after_cancel v.link token (cancel_of target extras) }
+client_cancelled v token target extras = record v { link = link_after v.link (call.Cancel token (cancel_of target extras)) }
 
 abbrev pub client_pinged : ClientValue → Bool → ClientValue
-client_pinged v custody = record v { link = link_after_ping v.link custody }
+client_pinged v custody = record v { link = link_after v.link (call.Ping custody) }
 
 -- ---- why nothing is asked
 

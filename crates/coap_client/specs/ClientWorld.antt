@@ -9,8 +9,9 @@ use Rattle.coap_conn.specs.Limits.{LimitValues}
 use Rattle.coap_conn.specs.Phases.{takes_messages}
 use Rattle.coap_conn.specs.Rejects.{reject_of, reject_reason}
 use Rattle.coap_conn.specs.Reaction.{react}
-use Rattle.coap_conn.specs.History.{History, new_history, standing_now, waiting_of, after_message, after_reject, after_end, after_written, after_request, after_cancel, after_ping}
-use Rattle.coap_conn.specs.LinkValue.{link_of, free_in}
+use Rattle.coap_conn.specs.History.{History, new_history, standing_now, waiting_of, after, link_of}
+use Rattle.coap_conn.specs.Calls as call
+use Rattle.coap_conn.specs.LinkValue.{free_in}
 use Rattle.coap_client.specs.declared.request.Method.{Method}
 use Rattle.coap_client.specs.Targets.{TargetValue}
 use Rattle.coap_client.specs.Requests.{ExtrasValue, request_of, cancel_of}
@@ -79,13 +80,13 @@ steps_of M calls = steps_behind M [] calls
 -- ---- the connection
 
 unfoldable pub step : History → ClientStep → History
-step h (Handles m) = after_message h m
-step h (Faults fault) = after_reject h (reject_of fault)
-step h (Requests m observe) = after_request h m observe
-step h (Cancels token m) = after_cancel h token m
-step h (Pings custody) = after_ping h custody
-step h (Writes n) = after_written h n
-step h (Ends cut) = after_end h cut
+step h (Handles m) = after h (call.Handle m)
+step h (Faults fault) = after h (call.Reject (reject_of fault))
+step h (Requests m observe) = after h (call.Request m observe)
+step h (Cancels token m) = after h (call.Cancel token m)
+step h (Pings custody) = after h (call.Ping custody)
+step h (Writes n) = after h (call.Written n)
+step h (Ends cut) = after h (call.End cut)
 
 unfoldable pub after_steps : History → List ClientStep → History
 after_steps h [] = h

@@ -7,7 +7,9 @@ ghost use Rattle.coap_frame.specs.Framing.{IsFramer, framing_of, framer_after, f
 ghost use Rattle.coap_conn.specs.Phases.{IsLive};
 ghost use Rattle.coap_conn.specs.Reaction.{react};
 ghost use Rattle.coap_conn.specs.Rejects.{reject_reason};
-ghost use Rattle.coap_conn.specs.LinkValue.{IsReady, standing_in, link_after_message, link_after_reject};
+ghost use Rattle.coap_conn.specs.LinkValue.{IsReady, standing_in};
+ghost use Rattle.coap_conn.specs.Calls.{link_after};
+ghost use Rattle.coap_conn.specs.Calls as call;
 ghost use Rattle.coap_client.specs.ClientValues.{answer_told, event_told};
 ghost use Rattle.coap_client.specs.EventViews.{event_value, answer_read, pong_read, heard_value, taken_event, taking_framed};
 ghost use Rattle.coap_client.specs.declared.client.Heard.TheVariants as heard;
@@ -16,7 +18,7 @@ use crate::request::{Extras, Method, cancellation, formats_of, request};
 use crate::target::Target;
 use coap_conn::{Limits, Link, Phase, Reason, Reject, RequestFault, Role, Verdict};
 use coap_frame::Framer;
-use coap_wire::{MessageRef, Token, parse};
+use coap_wire::{MessageRef, Token, copy_of, parse};
 use std::alloc::{AllocError, Global};
 use std::marker::Model;
 
@@ -325,7 +327,7 @@ fn hear(link: &mut Link, message: &MessageRef) -> Heard
     requires ready { IsReady link.old }
     requires live { IsLive link.old.phase }
     ensures event { heard_value result (Ok message.now) ≡ event_told message.now (react (standing_in link.old) message.now).verdict }
-    ensures after { link.new ≡ link_after_message link.old message.now }
+    ensures after { link.new ≡ link_after link.old (call.Handle message.now) }
 {
     match link.on(message) {
         Verdict::Opened => Heard::Ready,
@@ -343,10 +345,10 @@ fn reject(link: &mut Link, fault: Reject) -> Heard
     requires ready { IsReady link.old }
     requires live { IsLive link.old.phase }
     ensures heard { result ≡ heard.Stopped (reject_reason fault) }
-    ensures after { link.new ≡ link_after_reject link.old fault }
+    ensures after { link.new ≡ link_after link.old (call.Reject fault) }
 {
     link.reject(fault);
-    Heard::Stopped(reason_of(fault))
+    Heard::Stopped(Reason::from(fault))
 }
 
 /// What is told of the response in a frame.
@@ -387,25 +389,4 @@ fn pong_in<'a>(frame: &'a [u8], custody: bool) -> Option<Event<'a>>
         }),
         Err(_) => None,
     }
-}
-
-/// Why a connection stops on such bytes.
-fn reason_of(fault: Reject) -> Reason
-    ensures { result ≡ reject_reason fault }
-{
-    match fault {
-        Reject::Format => Reason::Format,
-        Reject::TooLarge => Reason::TooLarge,
-        Reject::TokenLength => Reason::TokenLength,
-    }
-}
-
-/// The same token.
-fn copy_of(token: &Token) -> Token
-    ensures { result.items ≡ token.now.items }
-{
-    let Ok(copy) = Token::try_from(token.as_slice()) else {
-        unreachable!()
-    };
-    copy
 }

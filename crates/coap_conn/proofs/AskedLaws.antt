@@ -1,9 +1,9 @@
 -- What is outstanding is limited, answers end it, and tokens are given once.
-use Rattle.std.proofs.Common.{◌≡◌, ℕ, ◌+◌, ◌<◌, ◌≤◌, Bool, true, false, ◌||◌, ◌&&◌, ◌==◌, List, [], ◌∷◌, length, Option, Some, None, refl, sym, ap, subst, ◌∙◌, arith, inl, inr}
+use Rattle.std.proofs.Common.{◌≡◌, ℕ, ◌+◌, ◌<◌, ◌≤◌, Bool, true, false, ◌||◌, ◌&&◌, ◌==◌, cond, List, [], ◌∷◌, length, Option, Some, None, refl, sym, ap, subst, ◌∙◌, arith, inl, inr}
 use Rattle.std.specs.Prelude.{not, filter, find, is_none, nat_lt}
 use Rattle.std.specs.List.{list_any}
 use Rattle.std.proofs.lemmas.Bool.{cond_both, cond-true, cond-false, eqb-true, not-true, not-false, and_from, and_left, and_right, or_cases, or_from, or_left, or_right, true≢false, false_from_ne_true}
-use Rattle.std.proofs.lemmas.List.{length-append}
+use Rattle.std.proofs.lemmas.List.{length-append, length-map}
 use Rattle.coap_wire.specs.Message.{Message}
 use Rattle.coap_wire.specs.Codes as code
 use Rattle.coap_wire.proofs.UintLaws.{bytes_are_one}
@@ -19,10 +19,15 @@ use Rattle.coap_conn.specs.Announced.{has_critical_option, bad_csm_option}
 use Rattle.coap_conn.specs.Fit.{fit, bare_response, without_options}
 use Rattle.coap_conn.specs.Verdicts.{VerdictValue}
 use Rattle.coap_conn.specs.Verdicts as verdict
-use Rattle.coap_conn.specs.Outstanding.{OutstandingValue, Request, Observation, Ping, is_asked, is_last, is_notification, is_pinged, is_request_entry, without_asked, without_pinged}
-use Rattle.coap_conn.specs.Asking.{asking_refusal, next_token}
-use Rattle.coap_conn.specs.Reaction.{Standing, Effect, Reaction, stay, tells, leaves, told_of, ping_reaction, pong_reaction, csm_reaction, request_reaction, answered, response_reaction, open_reaction, live_reaction, reaction_unless, react, is_reserved, is_signal, is_method, minds_critical_options, asks_custody, pong_with, pong_of, not_implemented}
-use Rattle.coap_conn.specs.History.{History, asking_now, after_asking}
+use Rattle.coap_conn.specs.Held.{HeldValue, first_due}
+use Rattle.coap_conn.specs.Held as held
+use Rattle.coap_conn.specs.Outstanding.{OutstandingValue, Request, Observation, Ping, is_asked, is_last, is_notification, is_pinged, is_request_entry, cancelled_by, without_asked, without_pinged}
+use Rattle.coap_conn.specs.Asking.{asking_refusal, next_token, with_token, entry_of, ping_with}
+use Rattle.coap_conn.specs.Reaction.{Standing, Effect, Reaction, stay, tells, leaves, told_of, ping_reaction, pong_reaction, csm_reaction, request_reaction, answered, response_reaction, open_reaction, live_reaction, reaction_unless, react, is_reserved, is_signal, is_method, minds_critical_options, asks_custody, pong_with, pong_of, not_implemented, send_as, due_effect}
+use Rattle.coap_conn.specs.Calls.{Call, standing_due, doing}
+use Rattle.coap_conn.specs.CallKinds.{gives_token}
+use Rattle.coap_conn.specs.Calls as call
+use Rattle.coap_conn.specs.History.{History, link_of, limit_now, standing_now, asking_now, with_deed, after, after_asking}
 use Rattle.coap_conn.proofs.AskingLaws.{none_where, asked_new}
 use Rattle.coap_conn.proofs.RequestLemmas.{react_live}
 use Rattle.coap_conn.proofs.HeldLaws.{react_does}
@@ -42,11 +47,45 @@ asked_no_more s = react_does s (λ e. length e.outstanding ≤ length s.outstand
 })
 
 -- what is asked adds one where there is room
-pub asked_few : (h : History) (m : Message) (e : OutstandingValue) → length h.outstanding ≤ h.limits.outstanding → length (after_asking h m e).outstanding ≤ h.limits.outstanding
+asked_few : (h : History) (m : Message) (e : OutstandingValue) → length h.outstanding ≤ h.limits.outstanding → length (after_asking h m e).outstanding ≤ h.limits.outstanding
 asked_few h m e few =
     cond_both (is_none (asking_refusal (asking_now h) m)) _ h (λ (after : History). length after.outstanding ≤ h.limits.outstanding)
     (λ may. omega (arith, (asked_new (asking_now h) m (none_where (asking_refusal (asking_now h) m) may)).few, length-append h.outstanding (e ∷ [])))
     (λ f. few)
+
+-- a call that leaves as much or less
+few_if : (so : Bool) (h k : History) → length h.outstanding ≤ h.limits.outstanding → length k.outstanding ≤ length h.outstanding → length (cond so k h).outstanding ≤ h.limits.outstanding
+few_if true h k few fewer = omega (arith, few, fewer)
+few_if false h k few fewer = few
+
+few_by : (h : History) (c : Call) → length h.outstanding ≤ h.limits.outstanding → length (with_deed h (doing (link_of h) c).deed).outstanding ≤ length h.outstanding
+    → length (after h c).outstanding ≤ h.limits.outstanding
+few_by h c few fewer = few_if (doing (link_of h) c).so h (with_deed h (doing (link_of h) c).deed) few fewer
+
+sent_fewer : (s : Standing) (m less : Message) (r : Reply) → length (send_as s m less r).outstanding ≤ length s.outstanding
+sent_fewer s m less Whole = omega arith
+sent_fewer s m less Bare = omega arith
+sent_fewer s m less Stopped = omega arith
+
+due_fewer : (s : Standing) (e : Option HeldValue) → length (due_effect s e).outstanding ≤ length s.outstanding
+due_fewer s None = omega arith
+due_fewer s (Some (held.Answer token moment)) = omega arith
+due_fewer s (Some (held.Pong token)) = sent_fewer s (pong_with true token) (pong_with false token) (fit s.limit (pong_with true token) (pong_with false token))
+
+-- whatever happens
+pub call_few : (h : History) (c : Call) → length h.outstanding ≤ h.limits.outstanding → length (after h c).outstanding ≤ h.limits.outstanding
+call_few h (call.Handle m) few = few_by h (call.Handle m) few (asked_no_more (standing_now h) m)
+call_few h (call.Reject fault) few = few_by h (call.Reject fault) few (omega arith)
+call_few h (call.End cut) few = few_by h (call.End cut) few (omega arith)
+call_few h (call.Reply m) few =
+    few_by h (call.Reply m) few (sent_fewer (standing_now h) m (bare_response m) (fit (limit_now h) m (bare_response m)))
+call_few h (call.Hold token moment) few = few_by h (call.Hold token moment) few (omega arith)
+call_few h (call.Due now) few = few_by h (call.Due now) few (due_fewer (standing_due now (standing_now h)) (first_due now h.held))
+call_few h call.Release few = few_by h call.Release few (omega arith)
+call_few h (call.Request m observe) few = asked_few h (with_token m (next_token h.tokens)) (entry_of observe (next_token h.tokens)) few
+call_few h (call.Cancel token m) few = few_by h (call.Cancel token m) few (omega (arith, length-map h.outstanding (cancelled_by token)))
+call_few h (call.Ping custody) few = asked_few h (ping_with custody (next_token h.tokens)) (Ping (next_token h.tokens)) few
+call_few h (call.Written n) few = few
 
 live_no_stop : (p : Phase) (why : Reason) → stop_of p ≡ None → stop_of p ≡ Some why → ⊥
 live_no_stop p why live over = let bad : ◌≡◌ {A = Option Reason} None (Some why) = sym live ∙ over in cc
@@ -309,3 +348,14 @@ tokens_differ one other small other_small same = omega (arith, bytes_are_one (on
 
 pub token_left : (h : History) (m : Message) → asking_refusal (asking_now h) m ≡ None → h.tokens < 18446744073709551615
 token_left h m may = (asked_new (asking_now h) m may).left
+
+-- ---- what gives a token
+
+tokens_if : (so : Bool) (h k : History) → k.tokens ≡ h.tokens → (cond so k h).tokens ≡ h.tokens
+tokens_if true h k same = same
+tokens_if false h k same = refl
+
+pub tokens_stay : (h : History) (c : Call) → gives_token c ≡ false → (after h c).tokens ≡ h.tokens
+tokens_stay h (call.Request m observe) other = absurd cc
+tokens_stay h (call.Ping custody) other = absurd cc
+tokens_stay h c other = tokens_if (doing (link_of h) c).so h (with_deed h (doing (link_of h) c).deed) refl

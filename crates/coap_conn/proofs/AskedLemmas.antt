@@ -15,8 +15,9 @@ use Rattle.coap_conn.specs.Outstanding.{OutstandingValue, cancelled_by, with_can
 use Rattle.coap_conn.specs.OutstandingViews.{outstanding_value}
 use Rattle.coap_conn.specs.Phases.{is_open}
 use Rattle.coap_conn.specs.Asking.{Asking, new_refusal, token_refusal, size_refusal, else_refusal, asking_refusal, has_observation, cancel_refusal, with_token}
-use Rattle.coap_conn.specs.History.{bytes_of}
-use Rattle.coap_conn.specs.LinkValue.{LinkValue, IsLink, asking_in, link_after_asking, link_after_cancel}
+use Rattle.coap_conn.specs.LinkValue.{LinkValue, IsLink, asking_in, bytes_of}
+use Rattle.coap_conn.specs.Calls.{asks_one, link_done, link_after}
+use Rattle.coap_conn.specs.Calls as call
 
 -- ---- what was looked at is what is outstanding
 
@@ -105,7 +106,7 @@ pub asked_after : (v queued new : LinkValue) (m sent : Message) (e entered : Out
     → asking_refusal (asking_in v) m ≡ None → sent ≡ m → entered ≡ e
     → queued ≡ record v { waiting = v.waiting ++ bytes_of (sent ∷ []) }
     → new ≡ record queued { outstanding = queued.outstanding ++ entered ∷ []; tokens = queued.tokens + 1 }
-    → new ≡ link_after_asking v m e
+    → new ≡ link_done v (asks_one v m e)
 asked_after v queued new m sent e entered allowed same same_entry put enters =
     enters ∙ ap (λ (w : LinkValue). record w { outstanding = w.outstanding ++ entered ∷ []; tokens = w.tokens + 1 }) put
     ∙ ap (λ (n : Message). record v { waiting = v.waiting ++ bytes_of (n ∷ []); outstanding = v.outstanding ++ entered ∷ []; tokens = v.tokens + 1 }) same
@@ -127,7 +128,7 @@ cancel_size a token m sent o opened there same size =
 pub cancel_after : (v queued : LinkValue) (token : List ℕ) (m sent : Message)
     → cancel_refusal (asking_in v) token (with_token m token) ≡ None → sent ≡ with_token m token
     → queued ≡ record v { waiting = v.waiting ++ bytes_of (sent ∷ []) }
-    → record queued { outstanding = with_cancelled token queued.outstanding } ≡ link_after_cancel v token m
+    → record queued { outstanding = with_cancelled token queued.outstanding } ≡ link_after v (call.Cancel token m)
 cancel_after v queued token m sent allowed same put =
     ap (λ (w : LinkValue). record w { outstanding = with_cancelled token w.outstanding }) put
     ∙ ap (λ (n : Message). record v { waiting = v.waiting ++ bytes_of (n ∷ []); outstanding = with_cancelled token v.outstanding }) same

@@ -1,5 +1,5 @@
 -- What comes first on both sides of a connection.
-use Rattle.std.proofs.Common.{◌≡◌, ℕ, Bool, true, false, cond, ◌==◌, List, ◌∷◌, ◌++◌, Option, Some, None, refl, sym, ap, ◌∙◌}
+use Rattle.std.proofs.Common.{◌≡◌, ℕ, Bool, true, false, cond, ◌==◌, List, [], ◌∷◌, ◌++◌, Option, Some, None, refl, sym, ap, ◌∙◌}
 use Rattle.std.proofs.lemmas.Bool.{cond_both, eqb-true}
 use Rattle.coap_wire.specs.Message.{Message}
 use Rattle.coap_conn.specs.declared.phase.Phase.{Phase}
@@ -9,7 +9,9 @@ use Rattle.coap_conn.specs.Verdicts as verdict
 use Rattle.coap_wire.specs.Codes as code
 use Rattle.coap_conn.specs.Phases.{stop_of, is_waiting}
 use Rattle.coap_conn.specs.Reaction.{Standing, Reaction, live_reaction, react, csm_reaction, is_reserved}
-use Rattle.coap_conn.specs.History.{History, AnnouncedFirst, own_csm}
+use Rattle.coap_conn.specs.LinkValue.{own_csm}
+use Rattle.coap_conn.specs.Calls.{Call, Deed, Handles, Does, Holds, Asks, Writes, Doing, doing}
+use Rattle.coap_conn.specs.History.{History, AnnouncedFirst, link_of, with_deed, after}
 use Rattle.coap_conn.proofs.RequestLemmas.{react_live, react_asks}
 
 -- whatever is queued later stands behind
@@ -20,6 +22,18 @@ first_stays h more first = (first.0 ++ more, ap (λ (q : List Message). q ++ mor
 pub guarded_first : (does : Bool) (h after : History) → AnnouncedFirst after → AnnouncedFirst h → AnnouncedFirst (cond does after h)
 guarded_first true h after then first = then
 guarded_first false h after then first = first
+
+deed_first : (h : History) (d : Deed) → AnnouncedFirst h → AnnouncedFirst (with_deed h d)
+deed_first h (Handles m e) first = first_stays h e.queued first
+deed_first h (Does e) first = first_stays h e.queued first
+deed_first h (Holds e) first = first
+deed_first h (Asks m outstanding tokens) first = first_stays h (m ∷ []) first
+deed_first h (Writes n) first = first
+
+-- whatever happens
+pub call_first : (h : History) (c : Call) → AnnouncedFirst h → AnnouncedFirst (after h c)
+call_first h c first =
+    let d : Doing = doing (link_of h) c in guarded_first d.so h (with_deed h d.deed) (deed_first h d.deed first) first
 
 -- ---- while the connection waits
 

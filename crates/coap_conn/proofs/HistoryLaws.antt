@@ -22,7 +22,8 @@ use Rattle.coap_conn.specs.Held.{HeldValue, Answer, Pong}
 use Rattle.coap_conn.specs.Outstanding.{OutstandingValue, is_asked, is_last, is_pinged}
 use Rattle.coap_conn.specs.Asking.{asking_refusal, cancel_refusal}
 use Rattle.coap_conn.specs.Reaction.{Standing, Reaction, react, reaction_unless, live_reaction, open_reaction, csm_reaction, request_reaction, send, send_as, abort, is_reserved, is_signal, is_method, minds_critical_options, asks_custody, pong_with, pong_of, ping_reaction, pong_reaction, answered, response_reaction, not_implemented, due_effect}
-use Rattle.coap_conn.specs.History.{History, new_history, limit_now, standing_now, asking_now, release}
+use Rattle.coap_conn.specs.History.{History, new_history, limit_now, standing_now, asking_now}
+use Rattle.coap_conn.specs.Calls.{release}
 use Rattle.coap_conn.proofs.AskingLaws.{asked_size, cancel_size}
 use Rattle.coap_conn.proofs.LinkLemmas.{announced_none}
 use Rattle.coap_conn.proofs.SmallLemmas.{csm_small, release_small}

@@ -1,6 +1,6 @@
 -- A link shows its history after each call.
-use Rattle.std.proofs.Common.{◌≡◌, ℕ, ◌≤◌, Bool, true, false, ◌&&◌, cond, List, [], ◌∷◌, ◌++◌, length, drop, Option, Some, None, refl, sym, ap, ◌∙◌, arith}
-use Rattle.std.specs.Prelude.{◌+◌, is_none, unwrap_or}
+use Rattle.std.proofs.Common.{◌≡◌, ℕ, ◌≤◌, Bool, true, false, cond, List, [], ◌∷◌, ◌++◌, length, drop, Option, Some, None, refl, sym, ap, subst, ◌∙◌, arith}
+use Rattle.std.specs.Prelude.{unwrap_or}
 use Rattle.std.specs.List.{filter_map}
 use Rattle.std.proofs.lemmas.List.{append-nil, drop-append-le, drop-drop, length-append, length-drop}
 use Rattle.std.proofs.lemmas.List.Concat.{flat_map-append}
@@ -9,19 +9,14 @@ use Rattle.coap_wire.specs.Message.{Message}
 use Rattle.coap_wire.specs.Spelling.{spelling}
 use Rattle.coap_conn.specs.declared.phase.Phase.{Phase}
 use Rattle.coap_conn.specs.declared.phase.Role.{Role}
-use Rattle.coap_conn.specs.declared.phase.Reject.{Reject}
-use Rattle.coap_conn.specs.declared.reason.Reason.TheVariants.{ReleasedHere}
-use Rattle.coap_conn.specs.Phases.{takes_messages, answers, is_open}
-use Rattle.coap_conn.specs.Rejects.{reject_reason}
 use Rattle.coap_conn.specs.Limits.{LimitValues}
 use Rattle.coap_conn.specs.Announced.{announcement, announced, last_or}
-use Rattle.coap_conn.specs.Fit.{bare_response}
-use Rattle.coap_conn.specs.Held.{HeldValue, Answer, first_due}
-use Rattle.coap_conn.specs.Outstanding.{OutstandingValue, Ping, with_cancelled}
-use Rattle.coap_conn.specs.Asking.{asking_refusal, cancel_refusal, next_token, with_token, entry_of, ping_with}
-use Rattle.coap_conn.specs.Reaction.{Standing, Effect, react, send, abort, stop, due_effect}
-use Rattle.coap_conn.specs.History.{History, IsHistory, bytes_of, own_csm, new_history, with_effect, standing_now, after_message, after_send, after_reply, after_reject, after_end, after_release, after_written, after_hold, after_due, may_hold, standing_due, end_reason, release, asking_now, after_request, after_ping, after_cancel}
-use Rattle.coap_conn.specs.LinkValue.{LinkValue, link_of, LinkShows, new_link, link_with, standing_in, link_after_message, link_after_send, link_after_reply, link_after_reject, link_after_end, link_after_release, link_after_written, can_hold, link_after_hold, link_after_due, link_after_request, link_after_ping, link_after_cancel}
+use Rattle.coap_conn.specs.Held.{HeldValue}
+use Rattle.coap_conn.specs.Outstanding.{OutstandingValue}
+use Rattle.coap_conn.specs.Reaction.{Effect}
+use Rattle.coap_conn.specs.LinkValue.{LinkValue, bytes_of, own_csm, new_link, link_with}
+use Rattle.coap_conn.specs.Calls.{Call, Deed, Handles, Does, Holds, Asks, Writes, doing, link_with_deed, link_after, IsWithin}
+use Rattle.coap_conn.specs.History.{History, IsHistory, LinkShows, link_of, new_history, with_effect, with_deed, after}
 
 -- ---- what is queued
 
@@ -44,18 +39,6 @@ link_at h waiting phase held outstanding peer_max =
 effect_of : (h : History) (e : Effect) → IsHistory h → link_with (link_of h) e ≡ link_of (with_effect h e)
 effect_of h e is = ap (λ (w : List ℕ). link_at h w e.phase e.held e.outstanding (announced h.handled)) (sym (waiting_more h e.queued is))
 
--- the same where a test says whether there is an effect
-pub effect_shown : (v new : LinkValue) (h : History) (e : Effect) (does : Bool) → new ≡ cond does (link_with v e) v → LinkShows v h → LinkShows new (cond does (with_effect h e) h)
-effect_shown v new h e true is shows = record {
-  is_history = history_more h e.queued shows.is_history;
-  same = is ∙ ap (λ (w : LinkValue). link_with w e) shows.same ∙ effect_of h e shows.is_history;
-}
-effect_shown v new h e false is shows = record { is_history = shows.is_history; same = is ∙ shows.same }
-
--- a link stands as the history that it shows
-pub standing_shown : (v : LinkValue) (h : History) → LinkShows v h → standing_in v ≡ standing_now h
-standing_shown v h shows = ap standing_in shows.same
-
 -- ---- what is announced
 
 last_more : (n x : ℕ) (xs : List ℕ) → last_or n (xs ++ x ∷ []) ≡ x
@@ -76,6 +59,43 @@ pub announced_none : announced [] ≡ 1152
 unfolding announced
 announced_none = refl
 
+-- ---- what is done
+
+heard_of : (h : History) (m : Message) (e : Effect) → IsHistory h → link_with_deed (link_of h) (Handles m e) ≡ link_of (with_deed h (Handles m e))
+heard_of h m e is =
+    ap (λ (w : List ℕ). link_at h w e.phase e.held e.outstanding (unwrap_or (announcement m) (announced h.handled))) (sym (waiting_more h e.queued is))
+    ∙ ap (λ (n : ℕ). link_at h (drop h.written (bytes_of (h.queued ++ e.queued))) e.phase e.held e.outstanding n) (sym (announced_more h.handled m))
+
+asked_of : (h : History) (m : Message) (outstanding : List OutstandingValue) (tokens : ℕ) → IsHistory h
+    → link_with_deed (link_of h) (Asks m outstanding tokens) ≡ link_of (with_deed h (Asks m outstanding tokens))
+asked_of h m outstanding tokens is =
+    ap (λ (w : List ℕ). link_at (record h { tokens = tokens }) w h.phase h.held outstanding (announced h.handled)) (sym (waiting_more h (m ∷ []) is))
+
+written_of : (h : History) (n : ℕ) → link_with_deed (link_of h) (Writes n) ≡ link_of (with_deed h (Writes n))
+written_of h n = ap (λ (w : List ℕ). link_at h w h.phase h.held h.outstanding (announced h.handled)) (drop-drop n h.written (bytes_of h.queued))
+
+-- a deed shows as the same deed
+deed_of : (h : History) (d : Deed) → IsHistory h → link_with_deed (link_of h) d ≡ link_of (with_deed h d)
+deed_of h (Handles m e) is = heard_of h m e is
+deed_of h (Does e) is = effect_of h e is
+deed_of h (Holds e) is = refl
+deed_of h (Asks m outstanding tokens) is = asked_of h m outstanding tokens is
+deed_of h (Writes n) is = written_of h n
+
+-- and leaves a history
+deed_kept : (h : History) (d : Deed) → IsHistory h → IsWithin (link_of h) d → IsHistory (with_deed h d)
+deed_kept h (Handles m e) is within = history_more h e.queued is
+deed_kept h (Does e) is within = history_more h e.queued is
+deed_kept h (Holds e) is within = is
+deed_kept h (Asks m outstanding tokens) is within = history_more h (m ∷ []) is
+deed_kept h (Writes n) is within = omega (arith, within, is, length-drop h.written (bytes_of h.queued))
+
+-- where it is done
+done_shown : (new : LinkValue) (h : History) (so : Bool) (d : Deed) → new ≡ cond so (link_with_deed (link_of h) d) (link_of h)
+    → IsHistory h → IsWithin (link_of h) d → LinkShows new (cond so (with_deed h d) h)
+done_shown new h true d same is within = record { is_history = deed_kept h d is within; same = same ∙ deed_of h d is }
+done_shown new h false d same is within = record { is_history = is; same = same }
+
 -- ---- each call (what the contracts say of the code's link, for the worlds of the crates above too)
 
 pub new_shown : (role : Role) (limits : LimitValues) (tokens : ℕ) (new : LinkValue) → new ≡ new_link role limits tokens → LinkShows new (new_history role limits tokens)
@@ -84,115 +104,8 @@ new_shown role limits tokens new is = record {
   same = is ∙ ap (λ (n : ℕ). link_at (new_history role limits tokens) (bytes_of (own_csm limits.max_message ∷ [])) (new_history role limits tokens).phase [] [] n) (sym announced_none);
 }
 
--- a history and a link to which a message was added with what it does
-abbrev history_heard : History → Message → Effect → History
-history_heard h m e = record (with_effect h e) { handled = h.handled ++ m ∷ [] }
-
-abbrev link_heard : LinkValue → Message → Effect → LinkValue
-link_heard v m e = record (link_with v e) { peer_max = unwrap_or (announcement m) v.peer_max }
-
-heard_of : (h : History) (m : Message) (e : Effect) → IsHistory h → link_heard (link_of h) m e ≡ link_of (history_heard h m e)
-heard_of h m e is =
-    ap (λ (w : List ℕ). link_at h w e.phase e.held e.outstanding (unwrap_or (announcement m) (announced h.handled))) (sym (waiting_more h e.queued is))
-    ∙ ap (λ (n : ℕ). link_at h (drop h.written (bytes_of (h.queued ++ e.queued))) e.phase e.held e.outstanding n) (sym (announced_more h.handled m))
-
-heard_shown : (v new : LinkValue) (h : History) (m : Message) (e : Effect) (does : Bool) → new ≡ cond does (link_heard v m e) v → LinkShows v h → LinkShows new (cond does (history_heard h m e) h)
-heard_shown v new h m e true is shows = record {
-  is_history = history_more h e.queued shows.is_history;
-  same = is ∙ ap (λ (w : LinkValue). link_heard w m e) shows.same ∙ heard_of h m e shows.is_history;
-}
-heard_shown v new h m e false is shows = record { is_history = shows.is_history; same = is ∙ shows.same }
-
-pub message_shown : (v new : LinkValue) (m : Message) → new ≡ link_after_message v m → (h : History) → LinkShows v h → LinkShows new (after_message h m)
-message_shown v new m is h shows =
-    heard_shown v new h m (react (standing_now h) m).effect (takes_messages h.phase)
-    (is ∙ ap (λ (s : Standing). cond (takes_messages s.phase) (link_heard v m (react s m).effect) v) (standing_shown v h shows)) shows
-
-pub send_shown : (v new : LinkValue) (m less : Message) → new ≡ link_after_send v m less → (h : History) → LinkShows v h → LinkShows new (after_send h m less)
-send_shown v new m less is h shows =
-    effect_shown v new h (send (standing_now h) m less) (answers h.phase)
-    (is ∙ ap (λ (s : Standing). cond (answers s.phase) (link_with v (send s m less)) v) (standing_shown v h shows)) shows
-
-pub reply_shown : (v new : LinkValue) (m : Message) → new ≡ link_after_reply v m → (h : History) → LinkShows v h → LinkShows new (after_reply h m)
-reply_shown v new m is h shows = send_shown v new m (bare_response m) is h shows
-
-pub reject_shown : (v new : LinkValue) (fault : Reject) → new ≡ link_after_reject v fault → (h : History) → LinkShows v h → LinkShows new (after_reject h fault)
-reject_shown v new fault is h shows =
-    effect_shown v new h (abort (standing_now h) (reject_reason fault)) (takes_messages h.phase)
-    (is ∙ ap (λ (s : Standing). cond (takes_messages s.phase) (link_with v (abort s (reject_reason fault))) v) (standing_shown v h shows)) shows
-
-pub end_shown : (v new : LinkValue) (cut : Bool) → new ≡ link_after_end v cut → (h : History) → LinkShows v h → LinkShows new (after_end h cut)
-end_shown v new cut is h shows =
-    effect_shown v new h (stop (standing_now h) (end_reason cut) []) (takes_messages h.phase)
-    (is ∙ ap (λ (s : Standing). cond (takes_messages s.phase) (link_with v (stop s (end_reason cut) [])) v) (standing_shown v h shows)) shows
-
-pub release_shown : (v new : LinkValue) → new ≡ link_after_release v → (h : History) → LinkShows v h → LinkShows new (after_release h)
-release_shown v new is h shows =
-    effect_shown v new h (stop (standing_now h) ReleasedHere (release ∷ [])) (is_open h.phase)
-    (is ∙ ap (λ (s : Standing). cond (is_open s.phase) (link_with v (stop s ReleasedHere (release ∷ []))) v) (standing_shown v h shows)) shows
-
-written_of : (h : History) (n : ℕ) → link_after_written (link_of h) n ≡ link_of (after_written h n)
-written_of h n = ap (λ (w : List ℕ). link_at h w h.phase h.held h.outstanding (announced h.handled)) (drop-drop n h.written (bytes_of h.queued))
-
-pub written_shown : (v new : LinkValue) (n : ℕ) → n ≤ length v.waiting → new ≡ link_after_written v n → (h : History) → LinkShows v h → LinkShows new (after_written h n)
-written_shown v new n within is h shows = record {
-  is_history = omega (arith, within, shows.is_history, ap (λ (w : LinkValue). length w.waiting) shows.same, length-drop h.written (bytes_of h.queued));
-  same = is ∙ ap (λ (w : LinkValue). link_after_written w n) shows.same ∙ written_of h n;
-}
-
--- ---- what is held
-
-hold_with : (v new : LinkValue) (h : History) (held : List HeldValue) (does : Bool) → new ≡ cond does (record v { held = v.held ++ held }) v → LinkShows v h → LinkShows new (cond does (record h { held = h.held ++ held }) h)
-hold_with v new h held true is shows = record { is_history = shows.is_history; same = is ∙ ap (λ (w : LinkValue). record w { held = w.held ++ held }) shows.same }
-hold_with v new h held false is shows = record { is_history = shows.is_history; same = is ∙ shows.same }
-
-pub hold_shown : (v new : LinkValue) (token : List ℕ) (moment : ℕ) → new ≡ link_after_hold v token moment → (h : History) → LinkShows v h → LinkShows new (after_hold h token moment)
-hold_shown v new token moment is h shows =
-    hold_with v new h (Answer token moment ∷ []) (is_open h.phase && may_hold h)
-    (is ∙ ap (λ (w : LinkValue). cond (is_open w.phase && can_hold w) (record v { held = v.held ++ Answer token moment ∷ [] }) v) shows.same) shows
-
-pub due_shown : (v new : LinkValue) (now : ℕ) → new ≡ link_after_due v now → (h : History) → LinkShows v h → LinkShows new (after_due h now)
-due_shown v new now is h shows =
-    effect_shown v new h (due_effect (standing_due now (standing_now h)) (first_due now h.held)) true
-    (is ∙ ap (λ (s : Standing). link_with v (due_effect (standing_due now s) (first_due now s.held))) (standing_shown v h shows)) shows
-
--- ---- what is asked
-
--- a history, and the link that shows it, where a message was queued, and this is outstanding and so many tokens were given
-abbrev history_asked : History → Message → List OutstandingValue → ℕ → History
-history_asked h m outstanding tokens = record h { queued = h.queued ++ m ∷ []; outstanding = outstanding; tokens = tokens }
-
-abbrev link_asked : LinkValue → Message → List OutstandingValue → ℕ → LinkValue
-link_asked v m outstanding tokens = record v { waiting = v.waiting ++ bytes_of (m ∷ []); outstanding = outstanding; tokens = tokens }
-
-asked_of : (h : History) (m : Message) (outstanding : List OutstandingValue) (tokens : ℕ) → IsHistory h
-    → link_asked (link_of h) m outstanding tokens ≡ link_of (history_asked h m outstanding tokens)
-asked_of h m outstanding tokens is =
-    ap (λ (w : List ℕ). link_at (record h { tokens = tokens }) w h.phase h.held outstanding (announced h.handled)) (sym (waiting_more h (m ∷ []) is))
-
-asked_shown : (new : LinkValue) (h : History) (m : Message) (outstanding : List OutstandingValue) (tokens : ℕ) (does : Bool)
-    → new ≡ cond does (link_asked (link_of h) m outstanding tokens) (link_of h) → IsHistory h
-    → LinkShows new (cond does (history_asked h m outstanding tokens) h)
-asked_shown new h m outstanding tokens true same is = record { is_history = history_more h (m ∷ []) is; same = same ∙ asked_of h m outstanding tokens is }
-asked_shown new h m outstanding tokens false same is = record { is_history = is; same = same }
-
-pub request_shown : (v new : LinkValue) (m : Message) (observe : Bool)
-    → new ≡ link_after_request v m observe → (h : History) → LinkShows v h → LinkShows new (after_request h m observe)
-request_shown v new m observe is h shows =
-    asked_shown new h (with_token m (next_token h.tokens)) (h.outstanding ++ entry_of observe (next_token h.tokens) ∷ []) (h.tokens + 1)
-    (is_none (asking_refusal (asking_now h) (with_token m (next_token h.tokens))))
-    (is ∙ ap (λ (w : LinkValue). link_after_request w m observe) shows.same) shows.is_history
-
-pub ping_shown : (v new : LinkValue) (custody : Bool)
-    → new ≡ link_after_ping v custody → (h : History) → LinkShows v h → LinkShows new (after_ping h custody)
-ping_shown v new custody is h shows =
-    asked_shown new h (ping_with custody (next_token h.tokens)) (h.outstanding ++ Ping (next_token h.tokens) ∷ []) (h.tokens + 1)
-    (is_none (asking_refusal (asking_now h) (ping_with custody (next_token h.tokens))))
-    (is ∙ ap (λ (w : LinkValue). link_after_ping w custody) shows.same) shows.is_history
-
-pub cancel_shown : (v new : LinkValue) (token : List ℕ) (m : Message)
-    → new ≡ link_after_cancel v token m → (h : History) → LinkShows v h → LinkShows new (after_cancel h token m)
-cancel_shown v new token m is h shows =
-    asked_shown new h (with_token m token) (with_cancelled token h.outstanding) h.tokens
-    (is_none (cancel_refusal (asking_now h) token (with_token m token)))
-    (is ∙ ap (λ (w : LinkValue). link_after_cancel w token m) shows.same) shows.is_history
+-- a link that shows a history shows after any call what the history is after it
+pub shows : (v new : LinkValue) (c : Call) → IsWithin v (doing v c).deed → new ≡ link_after v c → (h : History) → LinkShows v h → LinkShows new (after h c)
+shows v new c within is h shown =
+    done_shown new h (doing (link_of h) c).so (doing (link_of h) c).deed (is ∙ ap (λ (w : LinkValue). link_after w c) shown.same) shown.is_history
+    (subst (λ (w : LinkValue). IsWithin w (doing w c).deed) shown.same within)

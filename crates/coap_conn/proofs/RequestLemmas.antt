@@ -20,8 +20,9 @@ use Rattle.coap_conn.specs.Held.{HeldValue}
 use Rattle.coap_conn.specs.Outstanding.{OutstandingValue, is_asked, is_last, is_pinged}
 use Rattle.coap_conn.specs.Verdicts as verdict
 use Rattle.coap_conn.specs.Reaction.{Standing, Effect, Reaction, react, reaction_unless, live_reaction, open_reaction, csm_reaction, request_reaction, told_of, becomes, is_reserved, is_signal, is_method, minds_critical_options, asks_custody, pong_with, pong_of, late_pong, ping_reaction, not_implemented, answered, pong_reaction}
-use Rattle.coap_conn.specs.History.{bytes_of}
-use Rattle.coap_conn.specs.LinkValue.{LinkValue, standing_in, link_with, link_after_message, link_handled}
+use Rattle.coap_conn.specs.LinkValue.{bytes_of, LinkValue, standing_in, link_with, link_handled}
+use Rattle.coap_conn.specs.Calls.{link_after}
+use Rattle.coap_conn.specs.Calls as call
 
 -- ---- what messages do where they are taken
 
@@ -29,7 +30,7 @@ pub react_live : (s : Standing) (m : Message) → stop_of s.phase ≡ None → r
 unfolding react
 react_live s m live = ap (reaction_unless s m) live
 
-pub handled_is : (v : LinkValue) (m : Message) → IsLive v.phase → link_after_message v m ≡ link_handled v m
+pub handled_is : (v : LinkValue) (m : Message) → IsLive v.phase → link_after v (call.Handle m) ≡ link_handled v m
 unfolding react
 handled_is v m live =
     ap (λ (over : Option Reason). cond (is_none over) (record (link_with v (reaction_unless (standing_in v) m over).effect) { peer_max = unwrap_or (announcement m) v.peer_max }) v) live
@@ -120,7 +121,7 @@ stays_by v m e true quiet =
 stays_by v m e false quiet = refl
 
 -- a request leaves the link as it is
-pub request_stays : (v : LinkValue) (m : Message) → (react (standing_in v) m).verdict ≡ verdict.Request → link_after_message v m ≡ v
+pub request_stays : (v : LinkValue) (m : Message) → (react (standing_in v) m).verdict ≡ verdict.Request → link_after v (call.Handle m) ≡ v
 request_stays v m asked = stays_by v m (react (standing_in v) m).effect (takes_messages v.phase) (react_asks (standing_in v) m asked)
 
 answering_at : (p : Phase) → IsLive p → is_waiting p ≡ false → IsAnswering p

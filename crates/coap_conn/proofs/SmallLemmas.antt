@@ -9,7 +9,8 @@ use Rattle.coap_wire.specs.Spelling.{spelling, option_spelling, body_spelling, h
 use Rattle.coap_wire.specs.Uint.{bytes_of_uint, without_leading_zeros}
 use Rattle.coap_wire.specs.Codes as code
 use Rattle.coap_conn.specs.SignalOptions as option
-use Rattle.coap_conn.specs.History.{own_csm, release}
+use Rattle.coap_conn.specs.LinkValue.{own_csm}
+use Rattle.coap_conn.specs.Calls.{release}
 
 abbrev IsShort : ℕ → ℕ × List ℕ → Type 0
 IsShort most form = length form.1 ≤ most

@@ -1,5 +1,5 @@
 -- Nothing follows a stop.
-use Rattle.std.proofs.Common.{◌≡◌, ℕ, Bool, false, List, ◌&&◌, cond, Option, Some, refl, ap}
+use Rattle.std.proofs.Common.{◌≡◌, ℕ, Bool, true, false, List, ◌&&◌, cond, Option, Some, refl, ap}
 use Rattle.std.specs.Prelude.{is_none}
 use Rattle.coap_wire.specs.Message.{Message}
 use Rattle.coap_conn.specs.declared.reason.Reason.{Reason}
@@ -8,12 +8,15 @@ use Rattle.coap_conn.specs.declared.phase.Phase.TheVariants as phase
 use Rattle.coap_conn.specs.Phases.{stop_of, answers, is_open}
 use Rattle.coap_conn.specs.Verdicts as verdict
 use Rattle.coap_conn.specs.Reaction.{Standing, reaction_unless, react}
-use Rattle.coap_conn.specs.Asking.{asking_refusal, cancel_refusal}
-use Rattle.coap_conn.specs.History.{History, asking_now}
+use Rattle.coap_conn.specs.Asking.{asking_refusal, cancel_refusal, next_token, with_token, ping_with}
+use Rattle.coap_conn.specs.Calls.{Call}
+use Rattle.coap_conn.specs.CallKinds.{needs_live}
+use Rattle.coap_conn.specs.Calls as call
+use Rattle.coap_conn.specs.History.{History, asking_now, may_hold, after}
 use Rattle.coap_conn.proofs.AskingLaws.{not_asked, not_cancelled}
 
 -- what messages, faults and the end of input do where none is taken
-pub stays_over : (h after : History) (why : Reason) → stop_of h.phase ≡ Some why → cond (is_none (stop_of h.phase)) after h ≡ h
+stays_over : (h after : History) (why : Reason) → stop_of h.phase ≡ Some why → cond (is_none (stop_of h.phase)) after h ≡ h
 stays_over h after why over = ap (λ (o : Option Reason). cond (is_none o) after h) over
 
 pub told_over : (s : Standing) (m : Message) (why : Reason) → stop_of s.phase ≡ Some why → (react s m).verdict ≡ verdict.Stopped why
@@ -26,19 +29,33 @@ not_open phase.Open why over = absurd cc
 not_open (phase.Releasing because) why over = refl
 not_open (phase.Stopped because) why over = refl
 
-pub stays_released : (h after : History) (why : Reason) → stop_of h.phase ≡ Some why → cond (is_open h.phase) after h ≡ h
+stays_released : (h after : History) (why : Reason) → stop_of h.phase ≡ Some why → cond (is_open h.phase) after h ≡ h
 stays_released h after why over = ap (λ (b : Bool). cond b after h) (not_open h.phase why over)
 
 -- the same where there is one more test
-pub stays_unheld : (h after : History) (may : Bool) (why : Reason) → stop_of h.phase ≡ Some why → cond (is_open h.phase && may) after h ≡ h
+stays_unheld : (h after : History) (may : Bool) (why : Reason) → stop_of h.phase ≡ Some why → cond (is_open h.phase && may) after h ≡ h
 stays_unheld h after may why over = ap (λ (b : Bool). cond (b && may) after h) (not_open h.phase why over)
 
 pub stays_stopped : (h after : History) (why : Reason) → h.phase ≡ phase.Stopped why → cond (answers h.phase) after h ≡ h
 stays_stopped h after why stopped = ap (λ (p : Phase). cond (answers p) after h) stopped
 
 -- the same of what would be asked, and of an observation that would be cancelled
-pub stays_unasked : (h after : History) (m : Message) (why : Reason) → stop_of h.phase ≡ Some why → cond (is_none (asking_refusal (asking_now h) m)) after h ≡ h
+stays_unasked : (h after : History) (m : Message) (why : Reason) → stop_of h.phase ≡ Some why → cond (is_none (asking_refusal (asking_now h) m)) after h ≡ h
 stays_unasked h after m why over = ap (λ (b : Bool). cond b after h) (not_asked (asking_now h) m (not_open h.phase why over))
 
-pub stays_uncancelled : (h after : History) (token : List ℕ) (m : Message) (why : Reason) → stop_of h.phase ≡ Some why → cond (is_none (cancel_refusal (asking_now h) token m)) after h ≡ h
+stays_uncancelled : (h after : History) (token : List ℕ) (m : Message) (why : Reason) → stop_of h.phase ≡ Some why → cond (is_none (cancel_refusal (asking_now h) token m)) after h ≡ h
 stays_uncancelled h after token m why over = ap (λ (b : Bool). cond b after h) (not_cancelled (asking_now h) token m (not_open h.phase why over))
+
+-- whatever needs a connection that takes messages
+pub call_over : (h : History) (c : Call) (why : Reason) → needs_live c ≡ true → stop_of h.phase ≡ Some why → after h c ≡ h
+call_over h (call.Handle m) why needs over = stays_over h _ why over
+call_over h (call.Reject fault) why needs over = stays_over h _ why over
+call_over h (call.End cut) why needs over = stays_over h _ why over
+call_over h (call.Reply m) why needs over = absurd cc
+call_over h (call.Hold token moment) why needs over = stays_unheld h _ (may_hold h) why over
+call_over h (call.Due now) why needs over = absurd cc
+call_over h call.Release why needs over = stays_released h _ why over
+call_over h (call.Request m observe) why needs over = stays_unasked h _ (with_token m (next_token h.tokens)) why over
+call_over h (call.Cancel token m) why needs over = stays_uncancelled h _ token (with_token m token) why over
+call_over h (call.Ping custody) why needs over = stays_unasked h _ (ping_with custody (next_token h.tokens)) why over
+call_over h (call.Written n) why needs over = absurd cc

@@ -13,8 +13,10 @@ pub mod Outstanding
 pub mod OutstandingViews
 pub mod Reaction
 pub mod Asking
-pub mod History
 pub mod LinkValue
+pub mod Calls
+pub mod CallKinds
+pub mod History
 pub mod LinkViews
 pub mod QueueValue
 pub mod QueueViews

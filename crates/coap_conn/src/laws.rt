@@ -6,7 +6,10 @@ ghost use Rattle.coap_wire.specs.Message.{Message};
 ghost use Rattle.coap_conn.specs.Announced.{bad_csm_option, has_critical_option, announcement, announced};
 ghost use Rattle.coap_conn.specs.Fit.{AllFit};
 ghost use Rattle.coap_conn.specs.Limits.{LimitValues, AreInRange};
-ghost use Rattle.coap_conn.specs.History.{History, AnnouncedFirst, new_history, limit_now, standing_now, release, after_message, after_send, after_reject, after_end, after_release, after_written, after_hold, after_due, asking_now, after_asking, after_request, after_cancel, after_ping};
+ghost use Rattle.coap_conn.specs.History.{History, AnnouncedFirst, new_history, limit_now, standing_now, after, after_send, asking_now, after_asking};
+ghost use Rattle.coap_conn.specs.Calls.{Call, release};
+ghost use Rattle.coap_conn.specs.CallKinds.{needs_live, gives_token};
+ghost use Rattle.coap_conn.specs.Calls as call;
 ghost use Rattle.coap_conn.specs.Asking.{asking_refusal, cancel_refusal, next_token};
 ghost use Rattle.coap_conn.specs.Outstanding.{OutstandingValue, is_asked, is_pinged, is_notification, is_request_entry, without_asked, without_pinged};
 ghost use Rattle.coap_conn.specs.Phases.{stop_of};
@@ -39,20 +42,11 @@ pub fn what_is_queued_fits()
     ensures cancelled { (h : History) (token : List ℕ) (m : Message) → cancel_refusal (asking_now h) token m ≡ None → AllFit (limit_now h) (m ∷ []) }
 {}
 
-/// The own Capabilities and Settings are the first message queued, and stay so (RFC 8323 section 5.3).
+/// The own Capabilities and Settings are the first message queued, and stay so, whatever happens (RFC 8323 section 5.3).
 pub fn own_announcement_comes_first()
     ensures new { (role : Role) (limits : LimitValues) (tokens : ℕ) → AnnouncedFirst (new_history role limits tokens) }
-    ensures message { (h : History) (m : Message) → AnnouncedFirst h → AnnouncedFirst (after_message h m) }
+    ensures call { (h : History) (c : Call) → AnnouncedFirst h → AnnouncedFirst (after h c) }
     ensures sent { (h : History) (m less : Message) → AnnouncedFirst h → AnnouncedFirst (after_send h m less) }
-    ensures rejected { (h : History) (fault : Reject) → AnnouncedFirst h → AnnouncedFirst (after_reject h fault) }
-    ensures ended { (h : History) (cut : Bool) → AnnouncedFirst h → AnnouncedFirst (after_end h cut) }
-    ensures released { (h : History) → AnnouncedFirst h → AnnouncedFirst (after_release h) }
-    ensures written { (h : History) (n : ℕ) → AnnouncedFirst h → AnnouncedFirst (after_written h n) }
-    ensures held { (h : History) (token : List ℕ) (moment : ℕ) → AnnouncedFirst h → AnnouncedFirst (after_hold h token moment) }
-    ensures due { (h : History) (now : ℕ) → AnnouncedFirst h → AnnouncedFirst (after_due h now) }
-    ensures asked { (h : History) (m : Message) (observe : Bool) → AnnouncedFirst h → AnnouncedFirst (after_request h m observe) }
-    ensures cancelled { (h : History) (token : List ℕ) (m : Message) → AnnouncedFirst h → AnnouncedFirst (after_cancel h token m) }
-    ensures pinged { (h : History) (custody : Bool) → AnnouncedFirst h → AnnouncedFirst (after_ping h custody) }
 {}
 
 /// Before the peer's Capabilities and Settings no request is handled, and nothing but they open the connection (RFC 8323
@@ -63,19 +57,12 @@ pub fn peer_announces_before_requests()
     ensures opens_whole { (s : Standing) (m : Message) → s.phase ≡ Waiting → (react s m).effect.phase ≡ Open → bad_csm_option m ≡ None }
 {}
 
-/// Nothing follows a stop: where no message is taken any more, a message, a fault, the end of input, the own Release and what would
-/// be asked change nothing, and on a connection that stopped nothing is sent either.
+/// Nothing follows a stop: where no message is taken any more, nothing has an effect but a response, what is held, and bytes that are
+/// written; and on a connection that stopped no response is sent either.
 pub fn nothing_follows_a_stop()
-    ensures message { (h : History) (m : Message) (why : Reason) → stop_of h.phase ≡ Some why → after_message h m ≡ h }
+    ensures call { (h : History) (c : Call) (why : Reason) → needs_live c ≡ true → stop_of h.phase ≡ Some why → after h c ≡ h }
     ensures told { (s : Standing) (m : Message) (why : Reason) → stop_of s.phase ≡ Some why → (react s m).verdict ≡ verdict.Stopped why }
-    ensures rejected { (h : History) (fault : Reject) (why : Reason) → stop_of h.phase ≡ Some why → after_reject h fault ≡ h }
-    ensures ended { (h : History) (cut : Bool) (why : Reason) → stop_of h.phase ≡ Some why → after_end h cut ≡ h }
-    ensures released { (h : History) (why : Reason) → stop_of h.phase ≡ Some why → after_release h ≡ h }
     ensures sent { (h : History) (m less : Message) (why : Reason) → h.phase ≡ Stopped why → after_send h m less ≡ h }
-    ensures held { (h : History) (token : List ℕ) (moment : ℕ) (why : Reason) → stop_of h.phase ≡ Some why → after_hold h token moment ≡ h }
-    ensures asked { (h : History) (m : Message) (observe : Bool) (why : Reason) → stop_of h.phase ≡ Some why → after_request h m observe ≡ h }
-    ensures cancelled { (h : History) (token : List ℕ) (m : Message) (why : Reason) → stop_of h.phase ≡ Some why → after_cancel h token m ≡ h }
-    ensures pinged { (h : History) (custody : Bool) (why : Reason) → stop_of h.phase ≡ Some why → after_ping h custody ≡ h }
 {}
 
 /// What is due comes first: of the answers whose moments have come the one of the least moment, the earliest of equals; else a Pong
@@ -98,13 +85,12 @@ pub fn custody_waits_for_what_is_held()
     ensures given_up { (s : Standing) (m : Message) (why : Reason) → stop_of s.phase ≡ None → (react s m).effect.phase ≡ Stopped why → (react s m).effect.held ≡ [] }
 {}
 
-/// No more is outstanding than may be: a message adds nothing, and what is asked adds one where there is room. A stop and the peer's
-/// Release give it up.
+/// No more is outstanding than may be, whatever happens: a message adds nothing, and what is asked adds one where there is room. A stop
+/// and the peer's Release give it up.
 pub fn outstanding_is_limited()
     ensures message { (s : Standing) (m : Message) → length (react s m).effect.outstanding ≤ length s.outstanding }
-    ensures asked { (h : History) (m : Message) (observe : Bool) → length h.outstanding ≤ h.limits.outstanding → length (after_request h m observe).outstanding ≤ h.limits.outstanding }
-    ensures pinged { (h : History) (custody : Bool) → length h.outstanding ≤ h.limits.outstanding → length (after_ping h custody).outstanding ≤ h.limits.outstanding }
-    ensures cancelled { (h : History) (token : List ℕ) (m : Message) → length (after_cancel h token m).outstanding ≡ length h.outstanding }
+    ensures call { (h : History) (c : Call) → length h.outstanding ≤ h.limits.outstanding → length (after h c).outstanding ≤ h.limits.outstanding }
+    ensures cancelled { (h : History) (token : List ℕ) (m : Message) → length (after h (call.Cancel token m)).outstanding ≡ length h.outstanding }
     ensures given_up { (s : Standing) (m : Message) (why : Reason) → stop_of s.phase ≡ None → stop_of (react s m).effect.phase ≡ Some why → (react s m).effect.outstanding ≡ [] }
 {}
 
@@ -129,6 +115,5 @@ pub fn tokens_are_new()
     ensures different { (one other : ℕ) → one < 18446744073709551615 → other < 18446744073709551615 → next_token one ≡ next_token other → one ≡ other }
     ensures asked { (h : History) (m : Message) → asking_refusal (asking_now h) m ≡ None → h.tokens < 18446744073709551615 }
     ensures given { (h : History) (m : Message) (e : OutstandingValue) → asking_refusal (asking_now h) m ≡ None → (after_asking h m e).tokens ≡ h.tokens + 1 }
-    ensures message { (h : History) (m : Message) → (after_message h m).tokens ≡ h.tokens }
-    ensures cancelled { (h : History) (token : List ℕ) (m : Message) → (after_cancel h token m).tokens ≡ h.tokens }
+    ensures others { (h : History) (c : Call) → gives_token c ≡ false → (after h c).tokens ≡ h.tokens }
 {}

@@ -5,7 +5,8 @@ ghost use Rattle.coap_conn.specs.Reasons.{abort_text as text_for, abort_with as 
 ghost use Rattle.coap_conn.specs.Asking.{ping_with};
 ghost use Rattle.coap_conn.specs.Reaction.{pong_with};
 ghost use Rattle.coap_conn.specs.Fit.{bare_response};
-ghost use Rattle.coap_conn.specs.History.{bytes_of, own_csm, release};
+ghost use Rattle.coap_conn.specs.LinkValue.{bytes_of, own_csm};
+ghost use Rattle.coap_conn.specs.Calls.{release};
 ghost use Rattle.coap_conn.specs.QueueValue.{free_of};
 
 use crate::csm::{CUSTODY, MAX_MESSAGE_SIZE};

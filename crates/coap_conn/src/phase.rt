@@ -124,6 +124,20 @@ impl From<FrameFault> for Reject {
     }
 }
 
+impl From<Reject> for Reason {
+    ghost use Rattle.coap_conn.specs.Rejects.{reject_reason};
+
+    ghost from_gives = { λ fault reason. reason ≡ reject_reason fault };
+
+    fn from(fault: Reject) -> Reason {
+        match fault {
+            Reject::Format => Reason::Format,
+            Reject::TooLarge => Reason::TooLarge,
+            Reject::TokenLength => Reason::TokenLength,
+        }
+    }
+}
+
 /// Why Release was not sent. The discriminants are the faults' numbers.
 #[derive(Clone, Copy, Debug, PartialEq, Eq, Error)]
 pub enum SendFault {

@@ -3,7 +3,9 @@
 ghost use Rattle.std.specs.Prelude.{◌≡◌, ◌<◌, ◌≤◌, ◌++◌, ◌∷◌, [], true, Some, None, is_some, length, slice_get, if◌then◌else◌, IfOk, OnOk, OnErr};
 ghost use Rattle.coap_conn.specs.Phases.{IsAnswering, is_open};
 ghost use Rattle.coap_conn.specs.Held.{HeldValue, first_due};
-ghost use Rattle.coap_conn.specs.LinkValue.{IsReady, can_hold, link_after_hold, link_after_reply};
+ghost use Rattle.coap_conn.specs.LinkValue.{IsReady, can_hold};
+ghost use Rattle.coap_conn.specs.Calls.{link_after};
+ghost use Rattle.coap_conn.specs.Calls as call;
 ghost use Rattle.coap_store.specs.Answer.{changed, unheld};
 ghost use Rattle.coap_store.specs.Messages.{response_message};
 ghost use Rattle.coap_store.specs.Requests.{path_of};
@@ -19,7 +21,7 @@ use crate::observers::{Observer, Observers};
 use crate::response::respond;
 use coap_conn::{Due, Link, Reply};
 use coap_store::{Plan, State, Store, Watch, held_response, request_path};
-use coap_wire::{Code, MessageRef, Token};
+use coap_wire::{Code, MessageRef, copy_of};
 use std::alloc::AllocError;
 
 /// Answers a request, or holds its answer, and answers whether that put or deleted a resource. What it changes is changed before it is
@@ -94,7 +96,7 @@ fn answer_late(
     requires ready { IsReady link.old }
     requires open { is_open link.old.phase ≡ true }
     requires short { length plan.response.payload ≤ 1048576 }
-    ensures link { link.new ≡ (if can_hold link.old then link_after_hold link.old request.now.token moment else link_after_reply link.old (response_message request.now.token (unheld plan.entry).response)) }
+    ensures link { link.new ≡ (if can_hold link.old then link_after link.old (call.Hold request.now.token moment) else link_after link.old (call.Reply (response_message request.now.token (unheld plan.entry).response))) }
     ensures entries { observers.new ≡ record observers.old { entries = without_entry request.now.token observers.old.entries } }
 {
     observers.forget(request.token());
@@ -170,23 +172,13 @@ fn entry_for(host: &Host, request: &MessageRef) -> Observer
     }
 }
 
-/// The same token.
-fn copy_of(token: &Token) -> Token
-    ensures { result.items ≡ token.now.items }
-{
-    let Ok(copy) = Token::try_from(token.as_slice()) else {
-        unreachable!()
-    };
-    copy
-}
-
 /// Notifies the first observer that is stale, which is the one at this index (RFC 7641 section 4.2): it is told the state now and
 /// stays where that goes to it whole, and goes otherwise.
 pub(crate) fn notify(link: &mut Link, observers: &mut Observers, host: &Host, index: usize)
     requires ready { IsReady link.old }
     requires answering { IsAnswering link.old.phase }
     requires first { first_index (is_stale host.now) observers.old.entries ≡ Some index }
-    ensures link { (o : ObserverValue) → slice_get observers.old.entries index ≡ Some o → link.new ≡ link_after_reply link.old (notification_on host.entry.now o) }
+    ensures link { (o : ObserverValue) → slice_get observers.old.entries index ≡ Some o → link.new ≡ link_after link.old (call.Reply (notification_on host.entry.now o)) }
     ensures entries { (o : ObserverValue) → slice_get observers.old.entries index ≡ Some o → observers.new ≡ record observers.old { entries = entries_notified host.entry.now link.old observers.old.entries o } }
 {
     let observer = observers.get(index);

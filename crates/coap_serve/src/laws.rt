@@ -11,7 +11,9 @@ ghost use Rattle.coap_conn.specs.Rejects.{reject_of, reject_reason};
 ghost use Rattle.coap_conn.specs.Held.{HeldValue, Answer, Pong, without_due};
 ghost use Rattle.coap_conn.specs.Phases.{answers};
 ghost use Rattle.coap_conn.specs.Reaction.{send, pong_with};
-ghost use Rattle.coap_conn.specs.History.{limit_now, standing_now, standing_due, after_message, after_reply, after_due};
+ghost use Rattle.coap_conn.specs.History.{limit_now, standing_now, after};
+ghost use Rattle.coap_conn.specs.Calls.{standing_due};
+ghost use Rattle.coap_conn.specs.Calls as call;
 ghost use Rattle.coap_store.specs.Store.{StoreValue};
 ghost use Rattle.coap_store.specs.Answer.{answer_of};
 ghost use Rattle.coap_store.specs.Invariant.{IsStore};
@@ -141,8 +143,8 @@ pub fn custody_comes_last()
     ensures order { (c : ConfigValues) (events : List Event) (id : ℕ) (s : Side) → side_of id (world_after c events).sides ≡ Some s → StandFor s.history.handled s.history.held }
     ensures at_once { (store : StoreValue) (now : ℕ) (s : Side) (m : Message) → QueuesCustody s (side_after store now s m) → s.history.held ≡ [] }
     ensures later { (store : StoreValue) (now : ℕ) (s : Side) → QueuesCustody s (settled_once store now s) → (token : List ℕ) × IsFirstHeld s token }
-    ensures held { (store : StoreValue) (now : ℕ) (s : Side) (m : Message) (seconds : ℕ) → handles s ≡ true → asks_answer s m ≡ true → held_for (after_message s.history m) (answer_of store now m).hold ≡ Some seconds → (side_after store now s m).history.held ≡ s.history.held ++ Answer m.token (moment_after now seconds) ∷ [] }
-    ensures sent { (store : StoreValue) (now : ℕ) (s : Side) (token : List ℕ) (moment : ℕ) → next_held now s ≡ Some (Answer token moment) → (settled_once store now s).history ≡ after_reply (after_due s.history now) (held_message token) }
+    ensures held { (store : StoreValue) (now : ℕ) (s : Side) (m : Message) (seconds : ℕ) → handles s ≡ true → asks_answer s m ≡ true → held_for (after s.history (call.Handle m)) (answer_of store now m).hold ≡ Some seconds → (side_after store now s m).history.held ≡ s.history.held ++ Answer m.token (moment_after now seconds) ∷ [] }
+    ensures sent { (store : StoreValue) (now : ℕ) (s : Side) (token : List ℕ) (moment : ℕ) → next_held now s ≡ Some (Answer token moment) → (settled_once store now s).history ≡ after (after s.history (call.Due now)) (call.Reply (held_message token)) }
     ensures faulted { (s : Side) (fault : StreamFault) → QueuesCustody s (side_faulted s fault) → ⊥ }
     ensures ended { (s : Side) (cut : Bool) → QueuesCustody s (side_ended s cut) → ⊥ }
     ensures released { (s : Side) → QueuesCustody s (side_released s) → ⊥ }

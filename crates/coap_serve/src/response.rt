@@ -6,7 +6,9 @@ ghost use Rattle.coap_wire.specs.Message.{last_number};
 ghost use Rattle.coap_wire.specs.Views.{with_option};
 ghost use Rattle.coap_wire.specs.OptionNumbers as numbers;
 ghost use Rattle.coap_conn.specs.Phases.{IsAnswering};
-ghost use Rattle.coap_conn.specs.LinkValue.{IsReady, limit_in, link_after_reply};
+ghost use Rattle.coap_conn.specs.LinkValue.{IsReady, limit_in};
+ghost use Rattle.coap_conn.specs.Calls.{link_after};
+ghost use Rattle.coap_conn.specs.Calls as call;
 ghost use Rattle.coap_conn.specs.Fit.{fit, bare_response};
 ghost use Rattle.coap_store.specs.Paths.{is_path};
 ghost use Rattle.coap_store.specs.PlanViews.{path_or_root};
@@ -30,7 +32,7 @@ pub(crate) fn respond(link: &mut Link, token: &Token, plan: &Plan, observes: boo
     requires answering { IsAnswering link.old.phase }
     requires short { length plan.now.response.payload ≤ 1048576 }
     ensures reply { let response = response_with_observe token.now.items observes plan.now.response in result ≡ fit (limit_in link.old) response (bare_response response) }
-    ensures after { link.new ≡ link_after_reply link.old (response_with_observe token.now.items observes plan.now.response) }
+    ensures after { link.new ≡ link_after link.old (call.Reply (response_with_observe token.now.items observes plan.now.response)) }
 {
     match plan.location() {
         None => respond_from::<FEW>(link, token, plan, observes, None),
@@ -54,7 +56,7 @@ fn respond_from<'a, const N: usize>(
     requires room { length plan.now.response.location + 5 ≤ N }
     requires few { N ≤ 40 }
     ensures reply { let response = response_with_observe token.now.items observes plan.now.response in result ≡ fit (limit_in link.old) response (bare_response response) }
-    ensures after { link.new ≡ link_after_reply link.old (response_with_observe token.now.items observes plan.now.response) }
+    ensures after { link.new ≡ link_after link.old (call.Reply (response_with_observe token.now.items observes plan.now.response)) }
 {
     let format = wide(plan.format());
     let format_bytes = number_bytes(format);

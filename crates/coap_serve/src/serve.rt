@@ -2,7 +2,7 @@
 
 ghost use Rattle.std.specs.Prelude.{◌≡◌, ◌+◌, ◌<◌, ◌≤◌, ◌^◌, ℕ, false, List, [], ◌++◌, length, Some, IfOk};
 ghost use Rattle.std.specs.List.{AllByRecursion};
-ghost use Rattle.coap_conn.specs.History.{end_reason};
+ghost use Rattle.coap_conn.specs.Calls.{end_reason};
 ghost use Rattle.coap_conn.specs.Limits.{AreInRange};
 ghost use Rattle.coap_serve.specs.Configs.{ConfigValues};
 ghost use Rattle.coap_serve.specs.values.Servers.{session_of};

@@ -30,5 +30,5 @@ pub use options::{OptionRef, Options};
 pub use recognition::Known;
 pub use sink::{Sink, SliceSink};
 pub use size::declared;
-pub use token::Token;
+pub use token::{Token, copy_of};
 pub use uint::{UintBytes, significant_bytes, uint_bytes, uint_value};

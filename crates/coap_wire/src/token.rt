@@ -21,3 +21,10 @@ pub(crate) fn token_of(bytes: &[u8]) -> Token
     };
     token
 }
+
+/// The same token.
+pub fn copy_of(token: &Token) -> Token
+    ensures { result.items ≡ token.now.items }
+{
+    token_of(token)
+}

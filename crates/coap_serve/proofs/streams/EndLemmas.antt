@@ -5,7 +5,8 @@ use Rattle.coap_wire.specs.Stream.{split}
 use Rattle.coap_conn.specs.declared.reason.Reason.{Reason}
 use Rattle.coap_conn.specs.Limits.{LimitValues}
 use Rattle.coap_conn.specs.Phases.{stop_of, takes_messages}
-use Rattle.coap_conn.specs.History.{History, with_effect, end_reason, standing_now}
+use Rattle.coap_conn.specs.History.{History, with_effect, standing_now}
+use Rattle.coap_conn.specs.Calls.{end_reason}
 use Rattle.coap_conn.specs.Reaction.{stop}
 use Rattle.coap_serve.specs.Configs.{ConfigValues}
 use Rattle.coap_serve.specs.values.Sessions.{SessionValue}

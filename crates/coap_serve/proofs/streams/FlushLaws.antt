@@ -7,7 +7,9 @@ use Rattle.std.proofs.lemmas.List.{length-drop, drop_all}
 use Rattle.coap_conn.specs.Limits.{LimitValues}
 use Rattle.coap_conn.specs.Phases.{is_open}
 use Rattle.coap_conn.specs.Held.{HeldValue}
-use Rattle.coap_conn.specs.History.{History, bytes_of, after_written}
+use Rattle.coap_conn.specs.History.{History, after}
+use Rattle.coap_conn.specs.LinkValue.{bytes_of}
+use Rattle.coap_conn.specs.Calls as call
 use Rattle.coap_store.specs.Store.{StoreValue}
 use Rattle.coap_serve.specs.world.Observers.{Observer, is_due, notification, notification_message}
 use Rattle.coap_serve.specs.world.Sides.{Side, waiting_on, side_written, next_due, notified, next_held, after_sent, settled_so, settled_once, settled_within, settled, HearsAll}
@@ -31,7 +33,7 @@ observers_by false s h = refl
 -- a write leaves the observers
 written_observers : (s : Side) (n : ℕ) → (side_written s n).observers ≡ s.observers
 unfolding side_written
-written_observers s n = observers_by (nat_le n (length (waiting_on s))) s (after_written s.history n)
+written_observers s n = observers_by (nat_le n (length (waiting_on s))) s (after s.history (call.Written n))
 
 held_by : (does : Bool) (s : Side) (h : History) → h.held ≡ s.history.held → (cond does (record s { history = h }) s).history.held ≡ s.history.held
 held_by true s h same = same
@@ -40,14 +42,14 @@ held_by false s h same = refl
 -- and what is held
 written_held : (s : Side) (n : ℕ) → (side_written s n).history.held ≡ s.history.held
 unfolding side_written
-written_held s n = held_by (nat_le n (length (waiting_on s))) s (after_written s.history n) refl
+written_held s n = held_by (nat_le n (length (waiting_on s))) s (after s.history (call.Written n)) refl
 
 -- where all that waits is written, nothing waits
 written_empties : (s : Side) → waiting_on (side_written s (length (waiting_on s))) ≡ []
 unfolding side_written
 written_empties s =
     let n : ℕ = length (waiting_on s) in
-    ap (λ (b : Bool). waiting_on (cond b (record s { history = after_written s.history n }) s)) (le-leb n n (omega arith))
+    ap (λ (b : Bool). waiting_on (cond b (record s { history = after s.history (call.Written n) }) s)) (le-leb n n (omega arith))
     ∙ drop_all (s.history.written + n) (bytes_of s.history.queued) (omega (arith, length-drop s.history.written (bytes_of s.history.queued)))
 
 -- where nothing is written, the connection stays as it is
@@ -55,7 +57,7 @@ none_written : (s : Side) → side_written s 0 ≡ s
 unfolding side_written
 none_written s =
     let same : s.history.written + 0 ≡ s.history.written = omega arith in
-    ap (λ (b : Bool). cond b (record s { history = after_written s.history 0 }) s) (le-leb 0 (length (waiting_on s)) (omega arith))
+    ap (λ (b : Bool). cond b (record s { history = after s.history (call.Written 0) }) s) (le-leb 0 (length (waiting_on s)) (omega arith))
     ∙ ap (λ (n : ℕ). record s { history = record s.history { written = n } }) same
 
 -- ---- how much is left to be sent

@@ -10,7 +10,7 @@ use Rattle.coap_wire.proofs.StreamSteps.{unfinished_empty, split_unfinished, spl
 use Rattle.coap_conn.specs.declared.reason.Reason.{Reason}
 use Rattle.coap_conn.specs.Limits.{LimitValues}
 use Rattle.coap_conn.specs.Phases.{stop_of, takes_messages}
-use Rattle.coap_conn.specs.History.{bytes_of}
+use Rattle.coap_conn.specs.LinkValue.{bytes_of}
 use Rattle.coap_conn.proofs.LinkLemmas.{bytes_more}
 use Rattle.coap_serve.specs.Configs.{ConfigValues}
 use Rattle.coap_serve.specs.world.Sides.{Side, new_side, waiting_on, settled, settled_within}

@@ -13,7 +13,9 @@ use Rattle.coap_conn.specs.Held.{HeldValue, first_due}
 use Rattle.coap_conn.specs.Held as held
 use Rattle.coap_conn.specs.Reaction.{Effect, abort, send, react, due_effect}
 use Rattle.coap_conn.specs.declared.phase.Reject.{Reject}
-use Rattle.coap_conn.specs.History.{History, standing_now, standing_due, with_effect, after_message, after_reply, after_reject, after_written, may_hold, after_hold, after_due}
+use Rattle.coap_conn.specs.History.{History, standing_now, with_effect, after, may_hold}
+use Rattle.coap_conn.specs.Calls.{standing_due}
+use Rattle.coap_conn.specs.Calls as call
 use Rattle.coap_store.specs.Store.{StoreValue}
 use Rattle.coap_store.specs.Answer.{Answer, answer_of, prompt_answer}
 use Rattle.coap_store.specs.Messages.{response_with_observe}
@@ -43,13 +45,13 @@ queues_if false h k more = queues_self h
 effect_queues : (h : History) (e : Effect) → QueuesMore h (with_effect h e)
 effect_queues h e = (e.queued, refl)
 
-message_queues : (h : History) (m : Message) → QueuesMore h (after_message h m)
+message_queues : (h : History) (m : Message) → QueuesMore h (after h (call.Handle m))
 message_queues h m = queues_if (takes_messages h.phase) h _ ((react (standing_now h) m).effect.queued, refl)
 
-reply_queues : (h : History) (m : Message) → QueuesMore h (after_reply h m)
+reply_queues : (h : History) (m : Message) → QueuesMore h (after h (call.Reply m))
 reply_queues h m = queues_if (answers h.phase) h _ (effect_queues h (send (standing_now h) m (bare_response m)))
 
-reject_queues : (h : History) (r : Reject) → QueuesMore h (after_reject h r)
+reject_queues : (h : History) (r : Reject) → QueuesMore h (after h (call.Reject r))
 reject_queues h r = queues_if (takes_messages h.phase) h _ (effect_queues h (abort (standing_now h) (reject_reason r)))
 
 -- ---- connections
@@ -65,7 +67,7 @@ answered_queues : (store : StoreValue) (now : ℕ) (h : History) (others : List 
 answered_queues store now h others m a = reply_queues h (response_with_observe m.token (has_place h.limits.observers others a.watch) a.response)
 
 -- an answer that is held queues nothing
-hold_queues : (h : History) (token : List ℕ) (moment : ℕ) → QueuesMore h (after_hold h token moment)
+hold_queues : (h : History) (token : List ℕ) (moment : ℕ) → QueuesMore h (after h (call.Hold token moment))
 hold_queues h token moment = queues_if (is_open h.phase && may_hold h) h _ (queues_self h)
 
 replied_queues : (store : StoreValue) (now : ℕ) (h : History) (others : List Observer) (m : Message) (hold : Option ℕ) → QueuesMore h (side_replied store now h others m hold).history
@@ -73,35 +75,35 @@ replied_queues store now h others m None = answered_queues store now h others m 
 replied_queues store now h others m (Some seconds) = hold_queues h m.token (moment_after now seconds)
 
 handled_by : (store : StoreValue) (now : ℕ) (s : Side) (m : Message) (hold : Option ℕ) (asks : Bool)
-    → SideQueues s (cond asks (side_replied store now (after_message s.history m) (without_token m.token s.observers) m hold) (with_history s (after_message s.history m)))
+    → SideQueues s (cond asks (side_replied store now (after s.history (call.Handle m)) (without_token m.token s.observers) m hold) (with_history s (after s.history (call.Handle m))))
 handled_by store now s m hold true =
-    let h : History = after_message s.history m in
+    let h : History = after s.history (call.Handle m) in
     let others : List Observer = without_token m.token s.observers in
     queues_then s.history h (side_replied store now h others m hold).history (message_queues s.history m) (replied_queues store now h others m hold)
 handled_by store now s m hold false = message_queues s.history m
 
 after_queues : (store : StoreValue) (now : ℕ) (s : Side) (m : Message) → SideQueues s (side_after store now s m)
 unfolding side_after
-after_queues store now s m = side_if (handles s) s (side_handled store now s m) (handled_by store now s m (held_for (after_message s.history m) (answer_of store now m).hold) (asks_answer s m))
+after_queues store now s m = side_if (handles s) s (side_handled store now s m) (handled_by store now s m (held_for (after s.history (call.Handle m)) (answer_of store now m).hold) (asks_answer s m))
 
 faulted_queues : (s : Side) (fault : StreamFault) → SideQueues s (side_faulted s fault)
 unfolding side_faulted
-faulted_queues s fault = side_if (handles s) s (with_history s (after_reject s.history (reject_of fault))) (reject_queues s.history (reject_of fault))
+faulted_queues s fault = side_if (handles s) s (with_history s (after s.history (call.Reject (reject_of fault)))) (reject_queues s.history (reject_of fault))
 
 written_queues : (s : Side) (n : ℕ) → SideQueues s (side_written s n)
 unfolding side_written
-written_queues s n = side_if (nat_le n (length (waiting_on s))) s (record s { history = after_written s.history n }) ([], sym (append-nil s.history.queued))
+written_queues s n = side_if (nat_le n (length (waiting_on s))) s (record s { history = after s.history (call.Written n) }) ([], sym (append-nil s.history.queued))
 
 notified_queues : (store : StoreValue) (now : ℕ) (s : Side) (due : Option Observer) → SideQueues s (notified store now s due)
 notified_queues store now s None = queues_self s.history
 notified_queues store now s (Some o) = reply_queues s.history (notification_message o.token (notification store now o))
 
 -- what is due first was taken out, and a Pong is queued
-due_queues : (h : History) (now : ℕ) → QueuesMore h (after_due h now)
+due_queues : (h : History) (now : ℕ) → QueuesMore h (after h (call.Due now))
 due_queues h now = effect_queues h (due_effect (standing_due now (standing_now h)) (first_due now h.held))
 
 sent_queues : (h : History) (now : ℕ) (e : HeldValue) → QueuesMore h (after_sent h now e)
-sent_queues h now (held.Answer token moment) = queues_then h (after_due h now) (after_sent h now (held.Answer token moment)) (due_queues h now) (reply_queues (after_due h now) (held_message token))
+sent_queues h now (held.Answer token moment) = queues_then h (after h (call.Due now)) (after_sent h now (held.Answer token moment)) (due_queues h now) (reply_queues (after h (call.Due now)) (held_message token))
 sent_queues h now (held.Pong token) = due_queues h now
 
 so_queues : (store : StoreValue) (now : ℕ) (s : Side) (found : Option HeldValue) → SideQueues s (settled_so store now s found)

@@ -7,7 +7,8 @@ use Rattle.coap_wire.specs.Message.{Message}
 use Rattle.coap_wire.specs.Stream.{StreamFault}
 use Rattle.coap_conn.specs.Phases.{takes_messages}
 use Rattle.coap_conn.specs.Rejects.{reject_of}
-use Rattle.coap_conn.specs.History.{after_reject}
+use Rattle.coap_conn.specs.History.{after}
+use Rattle.coap_conn.specs.Calls as call
 use Rattle.coap_store.specs.Store.{StoreValue}
 use Rattle.coap_store.specs.Answer.{Change, Nothing, prompt_answer, changed}
 use Rattle.coap_serve.specs.Configs.{ConfigValues}
@@ -56,7 +57,7 @@ change_stays store now s m over = ap (λ (b : Bool). cond (b && asks_answer s m)
 
 faulted_stays : (s : Side) (fault : StreamFault) → takes_messages s.history.phase ≡ false → side_faulted s fault ≡ s
 unfolding side_faulted
-faulted_stays s fault over = ap (λ (b : Bool). cond b (with_history s (after_reject s.history (reject_of fault))) s) (over_handles s over)
+faulted_stays s fault over = ap (λ (b : Bool). cond b (with_history s (after s.history (call.Reject (reject_of fault)))) s) (over_handles s over)
 
 module _ (c : ConfigValues) (w : World) (id : ℕ) (s : Side) (is : IsWorld c w) (hear : AllHear w) (there : side_of id w.sides ≡ Some s) (over : takes_messages s.history.phase ≡ false) where
   handled_idle : (m : Message) → acted c.limits w (world.Handled id m) ≡ w

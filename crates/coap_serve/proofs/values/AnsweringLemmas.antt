@@ -9,8 +9,9 @@ use Rattle.coap_conn.specs.declared.phase.Reply.{Reply}
 use Rattle.coap_conn.specs.Fit.{fit, bare_response}
 use Rattle.coap_conn.specs.Held.{HeldValue, first_due}
 use Rattle.coap_conn.specs.Reaction.{due_effect}
-use Rattle.coap_conn.specs.History.{standing_due}
-use Rattle.coap_conn.specs.LinkValue.{LinkValue, limit_in, standing_in, link_with, link_after_reply, can_hold, link_after_hold, link_after_due}
+use Rattle.coap_conn.specs.Calls.{standing_due, link_after}
+use Rattle.coap_conn.specs.Calls as call
+use Rattle.coap_conn.specs.LinkValue.{LinkValue, limit_in, standing_in, link_with, can_hold}
 use Rattle.coap_conn.proofs.HeldLaws.{due_nothing}
 use Rattle.coap_store.specs.Requests.{path_of}
 use Rattle.coap_store.specs.Answer as answer
@@ -99,11 +100,11 @@ late_refused host m seconds room others e = ap (λ (b : Bool). response_with_obs
 
 -- it is held where there is room, and else refused for now
 pub late_link : (host : Host) (m : Message) (l : LinkValue) (seconds moment room : ℕ) (others : List ObserverValue) → hold_on host m ≡ Some seconds → moment ≡ moment_after host.now seconds
-    → (if can_hold l then link_after_hold l m.token moment else link_after_reply l (response_message m.token (unheld (answer_of host.store host.now m)).response)) ≡ link_replied host l room others m (held_in l (hold_on host m))
+    → (if can_hold l then link_after l (call.Hold m.token moment) else link_after l (call.Reply (response_message m.token (unheld (answer_of host.store host.now m)).response))) ≡ link_replied host l room others m (held_in l (hold_on host m))
 late_link host m l seconds moment room others e at =
-    elim (can_hold l) as (λ b. (if b then link_after_hold l m.token moment else link_after_reply l (response_message m.token (unheld (answer_of host.store host.now m)).response)) ≡ link_replied host l room others m (if b then Some seconds else None)) [
-      | true ↦ ap (link_after_hold l m.token) at
-      | false ↦ ap (link_after_reply l) (late_refused host m seconds room others e)
+    elim (can_hold l) as (λ b. (if b then link_after l (call.Hold m.token moment) else link_after l (call.Reply (response_message m.token (unheld (answer_of host.store host.now m)).response))) ≡ link_replied host l room others m (if b then Some seconds else None)) [
+      | true ↦ ap (λ moment. link_after l (call.Hold m.token moment)) at
+      | false ↦ ap (λ m. link_after l (call.Reply m)) (late_refused host m seconds room others e)
     ]
     ∙ ap (λ (hold : Option ℕ). link_replied host l room others m (held_in l hold)) (sym e)
 
@@ -142,8 +143,8 @@ module _ (host : Host) (m : Message) (l : LinkValue) (room : ℕ) (others : List
       ap (λ (b : Answer). response_with_observe m.token observes b.response) is
       ∙ ap (λ (b : Bool). response_with_observe m.token b (answer_on host m).response) observed
 
-  pub prompt_link : link_after_reply l (response_with_observe m.token observes a.response) ≡ link_replied host l room others m (held_in l (hold_on host m))
-  prompt_link = ap (link_after_reply l) response_is ∙ ap (λ (hold : Option ℕ). link_replied host l room others m (held_in l hold)) (sym none)
+  pub prompt_link : link_after l (call.Reply (response_with_observe m.token observes a.response)) ≡ link_replied host l room others m (held_in l (hold_on host m))
+  prompt_link = ap (λ m. link_after l (call.Reply m)) response_is ∙ ap (λ (hold : Option ℕ). link_replied host l room others m (held_in l hold)) (sym none)
 
   pub prompt_entries : (reply : Reply) → reply ≡ fit (limit_in l) (response_with_observe m.token observes a.response) (bare_response (response_with_observe m.token observes a.response))
       → with_entry (observes && is_whole reply) others (new_entry host m) ≡ entries_replied host l room others m (held_in l (hold_on host m))
@@ -153,8 +154,8 @@ module _ (host : Host) (m : Message) (l : LinkValue) (room : ℕ) (others : List
       ∙ ap (λ (hold : Option ℕ). entries_replied host l room others m (held_in l hold)) (sym none)
 
 -- a request that changes something is answered at once
-pub change_link : (host : Host) (m : Message) (l : LinkValue) (room : ℕ) (others : List ObserverValue) (response : Message) → hold_on host m ≡ None → response ≡ response_on host room others m → link_after_reply l response ≡ link_replied host l room others m (held_in l (hold_on host m))
-change_link host m l room others response none is = ap (link_after_reply l) is ∙ ap (λ (hold : Option ℕ). link_replied host l room others m (held_in l hold)) (sym none)
+pub change_link : (host : Host) (m : Message) (l : LinkValue) (room : ℕ) (others : List ObserverValue) (response : Message) → hold_on host m ≡ None → response ≡ response_on host room others m → link_after l (call.Reply response) ≡ link_replied host l room others m (held_in l (hold_on host m))
+change_link host m l room others response none is = ap (λ m. link_after l (call.Reply m)) is ∙ ap (λ (hold : Option ℕ). link_replied host l room others m (held_in l hold)) (sym none)
 
 pub change_entries : (host : Host) (m : Message) (l : LinkValue) (room : ℕ) (others : List ObserverValue) → hold_on host m ≡ None → changes (answer_on host m).change ≡ true → others ≡ entries_replied host l room others m (held_in l (hold_on host m))
 change_entries host m l room others none does = entries_unobserved host l m room others does ∙ ap (λ (hold : Option ℕ). entries_replied host l room others m (held_in l hold)) (sym none)
@@ -162,7 +163,7 @@ change_entries host m l room others none does = entries_unobserved host l m room
 -- ---- what is held
 
 -- where nothing is due nothing is sent
-pub nothing_sent : (l : LinkValue) (now : ℕ) → first_due now l.held ≡ None → link_after_due l now ≡ l
+pub nothing_sent : (l : LinkValue) (now : ℕ) → first_due now l.held ≡ None → link_after l (call.Due now) ≡ l
 nothing_sent l now none =
     ap (λ (e : Option HeldValue). link_with l (due_effect (standing_due now (standing_in l)) e)) none
     ∙ ap (λ (held : List HeldValue). record l { waiting = l.waiting ++ []; held = held }) (due_nothing now l.held none).1

@@ -8,7 +8,9 @@ use Rattle.coap_wire.specs.Beginning.{Beginning, Unfinished, Whole, beginning}
 use Rattle.coap_wire.proofs.StreamSteps.{whole_parts, whole_itself, whole_more}
 use Rattle.coap_conn.specs.declared.phase.Reject.{Reject}
 use Rattle.coap_conn.specs.Phases.{takes_messages, answers}
-use Rattle.coap_conn.specs.LinkValue.{LinkValue, link_after_message, link_after_reply, link_after_reject}
+use Rattle.coap_conn.specs.LinkValue.{LinkValue}
+use Rattle.coap_conn.specs.Calls.{link_after}
+use Rattle.coap_conn.specs.Calls as call
 
 -- ---- limits stay
 
@@ -16,13 +18,13 @@ limits_stay : (does : Bool) (l now : LinkValue) → now.limits ≡ l.limits → 
 limits_stay true l now same = same
 limits_stay false l now same = refl
 
-pub reject_limits : (l : LinkValue) (fault : Reject) → (link_after_reject l fault).limits ≡ l.limits
+pub reject_limits : (l : LinkValue) (fault : Reject) → (link_after l (call.Reject fault)).limits ≡ l.limits
 reject_limits l fault = limits_stay (takes_messages l.phase) l _ refl
 
-pub message_limits : (l : LinkValue) (m : Message) → (link_after_message l m).limits ≡ l.limits
+pub message_limits : (l : LinkValue) (m : Message) → (link_after l (call.Handle m)).limits ≡ l.limits
 message_limits l m = limits_stay (takes_messages l.phase) l _ refl
 
-pub reply_limits : (l : LinkValue) (m : Message) → (link_after_reply l m).limits ≡ l.limits
+pub reply_limits : (l : LinkValue) (m : Message) → (link_after l (call.Reply m)).limits ≡ l.limits
 reply_limits l m = limits_stay (answers l.phase) l _ refl
 
 -- ---- where a frame ends in its piece

@@ -15,9 +15,10 @@ use Rattle.coap_conn.specs.declared.phase.Verdict.TheVariants as told
 use Rattle.coap_conn.specs.Limits.{LimitValues, AreInRange}
 use Rattle.coap_conn.specs.LinkViews.{verdict_value}
 use Rattle.coap_conn.specs.Held.{HeldValue, Answer, Pong, first_due}
-use Rattle.coap_conn.specs.LinkValue.{LinkValue, IsReady, free_in, standing_in, link_with, link_after_message, link_after_reply, link_after_end, link_after_release, link_after_due}
+use Rattle.coap_conn.specs.LinkValue.{LinkValue, IsReady, free_in, standing_in, link_with}
+use Rattle.coap_conn.specs.Calls.{link_after, end_reason, release}
+use Rattle.coap_conn.specs.Calls as call
 use Rattle.coap_conn.specs.declared.reason.Reason.TheVariants.{ReleasedHere}
-use Rattle.coap_conn.specs.History.{end_reason, release}
 use Rattle.coap_conn.specs.Reaction.{stop}
 use Rattle.coap_conn.specs.Phases.{is_open, takes_messages}
 use Rattle.coap_conn.specs.Verdicts.{is_request}
@@ -56,10 +57,10 @@ given_up s l f g o p is limits max framer room g_is p_is =
       open_only = subst (λ (k : ObserversValue). (is_open l.phase ≡ true) ⊎ (k.entries ≡ [])) (sym p_is) (open_or_none l o.entries);
     }
 
-pub end_limits : (l : LinkValue) (cut : Bool) → (link_after_end l cut).limits ≡ l.limits
+pub end_limits : (l : LinkValue) (cut : Bool) → (link_after l (call.End cut)).limits ≡ l.limits
 end_limits l cut = elim (takes_messages l.phase) as (λ b. (if b then link_with l (stop (standing_in l) (end_reason cut) []) else l).limits ≡ l.limits) [ true ↦ refl | false ↦ refl ]
 
-pub release_limits : (l : LinkValue) → (link_after_release l).limits ≡ l.limits
+pub release_limits : (l : LinkValue) → (link_after l call.Release).limits ≡ l.limits
 release_limits l = elim (is_open l.phase) as (λ b. (if b then link_with l (stop (standing_in l) ReleasedHere (release ∷ [])) else l).limits ≡ l.limits) [ true ↦ refl | false ↦ refl ]
 
 -- ---- a message
@@ -73,13 +74,13 @@ replied_as : (host : Host) (l : LinkValue) (others : List ObserverValue) (m : Me
 replied_as host l others m None = refl
 replied_as host l others m (Some seconds) = refl
 
-request_handled : (host : Host) (v : SessionValue) (m : Message) (l after : LinkValue) (room : ℕ) (o p : ObserversValue) → asks_this v.link m ≡ true → l ≡ link_after_message v.link m → room ≡ v.link.limits.observers
+request_handled : (host : Host) (v : SessionValue) (m : Message) (l after : LinkValue) (room : ℕ) (o p : ObserversValue) → asks_this v.link m ≡ true → l ≡ link_after v.link (call.Handle m) → room ≡ v.link.limits.observers
     → after ≡ link_replied host l room (without_entry m.token v.observers) m (held_in l (hold_on host m)) → p ≡ record o { entries = entries_replied host l room (without_entry m.token v.observers) m (held_in l (hold_on host m)) }
     → session_with [] after p.entries ≡ session_handled host v m
 unfolding session_handled
 request_handled host v m l after room o p asks is room_is after_is p_is =
     let others : List ObserverValue = without_entry m.token v.observers in
-    let first : LinkValue = link_after_message v.link m in
+    let first : LinkValue = link_after v.link (call.Handle m) in
     let hold : Option ℕ = hold_on host m in
     let rooms : room ≡ first.limits.observers = room_is ∙ ap (λ (k : LimitValues). k.observers) (sym (message_limits v.link m)) in
     ap (λ (k : LinkValue). session_with [] k p.entries) after_is
@@ -89,7 +90,7 @@ request_handled host v m l after room o p asks is room_is after_is p_is =
     ∙ replied_as host first others m (held_in first hold)
     ∙ sym (cond-true (asks_this v.link m) (session_replied host first others m (held_in first hold)) (session_with [] first v.observers) asks)
 
-pub on_request : {E : Type 0} (r : Result Bool E) (host : Host) (v : SessionValue) (m : Message) (l after : LinkValue) (o p : ObserversValue) → asks_this v.link m ≡ true → l ≡ link_after_message v.link m → o.room ≡ v.link.limits.observers → o.entries ≡ v.observers
+pub on_request : {E : Type 0} (r : Result Bool E) (host : Host) (v : SessionValue) (m : Message) (l after : LinkValue) (o p : ObserversValue) → asks_this v.link m ≡ true → l ≡ link_after v.link (call.Handle m) → o.room ≡ v.link.limits.observers → o.entries ≡ v.observers
     → OnOk r (after ≡ link_replied host l o.room (without_entry m.token o.entries) m (held_in l (hold_on host m))) → OnOk r (p ≡ record o { entries = entries_replied host l o.room (without_entry m.token o.entries) m (held_in l (hold_on host m)) })
     → OnOk r ((frame : List ℕ) → session_with [] after p.entries ≡ session_handled host (record v { frame = frame }) m)
 on_request r host v m l after o p asks is room entries =
@@ -105,11 +106,11 @@ no_request (told.Pong token custody) other = refl
 no_request told.Stranger other = refl
 no_request (told.Stopped why) other = refl
 
-pub message_handled : (host : Host) (v : SessionValue) (m : Message) (l : LinkValue) → asks_this v.link m ≡ false → l ≡ link_after_message v.link m → session_with [] l v.observers ≡ session_handled host v m
+pub message_handled : (host : Host) (v : SessionValue) (m : Message) (l : LinkValue) → asks_this v.link m ≡ false → l ≡ link_after v.link (call.Handle m) → session_with [] l v.observers ≡ session_handled host v m
 unfolding session_handled
 message_handled host v m l other is =
     ap (λ (k : LinkValue). session_with [] k v.observers) is
-    ∙ sym (cond-false (asks_this v.link m) (session_replied host (link_after_message v.link m) (without_entry m.token v.observers) m (held_in (link_after_message v.link m) (hold_on host m))) (session_with [] (link_after_message v.link m) v.observers) other)
+    ∙ sym (cond-false (asks_this v.link m) (session_replied host (link_after v.link (call.Handle m)) (without_entry m.token v.observers) m (held_in (link_after v.link (call.Handle m)) (hold_on host m))) (session_with [] (link_after v.link (call.Handle m)) v.observers) other)
 
 pub nothing_changes : (host : Host) (l : LinkValue) (m : Message) → asks_this l m ≡ false → change_by host l m ≡ answer.Nothing
 nothing_changes host l m other = cond-false (asks_this l m) (answer_on host m).change answer.Nothing other
@@ -235,7 +236,7 @@ kept_stays l f = elim (takes_messages l.phase) as (λ b. (if b then f else recor
 pub record IsNotified (host : Host) (s : Inside) (index : ℕ) (l : LinkValue) (o : ObserversValue) : Type 0 where
   pub ready : session_ready (session_value s) ≡ true
   pub first : Some index ≡ first_index (is_stale host) s.observers.entries
-  pub link : (e : ObserverValue) → slice_get s.observers.entries index ≡ Some e → l ≡ link_after_reply s.link (notification_on host e)
+  pub link : (e : ObserverValue) → slice_get s.observers.entries index ≡ Some e → l ≡ link_after s.link (call.Reply (notification_on host e))
   pub entries : (e : ObserverValue) → slice_get s.observers.entries index ≡ Some e → o ≡ record s.observers { entries = entries_notified host s.link s.observers.entries e }
 
 module _ (host : Host) (s : Inside) (index : ℕ) (l : LinkValue) (o : ObserversValue) (is : IsNotified host s index l o) where
@@ -267,7 +268,7 @@ module _ (host : Host) (s : Inside) (index : ℕ) (l : LinkValue) (o : Observers
 -- ---- what is held
 
 pub sent_limits : (l : LinkValue) (now : ℕ) (e : HeldValue) → (link_sent l now e).limits ≡ l.limits
-sent_limits l now (Answer token moment) = reply_limits (link_after_due l now) (held_message token)
+sent_limits l now (Answer token moment) = reply_limits (link_after l (call.Due now)) (held_message token)
 sent_limits l now (Pong token) = refl
 
 there_is : {A : Type 0} (o : Option A) → is_some o ≡ true → (x : A) × (o ≡ Some x)

@@ -10,8 +10,9 @@ use Rattle.coap_conn.specs.Phases.{answers, is_open}
 use Rattle.coap_conn.specs.Fit.{fit, bare_response}
 use Rattle.coap_conn.specs.Held.{HeldValue, Answer, Pong, first_due, without_due}
 use Rattle.coap_conn.specs.Reaction.{Standing, send, send_as, due_effect, pong_with}
-use Rattle.coap_conn.specs.History.{standing_due}
-use Rattle.coap_conn.specs.LinkValue.{LinkValue, limit_in, standing_in, link_with, link_after_reply, link_after_due}
+use Rattle.coap_conn.specs.Calls.{standing_due, link_after}
+use Rattle.coap_conn.specs.Calls as call
+use Rattle.coap_conn.specs.LinkValue.{LinkValue, limit_in, standing_in, link_with}
 use Rattle.coap_conn.proofs.HeldLaws.{due_fewer}
 use Rattle.coap_store.specs.Store.{Representation}
 use Rattle.coap_store.specs.Answer.{Response}
@@ -79,7 +80,7 @@ send_held s m less Whole = omega arith
 send_held s m less Bare = omega arith
 send_held s m less Stopped = omega arith
 
-reply_held : (l : LinkValue) (m : Message) → length (link_after_reply l m).held ≤ length l.held
+reply_held : (l : LinkValue) (m : Message) → length (link_after l (call.Reply m)).held ≤ length l.held
 reply_held l m =
     let sent = send_held (standing_in l) m (bare_response m) (fit (limit_in l) m (bare_response m)) in
     elim (answers l.phase) as (λ b. length (if b then link_with l (send (standing_in l) m (bare_response m)) else l).held ≤ length l.held) [ true ↦ sent | false ↦ omega arith ]
@@ -90,14 +91,14 @@ due_held s None = omega arith
 due_held s (Some (Answer token moment)) = omega arith
 due_held s (Some (Pong token)) = send_held s (pong_with true token) (pong_with false token) (fit s.limit (pong_with true token) (pong_with false token))
 
-sent_held : (l : LinkValue) (now : ℕ) (e : HeldValue) → length (link_sent l now e).held ≤ length (link_after_due l now).held
-sent_held l now (Answer token moment) = reply_held (link_after_due l now) (held_message token)
+sent_held : (l : LinkValue) (now : ℕ) (e : HeldValue) → length (link_sent l now e).held ≤ length (link_after l (call.Due now)).held
+sent_held l now (Answer token moment) = reply_held (link_after l (call.Due now)) (held_message token)
 sent_held l now (Pong token) = omega arith
 
 -- a turn that finds what is due leaves less
 pub fewer_held : (l : LinkValue) (now : ℕ) (e : HeldValue) → first_due now l.held ≡ Some e → length (link_sent l now e).held + 1 ≤ length l.held
 fewer_held l now e found =
-    let out : length (link_after_due l now).held ≤ length (without_due now l.held) = due_held (standing_due now (standing_in l)) (first_due now l.held) in
+    let out : length (link_after l (call.Due now)).held ≤ length (without_due now l.held) = due_held (standing_due now (standing_in l)) (first_due now l.held) in
     omega (arith, sent_held l now e, out, due_fewer now l.held e found)
 
 -- ---- one turn
@@ -134,7 +135,7 @@ fewer_stale host v o n first many =
     let whole : Bool = is_whole (fit (limit_in v.link) m (bare_response m)) in
     let left = entry_left host o (goes_on (notification_of host.store host.now o.path o.format) && whole) in
     let fewer = fewer_due (is_stale host) left v.observers o (left_is_told host o whole) first in
-    fewer_open host (link_after_reply v.link m) (first_becomes (is_stale host) left v.observers) n (omega (arith, fewer, many))
+    fewer_open host (link_after v.link (call.Reply m)) (first_becomes (is_stale host) left v.observers) n (omega (arith, fewer, many))
 
 -- ---- all turns
 

@@ -18,7 +18,9 @@ use Rattle.coap_conn.specs.declared.reason.Reason.{Reason}
 use Rattle.coap_conn.specs.declared.phase.Reject.TheVariants as reject
 use Rattle.coap_conn.specs.Rejects.{reject_of}
 use Rattle.coap_conn.specs.Fit.{fit, bare_response}
-use Rattle.coap_conn.specs.LinkValue.{LinkValue, limit_in, link_after_message, link_after_reply, link_after_reject, link_after_hold}
+use Rattle.coap_conn.specs.LinkValue.{LinkValue, limit_in}
+use Rattle.coap_conn.specs.Calls.{link_after}
+use Rattle.coap_conn.specs.Calls as call
 use Rattle.coap_store.specs.Messages.{response_with_observe}
 use Rattle.coap_store.specs.Paths.{same_bytes}
 use Rattle.coap_store.specs.Store.{Representation}
@@ -106,7 +108,7 @@ none_with_entry host others entry false none told = none
 responded_none : (host : Host) (l : LinkValue) (others : List ObserverValue) (entry : ObserverValue) (observes : Bool) (response : Message) → NoneStale host others → (observes ≡ true → is_stale host entry ≡ false) → NoneStale host (session_responded l others entry observes response).observers
 responded_none host l others entry observes response none told =
     let whole : Bool = is_whole (fit (limit_in l) response (bare_response response)) in
-    none_of_no_more host (link_after_reply l response) (with_entry (observes && whole) others entry)
+    none_of_no_more host (link_after l (call.Reply response)) (with_entry (observes && whole) others entry)
     (none_with_entry host others entry (observes && whole) none (λ e. told (and_parts observes whole e).0))
 
 answered_none : (host : Host) (l : LinkValue) (others : List ObserverValue) (m : Message) → NoneStale host others → NoneStale host (session_answered host l others m (answer_on host m)).observers
@@ -119,12 +121,12 @@ answered_none host l others m none =
 -- nor is any where the answer is held
 replied_none : (host : Host) (l : LinkValue) (others : List ObserverValue) (m : Message) (hold : Option ℕ) → NoneStale host others → NoneStale host (session_replied host l others m hold).observers
 replied_none host l others m None none = answered_none host l others m none
-replied_none host l others m (Some seconds) none = none_of_no_more host (link_after_hold l m.token (moment_after host.now seconds)) others none
+replied_none host l others m (Some seconds) none = none_of_no_more host (link_after l (call.Hold m.token (moment_after host.now seconds))) others none
 
 handled_none : (host : Host) (v : SessionValue) (m : Message) → NoneStale host v.observers → NoneStale host (session_handled host v m).observers
 unfolding session_handled without_entry
 handled_none host v m none =
-    let l : LinkValue = link_after_message v.link m in
+    let l : LinkValue = link_after v.link (call.Handle m) in
     let hold : Option ℕ = held_in l (hold_on host m) in
     elim (asks_this v.link m) as (λ b. NoneStale host (if b then session_replied host l (without_entry m.token v.observers) m hold else session_with [] l v.observers).observers) [
       | true ↦ replied_none host l (without_entry m.token v.observers) m hold (none_of_fewer (is_stale host) (λ o. not (same_bytes o.token m.token)) v.observers none)
@@ -135,12 +137,12 @@ handled_none host v m none =
 
 read_none : (host : Host) (v : SessionValue) (count : ℕ) (r : Result Message FormatFault) → NoneStale host v.observers → NoneStale host (taking_read host v count r).session.observers
 read_none host v count (Ok m) none = handled_none host v m none
-read_none host v count (Err e) none = none_of_no_more host (link_after_reject v.link reject.Format) v.observers none
+read_none host v count (Err e) none = none_of_no_more host (link_after v.link (call.Reject reject.Format)) v.observers none
 
 found_none : (host : Host) (v : SessionValue) (f : Framing) (what : Finding) → NoneStale host v.observers → NoneStale host (taking_found host v f what).session.observers
 found_none host v f Nothing none = none
 found_none host v f (AFrame frame) none = read_none host v f.taken (message_of frame) none
-found_none host v f (AFault fault) none = none_of_no_more host (link_after_reject v.link (reject_of (OfFrame fault))) v.observers none
+found_none host v f (AFault fault) none = none_of_no_more host (link_after v.link (call.Reject (reject_of (OfFrame fault)))) v.observers none
 
 -- a connection that was settled settles where it holds something, while the host stays as it was
 pub taking_settles_held : (host : Host) (v : SessionValue) (piece : List ℕ) → IsSettled host v → settled_held host (taking host v piece).session ≡ session_settled host (taking host v piece).session

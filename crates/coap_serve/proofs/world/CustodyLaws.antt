@@ -26,8 +26,9 @@ use Rattle.coap_conn.specs.Rejects.{reject_of, reject_reason}
 use Rattle.coap_conn.specs.Release.{release_refusal}
 use Rattle.coap_conn.specs.Held.{HeldValue, Answer, Pong, without_at, due_index, first_due, without_due}
 use Rattle.coap_conn.specs.Reaction.{Standing, Effect, stop, abort, send_as, send, react, due_effect, asks_custody, is_custody_pong, pong_with}
-use Rattle.coap_conn.specs.History.{History, limit_now, standing_now, with_effect, after_message, after_reply, after_reject, after_end, after_release, after_written, end_reason, release, may_hold, after_hold, standing_due, after_due}
-use Rattle.coap_conn.specs.LinkValue.{link_of}
+use Rattle.coap_conn.specs.History.{History, limit_now, standing_now, with_effect, after, may_hold, link_of}
+use Rattle.coap_conn.specs.Calls.{end_reason, release, standing_due}
+use Rattle.coap_conn.specs.Calls as call
 use Rattle.coap_conn.proofs.HeldLaws.{custody_at_once, due_pong}
 use Rattle.coap_conn.proofs.RequestLemmas.{react_asks}
 use Rattle.coap_store.specs.Store.{StoreValue}
@@ -134,14 +135,14 @@ sent_gives G s m Bare other = (no_pong G (bare_response m) (bare_no_pong m), tt)
 sent_gives G s m Stopped other = tt
 
 -- a response is no Pong with Custody
-reply_gives : (G : Type 0) (h : History) (token : List ℕ) (observe : Bool) (r : Response) → Queues (Gives G) h (after_reply h (response_with_observe token observe r))
+reply_gives : (G : Type 0) (h : History) (token : List ℕ) (observe : Bool) (r : Response) → Queues (Gives G) h (after h (call.Reply (response_with_observe token observe r)))
 reply_gives G h token observe r =
     let m : Message = response_with_observe token observe r in
     queues_effect (Gives G) h (send (standing_now h) m (bare_response m)) (answers h.phase) (sent_gives G (standing_now h) m (fit (limit_now h) m (bare_response m)) (response_no_pong token observe r))
 
 -- ---- a message
 
-message_gives : (h : History) (m : Message) → Queues (Gives (h.held ≡ [])) h (after_message h m)
+message_gives : (h : History) (m : Message) → Queues (Gives (h.held ≡ [])) h (after h (call.Handle m))
 message_gives h m =
     let e : Effect = (react (standing_now h) m).effect in
     heard_queues (Gives (h.held ≡ [])) h m e (takes_messages h.phase) (any_gives (h.held ≡ []) e.queued (custody_at_once (standing_now h) m))
@@ -151,16 +152,16 @@ replied_gives G store now h others m None = reply_gives G h m.token (has_place h
 replied_gives G store now h others m (Some seconds) = hold_queues (Gives G) h m.token (moment_after now seconds)
 
 handled_by_gives : (store : StoreValue) (now : ℕ) (s : Side) (m : Message) (others : List Observer) (hold : Option ℕ) (asks : Bool)
-    → Queues (Gives (s.history.held ≡ [])) s.history (cond asks (side_replied store now (after_message s.history m) others m hold) (with_history s (after_message s.history m))).history
+    → Queues (Gives (s.history.held ≡ [])) s.history (cond asks (side_replied store now (after s.history (call.Handle m)) others m hold) (with_history s (after s.history (call.Handle m)))).history
 handled_by_gives store now s m others hold true =
     let G : Type 0 = s.history.held ≡ [] in
-    let h : History = after_message s.history m in
+    let h : History = after s.history (call.Handle m) in
     queues_then (Gives G) s.history h (side_replied store now h others m hold).history (message_gives s.history m) (replied_gives G store now h others m hold)
 handled_by_gives store now s m others hold false = message_gives s.history m
 
 handled_gives : (store : StoreValue) (now : ℕ) (s : Side) (m : Message) → Queues (Gives (s.history.held ≡ [])) s.history (side_handled store now s m).history
 handled_gives store now s m =
-    handled_by_gives store now s m (without_token m.token s.observers) (held_for (after_message s.history m) (answer_of store now m).hold) (asks_answer s m)
+    handled_by_gives store now s m (without_token m.token s.observers) (held_for (after s.history (call.Handle m)) (answer_of store now m).hold) (asks_answer s m)
 
 pub custody_waits : (store : StoreValue) (now : ℕ) (s : Side) (m : Message) → QueuesCustody s (side_after store now s m) → s.history.held ≡ []
 unfolding side_after
@@ -172,26 +173,26 @@ custody_waits store now s m =
 pub faulted_no_custody : (s : Side) (fault : StreamFault) → QueuesCustody s (side_faulted s fault) → ⊥
 unfolding side_faulted
 faulted_no_custody s fault =
-    let h : History = after_reject s.history (reject_of fault) in
+    let h : History = after s.history (call.Reject (reject_of fault)) in
     custody_gives ⊥ s (side_faulted s fault) (if_gives ⊥ (handles s) s (with_history s h) (λ does. plain_gives ⊥ s.history h (reject_queues s.history (reject_of fault))))
 
 pub ended_no_custody : (s : Side) (cut : Bool) → QueuesCustody s (side_ended s cut) → ⊥
 unfolding side_ended
-ended_no_custody s cut = custody_gives ⊥ s (side_ended s cut) (plain_gives ⊥ s.history (after_end s.history cut) (end_queues s.history cut))
+ended_no_custody s cut = custody_gives ⊥ s (side_ended s cut) (plain_gives ⊥ s.history (after s.history (call.End cut)) (end_queues s.history cut))
 
 pub released_no_custody : (s : Side) → QueuesCustody s (side_released s) → ⊥
 unfolding side_released
 released_no_custody s =
-    let h : History = after_release s.history in
+    let h : History = after s.history call.Release in
     custody_gives ⊥ s (side_released s) (if_gives ⊥ (is_none (release_refusal (link_of s.history))) s (with_history s h) (λ does. plain_gives ⊥ s.history h (release_queues s.history)))
 
-written_gives : (h : History) (n : ℕ) → Queues (Gives ⊥) h (after_written h n)
+written_gives : (h : History) (n : ℕ) → Queues (Gives ⊥) h (after h (call.Written n))
 written_gives h n = let same : Queues (Gives ⊥) h h = queues_none (Gives ⊥) h in record { more = same.more; same = same.same; such = same.such; heard = same.heard; handled = same.handled }
 
 pub written_no_custody : (s : Side) (n : ℕ) → QueuesCustody s (side_written s n) → ⊥
 unfolding side_written
 written_no_custody s n =
-    custody_gives ⊥ s (side_written s n) (if_gives ⊥ (nat_le n (length (waiting_on s))) s (record s { history = after_written s.history n }) (λ does. written_gives s.history n))
+    custody_gives ⊥ s (side_written s n) (if_gives ⊥ (nat_le n (length (waiting_on s))) s (record s { history = after s.history (call.Written n) }) (λ does. written_gives s.history n))
 
 -- ---- settling
 
@@ -206,15 +207,15 @@ due_gives s now (Some (Pong token)) e =
     gives_all (PongFirst s) (due_effect (standing_due now (standing_now s.history)) (Some (Pong token))).queued
     (token, record { rest = without_due now s.history.held; first = due_pong now s.history.held token e })
 
-taken_gives : (s : Side) (now : ℕ) → Queues (Gives (PongFirst s)) s.history (after_due s.history now)
+taken_gives : (s : Side) (now : ℕ) → Queues (Gives (PongFirst s)) s.history (after s.history (call.Due now))
 taken_gives s now =
     let found : Option HeldValue = first_due now s.history.held in
     queues_effect (Gives (PongFirst s)) s.history (due_effect (standing_due now (standing_now s.history)) found) true (due_gives s now found refl)
 
 sent_held_gives : (s : Side) (now : ℕ) (e : HeldValue) → Queues (Gives (PongFirst s)) s.history (after_sent s.history now e)
 sent_held_gives s now (Answer token moment) =
-    queues_then (Gives (PongFirst s)) s.history (after_due s.history now) (after_reply (after_due s.history now) (held_message token)) (taken_gives s now)
-    (reply_gives (PongFirst s) (after_due s.history now) token false held_response)
+    queues_then (Gives (PongFirst s)) s.history (after s.history (call.Due now)) (after (after s.history (call.Due now)) (call.Reply (held_message token))) (taken_gives s now)
+    (reply_gives (PongFirst s) (after s.history (call.Due now)) token false held_response)
 sent_held_gives s now (Pong token) = taken_gives s now
 
 notified_gives : (G : Type 0) (store : StoreValue) (now : ℕ) (s : Side) (found : Option Observer) → Queues (Gives G) s.history (notified store now s found).history
@@ -307,17 +308,17 @@ sent_stands ms s m less Whole stand = stand
 sent_stands ms s m less Bare stand = stand
 sent_stands ms s m less Stopped stand = stand_none ms
 
-pub reply_stands : (h : History) (m : Message) → Stands h → Stands (after_reply h m)
+pub reply_stands : (h : History) (m : Message) → Stands h → Stands (after h (call.Reply m))
 reply_stands h m stand =
     stands_effect h (send (standing_now h) m (bare_response m)) (answers h.phase) (sent_stands h.handled (standing_now h) m (bare_response m) (fit (limit_now h) m (bare_response m)) stand) stand
 
-reject_stands : (h : History) (r : Reject) → Stands h → Stands (after_reject h r)
+reject_stands : (h : History) (r : Reject) → Stands h → Stands (after h (call.Reject r))
 reject_stands h r stand = stands_effect h (abort (standing_now h) (reject_reason r)) (takes_messages h.phase) (stand_none h.handled) stand
 
-end_stands : (h : History) (cut : Bool) → Stands h → Stands (after_end h cut)
+end_stands : (h : History) (cut : Bool) → Stands h → Stands (after h (call.End cut))
 end_stands h cut stand = stands_effect h (stop (standing_now h) (end_reason cut) []) (takes_messages h.phase) (stand_none h.handled) stand
 
-release_stands : (h : History) → Stands h → Stands (after_release h)
+release_stands : (h : History) → Stands h → Stands (after h call.Release)
 release_stands h stand = stands_effect h (stop (standing_now h) ReleasedHere (release ∷ [])) (is_open h.phase) (stand_none h.handled) stand
 
 due_stands : (ms : List Message) (s : Standing) (found : Option HeldValue) → StandFor ms s.held → StandFor ms (due_effect s found).held
@@ -325,7 +326,7 @@ due_stands ms s None stand = stand
 due_stands ms s (Some (Answer token moment)) stand = stand
 due_stands ms s (Some (Pong token)) stand = sent_stands ms s (pong_with true token) (pong_with false token) (fit s.limit (pong_with true token) (pong_with false token)) stand
 
-pub taken_stands : (h : History) (now : ℕ) → Stands h → Stands (after_due h now)
+pub taken_stands : (h : History) (now : ℕ) → Stands h → Stands (after h (call.Due now))
 taken_stands h now stand = due_stands h.handled (standing_due now (standing_now h)) (first_due now h.held) (stand_due h.handled now h.held stand)
 
 -- a Ping with Custody may be held
@@ -344,7 +345,7 @@ heard_stands : (h : History) (m : Message) (e : Effect) (takes : Bool) → Stand
 heard_stands h m e true then stand = then
 heard_stands h m e false then stand = stand
 
-message_stands : (h : History) (m : Message) → Stands h → Stands (after_message h m)
+message_stands : (h : History) (m : Message) → Stands h → Stands (after h (call.Handle m))
 message_stands h m stand = heard_stands h m (react (standing_now h) m).effect (takes_messages h.phase) (message_held h.handled (standing_now h) m stand) stand
 
 -- ---- a request whose answer is held
@@ -369,7 +370,7 @@ heard_one_more h m e true x takes kept asks stand = subst (λ es. StandFor (h.ha
 heard_one_more h m e false x takes kept asks stand = absurd cc
 
 one_more : (s : Side) (m : Message) (moment : ℕ) → takes_messages s.history.phase ≡ true → asks_answer s m ≡ true → asks_late m ≡ true → Stands s.history
-    → StandFor (after_message s.history m).handled ((after_message s.history m).held ++ Answer m.token moment ∷ [])
+    → StandFor (after s.history (call.Handle m)).handled ((after s.history (call.Handle m)).held ++ Answer m.token moment ∷ [])
 one_more s m moment takes asks late stand =
     let quiet = react_asks (standing_now s.history) m (said_request (react (standing_now s.history) m).verdict asks) in
     heard_one_more s.history m (react (standing_now s.history) m).effect (takes_messages s.history.phase) (Answer m.token moment) takes quiet.kept (rw (late, (bytes_decides m.token m.token).1 refl) refl) stand
@@ -391,7 +392,7 @@ if_stands false s t stand then = stand
 
 handled_stands : (store : StoreValue) (now : ℕ) (s : Side) (m : Message) → takes_messages s.history.phase ≡ true → Stands s.history → Stands (side_handled store now s m).history
 handled_stands store now s m takes stand =
-    let h : History = after_message s.history m in
+    let h : History = after s.history (call.Handle m) in
     let others : List Observer = without_token m.token s.observers in
     let hold : Option ℕ = (answer_of store now m).hold in
     if_stands (asks_answer s m) (with_history s h) (side_replied store now h others m (held_for h hold)) (message_stands s.history m stand)
@@ -405,11 +406,11 @@ after_stands store now s m stand =
 
 faulted_stands : (s : Side) (fault : StreamFault) → Stands s.history → Stands (side_faulted s fault).history
 unfolding side_faulted
-faulted_stands s fault stand = if_stands (handles s) s (with_history s (after_reject s.history (reject_of fault))) stand (λ does. reject_stands s.history (reject_of fault) stand)
+faulted_stands s fault stand = if_stands (handles s) s (with_history s (after s.history (call.Reject (reject_of fault)))) stand (λ does. reject_stands s.history (reject_of fault) stand)
 
 written_stands : (s : Side) (n : ℕ) → Stands s.history → Stands (side_written s n).history
 unfolding side_written
-written_stands s n stand = if_stands (nat_le n (length (waiting_on s))) s (record s { history = after_written s.history n }) stand (λ does. stand)
+written_stands s n stand = if_stands (nat_le n (length (waiting_on s))) s (record s { history = after s.history (call.Written n) }) stand (λ does. stand)
 
 ended_stands : (s : Side) (cut : Bool) → Stands s.history → Stands (side_ended s cut).history
 unfolding side_ended
@@ -417,14 +418,14 @@ ended_stands s cut stand = end_stands s.history cut stand
 
 released_stands : (s : Side) → Stands s.history → Stands (side_released s).history
 unfolding side_released
-released_stands s stand = if_stands (is_none (release_refusal (link_of s.history))) s (with_history s (after_release s.history)) stand (λ does. release_stands s.history stand)
+released_stands s stand = if_stands (is_none (release_refusal (link_of s.history))) s (with_history s (after s.history call.Release)) stand (λ does. release_stands s.history stand)
 
 notified_stands : (store : StoreValue) (now : ℕ) (s : Side) (found : Option Observer) → Stands s.history → Stands (notified store now s found).history
 notified_stands store now s None stand = stand
 notified_stands store now s (Some o) stand = reply_stands s.history (notification_message o.token (notification store now o)) stand
 
 sent_held_stands : (h : History) (now : ℕ) (e : HeldValue) → Stands h → Stands (after_sent h now e)
-sent_held_stands h now (Answer token moment) stand = reply_stands (after_due h now) (held_message token) (taken_stands h now stand)
+sent_held_stands h now (Answer token moment) stand = reply_stands (after h (call.Due now)) (held_message token) (taken_stands h now stand)
 sent_held_stands h now (Pong token) stand = taken_stands h now stand
 
 settled_stands : (store : StoreValue) (now : ℕ) (s : Side) (found : Option HeldValue) → Stands s.history → Stands (settled_so store now s found).history
@@ -461,7 +462,7 @@ heard_held : (h : History) (m : Message) (e : Effect) (takes : Bool) → e.held 
 heard_held h m e true same = same
 heard_held h m e false same = refl
 
-pub asked_same : (s : Side) (m : Message) → asks_answer s m ≡ true → (after_message s.history m).held ≡ s.history.held
+pub asked_same : (s : Side) (m : Message) → asks_answer s m ≡ true → (after s.history (call.Handle m)).held ≡ s.history.held
 asked_same s m asks =
     let quiet = react_asks (standing_now s.history) m (said_request (react (standing_now s.history) m).verdict asks) in
     heard_held s.history m (react (standing_now s.history) m).effect (takes_messages s.history.phase) quiet.kept
@@ -476,24 +477,24 @@ open_at phase.Open takes now = refl
 open_at (phase.Releasing why) takes now = absurd cc
 open_at (phase.Stopped why) takes now = absurd cc
 
-asked_open : (s : Side) (m : Message) → takes_messages s.history.phase ≡ true → asks_answer s m ≡ true → is_open (after_message s.history m).phase ≡ true
+asked_open : (s : Side) (m : Message) → takes_messages s.history.phase ≡ true → asks_answer s m ≡ true → is_open (after s.history (call.Handle m)).phase ≡ true
 asked_open s m takes asks =
     let quiet = react_asks (standing_now s.history) m (said_request (react (standing_now s.history) m).verdict asks) in
     ap is_open (heard_phase s.history m (react (standing_now s.history) m).effect (takes_messages s.history.phase) quiet.same) ∙ open_at s.history.phase takes quiet.not_waiting
 
 -- so its answer is held behind what was
-held_after : (store : StoreValue) (now : ℕ) (s : Side) (m : Message) (seconds : ℕ) → handles s ≡ true → asks_answer s m ≡ true → held_for (after_message s.history m) (answer_of store now m).hold ≡ Some seconds → (side_after store now s m).history ≡ after_hold (after_message s.history m) m.token (moment_after now seconds)
+held_after : (store : StoreValue) (now : ℕ) (s : Side) (m : Message) (seconds : ℕ) → handles s ≡ true → asks_answer s m ≡ true → held_for (after s.history (call.Handle m)) (answer_of store now m).hold ≡ Some seconds → (side_after store now s m).history ≡ after (after s.history (call.Handle m)) (call.Hold m.token (moment_after now seconds))
 unfolding side_after
 held_after store now s m seconds does asks is =
-    rw does (rw asks (ap (λ (o : Option ℕ). (side_replied store now (after_message s.history m) (without_token m.token s.observers) m o).history) is))
+    rw does (rw asks (ap (λ (o : Option ℕ). (side_replied store now (after s.history (call.Handle m)) (without_token m.token s.observers) m o).history) is))
 
 held_behind : (h : History) (e : HeldValue) (does : Bool) → does ≡ true → (cond does (record h { held = h.held ++ e ∷ [] }) h).held ≡ h.held ++ e ∷ []
 held_behind h e true is = refl
 held_behind h e false is = absurd cc
 
-pub held_when_asked : (store : StoreValue) (now : ℕ) (s : Side) (m : Message) (seconds : ℕ) → handles s ≡ true → asks_answer s m ≡ true → held_for (after_message s.history m) (answer_of store now m).hold ≡ Some seconds → (side_after store now s m).history.held ≡ s.history.held ++ Answer m.token (moment_after now seconds) ∷ []
+pub held_when_asked : (store : StoreValue) (now : ℕ) (s : Side) (m : Message) (seconds : ℕ) → handles s ≡ true → asks_answer s m ≡ true → held_for (after s.history (call.Handle m)) (answer_of store now m).hold ≡ Some seconds → (side_after store now s m).history.held ≡ s.history.held ++ Answer m.token (moment_after now seconds) ∷ []
 held_when_asked store now s m seconds does asks is =
-    let h : History = after_message s.history m in
+    let h : History = after s.history (call.Handle m) in
     let e : HeldValue = Answer m.token (moment_after now seconds) in
     let opens : is_open h.phase ≡ true = asked_open s m (and_parts (takes_messages s.history.phase) (has_room s) does).0 asks in
     let room : may_hold h ≡ true = held_at_all h (answer_of store now m).hold seconds is in
@@ -501,6 +502,6 @@ held_when_asked store now s m seconds does asks is =
     ∙ held_behind h e (is_open h.phase && may_hold h) (rw (opens, room) refl)
     ∙ ap (λ (es : List HeldValue). es ++ e ∷ []) (asked_same s m asks)
 
-pub sent_when_due : (store : StoreValue) (now : ℕ) (s : Side) (token : List ℕ) (moment : ℕ) → next_held now s ≡ Some (Answer token moment) → (settled_once store now s).history ≡ after_reply (after_due s.history now) (held_message token)
+pub sent_when_due : (store : StoreValue) (now : ℕ) (s : Side) (token : List ℕ) (moment : ℕ) → next_held now s ≡ Some (Answer token moment) → (settled_once store now s).history ≡ after (after s.history (call.Due now)) (call.Reply (held_message token))
 unfolding settled_once
 sent_when_due store now s token moment is = ap (λ (o : Option HeldValue). (settled_so store now s o).history) is

@@ -18,8 +18,10 @@ use Rattle.coap_conn.specs.Held.{HeldValue, Answer, Pong, first_due, without_due
 use Rattle.coap_conn.specs.Reaction.{Standing, Effect, Reaction, stop, abort, send, aborts, react, reaction_unless, live_reaction, open_reaction, csm_reaction, is_reserved, due_effect}
 use Rattle.coap_conn.specs.Rejects.{reject_of, reject_reason}
 use Rattle.coap_conn.specs.Release.{release_refusal}
-use Rattle.coap_conn.specs.History.{History, limit_now, standing_now, with_effect, after_message, after_reply, after_reject, after_end, after_release, after_written, after_hold, after_due, may_hold, standing_due, end_reason, release}
-use Rattle.coap_conn.specs.LinkValue.{LinkValue, link_of, free_in, limit_in}
+use Rattle.coap_conn.specs.History.{History, limit_now, standing_now, with_effect, after, may_hold, link_of}
+use Rattle.coap_conn.specs.Calls.{standing_due, end_reason, release}
+use Rattle.coap_conn.specs.Calls as call
+use Rattle.coap_conn.specs.LinkValue.{LinkValue, free_in, limit_in}
 use Rattle.coap_conn.proofs.LinkLemmas.{announced_more}
 use Rattle.coap_conn.proofs.HistoryLaws.{new_fits, reaction_fits, sent_fits, stopped_fits, released_fits, due_fits}
 use Rattle.coap_store.specs.Store.{StoreValue}
@@ -103,16 +105,16 @@ effect_evenly : (h : History) (e : Effect) (does : Bool) → (does ≡ true → 
 effect_evenly h e true fit = record { grows = record { more = e.queued; queued = refl; fit = fit refl }; same = refl }
 effect_evenly h e false fit = evenly_self h
 
-reply_evenly : (h : History) (m : Message) → GrowsEvenly h (after_reply h m)
+reply_evenly : (h : History) (m : Message) → GrowsEvenly h (after h (call.Reply m))
 reply_evenly h m = effect_evenly h (send (standing_now h) m (bare_response m)) (answers h.phase) (λ does. sent_fits h m (bare_response m))
 
 reject_evenly : (h : History) (why : Reason) → GrowsEvenly h (cond (takes_messages h.phase) (with_effect h (abort (standing_now h) why)) h)
 reject_evenly h why = effect_evenly h (abort (standing_now h) why) (takes_messages h.phase) (λ does. stopped_fits h why)
 
-end_evenly : (h : History) (cut : Bool) → GrowsEvenly h (after_end h cut)
+end_evenly : (h : History) (cut : Bool) → GrowsEvenly h (after h (call.End cut))
 end_evenly h cut = effect_evenly h (stop (standing_now h) (end_reason cut) []) (takes_messages h.phase) (λ does. tt)
 
-release_evenly : (h : History) → 2 ≤ limit_now h → GrowsEvenly h (after_release h)
+release_evenly : (h : History) → 2 ≤ limit_now h → GrowsEvenly h (after h call.Release)
 release_evenly h enough = effect_evenly h (stop (standing_now h) reason.ReleasedHere (release ∷ [])) (is_open h.phase) (λ does. released_fits h enough)
 
 -- what is held counts nowhere
@@ -120,16 +122,16 @@ held_evenly : (h : History) (held : List HeldValue) (does : Bool) → GrowsEvenl
 held_evenly h held true = record { grows = record { more = []; queued = sym (append-nil h.queued); fit = tt }; same = refl }
 held_evenly h held false = evenly_self h
 
-hold_evenly : (h : History) (token : List ℕ) (moment : ℕ) → GrowsEvenly h (after_hold h token moment)
+hold_evenly : (h : History) (token : List ℕ) (moment : ℕ) → GrowsEvenly h (after h (call.Hold token moment))
 hold_evenly h token moment = held_evenly h (h.held ++ Answer token moment ∷ []) (is_open h.phase && may_hold h)
 
-due_evenly : (h : History) (now : ℕ) → GrowsEvenly h (after_due h now)
+due_evenly : (h : History) (now : ℕ) → GrowsEvenly h (after h (call.Due now))
 due_evenly h now =
     let rest : History = record h { held = without_due now h.held } in
     effect_evenly h (due_effect (standing_due now (standing_now h)) (first_due now h.held)) true (λ does. due_fits rest (first_due now h.held))
 
 sent_evenly : (h : History) (now : ℕ) (e : HeldValue) → GrowsEvenly h (after_sent h now e)
-sent_evenly h now (Answer token moment) = evenly_then h (after_due h now) _ (due_evenly h now) (reply_evenly (after_due h now) (held_message token))
+sent_evenly h now (Answer token moment) = evenly_then h (after h (call.Due now)) _ (due_evenly h now) (reply_evenly (after h (call.Due now)) (held_message token))
 sent_evenly h now (Pong token) = due_evenly h now
 
 -- a message: where it announces another size, it queues nothing
@@ -145,7 +147,7 @@ heard_grows h m true = record {
 }
 heard_grows h m false = (evenly_self h).grows
 
-message_grows : (h : History) (m : Message) → Grows h (after_message h m)
+message_grows : (h : History) (m : Message) → Grows h (after h (call.Handle m))
 message_grows h m = heard_grows h m (takes_messages h.phase)
 
 -- ---- connections
@@ -169,24 +171,24 @@ replied_evenly store now h others m None = reply_evenly h _
 replied_evenly store now h others m (Some seconds) = hold_evenly h m.token (moment_after now seconds)
 
 asked_grows : (store : StoreValue) (now : ℕ) (s : Side) (m : Message) (hold : Option ℕ) (asks : Bool)
-    → SideGrows s (cond asks (side_replied store now (after_message s.history m) (without_token m.token s.observers) m hold) (with_history s (after_message s.history m)))
+    → SideGrows s (cond asks (side_replied store now (after s.history (call.Handle m)) (without_token m.token s.observers) m hold) (with_history s (after s.history (call.Handle m))))
 asked_grows store now s m hold true =
-    let h : History = after_message s.history m in
+    let h : History = after s.history (call.Handle m) in
     grows_then s.history h _ (message_grows s.history m) (replied_evenly store now h (without_token m.token s.observers) m hold)
 asked_grows store now s m hold false = message_grows s.history m
 
 after_grows : (store : StoreValue) (now : ℕ) (s : Side) (m : Message) → SideGrows s (side_after store now s m)
 unfolding side_after
-after_grows store now s m = if_grows (handles s) s (side_handled store now s m) (asked_grows store now s m (held_for (after_message s.history m) (answer_of store now m).hold) (asks_answer s m))
+after_grows store now s m = if_grows (handles s) s (side_handled store now s m) (asked_grows store now s m (held_for (after s.history (call.Handle m)) (answer_of store now m).hold) (asks_answer s m))
 
 faulted_evenly : (s : Side) (fault : StreamFault) → SideEvenly s (side_faulted s fault)
 unfolding side_faulted
-faulted_evenly s fault = if_evenly (handles s) s (with_history s (after_reject s.history (reject_of fault))) (λ does. reject_evenly s.history (reject_reason (reject_of fault)))
+faulted_evenly s fault = if_evenly (handles s) s (with_history s (after s.history (call.Reject (reject_of fault)))) (λ does. reject_evenly s.history (reject_reason (reject_of fault)))
 
 written_evenly : (s : Side) (n : ℕ) → SideEvenly s (side_written s n)
 unfolding side_written
 written_evenly s n =
-    if_evenly (nat_le n (length (waiting_on s))) s (record s { history = after_written s.history n })
+    if_evenly (nat_le n (length (waiting_on s))) s (record s { history = after s.history (call.Written n) })
     (λ does. record { grows = record { more = []; queued = sym (append-nil s.history.queued); fit = tt }; same = refl })
 
 ended_evenly : (s : Side) (cut : Bool) → SideEvenly s (side_ended s cut)
@@ -207,7 +209,7 @@ release_small v none = refusal_none v (is_open v.phase) (nat_lt (free_in v) 2) (
 released_evenly : (s : Side) → SideEvenly s (side_released s)
 unfolding side_released
 released_evenly s =
-    if_evenly (is_none (release_refusal (link_of s.history))) s (with_history s (after_release s.history)) (λ does. release_evenly s.history (release_small (link_of s.history) does))
+    if_evenly (is_none (release_refusal (link_of s.history))) s (with_history s (after s.history call.Release)) (λ does. release_evenly s.history (release_small (link_of s.history) does))
 
 notified_evenly : (store : StoreValue) (now : ℕ) (s : Side) (due : Option Observer) → SideEvenly s (notified store now s due)
 notified_evenly store now s None = evenly_self s.history

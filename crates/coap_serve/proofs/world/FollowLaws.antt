@@ -18,8 +18,10 @@ use Rattle.coap_conn.specs.Held.{HeldValue, Answer, Pong, first_due}
 use Rattle.coap_conn.specs.Reaction.{Standing, Effect, stop, abort, send_as, send, react, pong_with, due_effect}
 use Rattle.coap_conn.specs.Rejects.{reject_of, reject_reason}
 use Rattle.coap_conn.specs.Release.{release_refusal}
-use Rattle.coap_conn.specs.History.{History, IsHistory, bytes_of, standing_now, with_effect, after_message, after_send, after_reply, after_reject, after_end, after_release, after_written, after_hold, after_due, may_hold, standing_due, end_reason, release}
-use Rattle.coap_conn.specs.LinkValue.{link_of}
+use Rattle.coap_conn.specs.History.{History, IsHistory, standing_now, with_effect, after, after_send, may_hold, link_of, LinkShows}
+use Rattle.coap_conn.specs.LinkValue.{bytes_of}
+use Rattle.coap_conn.specs.Calls.{standing_due, end_reason, release}
+use Rattle.coap_conn.specs.Calls as call
 use Rattle.coap_conn.proofs.LinkLemmas.{bytes_more, new_shown}
 use Rattle.coap_store.specs.Store.{StoreValue}
 use Rattle.coap_store.specs.Answer.{answer_of}
@@ -73,7 +75,7 @@ heard_follows : (h : History) (m : Message) (e : Effect) (takes : Bool) → take
 heard_follows h m e true is = record { is_history = queued_more h e.queued; limits = refl; role = refl; live = λ takes. is }
 heard_follows h m e false is = follows_self h
 
-pub message_follows : (h : History) (m : Message) → Follows h (after_message h m)
+pub message_follows : (h : History) (m : Message) → Follows h (after h (call.Handle m))
 message_follows h m = heard_follows h m (react (standing_now h) m).effect (takes_messages h.phase) refl
 
 -- what is sent stops the connection or leaves how it stands
@@ -86,19 +88,19 @@ pub send_follows : (h : History) (m less : Message) → Follows h (after_send h 
 send_follows h m less =
     effect_follows h (send (standing_now h) m less) (answers h.phase) (λ does takes. sent_live (standing_now h) m less (fit (standing_now h).limit m less) takes)
 
-pub reply_follows : (h : History) (m : Message) → Follows h (after_reply h m)
+pub reply_follows : (h : History) (m : Message) → Follows h (after h (call.Reply m))
 reply_follows h m = send_follows h m (bare_response m)
 
-pub reject_follows : (h : History) (r : Reject) → Follows h (after_reject h r)
+pub reject_follows : (h : History) (r : Reject) → Follows h (after h (call.Reject r))
 reject_follows h r = effect_follows h (abort (standing_now h) (reject_reason r)) (takes_messages h.phase) (λ does takes. does)
 
-pub end_follows : (h : History) (cut : Bool) → Follows h (after_end h cut)
+pub end_follows : (h : History) (cut : Bool) → Follows h (after h (call.End cut))
 end_follows h cut = effect_follows h (stop (standing_now h) (end_reason cut) []) (takes_messages h.phase) (λ does takes. does)
 
-pub release_follows : (h : History) → Follows h (after_release h)
+pub release_follows : (h : History) → Follows h (after h call.Release)
 release_follows h = effect_follows h (stop (standing_now h) ReleasedHere (release ∷ [])) (is_open h.phase) (λ does takes. absurd (false_not_true takes))
 
-pub written_follows : (h : History) (n : ℕ) → n ≤ length (link_of h).waiting → Follows h (after_written h n)
+pub written_follows : (h : History) (n : ℕ) → n ≤ length (link_of h).waiting → Follows h (after h (call.Written n))
 written_follows h n within = record {
   is_history = λ is. omega (arith, within, is, length-drop h.written (bytes_of h.queued));
   limits = refl;
@@ -111,7 +113,7 @@ held_follows : (h : History) (held : List HeldValue) (does : Bool) → Follows h
 held_follows h held true = record { is_history = λ is. is; limits = refl; role = refl; live = λ takes. takes }
 held_follows h held false = follows_self h
 
-pub hold_follows : (h : History) (token : List ℕ) (moment : ℕ) → Follows h (after_hold h token moment)
+pub hold_follows : (h : History) (token : List ℕ) (moment : ℕ) → Follows h (after h (call.Hold token moment))
 hold_follows h token moment = held_follows h (h.held ++ Answer token moment ∷ []) (is_open h.phase && may_hold h)
 
 -- what was due first is held no more
@@ -120,13 +122,13 @@ due_live s None takes = takes
 due_live s (Some (Answer token moment)) takes = takes
 due_live s (Some (Pong token)) takes = sent_live s (pong_with true token) (pong_with false token) (fit s.limit (pong_with true token) (pong_with false token)) takes
 
-pub due_follows : (h : History) (now : ℕ) → Follows h (after_due h now)
+pub due_follows : (h : History) (now : ℕ) → Follows h (after h (call.Due now))
 due_follows h now =
     let s : Standing = standing_due now (standing_now h) in
     effect_follows h (due_effect s (first_due now h.held)) true (λ does takes. due_live s (first_due now h.held) takes)
 
 pub sent_follows : (h : History) (now : ℕ) (e : HeldValue) → Follows h (after_sent h now e)
-sent_follows h now (Answer token moment) = follows_then h (after_due h now) _ (due_follows h now) (reply_follows (after_due h now) (held_message token))
+sent_follows h now (Answer token moment) = follows_then h (after h (call.Due now)) _ (due_follows h now) (reply_follows (after h (call.Due now)) (held_message token))
 sent_follows h now (Pong token) = due_follows h now
 
 -- a fault stops a connection that takes messages
@@ -134,7 +136,7 @@ rejected_phase : (h : History) (r : Reject) (takes : Bool) → takes ≡ true �
 rejected_phase h r true e = refl
 rejected_phase h r false e = absurd (false_not_true e)
 
-pub reject_stops_it : (h : History) (r : Reject) → takes_messages h.phase ≡ true → takes_messages (after_reject h r).phase ≡ false
+pub reject_stops_it : (h : History) (r : Reject) → takes_messages h.phase ≡ true → takes_messages (after h (call.Reject r)).phase ≡ false
 reject_stops_it h r takes = rejected_phase h r (takes_messages h.phase) takes
 
 -- ---- connections
@@ -149,14 +151,14 @@ replied_follows store now h others m None = reply_follows h _
 replied_follows store now h others m (Some seconds) = hold_follows h m.token (moment_after now seconds)
 
 handled_by : (store : StoreValue) (now : ℕ) (s : Side) (m : Message) (hold : Option ℕ) (asks : Bool)
-    → Follows s.history (cond asks (side_replied store now (after_message s.history m) (without_token m.token s.observers) m hold) (with_history s (after_message s.history m))).history
+    → Follows s.history (cond asks (side_replied store now (after s.history (call.Handle m)) (without_token m.token s.observers) m hold) (with_history s (after s.history (call.Handle m)))).history
 handled_by store now s m hold true =
-    let h : History = after_message s.history m in
+    let h : History = after s.history (call.Handle m) in
     follows_then s.history h _ (message_follows s.history m) (replied_follows store now h (without_token m.token s.observers) m hold)
 handled_by store now s m hold false = message_follows s.history m
 
 pub handled_follows : (store : StoreValue) (now : ℕ) (s : Side) (m : Message) → SideFollows s (side_handled store now s m)
-handled_follows store now s m = handled_by store now s m (held_for (after_message s.history m) (answer_of store now m).hold) (asks_answer s m)
+handled_follows store now s m = handled_by store now s m (held_for (after s.history (call.Handle m)) (answer_of store now m).hold) (asks_answer s m)
 
 if_follows : (does : Bool) (s t : Side) → (does ≡ true → SideFollows s t) → SideFollows s (cond does t s)
 if_follows true s t go = go refl
@@ -168,12 +170,12 @@ after_follows store now s m = if_follows (handles s) s (side_handled store now s
 
 pub faulted_follows : (s : Side) (fault : StreamFault) → SideFollows s (side_faulted s fault)
 unfolding side_faulted
-faulted_follows s fault = if_follows (handles s) s (with_history s (after_reject s.history (reject_of fault))) (λ does. reject_follows s.history (reject_of fault))
+faulted_follows s fault = if_follows (handles s) s (with_history s (after s.history (call.Reject (reject_of fault)))) (λ does. reject_follows s.history (reject_of fault))
 
 pub side_written_follows : (s : Side) (n : ℕ) → SideFollows s (side_written s n)
 unfolding side_written
 side_written_follows s n =
-    if_follows (nat_le n (length (waiting_on s))) s (record s { history = after_written s.history n }) (λ does. written_follows s.history n (leb-true n (length (waiting_on s)) does))
+    if_follows (nat_le n (length (waiting_on s))) s (record s { history = after s.history (call.Written n) }) (λ does. written_follows s.history n (leb-true n (length (waiting_on s)) does))
 
 pub side_ended_follows : (s : Side) (cut : Bool) → SideFollows s (side_ended s cut)
 unfolding side_ended
@@ -181,7 +183,7 @@ side_ended_follows s cut = end_follows s.history cut
 
 pub side_released_follows : (s : Side) → SideFollows s (side_released s)
 unfolding side_released
-side_released_follows s = if_follows (is_none (release_refusal (link_of s.history))) s (with_history s (after_release s.history)) (λ does. release_follows s.history)
+side_released_follows s = if_follows (is_none (release_refusal (link_of s.history))) s (with_history s (after s.history call.Release)) (λ does. release_follows s.history)
 
 notified_follows : (store : StoreValue) (now : ℕ) (s : Side) (due : Option Observer) → SideFollows s (notified store now s due)
 notified_follows store now s None = follows_self s.history
@@ -209,7 +211,7 @@ settled_follows store now s = within_follows (length s.history.held + length s.o
 pub faulted_stops : (s : Side) (fault : StreamFault) → handles s ≡ true → takes_messages (side_faulted s fault).history.phase ≡ false
 unfolding side_faulted
 faulted_stops s fault does =
-    ap (λ (b : Bool). takes_messages (cond b (with_history s (after_reject s.history (reject_of fault))) s).history.phase) does
+    ap (λ (b : Bool). takes_messages (cond b (with_history s (after s.history (call.Reject (reject_of fault)))) s).history.phase) does
     ∙ reject_stops_it s.history (reject_of fault) (and_parts (takes_messages s.history.phase) (has_room s) does).0
 
 -- ---- what each connection of a server is

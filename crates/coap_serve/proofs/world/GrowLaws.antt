@@ -12,7 +12,9 @@ use Rattle.coap_conn.specs.Phases.{takes_messages, answers, is_open}
 use Rattle.coap_conn.specs.Held.{HeldValue, Answer, Pong}
 use Rattle.coap_conn.specs.Reaction.{Effect}
 use Rattle.coap_conn.specs.Rejects.{reject_of}
-use Rattle.coap_conn.specs.History.{History, IsHistory, bytes_of, with_effect, after_message, after_reply, after_reject, after_written, after_hold, after_due, may_hold}
+use Rattle.coap_conn.specs.History.{History, IsHistory, with_effect, after, may_hold}
+use Rattle.coap_conn.specs.LinkValue.{bytes_of}
+use Rattle.coap_conn.specs.Calls as call
 use Rattle.coap_conn.proofs.LinkLemmas.{bytes_more}
 use Rattle.coap_store.specs.Store.{StoreValue}
 use Rattle.coap_store.specs.Answer.{answer_of}
@@ -48,13 +50,13 @@ grows_if : (does : Bool) (h k : History) → Grows h k → Grows h (cond does k 
 grows_if true h k grows = grows
 grows_if false h k grows = grows_self h
 
-message_grows : (h : History) (m : Message) → Grows h (after_message h m)
+message_grows : (h : History) (m : Message) → Grows h (after h (call.Handle m))
 message_grows h m = grows_if (takes_messages h.phase) h _ (record { more = _; queued = refl; written = refl })
 
-reply_grows : (h : History) (m : Message) → Grows h (after_reply h m)
+reply_grows : (h : History) (m : Message) → Grows h (after h (call.Reply m))
 reply_grows h m = grows_if (answers h.phase) h _ (effect_grows h _)
 
-reject_grows : (h : History) (fault : Reject) → Grows h (after_reject h fault)
+reject_grows : (h : History) (fault : Reject) → Grows h (after h (call.Reject fault))
 reject_grows h fault = grows_if (takes_messages h.phase) h _ (effect_grows h _)
 
 -- what is held is no matter
@@ -62,18 +64,18 @@ held_grows : (h : History) (held : List HeldValue) (does : Bool) → Grows h (co
 held_grows h held true = record { more = []; queued = sym (append-nil h.queued); written = refl }
 held_grows h held false = grows_self h
 
-hold_grows : (h : History) (token : List ℕ) (moment : ℕ) → Grows h (after_hold h token moment)
+hold_grows : (h : History) (token : List ℕ) (moment : ℕ) → Grows h (after h (call.Hold token moment))
 hold_grows h token moment = held_grows h (h.held ++ Answer token moment ∷ []) (is_open h.phase && may_hold h)
 
 sent_grows : (h : History) (now : ℕ) (e : HeldValue) → Grows h (after_sent h now e)
-sent_grows h now (Answer token moment) = grows_then h (after_due h now) _ (effect_grows h _) (reply_grows (after_due h now) (held_message token))
+sent_grows h now (Answer token moment) = grows_then h (after h (call.Due now)) _ (effect_grows h _) (reply_grows (after h (call.Due now)) (held_message token))
 sent_grows h now (Pong token) = effect_grows h _
 
 reply_handled_by : (does : Bool) (h : History) (e : Effect) → (cond does (with_effect h e) h).handled ≡ h.handled
 reply_handled_by true h e = refl
 reply_handled_by false h e = refl
 
-reply_handled : (h : History) (m : Message) → (after_reply h m).handled ≡ h.handled
+reply_handled : (h : History) (m : Message) → (after h (call.Reply m)).handled ≡ h.handled
 reply_handled h m = reply_handled_by (answers h.phase) h _
 
 -- ---- a connection
@@ -90,19 +92,19 @@ replied_grows store now h others m None = reply_grows h _
 replied_grows store now h others m (Some seconds) = hold_grows h m.token (moment_after now seconds)
 
 handled_by : (store : StoreValue) (now : ℕ) (s : Side) (m : Message) (hold : Option ℕ) (asks : Bool)
-    → SideGrows s (cond asks (side_replied store now (after_message s.history m) (without_token m.token s.observers) m hold) (with_history s (after_message s.history m)))
+    → SideGrows s (cond asks (side_replied store now (after s.history (call.Handle m)) (without_token m.token s.observers) m hold) (with_history s (after s.history (call.Handle m))))
 handled_by store now s m hold true =
-    let h : History = after_message s.history m in
+    let h : History = after s.history (call.Handle m) in
     grows_then s.history h _ (message_grows s.history m) (replied_grows store now h (without_token m.token s.observers) m hold)
 handled_by store now s m hold false = message_grows s.history m
 
 pub after_grows : (store : StoreValue) (now : ℕ) (s : Side) (m : Message) → SideGrows s (side_after store now s m)
 unfolding side_after
-after_grows store now s m = side_if (handles s) s (side_handled store now s m) (handled_by store now s m (held_for (after_message s.history m) (answer_of store now m).hold) (asks_answer s m))
+after_grows store now s m = side_if (handles s) s (side_handled store now s m) (handled_by store now s m (held_for (after s.history (call.Handle m)) (answer_of store now m).hold) (asks_answer s m))
 
 pub faulted_grows : (s : Side) (fault : StreamFault) → SideGrows s (side_faulted s fault)
 unfolding side_faulted
-faulted_grows s fault = side_if (handles s) s (with_history s (after_reject s.history (reject_of fault))) (reject_grows s.history (reject_of fault))
+faulted_grows s fault = side_if (handles s) s (with_history s (after s.history (call.Reject (reject_of fault)))) (reject_grows s.history (reject_of fault))
 
 notified_grows : (store : StoreValue) (now : ℕ) (s : Side) (found : Option Observer) → SideGrows s (notified store now s found)
 notified_grows store now s None = grows_self s.history
@@ -209,7 +211,7 @@ notified_handled store now s None = refl
 notified_handled store now s (Some o) = reply_handled s.history _
 
 sent_handled : (h : History) (now : ℕ) (e : HeldValue) → (after_sent h now e).handled ≡ h.handled
-sent_handled h now (Answer token moment) = reply_handled (after_due h now) (held_message token)
+sent_handled h now (Answer token moment) = reply_handled (after h (call.Due now)) (held_message token)
 sent_handled h now (Pong token) = refl
 
 once_handled_by : (store : StoreValue) (now : ℕ) (s : Side) (e : Option HeldValue) → (settled_so store now s e).history.handled ≡ s.history.handled
@@ -229,7 +231,7 @@ pub settled_handled : (store : StoreValue) (now : ℕ) (s : Side) → (settled s
 unfolding settled
 settled_handled store now s = within_handled (length s.history.held + length s.observers) store now s
 
-written_handled_by : (does : Bool) (s : Side) (n : ℕ) → (cond does (record s { history = after_written s.history n }) s).history.handled ≡ s.history.handled
+written_handled_by : (does : Bool) (s : Side) (n : ℕ) → (cond does (record s { history = after s.history (call.Written n) }) s).history.handled ≡ s.history.handled
 written_handled_by true s n = refl
 written_handled_by false s n = refl
 

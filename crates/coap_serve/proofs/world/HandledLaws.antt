@@ -14,8 +14,9 @@ use Rattle.coap_conn.specs.Phases.{takes_messages, is_open}
 use Rattle.coap_conn.specs.Reaction.{stop}
 use Rattle.coap_conn.specs.Rejects.{reject_of, reject_reason}
 use Rattle.coap_conn.specs.Release.{release_refusal}
-use Rattle.coap_conn.specs.History.{History, standing_now, after_end, after_release, after_written, end_reason, release}
-use Rattle.coap_conn.specs.LinkValue.{link_of}
+use Rattle.coap_conn.specs.History.{History, standing_now, after, link_of}
+use Rattle.coap_conn.specs.Calls.{end_reason, release}
+use Rattle.coap_conn.specs.Calls as call
 use Rattle.coap_serve.specs.Configs.{ConfigValues}
 use Rattle.coap_serve.specs.world.Sides.{Side, new_side, waiting_on, with_history, side_written, side_ended, side_released}
 use Rattle.coap_serve.specs.world.World.{World, Step, side_of}
@@ -35,11 +36,11 @@ use Rattle.coap_serve.proofs.world.HandlingLaws.{HasStopped, Rests, rests_self, 
 takes_no_stop : (p : Phase) (why : Reason) → takes_messages p ≡ true → p ≡ Stopped why → ⊥
 takes_no_stop p why does is = let bad : false ≡ true = sym (ap takes_messages is) ∙ does in cc
 
-end_rests : (h : History) (cut : Bool) → Rests h (after_end h cut)
+end_rests : (h : History) (cut : Bool) → Rests h (after h (call.End cut))
 end_rests h true = effect_rests h (stop (standing_now h) (end_reason true) []) (takes_messages h.phase) (λ does why is. takes_no_stop h.phase why does is) (λ is. refl)
 end_rests h false = effect_rests h (stop (standing_now h) (end_reason false) []) (takes_messages h.phase) (λ does why is. takes_no_stop h.phase why does is) (λ is. refl)
 
-release_rests : (h : History) → Rests h (after_release h)
+release_rests : (h : History) → Rests h (after h call.Release)
 release_rests h = effect_rests h (stop (standing_now h) ReleasedHere (release ∷ [])) (is_open h.phase) (λ does why is. open_no_stop h.phase why does is) (λ is. refl)
 
 -- a connection of which nothing was handled in between
@@ -53,7 +54,7 @@ if_rests false s t is = rests_self s.history
 written_rests : (s : Side) (n : ℕ) → SideRests s (side_written s n)
 unfolding side_written
 written_rests s n =
-    if_rests (nat_le n (length (waiting_on s))) s (record s { history = after_written s.history n }) (record { handled = refl; stopped = λ why is. is; stops = λ is. is })
+    if_rests (nat_le n (length (waiting_on s))) s (record s { history = after s.history (call.Written n) }) (record { handled = refl; stopped = λ why is. is; stops = λ is. is })
 
 ended_rests : (s : Side) (cut : Bool) → SideRests s (side_ended s cut)
 unfolding side_ended
@@ -61,7 +62,7 @@ ended_rests s cut = end_rests s.history cut
 
 released_rests : (s : Side) → SideRests s (side_released s)
 unfolding side_released
-released_rests s = if_rests (is_none (release_refusal (link_of s.history))) s (with_history s (after_release s.history)) (release_rests s.history)
+released_rests s = if_rests (is_none (release_refusal (link_of s.history))) s (with_history s (after s.history call.Release)) (release_rests s.history)
 
 -- no message and no fault of the connection
 record IsElsewhere (st : Step) (id : ℕ) : Type 0 where

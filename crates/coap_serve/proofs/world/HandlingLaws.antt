@@ -27,7 +27,9 @@ use Rattle.coap_conn.specs.Reaction.{Standing, Effect, Reaction, abort, send_as,
 use Rattle.coap_conn.specs.Held.{HeldValue, first_due, without_due, due_index}
 use Rattle.coap_conn.specs.Held as held
 use Rattle.coap_conn.specs.Rejects.{reject_of, reject_reason}
-use Rattle.coap_conn.specs.History.{History, standing_now, with_effect, after_message, after_reply, after_reject, may_hold, after_hold, standing_due, after_due}
+use Rattle.coap_conn.specs.History.{History, standing_now, with_effect, after, may_hold}
+use Rattle.coap_conn.specs.Calls.{standing_due}
+use Rattle.coap_conn.specs.Calls as call
 use Rattle.coap_store.specs.Store.{StoreValue}
 use Rattle.coap_store.specs.Answer.{answer_of}
 use Rattle.coap_serve.specs.Configs.{ConfigValues}
@@ -157,7 +159,7 @@ effect_rests h e false live stops = rests_self h
 no_answers : (p : Phase) (why : Reason) → answers p ≡ true → p ≡ phase.Stopped why → ⊥
 no_answers p why does is = let bad : false ≡ true = sym (ap answers is) ∙ does in cc
 
-pub reply_rests : (h : History) (m : Message) → Rests h (after_reply h m)
+pub reply_rests : (h : History) (m : Message) → Rests h (after h (call.Reply m))
 reply_rests h m =
     effect_rests h (send (standing_now h) m (bare_response m)) (answers h.phase) (λ does why is. no_answers h.phase why does is)
     (λ is. sent_stops (standing_now h) m (bare_response m) (fit (standing_now h).limit m (bare_response m)) is)
@@ -170,7 +172,7 @@ held_rests : (h : History) (es : List HeldValue) (does : Bool) → (does ≡ tru
 held_rests h es true may = record { handled = refl; stopped = λ why is. absurd (open_no_stop h.phase why (may refl) is.0); stops = λ is. is }
 held_rests h es false may = rests_self h
 
-hold_rests : (h : History) (token : List ℕ) (moment : ℕ) → Rests h (after_hold h token moment)
+hold_rests : (h : History) (token : List ℕ) (moment : ℕ) → Rests h (after h (call.Hold token moment))
 hold_rests h token moment = held_rests h _ (is_open h.phase && may_hold h) (λ e. (and_parts (is_open h.phase) (may_hold h) e).0)
 
 -- what is due first is taken out; where nothing is held, nothing is
@@ -186,7 +188,7 @@ due_stops s None is = is
 due_stops s (Some (held.Answer token moment)) is = is
 due_stops s (Some (held.Pong token)) is = sent_stops s (pong_with true token) (pong_with false token) (fit s.limit (pong_with true token) (pong_with false token)) is
 
-due_rests : (h : History) (now : ℕ) → Rests h (after_due h now)
+due_rests : (h : History) (now : ℕ) → Rests h (after h (call.Due now))
 due_rests h now = record {
   handled = refl;
   stopped = λ why is. (
@@ -197,7 +199,7 @@ due_rests h now = record {
 }
 
 sent_rests : (h : History) (now : ℕ) (e : HeldValue) → Rests h (after_sent h now e)
-sent_rests h now (held.Answer token moment) = rests_then h (after_due h now) _ (due_rests h now) (reply_rests (after_due h now) (held_message token))
+sent_rests h now (held.Answer token moment) = rests_then h (after h (call.Due now)) _ (due_rests h now) (reply_rests (after h (call.Due now)) (held_message token))
 sent_rests h now (held.Pong token) = due_rests h now
 
 notified_rests : (store : StoreValue) (now : ℕ) (s : Side) (due : Option Observer) → Rests s.history (notified store now s due).history
@@ -227,13 +229,13 @@ message_by : (h : History) (m : Message) (takes : Bool) → takes ≡ true → S
 message_by h m true e is = record { handled = refl; stops = react_so (standing_now h) m is }
 message_by h m false e is = absurd cc
 
-message_hears : (h : History) (m : Message) → takes_messages h.phase ≡ true → Hears m h (after_message h m)
+message_hears : (h : History) (m : Message) → takes_messages h.phase ≡ true → Hears m h (after h (call.Handle m))
 message_hears h m takes = message_by h m (takes_messages h.phase) takes (live_stop (stop_of h.phase) takes)
 
-asked_hears : (store : StoreValue) (now : ℕ) (s : Side) (m : Message) (asks : Bool) → Hears m s.history (after_message s.history m)
-    → Hears m s.history (cond asks (side_replied store now (after_message s.history m) (without_token m.token s.observers) m (held_for (after_message s.history m) (answer_of store now m).hold)) (with_history s (after_message s.history m))).history
+asked_hears : (store : StoreValue) (now : ℕ) (s : Side) (m : Message) (asks : Bool) → Hears m s.history (after s.history (call.Handle m))
+    → Hears m s.history (cond asks (side_replied store now (after s.history (call.Handle m)) (without_token m.token s.observers) m (held_for (after s.history (call.Handle m)) (answer_of store now m).hold)) (with_history s (after s.history (call.Handle m)))).history
 asked_hears store now s m true is =
-    let h : History = after_message s.history m in
+    let h : History = after s.history (call.Handle m) in
     replied_cases store now h (without_token m.token s.observers) m (answer_of store now m).hold (λ t. Hears m s.history t.history)
     (λ seconds e. hears_then m s.history h _ is (hold_rests h m.token (moment_after now seconds)))
     (λ e. hears_then m s.history h _ is (reply_rests h _))
@@ -258,7 +260,7 @@ rejected_by h fault false e = absurd cc
 pub side_rejects : (s : Side) (fault : StreamFault) → handles s ≡ true → Rejects fault s.history (side_faulted s fault).history
 unfolding side_faulted
 side_rejects s fault does =
-    subst (λ (t : Side). Rejects fault s.history t.history) (sym (cond-true (handles s) (with_history s (after_reject s.history (reject_of fault))) s does))
+    subst (λ (t : Side). Rejects fault s.history t.history) (sym (cond-true (handles s) (with_history s (after s.history (call.Reject (reject_of fault)))) s does))
     (rejected_by s.history fault (takes_messages s.history.phase) (and_parts (takes_messages s.history.phase) (has_room s) does).0)
 
 -- only a fault of the bytes has such a reason

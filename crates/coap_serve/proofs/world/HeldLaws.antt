@@ -18,8 +18,9 @@ use Rattle.coap_conn.specs.Rejects.{reject_of, reject_reason}
 use Rattle.coap_conn.specs.Release.{release_refusal}
 use Rattle.coap_conn.specs.Held.{HeldValue, Answer, Pong, first_due, without_due}
 use Rattle.coap_conn.specs.Reaction.{Standing, Effect, stay, stop, abort, send_as, send, react, due_effect, pong_with}
-use Rattle.coap_conn.specs.History.{History, limit_now, standing_now, with_effect, after_message, after_reply, after_reject, after_end, after_release, after_written, end_reason, release, may_hold, standing_due, after_due}
-use Rattle.coap_conn.specs.LinkValue.{link_of}
+use Rattle.coap_conn.specs.History.{History, limit_now, standing_now, with_effect, after, may_hold, link_of}
+use Rattle.coap_conn.specs.Calls.{end_reason, release, standing_due}
+use Rattle.coap_conn.specs.Calls as call
 use Rattle.coap_store.specs.Store.{StoreValue}
 use Rattle.coap_store.specs.Answer.{asks_late, answer_of}
 use Rattle.coap_store.proofs.HoldLaws.{held_of}
@@ -45,16 +46,16 @@ sent_leaves s m less reply.Whole = inl refl
 sent_leaves s m less reply.Bare = inl refl
 sent_leaves s m less reply.Stopped = inr (PeerTooSmall, refl)
 
-reply_leaves : (h : History) (m : Message) → Leaves h (after_reply h m)
+reply_leaves : (h : History) (m : Message) → Leaves h (after h (call.Reply m))
 reply_leaves h m = left_effect h (send (standing_now h) m (bare_response m)) (answers h.phase) (sent_leaves (standing_now h) m (bare_response m) (fit (limit_now h) m (bare_response m)))
 
-reject_leaves : (h : History) (r : Reject) → Leaves h (after_reject h r)
+reject_leaves : (h : History) (r : Reject) → Leaves h (after h (call.Reject r))
 reject_leaves h r = left_effect h (abort (standing_now h) (reject_reason r)) (takes_messages h.phase) (inr (reject_reason r, refl))
 
-end_leaves : (h : History) (cut : Bool) → Leaves h (after_end h cut)
+end_leaves : (h : History) (cut : Bool) → Leaves h (after h (call.End cut))
 end_leaves h cut = left_effect h (stop (standing_now h) (end_reason cut) []) (takes_messages h.phase) (inr (end_reason cut, refl))
 
-release_leaves : (h : History) → Leaves h (after_release h)
+release_leaves : (h : History) → Leaves h (after h call.Release)
 release_leaves h = left_effect h (stop (standing_now h) ReleasedHere (release ∷ [])) (is_open h.phase) (inr (ReleasedHere, refl))
 
 -- so what is held stays
@@ -108,7 +109,7 @@ heard_over : (h : History) (m : Message) (e : Effect) (takes : Bool) → Adds m 
 heard_over h m e true over = over
 heard_over h m e false over = over_self m h
 
-message_over : (h : History) (m : Message) → Over m h (after_message h m)
+message_over : (h : History) (m : Message) → Over m h (after h (call.Handle m))
 message_over h m = heard_over h m (react (standing_now h) m).effect (takes_messages h.phase) (react_over (standing_now h) m)
 
 -- a request that is answered late asks for its answer
@@ -121,16 +122,16 @@ replied_over store now h others m None late = left_over m h (side_replied store 
 replied_over store now h others m (Some seconds) late = hold_over m h (moment_after now seconds) (is_open h.phase && may_hold h) (late seconds refl)
 
 handled_by_over : (store : StoreValue) (now : ℕ) (s : Side) (m : Message) (hold : Option ℕ) (asks : Bool) → asks_answer s m ≡ asks → ((seconds : ℕ) → hold ≡ Some seconds → asks_late m ≡ true)
-    → KeepsHeldOver m s (cond asks (side_replied store now (after_message s.history m) (without_token m.token s.observers) m hold) (with_history s (after_message s.history m)))
+    → KeepsHeldOver m s (cond asks (side_replied store now (after s.history (call.Handle m)) (without_token m.token s.observers) m hold) (with_history s (after s.history (call.Handle m))))
 handled_by_over store now s m hold true asks late =
-    let h : History = after_message s.history m in
+    let h : History = after s.history (call.Handle m) in
     let others : List Observer = without_token m.token s.observers in
     over_from m s.history h (side_replied store now h others m hold).history (asked_same s m asks) (replied_over store now h others m hold late)
 handled_by_over store now s m hold false asks late = message_over s.history m
 
 handled_over : (store : StoreValue) (now : ℕ) (s : Side) (m : Message) → KeepsHeldOver m s (side_handled store now s m)
 handled_over store now s m =
-    let h : History = after_message s.history m in
+    let h : History = after s.history (call.Handle m) in
     let hold : Option ℕ = (answer_of store now m).hold in
     handled_by_over store now s m (held_for h hold) (asks_answer s m) refl (λ seconds is. (held_of store now m seconds (asked_at_all h hold seconds is)).asked)
 
@@ -146,15 +147,15 @@ message_keeps store now s m = if_over m (handles s) s (side_handled store now s 
 
 pub faulted_keeps : (s : Side) (fault : StreamFault) → KeepsHeld s (side_faulted s fault)
 unfolding side_faulted
-faulted_keeps s fault = if_kept (handles s) s (with_history s (after_reject s.history (reject_of fault))) (reject_leaves s.history (reject_of fault))
+faulted_keeps s fault = if_kept (handles s) s (with_history s (after s.history (call.Reject (reject_of fault)))) (reject_leaves s.history (reject_of fault))
 
 pub ended_keeps : (s : Side) (cut : Bool) → KeepsHeld s (side_ended s cut)
 unfolding side_ended
-ended_keeps s cut = left_kept s (with_history s (after_end s.history cut)) (end_leaves s.history cut)
+ended_keeps s cut = left_kept s (with_history s (after s.history (call.End cut))) (end_leaves s.history cut)
 
 pub released_keeps : (s : Side) → KeepsHeld s (side_released s)
 unfolding side_released
-released_keeps s = if_kept (is_none (release_refusal (link_of s.history))) s (with_history s (after_release s.history)) (release_leaves s.history)
+released_keeps s = if_kept (is_none (release_refusal (link_of s.history))) s (with_history s (after s.history call.Release)) (release_leaves s.history)
 
 if_same : (does : Bool) (s t : Side) → t.history.held ≡ s.history.held → (cond does t s).history.held ≡ s.history.held
 if_same true s t same = same
@@ -162,7 +163,7 @@ if_same false s t same = refl
 
 pub written_same : (s : Side) (n : ℕ) → (side_written s n).history.held ≡ s.history.held
 unfolding side_written
-written_same s n = if_same (nat_le n (length (waiting_on s))) s (record s { history = after_written s.history n }) refl
+written_same s n = if_same (nat_le n (length (waiting_on s))) s (record s { history = after s.history (call.Written n) }) refl
 
 notified_kept : (store : StoreValue) (now : ℕ) (s : Side) (found : Option Observer) → KeepsHeld s (notified store now s found)
 notified_kept store now s None = left_kept s s (inl refl)
@@ -176,7 +177,7 @@ told_keeps store now s is = subst (λ (o : Option HeldValue). KeepsHeld s (settl
 -- ---- what is due first is held no more
 
 -- the effect of what was found to be due first
-due_is : (h : History) (now : ℕ) (found : Option HeldValue) → first_due now h.held ≡ found → after_due h now ≡ with_effect h (due_effect (standing_due now (standing_now h)) found)
+due_is : (h : History) (now : ℕ) (found : Option HeldValue) → first_due now h.held ≡ found → after h (call.Due now) ≡ with_effect h (due_effect (standing_due now (standing_now h)) found)
 due_is h now found is = ap (λ (o : Option HeldValue). with_effect h (due_effect (standing_due now (standing_now h)) o)) is
 
 -- what is sent leaves what is held, where the phase stays one that answers
@@ -189,15 +190,15 @@ effect_same : (h : History) (e : Effect) (does : Bool) → (e.phase ≡ h.phase 
 effect_same h e true leaves same = leaves same
 effect_same h e false leaves same = refl
 
-reply_same : (h : History) (m : Message) → answers h.phase ≡ true → (after_reply h m).phase ≡ h.phase → (after_reply h m).held ≡ h.held
+reply_same : (h : History) (m : Message) → answers h.phase ≡ true → (after h (call.Reply m)).phase ≡ h.phase → (after h (call.Reply m)).held ≡ h.held
 reply_same h m answering =
     effect_same h (send (standing_now h) m (bare_response m)) (answers h.phase) (sent_same (standing_now h) m (bare_response m) (fit (limit_now h) m (bare_response m)) answering)
 
 taken_same : (h : History) (now : ℕ) (e : HeldValue) → first_due now h.held ≡ Some e → answers h.phase ≡ true → (after_sent h now e).phase ≡ h.phase → (after_sent h now e).held ≡ without_due now h.held
 taken_same h now (Answer token moment) due answering same =
     let is = due_is h now (Some (Answer token moment)) due in
-    let stands : (after_due h now).phase ≡ h.phase = ap (λ (k : History). k.phase) is in
-    reply_same (after_due h now) (held_message token) (ap answers stands ∙ answering) (same ∙ sym stands) ∙ ap (λ (k : History). k.held) is
+    let stands : (after h (call.Due now)).phase ≡ h.phase = ap (λ (k : History). k.phase) is in
+    reply_same (after h (call.Due now)) (held_message token) (ap answers stands ∙ answering) (same ∙ sym stands) ∙ ap (λ (k : History). k.held) is
 taken_same h now (Pong token) due answering same =
     let is = due_is h now (Some (Pong token)) due in
     let s : Standing = standing_due now (standing_now h) in
@@ -216,11 +217,11 @@ taken_out store now s e is answering same =
 -- ---- it is sent
 
 -- a reply where one is sent
-reply_sent : (h : History) (m : Message) → answers h.phase ≡ true → (after_reply h m).queued ≡ h.queued ++ (send (standing_now h) m (bare_response m)).queued
+reply_sent : (h : History) (m : Message) → answers h.phase ≡ true → (after h (call.Reply m)).queued ≡ h.queued ++ (send (standing_now h) m (bare_response m)).queued
 reply_sent h m answering = ap (λ (b : Bool). (cond b (with_effect h (send (standing_now h) m (bare_response m))) h).queued) answering
 
 -- behind an effect that queues nothing
-quiet_sent : (h : History) (s : Standing) (m : Message) → s.phase ≡ h.phase → answers h.phase ≡ true → (after_reply (with_effect h (stay s)) m).queued ≡ h.queued ++ (send (standing_now (with_effect h (stay s))) m (bare_response m)).queued
+quiet_sent : (h : History) (s : Standing) (m : Message) → s.phase ≡ h.phase → answers h.phase ≡ true → (after (with_effect h (stay s)) (call.Reply m)).queued ≡ h.queued ++ (send (standing_now (with_effect h (stay s))) m (bare_response m)).queued
 quiet_sent h s m stands answering =
     let k : History = with_effect h (stay s) in
     reply_sent k m (ap answers stands ∙ answering) ∙ ap (λ (ms : List Message). ms ++ (send (standing_now k) m (bare_response m)).queued) (append-nil h.queued)
@@ -231,7 +232,7 @@ answer_sent store now s token moment is answering =
     let h : History = s.history in
     let e : HeldValue = Answer token moment in
     ap (λ (k : History). k.queued) (sent_when_due store now s token moment is)
-    ∙ ap (λ (k : History). (after_reply k (held_message token)).queued) (due_is h now (Some e) (held_room now s e is).1)
+    ∙ ap (λ (k : History). (after k (call.Reply (held_message token))).queued) (due_is h now (Some e) (held_room now s e is).1)
     ∙ quiet_sent h (standing_due now (standing_now h)) (held_message token) refl answering
 
 pub pong_sent : (store : StoreValue) (now : ℕ) (s : Side) (token : List ℕ) → next_held now s ≡ Some (Pong token)

@@ -9,8 +9,8 @@ use Rattle.coap_conn.specs.Phases.{is_open}
 use Rattle.coap_conn.specs.Fit.{fit, bare_response}
 use Rattle.coap_conn.specs.Rejects.{reject_of}
 use Rattle.coap_conn.specs.Release.{release_refusal}
-use Rattle.coap_conn.specs.History.{History, IsHistory, limit_now, after_message, after_reply, after_reject, after_end, after_release, after_written, after_hold}
-use Rattle.coap_conn.specs.LinkValue.{link_of}
+use Rattle.coap_conn.specs.History.{History, IsHistory, limit_now, after, link_of}
+use Rattle.coap_conn.specs.Calls as call
 use Rattle.coap_store.specs.Paths.{same_bytes}
 use Rattle.coap_store.specs.Store.{StoreValue}
 use Rattle.coap_store.specs.Answer.{Change, answer_of, prompt_answer, changed}
@@ -36,7 +36,7 @@ goes_on_if false s t goes = as_before s.history
 pub side_written_goes_on : (s : Side) (n : ℕ) → GoesOn s.history (side_written s n).history
 unfolding side_written
 side_written_goes_on s n =
-    goes_on_if (nat_le n (length (waiting_on s))) s (record s { history = after_written s.history n }) (λ e. written_goes_on s.history n (leb-true n (length (waiting_on s)) e))
+    goes_on_if (nat_le n (length (waiting_on s))) s (record s { history = after s.history (call.Written n) }) (λ e. written_goes_on s.history n (leb-true n (length (waiting_on s)) e))
 
 -- ---- what is known stays known
 
@@ -57,23 +57,23 @@ known_if store false s t known new = known
 pub faulted_known : (store : StoreValue) (s : Side) (fault : StreamFault) → IsKnownSide store s → IsKnownSide store (side_faulted s fault)
 unfolding side_faulted
 faulted_known store s fault known =
-    let h = after_reject s.history (reject_of fault) in
+    let h = after s.history (call.Reject (reject_of fault)) in
     known_if store (handles s) s (with_history s h) known (λ e. known_with store s h (reject_goes_on s.history (reject_of fault)) known)
 
 pub written_known : (store : StoreValue) (s : Side) (n : ℕ) → IsKnownSide store s → IsKnownSide store (side_written s n)
 unfolding side_written
 written_known store s n known =
-    known_if store (nat_le n (length (waiting_on s))) s (record s { history = after_written s.history n }) known
+    known_if store (nat_le n (length (waiting_on s))) s (record s { history = after s.history (call.Written n) }) known
     (λ e. record { is_history = (written_goes_on s.history n (leb-true n (length (waiting_on s)) e)).history known.is_history; told = known.told })
 
 pub ended_known : (store : StoreValue) (s : Side) (cut : Bool) → IsKnownSide store s → IsKnownSide store (side_ended s cut)
 unfolding side_ended
-ended_known store s cut known = known_with store s (after_end s.history cut) (end_goes_on s.history cut) known
+ended_known store s cut known = known_with store s (after s.history (call.End cut)) (end_goes_on s.history cut) known
 
 pub released_known : (store : StoreValue) (s : Side) → IsKnownSide store s → IsKnownSide store (side_released s)
 unfolding side_released
 released_known store s known =
-    let h = after_release s.history in
+    let h = after s.history call.Release in
     known_if store (is_none (release_refusal (link_of s.history))) s (with_history s h) known (λ e. known_with store s h (release_goes_on s.history) known)
 
 -- the other entries
@@ -92,22 +92,22 @@ module _ (store : StoreValue) (now : ℕ) (small : now ≤ 18446744073709551615)
       let asked : (observes && whole) ≡ true → a.watch ≡ watch.Add = λ e. asks_to_enter a.watch (and_parts (asks_entry a.watch) (nat_lt (length os) h.limits.observers) (and_parts observes whole e).0).0 in
       record {
         is_history = (reply_goes_on h response).history history;
-        told = all_if (IsKnown store) (is_open (after_reply h response).phase) (with_entry (observes && whole) os entry)
+        told = all_if (IsKnown store) (is_open (after h (call.Reply response)).phase) (with_entry (observes && whole) os entry)
             (all_entered (IsKnown store) (observes && whole) os entry told (λ e. entry_known store now m small is (asked e)));
       }
 
   replied_known : (h : History) (os : List Observer) (m : Message) (hold : Option ℕ) → IsHistory h → AreKnown store os → IsKnownSide store (side_replied store now h os m hold)
   replied_known h os m None history told = answered_known h os m history told
   replied_known h os m (Some seconds) history told =
-      let later = after_hold h m.token (moment_after now seconds) in
+      let later = after h (call.Hold m.token (moment_after now seconds)) in
       record { is_history = (hold_goes_on h m.token (moment_after now seconds)).history history; told = all_if (IsKnown store) (is_open later.phase) os told }
 
   known_by : (s : Side) (m : Message) (asks : Bool) → IsKnownSide store s
-      → IsKnownSide store (cond asks (side_replied store now (after_message s.history m) (without_token m.token s.observers) m (held_for (after_message s.history m) (answer_of store now m).hold)) (with_history s (after_message s.history m)))
+      → IsKnownSide store (cond asks (side_replied store now (after s.history (call.Handle m)) (without_token m.token s.observers) m (held_for (after s.history (call.Handle m)) (answer_of store now m).hold)) (with_history s (after s.history (call.Handle m))))
   known_by s m true known =
-      let h = after_message s.history m in
+      let h = after s.history (call.Handle m) in
       replied_known h (without_token m.token s.observers) m (held_for h (answer_of store now m).hold) ((message_goes_on s.history m).history known.is_history) (others_known store m.token s.observers known.told)
-  known_by s m false known = known_with store s (after_message s.history m) (message_goes_on s.history m) known
+  known_by s m false known = known_with store s (after s.history (call.Handle m)) (message_goes_on s.history m) known
 
   -- a message leaves what is known, before it changes the store
   pub after_known : (s : Side) (m : Message) → IsKnownSide store s → IsKnownSide store (side_after store now s m)

@@ -30,8 +30,10 @@ use Rattle.coap_conn.specs.Outstanding.{OutstandingValue, is_asked, is_last, is_
 use Rattle.coap_conn.specs.Reaction.{Standing, Effect, Reaction, stop, abort, send_as, send, told_of, sends, aborts, react, reaction_unless, live_reaction, open_reaction, csm_reaction, request_reaction, ping_reaction, pong_reaction, answered, is_reserved, is_signal, is_method, minds_critical_options, asks_custody, pong_with, pong_of, not_implemented, due_effect}
 use Rattle.coap_conn.specs.Rejects.{reject_of, reject_reason}
 use Rattle.coap_conn.specs.Release.{release_refusal}
-use Rattle.coap_conn.specs.History.{History, IsHistory, bytes_of, limit_now, standing_now, with_effect, after_message, after_reply, after_reject, after_end, after_release, after_written, after_hold, after_due, may_hold, standing_due, end_reason, release}
-use Rattle.coap_conn.specs.LinkValue.{LinkValue, link_of, free_in, limit_in}
+use Rattle.coap_conn.specs.History.{History, IsHistory, limit_now, standing_now, with_effect, after, may_hold, link_of}
+use Rattle.coap_conn.specs.LinkValue.{LinkValue, bytes_of, free_in, limit_in}
+use Rattle.coap_conn.specs.Calls.{standing_due, end_reason, release}
+use Rattle.coap_conn.specs.Calls as call
 use Rattle.coap_conn.proofs.LinkLemmas.{waiting_more}
 use Rattle.coap_conn.proofs.SmallLemmas.{csm_bytes_small, release_bytes_small}
 use Rattle.coap_conn.proofs.HeldLaws.{due_nothing, due_fewer, held_few}
@@ -170,16 +172,16 @@ answered_few most store now h os m a same few =
     let place : (observes && whole) ≡ true → length os < most =
     λ e. omega (arith, same, ltb-true (length os) h.limits.observers (and_parts (asks_entry a.watch) (nat_lt (length os) h.limits.observers) (and_parts observes whole e).0).1) in
     let entered : List Observer = with_entry (observes && whole) os (entry_for store now m) in
-    omega (arith, open_fewer (after_reply h response) entered, entry_few most os (entry_for store now m) (observes && whole) place few)
+    omega (arith, open_fewer (after h (call.Reply response)) entered, entry_few most os (entry_for store now m) (observes && whole) place few)
 
 replied_few : (most : ℕ) (store : StoreValue) (now : ℕ) (h : History) (os : List Observer) (m : Message) (hold : Option ℕ) → h.limits.observers ≡ most → length os ≤ most → length (side_replied store now h os m hold).observers ≤ most
 replied_few most store now h os m None same few = answered_few most store now h os m (prompt_answer store now m) same few
-replied_few most store now h os m (Some seconds) same few = omega (arith, few, open_fewer (after_hold h m.token (moment_after now seconds)) os)
+replied_few most store now h os m (Some seconds) same few = omega (arith, few, open_fewer (after h (call.Hold m.token (moment_after now seconds))) os)
 
 handled_few : (limits : LimitValues) (store : StoreValue) (now : ℕ) (s : Side) (m : Message) → FewObserve limits s → length (side_after store now s m).observers ≤ limits.observers
 unfolding side_after
 handled_few limits store now s m is =
-    let h : History = after_message s.history m in
+    let h : History = after s.history (call.Handle m) in
     let same : h.limits.observers ≡ limits.observers = ap (λ (l : LimitValues). l.observers) ((message_follows s.history m).limits ∙ is.is.same_limits) in
     let hold : Option ℕ = held_for h (answer_of store now m).hold in
     if_few limits.observers (handles s) s (side_handled store now s m) is.few
@@ -192,7 +194,7 @@ notified_few most store now s (Some o) few =
     let m : Message = notification_message o.token (notification store now o) in
     let left : List Observer = left_of store now o (goes_on (notification store now o) && is_whole (fit (limit_now s.history) m (bare_response m))) in
     let one : length left ≤ 1 = left_one store now o (goes_on (notification store now o) && is_whole (fit (limit_now s.history) m (bare_response m))) in
-    omega (arith, few, open_fewer (after_reply s.history m) (first_becomes (is_due store now) left s.observers), becomes_fewer (is_due store now) left s.observers one)
+    omega (arith, few, open_fewer (after s.history (call.Reply m)) (first_becomes (is_due store now) left s.observers), becomes_fewer (is_due store now) left s.observers one)
 
 once_few : (most : ℕ) (store : StoreValue) (now : ℕ) (s : Side) (e : Option HeldValue) → length s.observers ≤ most → length (settled_so store now s e).observers ≤ most
 once_few most store now s None few = notified_few most store now s (next_due store now s) few
@@ -205,16 +207,16 @@ few_keeps limits = record {
   handled = λ store now s m is. record { is = follower_is limits s _ (after_follows store now s m) is.is; few = handled_few limits store now s m is };
   faulted = λ s fault is. record {
     is = follower_is limits s _ (faulted_follows s fault) is.is;
-    few = if_few limits.observers (handles s) s (with_history s (after_reject s.history (reject_of fault))) is.few (omega (arith, open_fewer (after_reject s.history (reject_of fault)) s.observers, is.few));
+    few = if_few limits.observers (handles s) s (with_history s (after s.history (call.Reject (reject_of fault)))) is.few (omega (arith, open_fewer (after s.history (call.Reject (reject_of fault))) s.observers, is.few));
   };
   written = λ s n is. record {
     is = follower_is limits s _ (side_written_follows s n) is.is;
-    few = if_few limits.observers (nat_le n (length (waiting_on s))) s (record s { history = after_written s.history n }) is.few is.few;
+    few = if_few limits.observers (nat_le n (length (waiting_on s))) s (record s { history = after s.history (call.Written n) }) is.few is.few;
   };
-  ended = λ s cut is. record { is = follower_is limits s _ (side_ended_follows s cut) is.is; few = omega (arith, open_fewer (after_end s.history cut) s.observers, is.few) };
+  ended = λ s cut is. record { is = follower_is limits s _ (side_ended_follows s cut) is.is; few = omega (arith, open_fewer (after s.history (call.End cut)) s.observers, is.few) };
   released = λ s is. record {
     is = follower_is limits s _ (side_released_follows s) is.is;
-    few = if_few limits.observers (is_none (release_refusal (link_of s.history))) s (with_history s (after_release s.history)) is.few (omega (arith, open_fewer (after_release s.history) s.observers, is.few));
+    few = if_few limits.observers (is_none (release_refusal (link_of s.history))) s (with_history s (after s.history call.Release)) is.few (omega (arith, open_fewer (after s.history call.Release) s.observers, is.few));
   };
   told = λ store now s is. record { is = follower_is limits s _ (once_follows store now s) is.is; few = once_few limits.observers store now s (next_held now s) is.few };
 }
@@ -241,7 +243,7 @@ heard_holds : (h : History) (m : Message) (takes : Bool) → HoldsFew h.limits.p
 heard_holds h m true few = held_few (standing_now h) m few
 heard_holds h m false few = few
 
-message_holds : (h : History) (m : Message) → HoldsFew h.limits.pending h → HoldsFew h.limits.pending (after_message h m)
+message_holds : (h : History) (m : Message) → HoldsFew h.limits.pending h → HoldsFew h.limits.pending (after h (call.Handle m))
 message_holds h m few = heard_holds h m (takes_messages h.phase) few
 
 -- what is sent adds nothing to it
@@ -250,13 +252,13 @@ sent_holds most s m less Whole few = few
 sent_holds most s m less Bare few = few
 sent_holds most s m less Stopped few = omega arith
 
-reply_holds : (most : ℕ) (h : History) (m : Message) → HoldsFew most h → HoldsFew most (after_reply h m)
+reply_holds : (most : ℕ) (h : History) (m : Message) → HoldsFew most h → HoldsFew most (after h (call.Reply m))
 reply_holds most h m few =
     if_holds most (answers h.phase) h (with_effect h (send (standing_now h) m (bare_response m))) few
     (λ does. sent_holds most (standing_now h) m (bare_response m) (fit (limit_now h) m (bare_response m)) few)
 
 -- an answer is held where there is room
-hold_holds : (h : History) (token : List ℕ) (moment : ℕ) → HoldsFew h.limits.pending h → HoldsFew h.limits.pending (after_hold h token moment)
+hold_holds : (h : History) (token : List ℕ) (moment : ℕ) → HoldsFew h.limits.pending h → HoldsFew h.limits.pending (after h (call.Hold token moment))
 hold_holds h token moment few =
     if_holds h.limits.pending (is_open h.phase && may_hold h) h (record h { held = h.held ++ Answer token moment ∷ [] }) few
     (λ does. omega (arith, ltb-true (length h.held) h.limits.pending (and_parts (is_open h.phase) (may_hold h) does).1, length-append h.held (Answer token moment ∷ [])))
@@ -271,12 +273,12 @@ effect_holds most s None few = few
 effect_holds most s (Some (Answer token moment)) few = few
 effect_holds most s (Some (Pong token)) few = sent_holds most s (pong_with true token) (pong_with false token) (fit s.limit (pong_with true token) (pong_with false token)) few
 
-due_holds : (most : ℕ) (h : History) (now : ℕ) → HoldsFew most h → HoldsFew most (after_due h now)
+due_holds : (most : ℕ) (h : History) (now : ℕ) → HoldsFew most h → HoldsFew most (after h (call.Due now))
 due_holds most h now few =
     effect_holds most (standing_due now (standing_now h)) (first_due now h.held) (omega (arith, few, fewer_by now h.held (first_due now h.held) refl))
 
 after_sent_holds : (most : ℕ) (h : History) (now : ℕ) (e : HeldValue) → HoldsFew most h → HoldsFew most (after_sent h now e)
-after_sent_holds most h now (Answer token moment) few = reply_holds most (after_due h now) (held_message token) (due_holds most h now few)
+after_sent_holds most h now (Answer token moment) few = reply_holds most (after h (call.Due now)) (held_message token) (due_holds most h now few)
 after_sent_holds most h now (Pong token) few = due_holds most h now few
 
 -- a stop gives up what is held
@@ -294,7 +296,7 @@ replied_held most store now h os m (Some seconds) same few = omega (arith, same,
 handled_held : (limits : LimitValues) (store : StoreValue) (now : ℕ) (s : Side) (m : Message) → FewHeld limits s → HoldsFew limits.pending (side_after store now s m).history
 unfolding side_after
 handled_held limits store now s m is =
-    let h : History = after_message s.history m in
+    let h : History = after s.history (call.Handle m) in
     let most : s.history.limits.pending ≡ limits.pending = ap (λ (l : LimitValues). l.pending) is.is.same_limits in
     let same : h.limits.pending ≡ limits.pending = ap (λ (l : LimitValues). l.pending) ((message_follows s.history m).limits ∙ is.is.same_limits) in
     let few : HoldsFew limits.pending h = omega (arith, most, message_holds s.history m (omega (arith, most, is.few))) in
@@ -318,17 +320,17 @@ held_keeps limits = record {
   handled = λ store now s m is. record { is = follower_is limits s _ (after_follows store now s m) is.is; few = handled_held limits store now s m is };
   faulted = λ s fault is. record {
     is = follower_is limits s _ (faulted_follows s fault) is.is;
-    few = if_held limits.pending (handles s) s (with_history s (after_reject s.history (reject_of fault))) is.few
+    few = if_held limits.pending (handles s) s (with_history s (after s.history (call.Reject (reject_of fault)))) is.few
         (stop_holds limits.pending (takes_messages s.history.phase) s.history (reject_reason (reject_of fault)) (abort_fitted (limit_now s.history) (abort_of (reject_reason (reject_of fault)))) is.few);
   };
   written = λ s n is. record {
     is = follower_is limits s _ (side_written_follows s n) is.is;
-    few = if_held limits.pending (nat_le n (length (waiting_on s))) s (record s { history = after_written s.history n }) is.few is.few;
+    few = if_held limits.pending (nat_le n (length (waiting_on s))) s (record s { history = after s.history (call.Written n) }) is.few is.few;
   };
   ended = λ s cut is. record { is = follower_is limits s _ (side_ended_follows s cut) is.is; few = stop_holds limits.pending (takes_messages s.history.phase) s.history (end_reason cut) [] is.few };
   released = λ s is. record {
     is = follower_is limits s _ (side_released_follows s) is.is;
-    few = if_held limits.pending (is_none (release_refusal (link_of s.history))) s (with_history s (after_release s.history)) is.few
+    few = if_held limits.pending (is_none (release_refusal (link_of s.history))) s (with_history s (after s.history call.Release)) is.few
         (stop_holds limits.pending (is_open s.history.phase) s.history reason.ReleasedHere (release ∷ []) is.few);
   };
   told = λ store now s is. record { is = follower_is limits s _ (once_follows store now s) is.is; few = once_held limits.pending store now s (next_held now s) is.few };
@@ -450,19 +452,19 @@ heard_waits : (h : History) (m : Message) (e : Effect) (takes : Bool) → IsHist
 heard_waits h m e true is = omega (arith, queued_waits h e.queued is)
 heard_waits h m e false is = omega arith
 
-message_waits : (h : History) (m : Message) → IsHistory h → wait (after_message h m) ≤ wait h + size (react (standing_now h) m).effect.queued
+message_waits : (h : History) (m : Message) → IsHistory h → wait (after h (call.Handle m)) ≤ wait h + size (react (standing_now h) m).effect.queued
 message_waits h m is = heard_waits h m (react (standing_now h) m).effect (takes_messages h.phase) is
 
-handled_waits : (h : History) (m : Message) → IsHistory h → wait (after_message h m) ≤ wait h + h.limits.max_sent
+handled_waits : (h : History) (m : Message) → IsHistory h → wait (after h (call.Handle m)) ≤ wait h + h.limits.max_sent
 handled_waits h m is =
     let small = one_small (limit_now h) (react (standing_now h) m).effect.queued (react_sparing (standing_now h) m).0 (reaction_fits h m) in
     omega (arith, message_waits h m is, small, limit_within h)
 
-asked_waits : (h : History) (m : Message) → IsHistory h → is_request (react (standing_now h) m).verdict ≡ true → wait (after_message h m) ≤ wait h
+asked_waits : (h : History) (m : Message) → IsHistory h → is_request (react (standing_now h) m).verdict ≡ true → wait (after h (call.Handle m)) ≤ wait h
 asked_waits h m is asks =
     omega (arith, message_waits h m is, ap (λ (ms : List Message). size ms) ((react_sparing (standing_now h) m).1 asks))
 
-reply_waits : (h : History) (m : Message) → IsHistory h → wait (after_reply h m) ≤ wait h + h.limits.max_sent
+reply_waits : (h : History) (m : Message) → IsHistory h → wait (after h (call.Reply m)) ≤ wait h + h.limits.max_sent
 reply_waits h m is =
     let sent : Effect = send (standing_now h) m (bare_response m) in
     let small : size sent.queued ≤ limit_now h = one_small (limit_now h) sent.queued (sent_one (standing_now h) m (bare_response m) (fit (limit_now h) m (bare_response m))) (sent_fits h m (bare_response m)) in
@@ -473,12 +475,12 @@ held_waits : (h : History) (held : List HeldValue) (does : Bool) → wait (cond 
 held_waits h held true = omega arith
 held_waits h held false = omega arith
 
-hold_waits : (h : History) (token : List ℕ) (moment : ℕ) → wait (after_hold h token moment) ≤ wait h
+hold_waits : (h : History) (token : List ℕ) (moment : ℕ) → wait (after h (call.Hold token moment)) ≤ wait h
 hold_waits h token moment = held_waits h (h.held ++ Answer token moment ∷ []) (is_open h.phase && may_hold h)
 
 -- what is due first queues one message at most
 due_waits : (h : History) (now : ℕ) (e : Option HeldValue) → first_due now h.held ≡ e → IsHistory h
-    → wait (after_due h now) ≤ wait h + size (due_effect (standing_due now (standing_now h)) e).queued
+    → wait (after h (call.Due now)) ≤ wait h + size (due_effect (standing_due now (standing_now h)) e).queued
 due_waits h now e due is =
     omega (
       arith,
@@ -488,7 +490,7 @@ due_waits h now e due is =
 
 after_sent_waits : (h : History) (now : ℕ) (e : HeldValue) → first_due now h.held ≡ Some e → IsHistory h → wait (after_sent h now e) ≤ wait h + h.limits.max_sent
 after_sent_waits h now (Answer token moment) due is =
-    omega (arith, due_waits h now (Some (Answer token moment)) due is, reply_waits (after_due h now) (held_message token) ((due_follows h now).is_history is))
+    omega (arith, due_waits h now (Some (Answer token moment)) due is, reply_waits (after h (call.Due now)) (held_message token) ((due_follows h now).is_history is))
 after_sent_waits h now (Pong token) due is =
     let s : Standing = standing_due now (standing_now h) in
     let sent : Effect = send s (pong_with true token) (pong_with false token) in
@@ -496,19 +498,19 @@ after_sent_waits h now (Pong token) due is =
     (sent_fits (record h { held = without_due now h.held }) (pong_with true token) (pong_with false token)) in
     omega (arith, due_waits h now (Some (Pong token)) due is, small, limit_within h)
 
-reject_waits : (h : History) (r : Reject) → IsHistory h → wait (after_reject h r) ≤ wait h + h.limits.max_sent
+reject_waits : (h : History) (r : Reject) → IsHistory h → wait (after h (call.Reject r)) ≤ wait h + h.limits.max_sent
 reject_waits h r is =
     let stopped : Effect = abort (standing_now h) (reject_reason r) in
     let small : size stopped.queued ≤ limit_now h = one_small (limit_now h) stopped.queued (abort_one (limit_now h) (abort_of (reject_reason r))) (stopped_fits h (reject_reason r)) in
     omega (arith, effect_waits h stopped (takes_messages h.phase) is, small, limit_within h)
 
-end_waits : (h : History) (cut : Bool) → IsHistory h → wait (after_end h cut) ≤ wait h
+end_waits : (h : History) (cut : Bool) → IsHistory h → wait (after h (call.End cut)) ≤ wait h
 end_waits h cut is = omega (arith, effect_waits h (stop (standing_now h) (end_reason cut) []) (takes_messages h.phase) is)
 
-release_waits : (h : History) → IsHistory h → wait (after_release h) ≤ wait h + 2
+release_waits : (h : History) → IsHistory h → wait (after h call.Release) ≤ wait h + 2
 release_waits h is = omega (arith, effect_waits h (stop (standing_now h) reason.ReleasedHere (release ∷ [])) (is_open h.phase) is, release_bytes_small)
 
-written_waits : (h : History) (n : ℕ) → wait (after_written h n) ≤ wait h
+written_waits : (h : History) (n : ℕ) → wait (after h (call.Written n)) ≤ wait h
 written_waits h n = omega (arith, length-drop h.written (bytes_of h.queued), length-drop (h.written + n) (bytes_of h.queued))
 
 -- ---- the bytes that wait
@@ -536,10 +538,10 @@ replied_wait most store now h os m None is room = answered_wait most store now h
 replied_wait most store now h os m (Some seconds) is room = omega (arith, room, hold_waits h m.token (moment_after now seconds))
 
 handled_by_wait : (limits : LimitValues) (store : StoreValue) (now : ℕ) (s : Side) (m : Message) (hold : Option ℕ) (asks : Bool) → FewWait limits s → has_room s ≡ true → asks_answer s m ≡ asks
-    → length (waiting_on (cond asks (side_replied store now (after_message s.history m) (without_token m.token s.observers) m hold) (with_history s (after_message s.history m)))) ≤ limits.queue
+    → length (waiting_on (cond asks (side_replied store now (after s.history (call.Handle m)) (without_token m.token s.observers) m hold) (with_history s (after s.history (call.Handle m))))) ≤ limits.queue
 handled_by_wait limits store now s m hold true is room asks =
-    let follows : Follows s.history (after_message s.history m) = message_follows s.history m in
-    replied_wait limits.queue store now (after_message s.history m) (without_token m.token s.observers) m hold (follows.is_history is.is.is_history)
+    let follows : Follows s.history (after s.history (call.Handle m)) = message_follows s.history m in
+    replied_wait limits.queue store now (after s.history (call.Handle m)) (without_token m.token s.observers) m hold (follows.is_history is.is.is_history)
     (omega (arith, room_fits limits s is room, asked_waits s.history m is.is.is_history asks, ap (λ (l : LimitValues). l.max_sent) follows.limits))
 handled_by_wait limits store now s m hold false is room asks = omega (arith, room_fits limits s is room, handled_waits s.history m is.is.is_history)
 
@@ -547,18 +549,18 @@ handled_wait : (limits : LimitValues) (store : StoreValue) (now : ℕ) (s : Side
 unfolding side_after
 handled_wait limits store now s m is =
     if_wait limits.queue (handles s) s (side_handled store now s m) is.few
-    (λ does. handled_by_wait limits store now s m (held_for (after_message s.history m) (answer_of store now m).hold) (asks_answer s m) is (and_parts (takes_messages s.history.phase) (has_room s) does).1 refl)
+    (λ does. handled_by_wait limits store now s m (held_for (after s.history (call.Handle m)) (answer_of store now m).hold) (asks_answer s m) is (and_parts (takes_messages s.history.phase) (has_room s) does).1 refl)
 
 faulted_wait : (limits : LimitValues) (s : Side) (fault : StreamFault) → FewWait limits s → length (waiting_on (side_faulted s fault)) ≤ limits.queue
 unfolding side_faulted
 faulted_wait limits s fault is =
-    if_wait limits.queue (handles s) s (with_history s (after_reject s.history (reject_of fault))) is.few
+    if_wait limits.queue (handles s) s (with_history s (after s.history (call.Reject (reject_of fault)))) is.few
     (λ does. omega (arith, room_fits limits s is (and_parts (takes_messages s.history.phase) (has_room s) does).1, reject_waits s.history (reject_of fault) is.is.is_history))
 
 written_wait : (limits : LimitValues) (s : Side) (n : ℕ) → FewWait limits s → length (waiting_on (side_written s n)) ≤ limits.queue
 unfolding side_written
 written_wait limits s n is =
-    if_wait limits.queue (nat_le n (length (waiting_on s))) s (record s { history = after_written s.history n }) is.few (λ does. omega (arith, is.few, written_waits s.history n))
+    if_wait limits.queue (nat_le n (length (waiting_on s))) s (record s { history = after s.history (call.Written n) }) is.few (λ does. omega (arith, is.few, written_waits s.history n))
 
 ended_wait : (limits : LimitValues) (s : Side) (cut : Bool) → FewWait limits s → length (waiting_on (side_ended s cut)) ≤ limits.queue
 unfolding side_ended
@@ -577,7 +579,7 @@ release_room v none = refusal_none v (is_open v.phase) (nat_lt (free_in v) 2) (n
 released_wait : (limits : LimitValues) (s : Side) → FewWait limits s → length (waiting_on (side_released s)) ≤ limits.queue
 unfolding side_released
 released_wait limits s is =
-    if_wait limits.queue (is_none (release_refusal (link_of s.history))) s (with_history s (after_release s.history)) is.few
+    if_wait limits.queue (is_none (release_refusal (link_of s.history))) s (with_history s (after s.history call.Release)) is.few
     (λ does. omega (arith, is.few, release_room (link_of s.history) does, release_waits s.history is.is.is_history, ap (λ (l : LimitValues). l.queue) is.is.same_limits))
 
 notified_wait : (limits : LimitValues) (store : StoreValue) (now : ℕ) (s : Side) (found : Option Observer) → FewWait limits s → (is_none found ≡ false → has_room s ≡ true) → length (waiting_on (notified store now s found)) ≤ limits.queue

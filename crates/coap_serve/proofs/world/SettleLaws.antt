@@ -8,8 +8,9 @@ use Rattle.coap_wire.specs.Message.{Message}
 use Rattle.coap_conn.specs.Phases.{is_open}
 use Rattle.coap_conn.specs.Fit.{fit, bare_response}
 use Rattle.coap_conn.specs.Held.{HeldValue, come, answer_index, pong_index, else_index, held_at, due_index, first_due, HoldsNothingDue}
-use Rattle.coap_conn.specs.History.{limit_now, after_reply}
-use Rattle.coap_conn.specs.LinkValue.{link_of, link_after_reply}
+use Rattle.coap_conn.specs.History.{limit_now, after, link_of}
+use Rattle.coap_conn.specs.Calls.{link_after}
+use Rattle.coap_conn.specs.Calls as call
 use Rattle.coap_conn.proofs.HeldLaws.{due_nothing, due_fewer}
 use Rattle.coap_store.specs.Store.{StoreValue}
 use Rattle.coap_store.specs.State.{state_of}
@@ -64,14 +65,14 @@ module _ (store : StoreValue) (now : ℕ) (small : now ≤ 18446744073709551615)
       let due = is_due store now in
       let stale = is_stale (host_of store now) in
       let whole = is_whole (fit (limit_now s.history) m (bare_response m)) in
-      let h = after_reply s.history m in
+      let h = after s.history (call.Reply m) in
       let left = left_of store now o (on && whole) in
       let os = first_becomes due left s.observers in
       shown_with rest h os
       ∙ kept_frame s rest (link_of h) (map observer_shown os) (reply_goes_on s.history m).over
       ∙ ap (λ l. session_with (kept_on s rest) l (map observer_shown os)) (reply_link s.history m known.is_history)
-      ∙ ap (session_with (kept_on s rest) (link_after_reply (link_of s.history) m)) (become_shown due stale left s.observers (same_tests s.observers known.told))
-      ∙ ap (λ after. session_with (kept_on s rest) (link_after_reply (link_of s.history) m) (first_becomes stale after (map observer_shown s.observers))) (left_shown o (on && whole) told (λ e. stays (and_parts on whole e).0))
+      ∙ ap (session_with (kept_on s rest) (link_after (link_of s.history) (call.Reply m))) (become_shown due stale left s.observers (same_tests s.observers known.told))
+      ∙ ap (λ after. session_with (kept_on s rest) (link_after (link_of s.history) (call.Reply m)) (first_becomes stale after (map observer_shown s.observers))) (left_shown o (on && whole) told (λ e. stays (and_parts on whole e).0))
 
   notified_shown : (rest : List ℕ) (s : Side) (found : Option Observer) → IsKnownSide store s → ((o : Observer) → found ≡ Some o → IsKnown store o)
       → session_shown rest (notified store now s found) ≡ session_notified (host_of store now) (session_shown rest s) (option_map observer_shown found)
@@ -104,7 +105,7 @@ module _ (store : StoreValue) (now : ℕ) (small : now ≤ 18446744073709551615)
       let m = notification_message o.token (notification store now o) in
       let on = goes_on (notification store now o) in
       let whole = is_whole (fit (limit_now s.history) m (bare_response m)) in
-      let h = after_reply s.history m in
+      let h = after s.history (call.Reply m) in
       let left = left_of store now o (on && whole) in
       record {
         is_history = (reply_goes_on s.history m).history known.is_history;
@@ -163,7 +164,7 @@ pub notified_less : (store : StoreValue) (now : ℕ) (s : Side) (o : Observer) �
     → count_due (is_due store now) (notified store now s (Some o)).observers + 1 ≤ count_due (is_due store now) s.observers
 notified_less store now s o e =
     let m = notification_message o.token (notification store now o) in
-    let h = after_reply s.history m in
+    let h = after s.history (call.Reply m) in
     let left = left_of store now o (goes_on (notification store now o) && is_whole (fit (limit_now s.history) m (bare_response m))) in
     let os = first_becomes (is_due store now) left s.observers in
     omega (arith, count_if (is_due store now) (is_open h.phase) os, count_less (is_due store now) s.observers o left (left_quiet store now o (goes_on (notification store now o) && is_whole (fit (limit_now s.history) m (bare_response m)))) e)

@@ -8,7 +8,8 @@ use Rattle.coap_wire.proofs.StreamSteps.{unfinished_empty, split_unfinished}
 use Rattle.coap_frame.specs.Framing.{framing}
 use Rattle.coap_conn.specs.declared.phase.Role.TheVariants.{Server}
 use Rattle.coap_conn.specs.Limits.{LimitValues}
-use Rattle.coap_conn.specs.LinkValue.{LinkValue, link_of, new_link}
+use Rattle.coap_conn.specs.LinkValue.{LinkValue, new_link}
+use Rattle.coap_conn.specs.History.{link_of}
 use Rattle.coap_conn.specs.Release.{release_refusal}
 use Rattle.coap_conn.proofs.LinkLemmas.{new_shown}
 use Rattle.coap_store.specs.Paths.{Path}

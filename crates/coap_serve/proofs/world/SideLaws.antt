@@ -16,8 +16,10 @@ use Rattle.coap_conn.specs.declared.phase.Reply.TheVariants as reply
 use Rattle.coap_conn.specs.Held.{HeldValue, first_due, without_due}
 use Rattle.coap_conn.specs.Held as held
 use Rattle.coap_conn.specs.Reaction.{Standing, send, send_as, pong_with, due_effect}
-use Rattle.coap_conn.specs.History.{History, IsHistory, limit_now, standing_now, with_effect, after_message, after_reply, after_reject, after_end, after_release, after_written, after_hold, standing_due, after_due}
-use Rattle.coap_conn.specs.LinkValue.{LinkValue, link_of, link_after_message, link_after_reply, link_after_end}
+use Rattle.coap_conn.specs.History.{History, IsHistory, limit_now, standing_now, with_effect, after, link_of}
+use Rattle.coap_conn.specs.Calls.{standing_due, link_after}
+use Rattle.coap_conn.specs.Calls as call
+use Rattle.coap_conn.specs.LinkValue.{LinkValue}
 use Rattle.coap_conn.proofs.HeldLaws.{due_fewer}
 use Rattle.coap_store.specs.Store.{StoreValue}
 use Rattle.coap_store.specs.Requests.{path_of}
@@ -83,7 +85,7 @@ handles_parts s e = and_parts (takes_messages s.history.phase) (has_room s) e
 pub faulted_shown : (rest left : List ℕ) (s : Side) (fault : StreamFault) → IsHistory s.history → handles s ≡ true → session_shown left (side_faulted s fault) ≡ session_rejected (session_shown rest s) (reject_of fault)
 unfolding side_faulted
 faulted_shown rest left s fault is e =
-    let h = after_reject s.history (reject_of fault) in
+    let h = after s.history (call.Reject (reject_of fault)) in
     let vs = map observer_shown s.observers in
     ap (session_shown left) (cond-true (handles s) (with_history s h) s e)
     ∙ shown_with left h s.observers
@@ -93,23 +95,23 @@ faulted_shown rest left s fault is e =
 pub written_shown : (rest : List ℕ) (s : Side) (n : ℕ) → IsHistory s.history → n ≤ length (waiting_on s) → session_shown rest (side_written s n) ≡ session_written (session_shown rest s) n
 unfolding side_written
 written_shown rest s n is within =
-    ap (session_shown rest) (cond-true (nat_le n (length (waiting_on s))) (record s { history = after_written s.history n }) s (le-leb n (length (waiting_on s)) within))
+    ap (session_shown rest) (cond-true (nat_le n (length (waiting_on s))) (record s { history = after s.history (call.Written n) }) s (le-leb n (length (waiting_on s)) within))
     ∙ ap (λ l. record (session_shown rest s) { link = l }) (written_link s.history n within is)
 
 ended_by : (rest : List ℕ) (s : Side) (takes : Bool) → IsHistory s.history → takes_messages s.history.phase ≡ takes
-    → session_shown rest (with_history s (after_end s.history (is_cut rest))) ≡ session_with (cond takes rest []) (link_after_end (link_of s.history) (is_cut (cond takes rest []))) (map observer_shown s.observers)
+    → session_shown rest (with_history s (after s.history (call.End (is_cut rest)))) ≡ session_with (cond takes rest []) (link_after (link_of s.history) (call.End (is_cut (cond takes rest [])))) (map observer_shown s.observers)
 ended_by rest s true is e =
-    shown_with rest (after_end s.history (is_cut rest)) s.observers ∙ ap (λ l. session_with rest l (map observer_shown s.observers)) (end_link s.history (is_cut rest) is)
+    shown_with rest (after s.history (call.End (is_cut rest))) s.observers ∙ ap (λ l. session_with rest l (map observer_shown s.observers)) (end_link s.history (is_cut rest) is)
 ended_by rest s false is e =
     let l = link_of s.history in
     let vs = map observer_shown s.observers in
-    let h = after_end s.history (is_cut rest) in
+    let h = after s.history (call.End (is_cut rest)) in
     shown_with rest h s.observers
     ∙ any_frame rest [] (link_of h) vs ((end_goes_on s.history (is_cut rest)).over e)
     ∙ ap (λ k. session_with [] k vs) (end_link s.history (is_cut rest) is)
     ∙ ap (λ k. session_with [] k vs) (stays (is_cut rest) ∙ sym (stays (is_cut [])))
   where
-    stays : (cut : Bool) → link_after_end (link_of s.history) cut ≡ link_of s.history
+    stays : (cut : Bool) → link_after (link_of s.history) (call.End cut) ≡ link_of s.history
     stays cut = rw e refl
 
 -- the input ends within a frame where bytes of one are left
@@ -120,7 +122,7 @@ ended_shown rest s is = ended_by rest s (takes_messages s.history.phase) is refl
 pub released_shown : (rest : List ℕ) (s : Side) → IsHistory s.history → release_refusal (link_of s.history) ≡ None → session_shown rest (side_released s) ≡ session_released (session_shown rest s)
 unfolding side_released
 released_shown rest s is none =
-    let h = after_release s.history in
+    let h = after s.history call.Release in
     let vs = map observer_shown s.observers in
     ap (session_shown rest) (cond-true (is_none (release_refusal (link_of s.history))) (with_history s h) s (ap (λ (o : Option SendFault). is_none o) none))
     ∙ shown_with rest h s.observers
@@ -144,9 +146,9 @@ module _ (store : StoreValue) (now : ℕ) (small : now ≤ 18446744073709551615)
       let response = response_with_observe m.token observes a.response in
       let enters = observes && is_whole (fit (limit_now h) response (bare_response response)) in
       let entry = entry_for store now m in
-      shown_with [] (after_reply h response) (with_entry enters os entry)
+      shown_with [] (after h (call.Reply response)) (with_entry enters os entry)
       ∙ ap (λ l. session_with [] l (map observer_shown (with_entry enters os entry))) (reply_link h response history)
-      ∙ ap (session_with [] (link_after_reply (link_of h) response))
+      ∙ ap (session_with [] (link_after (link_of h) (call.Reply response)))
       (entered_shown enters os entry (new_entry (host_of store now) m) (λ e. entry_shown m (can (and_parts observes (is_whole (fit (limit_now h) response (bare_response response))) e).0)))
 
   answered_shown : (h : History) (os : List Observer) (m : Message) (a : Answer) → IsHistory h → (a.watch ≡ watch.Add → IsWatchable store now (path_of m))
@@ -165,14 +167,14 @@ module _ (store : StoreValue) (now : ℕ) (small : now ≤ 18446744073709551615)
       → session_shown [] (side_replied store now h os m hold) ≡ session_replied (host_of store now) (link_of h) (map observer_shown os) m hold
   replied_shown h os m None history = answered_shown h os m (prompt_answer store now m) history (entry_watchable store now m)
   replied_shown h os m (Some seconds) history =
-      shown_with [] (after_hold h m.token (moment_after now seconds)) os
+      shown_with [] (after h (call.Hold m.token (moment_after now seconds))) os
       ∙ ap (λ l. session_with [] l (map observer_shown os)) (hold_link h m.token (moment_after now seconds) history)
 
   handled_by : (rest : List ℕ) (s : Side) (m : Message) (asks : Bool) → IsHistory s.history
-      → session_shown [] (cond asks (side_replied store now (after_message s.history m) (without_token m.token s.observers) m (held_for (after_message s.history m) (answer_of store now m).hold)) (with_history s (after_message s.history m)))
-      ≡ cond asks (session_replied (host_of store now) (link_after_message (link_of s.history) m) (without_entry m.token (map observer_shown s.observers)) m (held_in (link_after_message (link_of s.history) m) (answer_of store now m).hold)) (session_with [] (link_after_message (link_of s.history) m) (map observer_shown s.observers))
+      → session_shown [] (cond asks (side_replied store now (after s.history (call.Handle m)) (without_token m.token s.observers) m (held_for (after s.history (call.Handle m)) (answer_of store now m).hold)) (with_history s (after s.history (call.Handle m))))
+      ≡ cond asks (session_replied (host_of store now) (link_after (link_of s.history) (call.Handle m)) (without_entry m.token (map observer_shown s.observers)) m (held_in (link_after (link_of s.history) (call.Handle m)) (answer_of store now m).hold)) (session_with [] (link_after (link_of s.history) (call.Handle m)) (map observer_shown s.observers))
   handled_by rest s m true history =
-      let h = after_message s.history m in
+      let h = after s.history (call.Handle m) in
       let hold = (answer_of store now m).hold in
       let vs = without_entry m.token (map observer_shown s.observers) in
       replied_shown h (without_token m.token s.observers) m (held_for h hold) ((message_goes_on s.history m).history history)
@@ -180,7 +182,7 @@ module _ (store : StoreValue) (now : ℕ) (small : now ≤ 18446744073709551615)
       ∙ ap (session_replied (host_of store now) (link_of h) vs m) (held_shown h hold)
       ∙ ap (λ l. session_replied (host_of store now) l vs m (held_in l hold)) (message_link s.history m history)
   handled_by rest s m false history =
-      shown_with [] (after_message s.history m) s.observers ∙ ap (λ l. session_with [] l (map observer_shown s.observers)) (message_link s.history m history)
+      shown_with [] (after s.history (call.Handle m)) s.observers ∙ ap (λ l. session_with [] l (map observer_shown s.observers)) (message_link s.history m history)
 
   -- a message that is handled
   pub handled_shown : (rest : List ℕ) (s : Side) (m : Message) → IsHistory s.history → handles s ≡ true → session_shown [] (side_after store now s m) ≡ session_handled (host_of store now) (session_shown rest s) m
@@ -194,7 +196,7 @@ change_shown store now s m e = ap (λ b. cond (b && asks_answer s m) (prompt_ans
 
 -- a request whose answer is held, and one that is answered at once
 pub replied_cases : (store : StoreValue) (now : ℕ) (h : History) (others : List Observer) (m : Message) (hold : Option ℕ) (P : Side → Type 0)
-    → ((seconds : ℕ) → held_for h hold ≡ Some seconds → P (side_with (after_hold h m.token (moment_after now seconds)) others))
+    → ((seconds : ℕ) → held_for h hold ≡ Some seconds → P (side_with (after h (call.Hold m.token (moment_after now seconds))) others))
     → (held_for h hold ≡ None → P (side_answered store now h others m (prompt_answer store now m)))
     → P (side_replied store now h others m (held_for h hold))
 replied_cases store now h others m hold P held prompt =
@@ -234,7 +236,7 @@ leaves_if : (b : Bool) (h : History) (m less : Message) → length (cond b (with
 leaves_if true h m less = send_leaves (standing_now h) m less (fit (limit_now h) m less)
 leaves_if false h m less = omega arith
 
-pub reply_leaves : (h : History) (m : Message) → length (after_reply h m).held ≤ length h.held
+pub reply_leaves : (h : History) (m : Message) → length (after h (call.Reply m)).held ≤ length h.held
 reply_leaves h m = leaves_if (answers h.phase) h m (bare_response m)
 
 effect_leaves : (s : Standing) (first : Option HeldValue) → length (due_effect s first).held ≤ length s.held
@@ -242,11 +244,11 @@ effect_leaves s None = omega arith
 effect_leaves s (Some (held.Answer token moment)) = omega arith
 effect_leaves s (Some (held.Pong token)) = send_leaves s (pong_with true token) (pong_with false token) (fit s.limit (pong_with true token) (pong_with false token))
 
-due_leaves : (h : History) (now : ℕ) → length (after_due h now).held ≤ length (without_due now h.held)
+due_leaves : (h : History) (now : ℕ) → length (after h (call.Due now)).held ≤ length (without_due now h.held)
 due_leaves h now = effect_leaves (standing_due now (standing_now h)) (first_due now h.held)
 
 sent_leaves : (h : History) (now : ℕ) (e : HeldValue) → length (after_sent h now e).held ≤ length (without_due now h.held)
-sent_leaves h now (held.Answer token moment) = omega (arith, reply_leaves (after_due h now) (held_message token), due_leaves h now)
+sent_leaves h now (held.Answer token moment) = omega (arith, reply_leaves (after h (call.Due now)) (held_message token), due_leaves h now)
 sent_leaves h now (held.Pong token) = due_leaves h now
 
 -- each turn that sends leaves less that is held

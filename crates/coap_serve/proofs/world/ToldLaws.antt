@@ -14,8 +14,8 @@ use Rattle.coap_conn.specs.Fit.{fit, bare_response}
 use Rattle.coap_conn.specs.Rejects.{reject_of}
 use Rattle.coap_conn.specs.Release.{release_refusal}
 use Rattle.coap_conn.specs.Held.{HeldValue, Answer, Pong, first_due}
-use Rattle.coap_conn.specs.History.{History, limit_now, after_message, after_reply, after_reject, after_end, after_release, after_written, after_hold, after_due}
-use Rattle.coap_conn.specs.LinkValue.{link_of}
+use Rattle.coap_conn.specs.History.{History, limit_now, after, link_of}
+use Rattle.coap_conn.specs.Calls as call
 use Rattle.coap_conn.proofs.HeldLaws.{due_answer}
 use Rattle.coap_store.specs.Paths.{same_bytes}
 use Rattle.coap_store.specs.Store.{StoreValue}
@@ -154,8 +154,8 @@ without_told token h os are = record { own = own_filter _ os are.own; told = all
 kept_told : (h : History) (os : List Observer) → (is_open h.phase ≡ true → AreTold h os) → IsTold (side_with h os)
 kept_told h os go = cond_both (is_open h.phase) os [] (λ ps. AreTold h ps) go (λ e. record { own = tt; told = tt })
 
-replied_told : (h : History) (os : List Observer) (m : Message) → AreOthers m.token os → AreTold h os → AreTold (after_reply h m) os
-replied_told h os m others are = record { own = are.own; told = others_told m.token h (after_reply h m) os (reply_queues h m) others are.told }
+replied_told : (h : History) (os : List Observer) (m : Message) → AreOthers m.token os → AreTold h os → AreTold (after h (call.Reply m)) os
+replied_told h os m others are = record { own = are.own; told = others_told m.token h (after h (call.Reply m)) os (reply_queues h m) others are.told }
 
 -- the entry of a request goes last, where this was told
 entered_told : (h : History) (os : List Observer) (entry : Observer) (enters : Bool) → AreOthers entry.token os → AreTold h os → (enters ≡ true → WasToldLast h.queued entry) → AreTold h (with_entry enters os entry)
@@ -165,8 +165,8 @@ entered_told h os entry false others are new = are
 -- it was told by the answer
 entry_told : (store : StoreValue) (now : ℕ) (h : History) (m : Message) (observes : Bool) → observes ≡ true → (prompt_answer store now m).watch ≡ watch.Add
     → is_whole (fit (limit_now h) (response_with_observe m.token observes (prompt_answer store now m).response) (bare_response (response_with_observe m.token observes (prompt_answer store now m).response))) ≡ true
-    → is_open (after_reply h (response_with_observe m.token observes (prompt_answer store now m).response)).phase ≡ true
-    → WasToldLast (after_reply h (response_with_observe m.token observes (prompt_answer store now m).response)).queued (entry_for store now m)
+    → is_open (after h (call.Reply (response_with_observe m.token observes (prompt_answer store now m).response))).phase ≡ true
+    → WasToldLast (after h (call.Reply (response_with_observe m.token observes (prompt_answer store now m).response))).queued (entry_for store now m)
 entry_told store now h m true e asked whole opened =
     let response : Message = response_with_observe m.token true (prompt_answer store now m).response in
     subst (λ queued. WasToldLast queued (entry_for store now m)) (sym (whole_last h response whole opened))
@@ -180,8 +180,8 @@ answered_told store now h os m others are =
     let response : Message = response_with_observe m.token observes a.response in
     let whole : Bool = is_whole (fit (limit_now h) response (bare_response response)) in
     let entry : Observer = entry_for store now m in
-    kept_told (after_reply h response) (with_entry (observes && whole) os entry)
-    (λ opened. entered_told (after_reply h response) os entry (observes && whole) others (replied_told h os response others are)
+    kept_told (after h (call.Reply response)) (with_entry (observes && whole) os entry)
+    (λ opened. entered_told (after h (call.Reply response)) os entry (observes && whole) others (replied_told h os response others are)
     (λ e. (let both = and_parts observes whole e in
     entry_told store now h m observes both.0 (asks_to_enter a.watch (and_parts (asks_entry a.watch) (nat_lt (length os) h.limits.observers) both.0).0) both.1 opened)))
 
@@ -199,8 +199,8 @@ plain_side : (s : Side) (h : History) → Queues IsPlain s.history h → IsTold 
 plain_side s h queues are = kept_told h s.observers (λ opened. plain_told s.history h s.observers queues are)
 
 -- an answer is held
-held_told : (h : History) (os : List Observer) (token : List ℕ) (moment : ℕ) → AreTold h os → IsTold (side_with (after_hold h token moment) os)
-held_told h os token moment are = kept_told (after_hold h token moment) os (λ opened. signalled_told h (after_hold h token moment) os (hold_queues IsNoResponse h token moment) are)
+held_told : (h : History) (os : List Observer) (token : List ℕ) (moment : ℕ) → AreTold h os → IsTold (side_with (after h (call.Hold token moment)) os)
+held_told h os token moment are = kept_told (after h (call.Hold token moment)) os (λ opened. signalled_told h (after h (call.Hold token moment)) os (hold_queues IsNoResponse h token moment) are)
 
 request_told : (store : StoreValue) (now : ℕ) (h : History) (others : List Observer) (m : Message) → AreOthers m.token others → AreTold h others → IsTold (side_replied store now h others m (held_for h (answer_of store now m).hold))
 request_told store now h others m apart are =
@@ -208,7 +208,7 @@ request_told store now h others m apart are =
 
 handled_told : (limits : LimitValues) (store : StoreValue) (now : ℕ) (s : Side) (m : Message) → IsSide limits s → IsTold s → IsTold (side_handled store now s m)
 handled_told limits store now s m is are =
-    let h : History = after_message s.history m in
+    let h : History = after s.history (call.Handle m) in
     let queues : Queues IsNoResponse s.history h = message_queues s.history m is.is_server in
     let others : List Observer = without_token m.token s.observers in
     if_told (asks_answer s m) (with_history s h) (side_replied store now h others m (held_for h (answer_of store now m).hold)) (signalled_side s h queues are)
@@ -259,8 +259,8 @@ module _ (store : StoreValue) (now : ℕ) (o : Observer) (stays : Bool) (due : O
 -- the observer that stays was told by its notification
 left_told : (store : StoreValue) (now : ℕ) (h : History) (o : Observer) (stays : Bool) → (stays ≡ true → goes_on (notification store now o) ≡ true)
     → (stays ≡ true → is_whole (fit (limit_now h) (notification_message o.token (notification store now o)) (bare_response (notification_message o.token (notification store now o)))) ≡ true)
-    → is_open (after_reply h (notification_message o.token (notification store now o))).phase ≡ true
-    → AllByRecursion (ToldOn (after_reply h (notification_message o.token (notification store now o)))) (left_of store now o stays)
+    → is_open (after h (call.Reply (notification_message o.token (notification store now o)))).phase ≡ true
+    → AllByRecursion (ToldOn (after h (call.Reply (notification_message o.token (notification store now o))))) (left_of store now o stays)
 left_told store now h o true on whole opened =
     let m : Message = notification_message o.token (notification store now o) in
     let left : Observer = record o { told = state_of store now o.path } in
@@ -273,7 +273,7 @@ notified_told store now s (Some o) there are =
     let m : Message = notification_message o.token (notification store now o) in
     let on : Bool = goes_on (notification store now o) in
     let whole : Bool = is_whole (fit (limit_now s.history) m (bare_response m)) in
-    let h : History = after_reply s.history m in
+    let h : History = after s.history (call.Reply m) in
     let due : Observer → Bool = is_due store now in
     kept_told h (first_becomes due (left_of store now o (on && whole)) s.observers) (λ opened. record {
       own = own_become store now o (on && whole) due s.observers (there o refl) are.own;
@@ -295,11 +295,11 @@ asked_for_due h now token moment e stand =
 
 sent_told : (s : Side) (now : ℕ) (e : HeldValue) → first_due now s.history.held ≡ Some e → Stands s.history → IsTold s → IsTold (with_history s (after_sent s.history now e))
 sent_told s now (Answer token moment) found stand are =
-    let h : History = after_due s.history now in
-    let k : History = after_reply h (held_message token) in
+    let h : History = after s.history (call.Due now) in
+    let k : History = after h (call.Reply (held_message token)) in
     kept_told k s.observers
     (λ opened. late_told token h k s.observers (reply_queues h (held_message token)) (asked_for_due s.history now token moment found stand) (signalled_told s.history h s.observers (due_queues s.history now) are))
-sent_told s now (Pong token) found stand are = signalled_side s (after_due s.history now) (due_queues s.history now) are
+sent_told s now (Pong token) found stand are = signalled_side s (after s.history (call.Due now)) (due_queues s.history now) are
 
 once_told : (store : StoreValue) (now : ℕ) (s : Side) → Stands s.history → IsTold s → IsTold (settled_once store now s)
 once_told store now s stand are =
@@ -315,22 +315,22 @@ pub record IsToldSide (limits : LimitValues) (s : Side) : Type 0 where
 faulted_told : (s : Side) (fault : StreamFault) → IsTold s → IsTold (side_faulted s fault)
 unfolding side_faulted
 faulted_told s fault are =
-    if_told (handles s) s (with_history s (after_reject s.history (reject_of fault))) are
-    (λ does. plain_side s (after_reject s.history (reject_of fault)) (reject_queues s.history (reject_of fault)) are)
+    if_told (handles s) s (with_history s (after s.history (call.Reject (reject_of fault)))) are
+    (λ does. plain_side s (after s.history (call.Reject (reject_of fault))) (reject_queues s.history (reject_of fault)) are)
 
 written_told : (s : Side) (n : ℕ) → IsTold s → IsTold (side_written s n)
 unfolding side_written
-written_told s n are = if_told (nat_le n (length (waiting_on s))) s (record s { history = after_written s.history n }) are (λ does. record { own = are.own; told = are.told })
+written_told s n are = if_told (nat_le n (length (waiting_on s))) s (record s { history = after s.history (call.Written n) }) are (λ does. record { own = are.own; told = are.told })
 
 ended_told : (s : Side) (cut : Bool) → IsTold s → IsTold (side_ended s cut)
 unfolding side_ended
-ended_told s cut are = plain_side s (after_end s.history cut) (end_queues s.history cut) are
+ended_told s cut are = plain_side s (after s.history (call.End cut)) (end_queues s.history cut) are
 
 released_told : (s : Side) → IsTold s → IsTold (side_released s)
 unfolding side_released
 released_told s are =
-    if_told (is_none (release_refusal (link_of s.history))) s (with_history s (after_release s.history)) are
-    (λ does. plain_side s (after_release s.history) (release_queues s.history) are)
+    if_told (is_none (release_refusal (link_of s.history))) s (with_history s (after s.history call.Release)) are
+    (λ does. plain_side s (after s.history call.Release) (release_queues s.history) are)
 
 told_keeps : (limits : LimitValues) → Keeps limits (IsToldSide limits)
 told_keeps limits = let stands : Keeps limits (λ s. Stands s.history) = stands_keeps limits in record {

@@ -25,7 +25,9 @@ use Rattle.coap_conn.specs.Held.{HeldValue, Answer, Pong, first_due}
 use Rattle.coap_conn.specs.Outstanding.{OutstandingValue, is_asked, is_last, is_pinged, without_asked, without_pinged}
 use Rattle.coap_conn.specs.Reaction.{Standing, Effect, Reaction, stay, stop, abort, send_as, send, holds, react, reaction_unless, live_reaction, open_reaction, csm_reaction, request_reaction, ping_reaction, pong_reaction, answered, due_effect, is_reserved, is_signal, is_method, minds_critical_options, asks_custody, is_custody_pong, pong_with, pong_of, not_implemented}
 use Rattle.coap_conn.specs.Rejects.{reject_reason}
-use Rattle.coap_conn.specs.History.{History, limit_now, standing_now, with_effect, after_message, after_reply, after_reject, after_end, after_release, end_reason, release, may_hold, after_hold, standing_due, after_due}
+use Rattle.coap_conn.specs.History.{History, limit_now, standing_now, with_effect, after, may_hold}
+use Rattle.coap_conn.specs.Calls.{end_reason, release, standing_due}
+use Rattle.coap_conn.specs.Calls as call
 use Rattle.coap_store.specs.Paths.{same_bytes}
 use Rattle.coap_serve.specs.world.Observers.{is_whole}
 use Rattle.coap_serve.specs.world.Told.{is_response, responds, last_response}
@@ -207,23 +209,23 @@ heard_queues P h m e true such = record { more = e.queued; same = refl; such = s
 heard_queues P h m e false such = queues_none P h
 
 -- a message that is handled
-pub message_queues : (h : History) (m : Message) → h.role ≡ Server → Queues IsNoResponse h (after_message h m)
+pub message_queues : (h : History) (m : Message) → h.role ≡ Server → Queues IsNoResponse h (after h (call.Handle m))
 message_queues h m server = heard_queues IsNoResponse h m (react (standing_now h) m).effect (takes_messages h.phase) (react_signals (standing_now h) m server)
 
-pub reject_queues : (h : History) (r : Reject) → Queues IsPlain h (after_reject h r)
+pub reject_queues : (h : History) (r : Reject) → Queues IsPlain h (after h (call.Reject r))
 reject_queues h r =
     queues_effect IsPlain h (abort (standing_now h) (reject_reason r)) (takes_messages h.phase) (abort_plain (limit_now h) (abort_text (reject_reason r)) (reject_reason r) refl)
 
-pub end_queues : (h : History) (cut : Bool) → Queues IsPlain h (after_end h cut)
+pub end_queues : (h : History) (cut : Bool) → Queues IsPlain h (after h (call.End cut))
 end_queues h cut = queues_effect IsPlain h (stop (standing_now h) (end_reason cut) []) (takes_messages h.phase) tt
 
-pub release_queues : (h : History) → Queues IsPlain h (after_release h)
+pub release_queues : (h : History) → Queues IsPlain h (after h call.Release)
 release_queues h = queues_effect IsPlain h (stop (standing_now h) reason.ReleasedHere (release ∷ [])) (is_open h.phase) ((refl, refl), tt)
 
 -- ---- what is held
 
 -- nothing is queued where an answer is held
-pub hold_queues : (P : Message → Type 0) (h : History) (token : List ℕ) (moment : ℕ) → Queues P h (after_hold h token moment)
+pub hold_queues : (P : Message → Type 0) (h : History) (token : List ℕ) (moment : ℕ) → Queues P h (after h (call.Hold token moment))
 hold_queues P h token moment = held_by (is_open h.phase && may_hold h)
   where
     held_by : (does : Bool) → Queues P h (cond does (record h { held = h.held ++ Answer token moment ∷ [] }) h)
@@ -241,7 +243,7 @@ due_signals s (Some (Answer token moment)) = tt
 due_signals s (Some (Pong token)) = sent_pong s (pong_with true token) (pong_with false token) (fit s.limit (pong_with true token) (pong_with false token)) refl refl
 
 -- of what is held a Pong alone is queued at its turn
-pub due_queues : (h : History) (now : ℕ) → Queues IsNoResponse h (after_due h now)
+pub due_queues : (h : History) (now : ℕ) → Queues IsNoResponse h (after h (call.Due now))
 due_queues h now = queues_effect IsNoResponse h (due_effect (standing_due now (standing_now h)) (first_due now h.held)) true (due_signals (standing_due now (standing_now h)) (first_due now h.held))
 
 -- ---- responses
@@ -252,7 +254,7 @@ sent_tokens s m Whole = (refl, tt)
 sent_tokens s m Bare = (refl, tt)
 sent_tokens s m Stopped = tt
 
-pub reply_queues : (h : History) (m : Message) → Queues (λ n. n.token ≡ m.token) h (after_reply h m)
+pub reply_queues : (h : History) (m : Message) → Queues (λ n. n.token ≡ m.token) h (after h (call.Reply m))
 reply_queues h m =
     queues_effect (λ n. n.token ≡ m.token) h (send (standing_now h) m (bare_response m)) (answers h.phase) (sent_tokens (standing_now h) m (fit (limit_now h) m (bare_response m)))
 
@@ -270,5 +272,5 @@ whole_by h m Whole false whole does opened = absurd (open_answers h.phase does o
 whole_by h m Bare does whole e opened = absurd cc
 whole_by h m Stopped does whole e opened = absurd cc
 
-pub whole_last : (h : History) (m : Message) → is_whole (fit (limit_now h) m (bare_response m)) ≡ true → is_open (after_reply h m).phase ≡ true → (after_reply h m).queued ≡ h.queued ++ m ∷ []
+pub whole_last : (h : History) (m : Message) → is_whole (fit (limit_now h) m (bare_response m)) ≡ true → is_open (after h (call.Reply m)).phase ≡ true → (after h (call.Reply m)).queued ≡ h.queued ++ m ∷ []
 whole_last h m whole opened = whole_by h m (fit (limit_now h) m (bare_response m)) (answers h.phase) whole refl opened

@@ -5,7 +5,7 @@ use Rattle.coap_wire.specs.Stream.{Stream, split}
 use Rattle.coap_conn.specs.declared.reason.Reason.{Reason}
 use Rattle.coap_conn.specs.Limits.{LimitValues}
 use Rattle.coap_conn.specs.Phases.{stop_of}
-use Rattle.coap_conn.specs.History.{bytes_of}
+use Rattle.coap_conn.specs.LinkValue.{bytes_of}
 use Rattle.coap_serve.specs.Configs.{ConfigValues}
 use Rattle.coap_serve.specs.world.Sides.{Side, waiting_on}
 use Rattle.coap_serve.specs.world.World.{World, Step, new_world, side_of, step}

@@ -1,7 +1,7 @@
 -- How far a run over one input has come: which bytes its server has taken, and what a piece and a turn do to it.
 use Rattle.std.specs.Prelude.{◌≡◌, ◌≢◌, ◌⊎◌, ℕ, ◌+◌, ◌≤◌, List, [], ◌∷◌, ◌++◌, length, None, Some, Result, Ok, Err}
 use Rattle.coap_conn.specs.Limits.{AreInRange}
-use Rattle.coap_conn.specs.History.{end_reason}
+use Rattle.coap_conn.specs.Calls.{end_reason}
 use Rattle.coap_serve.specs.Configs.{ConfigValues}
 use Rattle.coap_serve.specs.declared.serve.Turn.{Turn}
 use Rattle.coap_serve.specs.declared.serve.IoFault.{IoFault}

@@ -3,7 +3,7 @@ use Rattle.std.specs.Prelude.{◌≡◌, ◌≢◌, ℕ, ◌<◌, ◌≤◌, Lis
 use Rattle.std.specs.List.{concat}
 use Rattle.coap_conn.specs.declared.reason.Reason.{Reason}
 use Rattle.coap_wire.specs.Message.{Message}
-use Rattle.coap_conn.specs.History.{end_reason}
+use Rattle.coap_conn.specs.Calls.{end_reason}
 use Rattle.coap_serve.specs.declared.serve.Report.{Report}
 use Rattle.coap_serve.specs.declared.serve.IoFault.{IoFault}
 use Rattle.coap_serve.specs.declared.serve.IoFault.TheVariants.{Read, Write, Memory, Turns}

@@ -4,7 +4,9 @@ use Rattle.coap_wire.specs.Message.{Message}
 use Rattle.coap_frame.specs.Framing.{FramerValue}
 use Rattle.coap_conn.specs.Phases.{takes_messages}
 use Rattle.coap_conn.specs.Fit.{fit, bare_response}
-use Rattle.coap_conn.specs.LinkValue.{LinkValue, limit_in, link_after_reply, link_after_hold}
+use Rattle.coap_conn.specs.LinkValue.{LinkValue, limit_in}
+use Rattle.coap_conn.specs.Calls.{link_after}
+use Rattle.coap_conn.specs.Calls as call
 use Rattle.coap_store.specs.Messages.{response_with_observe}
 use Rattle.coap_store.specs.Notifications.{notification_of}
 use Rattle.coap_serve.specs.declared.host.Host.{Host}
@@ -37,8 +39,8 @@ entries_asked host l room others m =
 
 -- the link and the entries after a request that was answered at once, or whose answer is held for so many seconds
 abbrev pub link_replied : Host → LinkValue → ℕ → List ObserverValue → Message → Option ℕ → LinkValue
-link_replied host l room others m None = link_after_reply l (response_on host room others m)
-link_replied host l room others m (Some seconds) = link_after_hold l m.token (moment_after host.now seconds)
+link_replied host l room others m None = link_after l (call.Reply (response_on host room others m))
+link_replied host l room others m (Some seconds) = link_after l (call.Hold m.token (moment_after host.now seconds))
 
 abbrev pub entries_replied : Host → LinkValue → ℕ → List ObserverValue → Message → Option ℕ → List ObserverValue
 entries_replied host l room others m None = entries_asked host l room others m

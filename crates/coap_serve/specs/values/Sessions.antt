@@ -16,7 +16,9 @@ use Rattle.coap_conn.specs.Fit.{fit, bare_response}
 use Rattle.coap_conn.specs.Rejects.{reject_of}
 use Rattle.coap_conn.specs.Held.{HeldValue, first_due}
 use Rattle.coap_conn.specs.Held as held
-use Rattle.coap_conn.specs.LinkValue.{LinkValue, new_link, free_in, limit_in, standing_in, link_after_message, link_after_reply, link_after_reject, link_after_end, link_after_release, link_after_written, can_hold, link_after_hold, link_after_due}
+use Rattle.coap_conn.specs.LinkValue.{LinkValue, new_link, free_in, limit_in, standing_in, can_hold}
+use Rattle.coap_conn.specs.Calls.{link_after}
+use Rattle.coap_conn.specs.Calls as call
 use Rattle.coap_store.specs.Paths.{Path, same_bytes}
 use Rattle.coap_store.specs.Store.{Representation}
 use Rattle.coap_store.specs.State.{state_of}
@@ -114,7 +116,7 @@ new_entry host m = record { token = m.token; path = path_of m; format = format_o
 -- a response was sent to a request whose token no other entry has; an entry is made where it was sent whole with Observe
 abbrev pub session_responded : LinkValue → List ObserverValue → ObserverValue → Bool → Message → SessionValue
 session_responded l others entry observes response =
-    session_with [] (link_after_reply l response) (with_entry (observes && is_whole (fit (limit_in l) response (bare_response response))) others entry)
+    session_with [] (link_after l (call.Reply response)) (with_entry (observes && is_whole (fit (limit_in l) response (bare_response response))) others entry)
 
 abbrev pub session_answered_as : Host → LinkValue → List ObserverValue → Message → Answer → Bool → SessionValue
 session_answered_as host l others m a observes =
@@ -139,7 +141,7 @@ held_in l (Some seconds) = if can_hold l then Some seconds else None
 -- a request's answer is held for so many seconds, or it was answered at once
 abbrev pub session_replied : Host → LinkValue → List ObserverValue → Message → Option ℕ → SessionValue
 session_replied host l others m None = session_answered host l others m (answer_on host m)
-session_replied host l others m (Some seconds) = session_with [] (link_after_hold l m.token (moment_after host.now seconds)) others
+session_replied host l others m (Some seconds) = session_with [] (link_after l (call.Hold m.token (moment_after host.now seconds))) others
 
 -- it is a request to this connection
 abbrev pub asks_this : LinkValue → Message → Bool
@@ -148,8 +150,8 @@ asks_this l m = is_request (react (standing_in l) m).verdict
 -- the connection, and what is stored, after a message that is handled
 unfoldable pub session_handled : Host → SessionValue → Message → SessionValue
 session_handled host v m =
-    if asks_this v.link m then session_replied host (link_after_message v.link m) (without_entry m.token v.observers) m (held_in (link_after_message v.link m) (hold_on host m))
-    else session_with [] (link_after_message v.link m) v.observers
+    if asks_this v.link m then session_replied host (link_after v.link (call.Handle m)) (without_entry m.token v.observers) m (held_in (link_after v.link (call.Handle m)) (hold_on host m))
+    else session_with [] (link_after v.link (call.Handle m)) v.observers
 
 abbrev pub change_by : Host → LinkValue → Message → Change
 change_by host l m = if asks_this l m then (answer_on host m).change else Change.Nothing
@@ -169,7 +171,7 @@ pub record Taking : Type 0 where
 
 -- the bytes behind the messages have a fault
 abbrev pub session_rejected : SessionValue → Reject → SessionValue
-session_rejected v fault = session_with [] (link_after_reject v.link fault) v.observers
+session_rejected v fault = session_with [] (link_after v.link (call.Reject fault)) v.observers
 
 abbrev pub taking_read : Host → SessionValue → ℕ → Result Message FormatFault → Taking
 taking_read host v count (Ok m) = record { count = count; handled = true; session = session_handled host v m; change = change_by host v.link m }
@@ -196,13 +198,13 @@ pub record RefusesPiece (host : Host) (v : SessionValue) (piece : List ℕ) (cou
 -- ---- all else
 
 abbrev pub session_written : SessionValue → ℕ → SessionValue
-session_written v n = record v { link = link_after_written v.link n }
+session_written v n = record v { link = link_after v.link (call.Written n) }
 
 abbrev pub session_ended : SessionValue → SessionValue
-session_ended v = session_with v.frame (link_after_end v.link (is_cut v.frame)) v.observers
+session_ended v = session_with v.frame (link_after v.link (call.End (is_cut v.frame))) v.observers
 
 abbrev pub session_released : SessionValue → SessionValue
-session_released v = session_with v.frame (link_after_release v.link) v.observers
+session_released v = session_with v.frame (link_after v.link call.Release) v.observers
 
 -- ---- settling
 
@@ -217,7 +219,7 @@ entry_left host o false = []
 
 abbrev pub session_notified_so : Host → SessionValue → ObserverValue → Message → Bool → SessionValue
 session_notified_so host v o m stays =
-    session_with v.frame (link_after_reply v.link m) (first_becomes (is_stale host) (entry_left host o (stays && is_whole (fit (limit_in v.link) m (bare_response m)))) v.observers)
+    session_with v.frame (link_after v.link (call.Reply m)) (first_becomes (is_stale host) (entry_left host o (stays && is_whole (fit (limit_in v.link) m (bare_response m)))) v.observers)
 
 abbrev pub notification_on : Host → ObserverValue → Message
 notification_on host o = notification_message o.token (notification_of host.store host.now o.path o.format)
@@ -233,8 +235,8 @@ next_held_in now v = if session_ready v then first_due now v.link.held else None
 
 -- what was due first is held no more: an answer was sent, or a Pong with Custody was queued
 abbrev pub link_sent : LinkValue → ℕ → HeldValue → LinkValue
-link_sent l now (held.Answer token moment) = link_after_reply (link_after_due l now) (held_message token)
-link_sent l now (held.Pong token) = link_after_due l now
+link_sent l now (held.Answer token moment) = link_after (link_after l (call.Due now)) (call.Reply (held_message token))
+link_sent l now (held.Pong token) = link_after l (call.Due now)
 
 -- what is held comes before what observers are told
 abbrev pub session_settled_so : Host → SessionValue → Option HeldValue → SessionValue

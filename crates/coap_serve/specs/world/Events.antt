@@ -2,7 +2,7 @@
 use Rattle.std.specs.Prelude.{◌≡◌, ℕ, ◌+◌, ◌<◌, ◌≤◌, true, List, [], ◌∷◌, ◌++◌, length, map, drop, Option, Some, None, ◌==◌, if◌then◌else◌}
 use Rattle.coap_wire.specs.Stream.{StreamFault, Stream, split}
 use Rattle.coap_frame.specs.Framing.{framing}
-use Rattle.coap_conn.specs.LinkValue.{link_of}
+use Rattle.coap_conn.specs.History.{link_of}
 use Rattle.coap_conn.specs.Release.{release_refusal}
 use Rattle.coap_store.specs.Paths.{Path}
 use Rattle.coap_store.specs.Refusals.{put_refusal, remove_refusal}

@@ -1,7 +1,7 @@
 -- Which world a server shows: the server as the code holds it, computed from the events alone.
 use Rattle.std.specs.Prelude.{◌≡◌, ℕ, ◌≤◌, List, [], map, Option, Some, None, if◌then◌else◌, ◌==◌, ◌∷◌, ◌++◌, take}
 use Rattle.std.specs.Str.Parse.{digits_value}
-use Rattle.coap_conn.specs.LinkValue.{link_of}
+use Rattle.coap_conn.specs.History.{link_of}
 use Rattle.coap_conn.specs.Phases.{takes_messages}
 use Rattle.coap_store.specs.Store.{Representation}
 use Rattle.coap_serve.specs.Configs.{ConfigValues}

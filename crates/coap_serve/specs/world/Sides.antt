@@ -12,10 +12,11 @@ use Rattle.coap_conn.specs.Reaction.{react}
 use Rattle.coap_conn.specs.Fit.{fit, bare_response}
 use Rattle.coap_conn.specs.Rejects.{reject_of}
 use Rattle.coap_conn.specs.Release.{release_refusal}
-use Rattle.coap_conn.specs.LinkValue.{link_of, free_in}
+use Rattle.coap_conn.specs.History.{History, link_of, new_history, limit_now, standing_now, after, may_hold}
+use Rattle.coap_conn.specs.LinkValue.{free_in}
 use Rattle.coap_conn.specs.Held.{HeldValue, HoldsNothingDue, first_due}
 use Rattle.coap_conn.specs.Held as held
-use Rattle.coap_conn.specs.History.{History, new_history, limit_now, standing_now, after_message, after_reply, after_reject, after_end, after_release, after_written, may_hold, after_hold, after_due}
+use Rattle.coap_conn.specs.Calls as call
 use Rattle.coap_store.specs.Store.{StoreValue}
 use Rattle.coap_store.specs.State.{state_of}
 use Rattle.coap_store.specs.Answer.{Answer, Change, Nothing, held_response, answer_of, prompt_answer, changed}
@@ -61,7 +62,7 @@ with_history s h = side_with h s.observers
 -- a response was sent to a request whose token no other entry has; an entry is made where it was sent whole with Observe
 abbrev pub responded : History → List Observer → Observer → Bool → Message → Side
 responded h others entry observes response =
-    side_with (after_reply h response) (with_entry (observes && is_whole (fit (limit_now h) response (bare_response response))) others entry)
+    side_with (after h (call.Reply response)) (with_entry (observes && is_whole (fit (limit_now h) response (bare_response response))) others entry)
 
 abbrev pub answered_among : StoreValue → ℕ → History → List Observer → Message → Answer → Bool → Side
 answered_among store now h others m a observes =
@@ -84,7 +85,7 @@ held_for h (Some seconds) = if may_hold h then Some seconds else None
 -- a request's answer is held for so many seconds, or it was answered at once
 abbrev pub side_replied : StoreValue → ℕ → History → List Observer → Message → Option ℕ → Side
 side_replied store now h others m None = side_answered store now h others m (prompt_answer store now m)
-side_replied store now h others m (Some seconds) = side_with (after_hold h m.token (moment_after now seconds)) others
+side_replied store now h others m (Some seconds) = side_with (after h (call.Hold m.token (moment_after now seconds))) others
 
 -- it is a request to this side
 abbrev pub asks_answer : Side → Message → Bool
@@ -93,8 +94,8 @@ asks_answer s m = is_request (react (standing_now s.history) m).verdict
 -- the side after a message that is handled
 abbrev pub side_handled : StoreValue → ℕ → Side → Message → Side
 side_handled store now s m =
-    if asks_answer s m then side_replied store now (after_message s.history m) (without_token m.token s.observers) m (held_for (after_message s.history m) (answer_of store now m).hold)
-    else with_history s (after_message s.history m)
+    if asks_answer s m then side_replied store now (after s.history (call.Handle m)) (without_token m.token s.observers) m (held_for (after s.history (call.Handle m)) (answer_of store now m).hold)
+    else with_history s (after s.history (call.Handle m))
 
 -- the side after a message
 unfoldable pub side_after : StoreValue → ℕ → Side → Message → Side
@@ -112,11 +113,11 @@ store_after store now s m = changed store (change_after store now s m)
 
 -- the bytes behind the messages have a fault
 unfoldable pub side_faulted : Side → StreamFault → Side
-side_faulted s fault = if handles s then with_history s (after_reject s.history (reject_of fault)) else s
+side_faulted s fault = if handles s then with_history s (after s.history (call.Reject (reject_of fault))) else s
 
 -- so many bytes that wait were written
 unfoldable pub side_written : Side → ℕ → Side
-side_written s n = if nat_le n (length (waiting_on s)) then record s { history = after_written s.history n } else s
+side_written s n = if nat_le n (length (waiting_on s)) then record s { history = after s.history (call.Written n) } else s
 
 -- bytes are left of a frame: the end of input cuts it
 abbrev pub is_cut : List ℕ → Bool
@@ -124,11 +125,11 @@ is_cut rest = nat_lt 0 (length rest)
 
 -- the input ended, within a frame where it was cut
 unfoldable pub side_ended : Side → Bool → Side
-side_ended s cut = with_history s (after_end s.history cut)
+side_ended s cut = with_history s (after s.history (call.End cut))
 
 -- the own end released the connection
 unfoldable pub side_released : Side → Side
-side_released s = if is_none (release_refusal (link_of s.history)) then with_history s (after_release s.history) else s
+side_released s = if is_none (release_refusal (link_of s.history)) then with_history s (after s.history call.Release) else s
 
 -- ---- settling
 
@@ -139,7 +140,7 @@ next_due store now s = if has_room s then find (is_due store now) s.observers el
 -- a notification was sent to the first observer that is due
 abbrev pub notified_so : StoreValue → ℕ → Side → Observer → Message → Bool → Side
 notified_so store now s o m stays =
-    side_with (after_reply s.history m) (first_becomes (is_due store now) (left_of store now o (stays && is_whole (fit (limit_now s.history) m (bare_response m)))) s.observers)
+    side_with (after s.history (call.Reply m)) (first_becomes (is_due store now) (left_of store now o (stays && is_whole (fit (limit_now s.history) m (bare_response m)))) s.observers)
 
 abbrev pub notified : StoreValue → ℕ → Side → Option Observer → Side
 notified store now s None = s
@@ -155,8 +156,8 @@ held_message token = response_message token held_response
 
 -- what was due first is held no more: an answer was sent, or a Pong with Custody was queued
 abbrev pub after_sent : History → ℕ → HeldValue → History
-after_sent h now (held.Answer token moment) = after_reply (after_due h now) (held_message token)
-after_sent h now (held.Pong token) = after_due h now
+after_sent h now (held.Answer token moment) = after (after h (call.Due now)) (call.Reply (held_message token))
+after_sent h now (held.Pong token) = after h (call.Due now)
 
 -- what is held comes before what observers are told
 abbrev pub settled_so : StoreValue → ℕ → Side → Option HeldValue → Side

@@ -1,7 +1,7 @@
 use Rattle.std.proofs.Common.{◌+◌, cond, [], ◌∷◌, ◌++◌, Option, ap}
 use Rattle.std.specs.Prelude.{is_none}
 use Rattle.coap_conn.specs.declared.phase.RequestFault.{RequestFault}
-use Rattle.coap_conn.proofs.AskedLaws.{tokens_differ, token_left}
+use Rattle.coap_conn.proofs.AskedLaws.{tokens_differ, token_left, tokens_stay}
 use Rattle.coap_conn.proofs.laws.tokens_are_new.Goals as goal
 
 pub returns-clause-different : goal.returns-clause-different
@@ -13,3 +13,6 @@ returns-clause-asked c = token_left
 pub returns-clause-given : goal.returns-clause-given
 returns-clause-given c h m e none =
     ap (λ (o : Option RequestFault). (cond (is_none o) (record h { queued = h.queued ++ m ∷ []; outstanding = h.outstanding ++ e ∷ []; tokens = h.tokens + 1 }) h).tokens) none
+
+pub returns-clause-others : goal.returns-clause-others
+returns-clause-others c = tokens_stay

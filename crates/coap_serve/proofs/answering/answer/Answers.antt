@@ -1,7 +1,9 @@
 use Rattle.std.proofs.Common.{◌≡◌, ◌+◌, Bool, true, false, ◌&&◌, List, ℕ, [], ◌∷◌, ◌++◌, min, Some, None, sym, ap, subst, ◌∙◌}
 use Rattle.std.specs.Prelude.{not, nat_lt, length, if◌then◌else◌}
 use Rattle.coap_conn.specs.Fit.{fit, bare_response}
-use Rattle.coap_conn.specs.LinkValue.{limit_in, can_hold, link_after_hold, link_after_reply}
+use Rattle.coap_conn.specs.LinkValue.{limit_in, can_hold}
+use Rattle.coap_conn.specs.Calls.{link_after}
+use Rattle.coap_conn.specs.Calls as call
 use Rattle.coap_store.specs.Store.{StoreValue}
 use Rattle.coap_store.specs.Answer.{Answer, unheld, changed}
 use Rattle.coap_store.specs.Changes.{IsPut, changes}
@@ -30,7 +32,7 @@ returns-in-Some c =
       changed = late_changes host m seconds holds;
       link =
           c.answer_late.ensures.link
-          ∙ ap (λ (a : Answer). if can_hold l then link_after_hold l m.token moment else link_after_reply l (response_message m.token (unheld a).response)) c.answer-plan.ensures.answer
+          ∙ ap (λ (a : Answer). if can_hold l then link_after l (call.Hold m.token moment) else link_after l (call.Reply (response_message m.token (unheld a).response))) c.answer-plan.ensures.answer
           ∙ late_link host m l seconds moment room others holds at;
       entries = c.answer_late.ensures.entries ∙ ap (λ (os : List ObserverValue). record c.args.observers.now { entries = os }) (late_entries host m l seconds room others holds);
       host = late_host host m seconds holds;
@@ -76,7 +78,7 @@ returns-then-is_whole c =
     let enters : (observes && is_whole reply) ≡ true = ap (λ (b : Bool). b && is_whole reply) c.if-observes.true ∙ sym c.is_whole.ensures ∙ c.if-is_whole.true in
     record {
       changed = ap changes (sym quiet);
-      link = c.respond-reply.ensures.after ∙ ap (λ (t : List ℕ). link_after_reply l (response_with_observe t observes plan.response)) c.token-3.ensures ∙ prompt_link host m l room others plan observes none answer observed;
+      link = c.respond-reply.ensures.after ∙ ap (λ (t : List ℕ). link_after l (call.Reply (response_with_observe t observes plan.response))) c.token-3.ensures ∙ prompt_link host m l room others plan observes none answer observed;
       entries =
           c.enter.ensures ∙ ap (λ (o : ObserversValue). record o { entries = o.entries ++ new_entry host m ∷ [] }) forgotten
           ∙ ap (λ (b : Bool). record before { entries = with_entry b others (new_entry host m) }) (sym enters)
@@ -115,7 +117,7 @@ returns-else-observes c =
     ] in
     record {
       changed = ap changes (sym quiet);
-      link = c.respond-reply.ensures.after ∙ ap (λ (t : List ℕ). link_after_reply l (response_with_observe t observes plan.response)) c.token-3.ensures ∙ prompt_link host m l room others plan observes none answer observed;
+      link = c.respond-reply.ensures.after ∙ ap (λ (t : List ℕ). link_after l (call.Reply (response_with_observe t observes plan.response))) c.token-3.ensures ∙ prompt_link host m l room others plan observes none answer observed;
       entries =
           forgotten
           ∙ ap (λ (b : Bool). record before { entries = with_entry b others (new_entry host m) }) (sym misses)

@@ -2,7 +2,9 @@ use Rattle.std.proofs.Common.{ℕ, List, [], Option, option_map, ap, ◌∙◌}
 use Rattle.coap_wire.specs.Message.{Message}
 use Rattle.coap_wire.specs.OptionNumbers as numbers
 use Rattle.coap_conn.specs.Fit.{fit, bare_response}
-use Rattle.coap_conn.specs.LinkValue.{limit_in, link_after_reply}
+use Rattle.coap_conn.specs.LinkValue.{limit_in}
+use Rattle.coap_conn.specs.Calls.{link_after}
+use Rattle.coap_conn.specs.Calls as call
 use Rattle.coap_store.specs.Paths.{Path}
 use Rattle.coap_store.specs.Messages.{option_at, number_at, each_at}
 use Rattle.coap_serve.proofs.values.ResponseLemmas.{with_options, is_response}
@@ -34,5 +36,5 @@ returns g c =
     }) in
     record {
       reply = c.reply.ensures.reply ∙ ap (λ (m : Message). fit (limit_in c.args.link.now) m (bare_response m)) built;
-      after = c.reply.ensures.after ∙ ap (link_after_reply c.args.link.now) built;
+      after = c.reply.ensures.after ∙ ap (λ m. link_after c.args.link.now (call.Reply m)) built;
     }

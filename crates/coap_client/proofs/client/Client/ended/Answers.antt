@@ -2,7 +2,9 @@ use Rattle.std.proofs.Common.{ℕ, refl, ap, subst, sym, ◌∙◌}
 use Rattle.std.specs.Prelude.{[], nat_lt}
 use Rattle.coap_frame.specs.Framing.{FramerValue, IsFramer}
 use Rattle.coap_frame.proofs.FramingLemmas.{empty_framer}
-use Rattle.coap_conn.specs.LinkValue.{LinkValue, link_after_end}
+use Rattle.coap_conn.specs.LinkValue.{LinkValue}
+use Rattle.coap_conn.specs.Calls.{link_after}
+use Rattle.coap_conn.specs.Calls as call
 use Rattle.coap_client.specs.ClientValues.{client_ended}
 use Rattle.coap_client.proofs.ClientShown.{ended_shown}
 use Rattle.coap_client.proofs.TakingLemmas.{is_still, limits_end}
@@ -20,5 +22,5 @@ returns-clause-shows c =
     ended_shown c.args.self.now (record { frame = c.clear.new.self.kept; link = c.end.new.self })
     (ap (λ (f : FramerValue). record { frame = f.kept; link = c.end.new.self }) c.clear.ensures
     ∙ ap (λ (l : LinkValue). record { frame = []; link = l }) c.end.ensures.after
-    ∙ ap (λ (n : ℕ). record { frame = []; link = link_after_end c.self.inside.link (nat_lt 0 n) }) c.kept.ensures.kept
+    ∙ ap (λ (n : ℕ). record { frame = []; link = link_after c.self.inside.link (call.End (nat_lt 0 n)) }) c.kept.ensures.kept
     ∙ ap client_ended c.self.view_is)

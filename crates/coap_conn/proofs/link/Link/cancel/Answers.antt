@@ -5,7 +5,8 @@ use Rattle.coap_conn.specs.Outstanding.{AskedValue, with_cancelled}
 use Rattle.coap_conn.specs.Asking.{has_observation}
 use Rattle.coap_conn.specs.LinkValue.{LinkValue, asking_in}
 use Rattle.coap_conn.specs.LinkViews.{link_value}
-use Rattle.coap_conn.proofs.LinkLemmas.{cancel_shown}
+use Rattle.coap_conn.specs.Calls as call
+use Rattle.coap_conn.proofs.LinkLemmas.{shows}
 use Rattle.coap_conn.proofs.AskedLemmas.{cancel_size, cancel_after}
 use Rattle.coap_conn.proofs.link.Link.cancel.Goals as goal
 
@@ -31,4 +32,4 @@ returns-clause-after c =
     (returns-clause-answer c) c.with_token.ensures c.in_ok-queue_asked.ensures.after
 
 pub returns-clause-shows : goal.returns-clause-shows
-returns-clause-shows c = cancel_shown c.args.self.now _ c.args.token.now.items c.args.message.now (returns-clause-after c)
+returns-clause-shows c = shows c.args.self.now _ (call.Cancel c.args.token.now.items c.args.message.now) tt (returns-clause-after c)

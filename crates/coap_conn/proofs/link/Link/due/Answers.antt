@@ -1,8 +1,10 @@
 use Rattle.std.proofs.Common.{sym, ap, ◌∙◌}
 use Rattle.coap_conn.specs.Held.{Answer, Pong, PendingValue, due_told, first_due}
-use Rattle.coap_conn.specs.LinkValue.{LinkValue, link_after_due}
+use Rattle.coap_conn.specs.LinkValue.{LinkValue}
+use Rattle.coap_conn.specs.Calls.{link_after}
+use Rattle.coap_conn.specs.Calls as call
 use Rattle.coap_conn.specs.LinkViews.{link_value}
-use Rattle.coap_conn.proofs.LinkLemmas.{due_shown}
+use Rattle.coap_conn.proofs.LinkLemmas.{shows}
 use Rattle.coap_conn.proofs.PendingLemmas.{first_at_index, nothing_first, nothing_due, answer_due, pong_due, link_sent}
 use Rattle.coap_conn.proofs.link.Link.due.Goals as goal
 
@@ -16,10 +18,10 @@ returns-in_default-clause-due c =
 pub returns-in_default-clause-after : goal.returns-in_default-clause-after
 returns-in_default-clause-after c =
     sym c.self.view_is ∙ nothing_due (link_value c.self.inside) c.args.now (sym c.in_default.ensures.first)
-    ∙ ap (λ (v : LinkValue). link_after_due v c.args.now) c.self.view_is
+    ∙ ap (λ (v : LinkValue). link_after v (call.Due c.args.now)) c.self.view_is
 
 pub returns-in_default-clause-shows : goal.returns-in_default-clause-shows
-returns-in_default-clause-shows c = due_shown c.args.self.now _ c.args.now (returns-in_default-clause-after c)
+returns-in_default-clause-shows c = shows c.args.self.now _ (call.Due c.args.now) tt (returns-in_default-clause-after c)
 
 -- ---- an answer is due
 
@@ -32,10 +34,10 @@ pub returns-in-Answer-clause-after : goal.returns-in-Answer-clause-after
 returns-in-Answer-clause-after c =
     ap (λ (p : PendingValue). record (link_value c.self.inside) { held = p.held }) c.take.ensures.rest
     ∙ answer_due (link_value c.self.inside) c.args.now c.in-Some.index c.in-Answer.token.items c.in-Answer.moment (sym c.in-Some.ensures.first) c.in-Answer.ensures.taken
-    ∙ ap (λ (v : LinkValue). link_after_due v c.args.now) c.self.view_is
+    ∙ ap (λ (v : LinkValue). link_after v (call.Due c.args.now)) c.self.view_is
 
 pub returns-in-Answer-clause-shows : goal.returns-in-Answer-clause-shows
-returns-in-Answer-clause-shows c = due_shown c.args.self.now _ c.args.now (returns-in-Answer-clause-after c)
+returns-in-Answer-clause-shows c = shows c.args.self.now _ (call.Due c.args.now) tt (returns-in-Answer-clause-after c)
 
 -- ---- a Pong is due
 
@@ -49,7 +51,7 @@ returns-in-Pong-clause-after c =
     c.pong.ensures.after
     ∙ ap (λ (p : PendingValue). link_sent (record (link_value c.self.inside) { held = p.held }) c.in-Pong.token.items) c.take.ensures.rest
     ∙ pong_due (link_value c.self.inside) c.args.now c.in-Some.index c.in-Pong.token.items (sym c.in-Some.ensures.first) c.in-Pong.ensures.taken
-    ∙ ap (λ (v : LinkValue). link_after_due v c.args.now) c.self.view_is
+    ∙ ap (λ (v : LinkValue). link_after v (call.Due c.args.now)) c.self.view_is
 
 pub returns-in-Pong-clause-shows : goal.returns-in-Pong-clause-shows
-returns-in-Pong-clause-shows c = due_shown c.args.self.now _ c.args.now (returns-in-Pong-clause-after c)
+returns-in-Pong-clause-shows c = shows c.args.self.now _ (call.Due c.args.now) tt (returns-in-Pong-clause-after c)

@@ -2,7 +2,8 @@ use Rattle.std.proofs.Common.{sym, ap, subst, ◌∙◌}
 use Rattle.coap_conn.specs.Reaction.{Reaction}
 use Rattle.coap_conn.specs.LinkValue.{LinkValue, IsReady, standing_in}
 use Rattle.coap_conn.specs.Phases.{IsAnswering}
-use Rattle.coap_conn.proofs.LinkLemmas.{message_shown}
+use Rattle.coap_conn.specs.Calls as call
+use Rattle.coap_conn.proofs.LinkLemmas.{shows}
 use Rattle.coap_conn.proofs.RequestLemmas.{react_live, handled_is, request_stays, request_answering}
 use Rattle.coap_conn.proofs.link.Link.on.Goals as goal
 
@@ -13,7 +14,7 @@ pub returns-clause-after : goal.returns-clause-after
 returns-clause-after c = c.handle.ensures.after ∙ sym (handled_is c.args.self.now c.args.message.now c.requires.live)
 
 pub returns-clause-shows : goal.returns-clause-shows
-returns-clause-shows c = message_shown c.args.self.now _ c.args.message.now (c.handle.ensures.after ∙ sym (handled_is c.args.self.now c.args.message.now c.requires.live))
+returns-clause-shows c = shows c.args.self.now _ (call.Handle c.args.message.now) tt (c.handle.ensures.after ∙ sym (handled_is c.args.self.now c.args.message.now c.requires.live))
 
 pub returns-clause-unchanged : goal.returns-clause-unchanged
 returns-clause-unchanged c = λ asked.

@@ -3,7 +3,8 @@ use Rattle.std.proofs.lemmas.Result.{err_from_is_err_and}
 use Rattle.coap_conn.specs.Outstanding.{Ping}
 use Rattle.coap_conn.specs.Asking.{next_token, ping_with}
 use Rattle.coap_conn.specs.LinkValue.{LinkValue, asking_in}
-use Rattle.coap_conn.proofs.LinkLemmas.{ping_shown}
+use Rattle.coap_conn.specs.Calls as call
+use Rattle.coap_conn.proofs.LinkLemmas.{shows}
 use Rattle.coap_conn.proofs.AskedLemmas.{new_room, new_number, refused_new, refused_size, asked_after}
 use Rattle.coap_conn.proofs.link.Link.ping.Goals as goal
 
@@ -44,4 +45,4 @@ returns-clause-after c =
     (returns-clause-answer c) same (ap Ping (c.copy_of.ensures ∙ c.in_ok-token.ensures.token)) c.in_ok-queue_asked.ensures.after c.enter.ensures
 
 pub returns-clause-shows : goal.returns-clause-shows
-returns-clause-shows c = ping_shown c.args.self.now c.enter.new.self c.args.custody (returns-clause-after c)
+returns-clause-shows c = shows c.args.self.now c.enter.new.self (call.Ping c.args.custody) tt (returns-clause-after c)

@@ -4,7 +4,8 @@ use Rattle.coap_conn.specs.Outstanding as value
 use Rattle.coap_conn.specs.OutstandingViews.{outstanding_value}
 use Rattle.coap_conn.specs.Asking.{next_token, with_token, entry_of}
 use Rattle.coap_conn.specs.LinkValue.{LinkValue, asking_in}
-use Rattle.coap_conn.proofs.LinkLemmas.{request_shown}
+use Rattle.coap_conn.specs.Calls as call
+use Rattle.coap_conn.proofs.LinkLemmas.{shows}
 use Rattle.coap_conn.proofs.AskedLemmas.{new_room, new_number, refused_new, refused_size, asked_after}
 use Rattle.coap_conn.proofs.link.Link.request.Goals as goal
 use Rattle.coap_conn.proofs.link.Link.request.Goals.{then-observe, else-observe}
@@ -57,4 +58,4 @@ returns-clause-after c =
     (returns-clause-answer c) same entered c.in_ok-queue_asked.ensures.after c.enter.ensures
 
 pub returns-clause-shows : goal.returns-clause-shows
-returns-clause-shows c = request_shown c.args.self.now c.enter.new.self c.args.message.now c.args.observe (returns-clause-after c)
+returns-clause-shows c = shows c.args.self.now c.enter.new.self (call.Request c.args.message.now c.args.observe) tt (returns-clause-after c)

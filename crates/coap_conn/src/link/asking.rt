@@ -1,0 +1,193 @@
+//! What a link asks.
+
+ghost use Rattle.coap_wire.specs.Uint.{bytes_of_uint};
+ghost use Rattle.std.specs.Prelude.{◌≡◌, ◌<◌, ◌+◌, ◌++◌, ◌∷◌, [], length, IfOk, OnOk, OnErr};
+ghost use Rattle.coap_wire.specs.Spelling.{spelling};
+ghost use Rattle.coap_wire.specs.Refusal.{RefusedBy};
+ghost use Rattle.coap_conn.specs.History.{History, after, LinkShows};
+ghost use Rattle.coap_conn.specs.LinkValue.{bytes_of, asking_in};
+ghost use Rattle.coap_conn.specs.Asking.{asking_refusal, cancel_refusal, observation_refusal, new_refusal, size_refusal, next_token, with_token, ping_with};
+ghost use Rattle.coap_conn.specs.OutstandingViews.{outstanding_value};
+ghost use Rattle.coap_conn.specs.Calls.{link_after};
+ghost use Rattle.coap_conn.specs.Calls as call;
+
+use super::Link;
+use crate::asked::Outstanding;
+use crate::messages::ping_to;
+use crate::phase::{Phase, RequestFault};
+use coap_wire::{Builder, MessageBuilder, Token, copy_of, uint_bytes};
+
+impl Link {
+    /// Sends a request under a new token, in place of the one that it has, and answers that token. The request is outstanding until a
+    /// response with this token ends it; with `observe` a notification does not (RFC 7252 section 5.3.1, RFC 7641 section 3.1).
+    ///
+    /// # Errors
+    ///
+    /// In this order: `NotOpen` where the connection is not open, `TooMany` where as many are outstanding as may be, `TokensSpent`
+    /// where every token was given, `TooBig` where the message is greater than what may be sent, `NoRoom` where fewer bytes are
+    /// free. Nothing has changed then.
+    pub fn request(&mut self, message: &Builder, observe: bool) -> Result<Token, RequestFault>
+        ensures answer { RefusedBy result (asking_refusal (asking_in self.old) (with_token message.now (next_token self.old.tokens))) }
+        ensures token { IfOk result (λ t. t.items ≡ next_token self.old.tokens) }
+        ensures after { OnOk result (self.new ≡ link_after self.old (call.Request message.now observe)) }
+        ensures shows { OnOk result ((h : History) → LinkShows self.old h → LinkShows self.new (after h (call.Request message.now observe))) }
+        ensures err { OnErr result (self.new ≡ self.old) }
+    {
+        let token = self.next_token()?;
+        self.queue_asked(&message.with_token(&token))?;
+        self.enter(if observe {
+            Outstanding::Observation {
+                token: copy_of(&token),
+                cancelled: false,
+            }
+        } else {
+            Outstanding::Request(copy_of(&token))
+        });
+        Ok(token)
+    }
+
+    /// Sends a message under the token of an observation, in place of the one that it has, and the observation counts as cancelled. It
+    /// stays outstanding until a response ends it (RFC 7641 section 3.6).
+    ///
+    /// # Errors
+    ///
+    /// In this order: `NotOpen` where the connection is not open, `NoSuchToken` where no observation with this token is outstanding
+    /// or it was cancelled, `TooBig` where the message is greater than what may be sent, `NoRoom` where fewer bytes are free.
+    /// Nothing has changed then.
+    #[tactic(auto, unfolding(crate::specs::Asking::cancel_refusal))]
+    pub fn cancel(&mut self, token: &Token, message: &Builder) -> Result<(), RequestFault>
+        ensures answer { RefusedBy result (cancel_refusal (asking_in self.old) token.now.items (with_token message.now token.now.items)) }
+        ensures after { OnOk result (self.new ≡ link_after self.old (call.Cancel token.now.items message.now)) }
+        ensures shows { OnOk result ((h : History) → LinkShows self.old h → LinkShows self.new (after h (call.Cancel token.now.items message.now))) }
+        ensures err { OnErr result (self.new ≡ self.old) }
+    {
+        let Phase::Open = self.phase else {
+            return Err(RequestFault::NotOpen);
+        };
+        if !self.asked.may_cancel(token) {
+            return Err(RequestFault::NoSuchToken);
+        }
+        self.queue_asked(&message.with_token(token))?;
+        self.asked.cancel(token);
+        Ok(())
+    }
+
+    /// Sends a Ping under a new token, with Custody or not, and answers that token (RFC 8323 section 5.4). The Ping is outstanding until
+    /// its Pong comes.
+    ///
+    /// # Errors
+    ///
+    /// As `request`. Nothing has changed then.
+    pub fn ping(&mut self, custody: bool) -> Result<Token, RequestFault>
+        ensures answer { RefusedBy result (asking_refusal (asking_in self.old) (ping_with custody (next_token self.old.tokens))) }
+        ensures token { IfOk result (λ t. t.items ≡ next_token self.old.tokens) }
+        ensures after { OnOk result (self.new ≡ link_after self.old (call.Ping custody)) }
+        ensures shows { OnOk result ((h : History) → LinkShows self.old h → LinkShows self.new (after h (call.Ping custody))) }
+        ensures err { OnErr result (self.new ≡ self.old) }
+    {
+        let token = self.next_token()?;
+        self.queue_asked(&ping_to(&token, custody))?;
+        self.enter(Outstanding::Ping(copy_of(&token)));
+        Ok(token)
+    }
+
+    /// Whether a request may be sent now, whatever its size.
+    ///
+    /// # Errors
+    ///
+    /// In this order: `NotOpen` where the connection is not open, `TooMany` where as many are outstanding as may be, `TokensSpent`
+    /// where every token was given.
+    pub fn may_ask(&self) -> Result<(), RequestFault>
+        ensures { RefusedBy result (new_refusal (asking_in self.now)) }
+    {
+        self.next_token()?;
+        Ok(())
+    }
+
+    /// Whether the observation with this token may be cancelled now, whatever the size of the message.
+    ///
+    /// # Errors
+    ///
+    /// In this order: `NotOpen` where the connection is not open, `NoSuchToken` where no observation with this token is outstanding
+    /// or it was cancelled.
+    #[tactic(auto, unfolding(crate::specs::Asking::observation_refusal))]
+    pub fn may_cancel(&self, token: &Token) -> Result<(), RequestFault>
+        ensures { RefusedBy result (observation_refusal (asking_in self.now) token.now.items) }
+    {
+        let Phase::Open = self.phase else {
+            return Err(RequestFault::NotOpen);
+        };
+        if !self.asked.may_cancel(token) {
+            return Err(RequestFault::NoSuchToken);
+        }
+        Ok(())
+    }
+
+    /// The token behind the last one that was given.
+    ///
+    /// # Errors
+    ///
+    /// In this order: `NotOpen`, `TooMany`, `TokensSpent`.
+    #[tactic(auto, unfolding(crate::specs::Asking::new_refusal))]
+    fn next_token(&self) -> Result<Token, RequestFault>
+        ensures answer { RefusedBy result (new_refusal (asking_in self.now)) }
+        ensures token { IfOk result (λ t. t.items ≡ next_token self.now.tokens) }
+    {
+        let Phase::Open = self.phase else {
+            return Err(RequestFault::NotOpen);
+        };
+        if self.asked.is_full() {
+            return Err(RequestFault::TooMany);
+        }
+        if self.tokens == u64::MAX {
+            return Err(RequestFault::TokensSpent);
+        }
+        Ok(token_numbered(self.tokens + 1))
+    }
+
+    /// Queues a message that asks something.
+    ///
+    /// # Errors
+    ///
+    /// In this order: `TooBig` where it is greater than what may be sent, `NoRoom` where fewer bytes are free. Nothing has changed
+    /// then.
+    fn queue_asked<const N: usize>(
+        &mut self,
+        message: &MessageBuilder<N>,
+    ) -> Result<(), RequestFault>
+        ensures answer { RefusedBy result (size_refusal (asking_in self.old) (length (spelling message.now))) }
+        ensures after { OnOk result (self.new ≡ record self.old { waiting = self.old.waiting ++ bytes_of (message.now ∷ []) }) }
+        ensures err { OnErr result (self.new ≡ self.old) }
+    {
+        let size = message.size();
+        if size > self.limit() as u64 {
+            return Err(RequestFault::TooBig);
+        }
+        if size > self.queue.free() as u64 {
+            return Err(RequestFault::NoRoom);
+        }
+        self.queue.put(message);
+        Ok(())
+    }
+
+    /// This is outstanding, under the token behind the last one that was given.
+    fn enter(&mut self, one: Outstanding)
+        requires room { length self.old.outstanding < self.old.limits.outstanding }
+        requires token { self.old.tokens < 18446744073709551615 }
+        ensures { self.new ≡ record self.old { outstanding = self.old.outstanding ++ outstanding_value one ∷ []; tokens = self.old.tokens + 1 } }
+    {
+        self.asked.enter(one);
+        self.tokens += 1;
+    }
+}
+
+/// The token of a number: its bytes, as few as possible.
+fn token_numbered(number: u64) -> Token
+    ensures { result.items ≡ bytes_of_uint number }
+{
+    let bytes = uint_bytes(number);
+    let Ok(token) = Token::try_from(bytes.as_slice()) else {
+        unreachable!()
+    };
+    token
+}

@@ -1,0 +1,253 @@
+//! What a link hears: messages, bytes that have a fault, and the end of input.
+
+ghost use Rattle.std.specs.Prelude.{◌≡◌, if◌then◌else◌};
+ghost use Rattle.coap_conn.specs.Announced.{bad_csm_option};
+ghost use Rattle.coap_conn.specs.Phases.{IsLive, IsAnswering, is_waiting as waits};
+ghost use Rattle.coap_conn.specs.Reaction.{is_reserved as reserved, minds_critical_options as minds_critical, react, csm_reaction, live_reaction, open_reaction, ping_reaction, request_reaction, release_reaction, response_reaction, pong_reaction};
+ghost use Rattle.coap_conn.specs.Verdicts as verdict;
+ghost use Rattle.coap_conn.specs.declared.phase.Phase.TheVariants as phase;
+ghost use Rattle.coap_conn.specs.declared.phase.Role.TheVariants as role;
+ghost use Rattle.coap_conn.specs.History.{History, after, LinkShows};
+ghost use Rattle.coap_conn.specs.LinkValue.{IsReady, standing_in, link_with, link_handled, link_after_csm};
+ghost use Rattle.coap_conn.specs.Calls.{link_after};
+ghost use Rattle.coap_conn.specs.Calls as call;
+ghost use Rattle.coap_conn.specs.LinkViews.{verdict_value};
+
+use super::Link;
+use crate::csm::{announced_size, asks_custody, has_critical_option};
+use crate::messages::bare_of;
+use crate::pending::Held;
+use crate::phase::{Phase, Reject, Role, Verdict};
+use crate::reason::Reason;
+use coap_wire::{Code, MessageBuilder, MessageRef, copy_of};
+
+impl Link {
+    /// Handles a message (RFC 8323 sections 3.3, 3.4 and 5). There must be room for the greatest message sent, and the
+    /// connection must take messages. Where it is a request, the caller answers it by `reply` or holds its answer by `hold`
+    /// before it hands over the next message.
+    pub fn on(&mut self, message: &MessageRef) -> Verdict
+        requires ready { IsReady self.old }
+        requires live { IsLive self.old.phase }
+        ensures verdict { verdict_value result ≡ (react (standing_in self.old) message.now).verdict }
+        ensures after { self.new ≡ link_after self.old (call.Handle message.now) }
+        ensures shows { (h : History) → LinkShows self.old h → LinkShows self.new (after h (call.Handle message.now)) }
+        // A request changes nothing, and can be answered at once.
+        ensures unchanged { verdict_value result ≡ verdict.Request → self.new ≡ self.old }
+        ensures asked { verdict_value result ≡ verdict.Request → IsReady self.new × IsAnswering self.new.phase }
+    {
+        self.handle(message)
+    }
+
+    /// Stops on bytes that have a fault, with the Abort for it. The conditions are those of `on`.
+    pub fn reject(&mut self, fault: Reject)
+        requires ready { IsReady self.old }
+        requires live { IsLive self.old.phase }
+        ensures after { self.new ≡ link_after self.old (call.Reject fault) }
+        ensures shows { (h : History) → LinkShows self.old h → LinkShows self.new (after h (call.Reject fault)) }
+    {
+        self.abort(Reason::from(fault));
+    }
+
+    /// Stops as the input ends, within a frame where it was cut. Nothing changes where no message is taken any more.
+    pub fn end(&mut self, cut: bool)
+        ensures after { self.new ≡ link_after self.old (call.End cut) }
+        ensures shows { (h : History) → LinkShows self.old h → LinkShows self.new (after h (call.End cut)) }
+    {
+        if self.phase.stop().is_none() {
+            self.stop(if cut { Reason::Cut } else { Reason::Ended });
+        }
+    }
+
+    /// Handles a message that is taken.
+    #[tactic(auto, unfolding(crate::specs::Reaction::live_reaction))]
+    fn handle(&mut self, message: &MessageRef) -> Verdict
+        requires { IsReady self.old }
+        ensures verdict { verdict_value result ≡ (live_reaction (standing_in self.old) message.now).verdict }
+        ensures after { self.new ≡ link_handled self.old message.now }
+    {
+        let code = message.code();
+        if code == Code::CSM {
+            return self.on_csm(message);
+        }
+        if is_reserved(code) {
+            return self.abort(Reason::ReservedCode);
+        }
+        if code == Code::EMPTY {
+            return Verdict::Done;
+        }
+        if code == Code::ABORT {
+            return self.abort(Reason::PeerAbort);
+        }
+        if is_waiting(self.phase) {
+            return self.abort(Reason::CsmExpected);
+        }
+        self.on_open(message)
+    }
+
+    /// Handles Capabilities and Settings (RFC 8323 section 5.3).
+    fn on_csm(&mut self, message: &MessageRef) -> Verdict
+        requires { IsReady self.old }
+        ensures verdict { verdict_value result ≡ (csm_reaction (standing_in self.old) (bad_csm_option message.now)).verdict }
+        ensures after { self.new ≡ link_after_csm self.old message.now }
+    {
+        match announced_size(message) {
+            Err(number) => self.abort(Reason::BadCsm(number)),
+            Ok(size) => {
+                if let Some(bytes) = size {
+                    self.peer_max = bytes;
+                }
+                self.open_now()
+            }
+        }
+    }
+
+    /// The connection is open.
+    fn open_now(&mut self) -> Verdict
+        ensures verdict { verdict_value result ≡ (if waits self.old.phase then verdict.Opened else verdict.Done) }
+        ensures after { self.new ≡ record self.old { phase = phase.Open } }
+    {
+        let was_waiting = is_waiting(self.phase);
+        self.phase = Phase::Open;
+        if was_waiting {
+            Verdict::Opened
+        } else {
+            Verdict::Done
+        }
+    }
+
+    /// Handles any other message on an open connection.
+    fn on_open(&mut self, message: &MessageRef) -> Verdict
+        requires { IsReady self.old }
+        ensures verdict { verdict_value result ≡ (open_reaction (standing_in self.old) message.now).verdict }
+        ensures after { self.new ≡ link_with self.old (open_reaction (standing_in self.old) message.now).effect }
+    {
+        let code = message.code();
+        if minds_critical_options(code) && has_critical_option(message) {
+            return self.abort(Reason::BadSignalOption);
+        }
+        if code == Code::PING {
+            return self.on_ping(message);
+        }
+        if code == Code::RELEASE {
+            return self.on_release();
+        }
+        if code == Code::PONG {
+            return self.on_pong(message);
+        }
+        match code.class() {
+            7 => Verdict::Done,
+            0 => self.on_request(message),
+            _ => self.on_response(message),
+        }
+    }
+
+    /// Answers a Ping, or holds its Pong, where it asks for Custody and something is held.
+    fn on_ping(&mut self, message: &MessageRef) -> Verdict
+        requires { IsReady self.old }
+        ensures verdict { verdict_value result ≡ (ping_reaction (standing_in self.old) message.now).verdict }
+        ensures after { self.new ≡ link_with self.old (ping_reaction (standing_in self.old) message.now).effect }
+    {
+        let custody = asks_custody(message);
+        if !custody || self.pending.is_empty() {
+            return self.pong(message.token(), custody);
+        }
+        if self.pending.is_full() {
+            return self.pong(message.token(), false);
+        }
+        self.pending.hold(Held::Pong(copy_of(message.token())));
+        Verdict::Done
+    }
+
+    /// Handles a Pong: the Ping with its token ends (RFC 8323 section 5.4).
+    fn on_pong(&mut self, message: &MessageRef) -> Verdict
+        ensures verdict { verdict_value result ≡ (pong_reaction (standing_in self.old) message.now).verdict }
+        ensures after { self.new ≡ link_with self.old (pong_reaction (standing_in self.old) message.now).effect }
+    {
+        if !self.asked.has_ping(message.token()) {
+            return Verdict::Stranger;
+        }
+        self.asked.forget_pinged(message.token());
+        Verdict::Pong {
+            token: copy_of(message.token()),
+            custody: asks_custody(message),
+        }
+    }
+
+    /// The peer releases the connection: what is outstanding is answered no more (RFC 8323 section 5.5).
+    fn on_release(&mut self) -> Verdict
+        ensures verdict { verdict_value result ≡ (release_reaction (standing_in self.old)).verdict }
+        ensures after { self.new ≡ link_with self.old (release_reaction (standing_in self.old)).effect }
+    {
+        self.phase = Phase::Releasing(Reason::PeerRelease);
+        self.asked.clear();
+        Verdict::Stopped(Reason::PeerRelease)
+    }
+
+    /// Handles a response: the request or observation with its token ends by the last one (RFC 7252 section 5.3.2, RFC 7641 section
+    /// 4.2).
+    fn on_response(&mut self, message: &MessageRef) -> Verdict
+        ensures verdict { verdict_value result ≡ (response_reaction (standing_in self.old) message.now).verdict }
+        ensures after { self.new ≡ link_with self.old (response_reaction (standing_in self.old) message.now).effect }
+    {
+        let Some(last) = self.asked.is_last(message) else {
+            return Verdict::Stranger;
+        };
+        if last {
+            self.asked.forget_asked(message.token());
+        }
+        Verdict::Answer {
+            token: copy_of(message.token()),
+            last,
+        }
+    }
+
+    /// Handles a request: the caller answers it at the server, and at the client it is not implemented.
+    fn on_request(&mut self, message: &MessageRef) -> Verdict
+        requires { IsReady self.old }
+        ensures verdict { verdict_value result ≡ (request_reaction (standing_in self.old) message.now self.old.role).verdict }
+        ensures after { self.new ≡ link_with self.old (request_reaction (standing_in self.old) message.now self.old.role).effect }
+    {
+        match self.role {
+            Role::Server => Verdict::Request,
+            Role::Client => self.refuse(message),
+        }
+    }
+
+    /// Answers a request that is not implemented. (Apart from `on_request`, since a function clears all its locals.)
+    fn refuse(&mut self, message: &MessageRef) -> Verdict
+        requires { IsReady self.old }
+        ensures verdict { verdict_value result ≡ (request_reaction (standing_in self.old) message.now role.Client).verdict }
+        ensures after { self.new ≡ link_with self.old (request_reaction (standing_in self.old) message.now role.Client).effect }
+    {
+        let response: MessageBuilder<0> = MessageBuilder::new(
+            Code::NOT_IMPLEMENTED,
+            message.token(),
+        );
+        let bare = bare_of(&response);
+        self.answer(&response, &bare)
+    }
+}
+
+/// Whether a code has the reserved class 1 or 6 (RFC 7252 section 12.1).
+fn is_reserved(code: Code) -> bool
+    ensures { result ≡ reserved code }
+{
+    code.class() == 1 || code.class() == 6
+}
+
+/// Whether a message with this code must have no critical option: Ping, Pong and Release.
+fn minds_critical_options(code: Code) -> bool
+    ensures { result ≡ minds_critical code }
+{
+    code == Code::PING || code == Code::PONG || code == Code::RELEASE
+}
+
+/// Whether the peer's Capabilities and Settings have not come.
+fn is_waiting(phase: Phase) -> bool
+    ensures { result ≡ waits phase }
+{
+    match phase {
+        Phase::Waiting => true,
+        Phase::Open | Phase::Releasing(_) | Phase::Stopped(_) => false,
+    }
+}

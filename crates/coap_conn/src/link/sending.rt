@@ -1,0 +1,176 @@
+//! What a link sends, as it fits the peer, and how it stops.
+
+ghost use Rattle.std.specs.Prelude.{◌≡◌, ◌++◌, false, [], OnOk, OnErr};
+ghost use Rattle.coap_wire.specs.Refusal.{RefusedBy};
+ghost use Rattle.coap_conn.specs.Fit.{fit, fitted, bare_response};
+ghost use Rattle.coap_conn.specs.Phases.{IsAnswering};
+ghost use Rattle.coap_conn.specs.Reaction.{stop, abort, send, told_of, pong_with, sends};
+ghost use Rattle.coap_conn.specs.Verdicts as verdict;
+ghost use Rattle.coap_conn.specs.History.{History, after, LinkShows};
+ghost use Rattle.coap_conn.specs.LinkValue.{bytes_of, IsReady, limit_in, standing_in, link_with};
+ghost use Rattle.coap_conn.specs.Calls.{link_after};
+ghost use Rattle.coap_conn.specs.Calls as call;
+ghost use Rattle.coap_conn.specs.LinkViews.{verdict_value};
+ghost use Rattle.coap_conn.specs.Release.{release_refusal};
+
+use super::Link;
+use crate::messages::{abort_text, abort_with, bad_csm_number, bare_of, pong_to, queue_release};
+use crate::phase::{Phase, Reply, SendFault, Verdict};
+use crate::reason::Reason;
+use coap_wire::{Code, MessageBuilder, Token, uint_bytes};
+
+/// The bytes of Release.
+const RELEASE_SIZE: usize = 2;
+
+impl Link {
+    /// Sends a response as it fits the peer: whole, or else its bare code and token, where a code other than 2.01, 2.02 and
+    /// 2.04 becomes 5.00, or else the connection stops. There must be room for the greatest message sent, and the connection
+    /// must be open or releasing.
+    pub fn reply<const N: usize>(&mut self, response: &MessageBuilder<N>) -> Reply
+        requires ready { IsReady self.old }
+        requires answering { IsAnswering self.old.phase }
+        ensures reply { result ≡ fit (limit_in self.old) response.now (bare_response response.now) }
+        ensures after { self.new ≡ link_after self.old (call.Reply response.now) }
+        ensures shows { (h : History) → LinkShows self.old h → LinkShows self.new (after h (call.Reply response.now)) }
+    {
+        if response.size() <= self.limit() as u64 {
+            self.queue.put(response);
+            return Reply::Whole;
+        }
+        self.reply_bare(response)
+    }
+
+    /// Sends Release and stops (RFC 8323 section 5.5). What is held is given up.
+    ///
+    /// # Errors
+    ///
+    /// In this order: `NotOpen` where the connection is not open, `NoRoom` where fewer than 2 bytes are free, `PeerTooSmall`
+    /// where less than 2 bytes may be sent. Nothing has changed then.
+    pub fn release(&mut self) -> Result<(), SendFault>
+        ensures answer { RefusedBy result (release_refusal self.old) }
+        ensures after { OnOk result (self.new ≡ link_after self.old call.Release) }
+        ensures shows { OnOk result ((h : History) → LinkShows self.old h → LinkShows self.new (after h call.Release)) }
+        ensures err { OnErr result (self.new ≡ self.old) }
+    {
+        let Phase::Open = self.phase else {
+            return Err(SendFault::NotOpen);
+        };
+        if self.queue.free() < RELEASE_SIZE {
+            return Err(SendFault::NoRoom);
+        }
+        if self.limit() < RELEASE_SIZE {
+            return Err(SendFault::PeerTooSmall);
+        }
+        queue_release(&mut self.queue);
+        self.stop(Reason::ReleasedHere);
+        Ok(())
+    }
+
+    /// Queues a message as it fits the peer, or less in its place, or neither.
+    fn queue_fitted<const N: usize, const M: usize>(
+        &mut self,
+        whole: &MessageBuilder<N>,
+        less: &MessageBuilder<M>,
+    ) -> Reply
+        requires { IsReady self.old }
+        ensures reply { result ≡ fit (limit_in self.old) whole.now less.now }
+        ensures after { self.new ≡ record self.old { waiting = self.old.waiting ++ bytes_of (fitted whole.now less.now result) } }
+    {
+        let limit = self.limit() as u64;
+        if whole.size() <= limit {
+            self.queue.put(whole);
+            return Reply::Whole;
+        }
+        if less.size() <= limit {
+            self.queue.put(less);
+            return Reply::Bare;
+        }
+        Reply::Stopped
+    }
+
+    /// Sends a message as it fits the peer, or less in its place, or stops.
+    fn send<const N: usize, const M: usize>(
+        &mut self,
+        whole: &MessageBuilder<N>,
+        less: &MessageBuilder<M>,
+    ) -> Reply
+        requires { IsReady self.old }
+        ensures reply { result ≡ fit (limit_in self.old) whole.now less.now }
+        ensures after { self.new ≡ link_with self.old (send (standing_in self.old) whole.now less.now) }
+    {
+        let reply = self.queue_fitted(whole, less);
+        match reply {
+            Reply::Whole => {}
+            Reply::Bare => {}
+            Reply::Stopped => {
+                self.stop(Reason::PeerTooSmall);
+            }
+        }
+        reply
+    }
+
+    /// Sends a response as it fits the peer, or a bare one in its place. (Apart from `reply`, since a function clears all its locals.)
+    fn reply_bare<const N: usize>(&mut self, response: &MessageBuilder<N>) -> Reply
+        requires { IsReady self.old }
+        ensures reply { result ≡ fit (limit_in self.old) response.now (bare_response response.now) }
+        ensures after { self.new ≡ link_with self.old (send (standing_in self.old) response.now (bare_response response.now)) }
+    {
+        let bare = bare_of(response);
+        self.send(response, &bare)
+    }
+
+    /// Sends the answer to a message.
+    pub(super) fn answer<const N: usize, const M: usize>(
+        &mut self,
+        whole: &MessageBuilder<N>,
+        less: &MessageBuilder<M>,
+    ) -> Verdict
+        requires { IsReady self.old }
+        ensures verdict { verdict_value result ≡ told_of (fit (limit_in self.old) whole.now less.now) }
+        ensures after { self.new ≡ link_with self.old (send (standing_in self.old) whole.now less.now) }
+    {
+        match self.send(whole, less) {
+            Reply::Whole => Verdict::Done,
+            Reply::Bare => Verdict::Done,
+            Reply::Stopped => Verdict::Stopped(Reason::PeerTooSmall),
+        }
+    }
+
+    /// Sends a Pong to the Ping with this token, with Custody or not. (Apart from its callers, since a function clears all its locals.)
+    pub(super) fn pong(&mut self, token: &Token, custody: bool) -> Verdict
+        requires { IsReady self.old }
+        ensures verdict { verdict_value result ≡ (sends (standing_in self.old) (pong_with custody token.now.items) (pong_with false token.now.items)).verdict }
+        ensures after { self.new ≡ link_with self.old (sends (standing_in self.old) (pong_with custody token.now.items) (pong_with false token.now.items)).effect }
+    {
+        let pong = pong_to(token, custody);
+        let plain: MessageBuilder<0> = MessageBuilder::new(Code::PONG, token);
+        self.answer(&pong, &plain)
+    }
+
+    /// The one way to stop, behind what was queued for it. Whatever is held or outstanding is given up.
+    pub(super) fn stop(&mut self, reason: Reason) -> Verdict
+        ensures verdict { verdict_value result ≡ verdict.Stopped reason }
+        ensures after { self.new ≡ link_with self.old (stop (standing_in self.old) reason []) }
+    {
+        self.phase = Phase::Stopped(reason);
+        self.pending.clear();
+        self.asked.clear();
+        Verdict::Stopped(reason)
+    }
+
+    /// Stops with the Abort for the reason, where there is one, as it fits the peer.
+    pub(super) fn abort(&mut self, reason: Reason) -> Verdict
+        requires { IsReady self.old }
+        ensures verdict { verdict_value result ≡ verdict.Stopped reason }
+        ensures after { self.new ≡ link_with self.old (abort (standing_in self.old) reason) }
+    {
+        if let Some(text) = abort_text(reason) {
+            let number = bad_csm_number(reason);
+            let bytes = uint_bytes(number.unwrap_or(0) as u64);
+            let whole = abort_with(number, &bytes, text);
+            let less = abort_with(number, &bytes, &[]);
+            self.queue_fitted(&whole, &less);
+        }
+        self.stop(reason)
+    }
+}
