@@ -1,5 +1,5 @@
 -- What holds of an answer that is held, and of one that cannot be.
-use Rattle.std.proofs.Common.{◌≡◌, ◌≢◌, ℕ, ◌≤◌, Bool, true, false, List, [], length, Option, Some, None, refl, ap, subst, arith}
+use Rattle.std.proofs.Common.{◌≡◌, ◌≢◌, ℕ, ◌≤◌, Bool, true, false, List, Option, Some, None, refl, ap, subst, arith}
 use Rattle.std.proofs.lemmas.Bool.{and_parts, leb-true}
 use Rattle.coap_wire.specs.Message.{Message}
 use Rattle.coap_wire.specs.Codes as code
@@ -9,7 +9,6 @@ use Rattle.coap_store.specs.Store.{Representation, StoreValue}
 use Rattle.coap_store.specs.State.{is_async, place_of, state_at, target_of}
 use Rattle.coap_store.specs.Requests.{is_get, path_of, value_of, digits_mean, is_seconds, is_good_query, seconds_of}
 use Rattle.coap_store.specs.Answer.{Answer, Nothing, only, content, late, held_response, asks_late, stored_under, answer_at, removes_watch, finally, answer_of, unheld_by, unheld, prompt_answer}
-use Rattle.coap_store.specs.Changes.{changes}
 use Rattle.coap_store.specs.declared.place.Place.{Place}
 use Rattle.coap_store.specs.declared.place.Place.TheVariants.{Root, Time, Async, Listing, Dynamic}
 use Rattle.coap_store.specs.declared.plan.Watch.TheVariants.{Add}
@@ -114,17 +113,3 @@ unfolding prompt_answer
 same_at_once s now m e = unheld_prompt (answer_of s now m) e
 
 -- it is no longer than the answer was, and a change has no payload beside it where it had none
-
-short_by : (hold : Option ℕ) (a : Answer) → length a.response.payload ≤ 1048576 → length (unheld_by hold a).response.payload ≤ 1048576
-short_by None a short = short
-short_by (Some seconds) a short = omega arith
-
-pub unheld_short : (a : Answer) → length a.response.payload ≤ 1048576 → length (unheld a).response.payload ≤ 1048576
-unheld_short a short = short_by a.hold a short
-
-bare_by : (hold : Option ℕ) (a : Answer) → (changes a.change ≡ true → a.response.payload ≡ []) → changes (unheld_by hold a).change ≡ true → (unheld_by hold a).response.payload ≡ []
-bare_by None a bare e = bare e
-bare_by (Some seconds) a bare e = refl
-
-pub unheld_bare : (a : Answer) → (changes a.change ≡ true → a.response.payload ≡ []) → changes (unheld a).change ≡ true → (unheld a).response.payload ≡ []
-unheld_bare a bare e = bare_by a.hold a bare e

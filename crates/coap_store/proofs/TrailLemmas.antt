@@ -34,10 +34,6 @@ and_false : (b : Bool) → (b && false) ≡ false
 and_false true = refl
 and_false false = refl
 
-and_true : (b : Bool) → (b && true) ≡ b
-and_true true = refl
-and_true false = refl
-
 -- the trail of a first segment, by the answers of its tests
 abbrev begun : Bool → Bool → Bool → Trail
 begun time async well_known = if time then Time else (if async then Async else (if well_known then WellKnown else Elsewhere))

@@ -1,5 +1,5 @@
 -- The segments of a request's path, one after the other.
-use Rattle.std.proofs.Common.{◌≡◌, Bool, true, false, cond, List, ◌∷◌, map, filter, ap, ◌∙◌, eq-eqb, ne_eqb}
+use Rattle.std.proofs.Common.{◌≡◌, Bool, false, cond, List, ◌∷◌, map, filter, ap, ◌∙◌, ne_eqb}
 use Rattle.coap_wire.specs.Message.{CoapOption}
 use Rattle.coap_wire.specs.OptionNumbers as numbers
 use Rattle.coap_store.specs.UriPaths.{segments_told}
@@ -11,9 +11,6 @@ told_from : (here : Bool) (o : CoapOption) (os all : List CoapOption) → all �
 told_from here o os all is test =
     ap segments_told is
     ∙ ap (λ (b : Bool). map (λ (o : CoapOption). o.value) (cond b (o ∷ filter (has_number numbers.uri_path) os) (filter (has_number numbers.uri_path) os))) test
-
-pub segment_told : (o : CoapOption) (os all : List CoapOption) → all ≡ o ∷ os → o.number ≡ numbers.uri_path → segments_told all ≡ o.value ∷ segments_told os
-segment_told o os all is here = told_from true o os all is (eq-eqb o.number numbers.uri_path here)
 
 pub option_passed : (o : CoapOption) (os all : List CoapOption) → all ≡ o ∷ os → (o.number ≡ numbers.uri_path → ⊥) → segments_told all ≡ segments_told os
 option_passed o os all is other = told_from false o os all is (ne_eqb o.number numbers.uri_path other)
