@@ -80,10 +80,6 @@ pub told_none : {A B : Type 0} (f : A → B) (o : Option A) → option_map f o �
 told_none f None none = refl
 told_none f (Some x) none = absurd cc
 
-pub told_some : {A B : Type 0} (f : A → B) (o : Option A) (y : B) → option_map f o ≡ Some y → is_there o ≡ true
-told_some f None y some = absurd cc
-told_some f (Some x) y some = refl
-
 pub is_told : {A B : Type 0} (f : A → B) (o : Option A) → is_some (option_map f o) ≡ is_there o
 is_told f None = refl
 is_told f (Some x) = refl

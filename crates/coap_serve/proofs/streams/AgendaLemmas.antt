@@ -1,6 +1,6 @@
 -- What the connections leave to be done, one after the other.
 use Rattle.std.proofs.Common.{◌≡◌, ℕ, zero, suc, ◌+◌, ◌<◌, ◌≤◌, Bool, true, false, List, [], ◌∷◌, ◌++◌, length, map, take, drop, Option, Some, None, Result, Ok, Err, refl, sym, ap, subst, ◌∙◌, inl, inr, arith}
-use Rattle.std.specs.Prelude.{◌||◌, ◌&&◌, ◌⊎◌, ◌==◌, not, nat_lt, is_some, slice_get, if◌then◌else◌, IfOk, IfSome}
+use Rattle.std.specs.Prelude.{◌||◌, ◌&&◌, ◌⊎◌, ◌==◌, not, nat_lt, is_some, slice_get, IfOk, IfSome}
 use Rattle.std.specs.List.{AllByRecursion, remove}
 use Rattle.std.specs.Map.{keys_of, values_of}
 use Rattle.std.proofs.lemmas.List.{map-append, length-map}
@@ -16,7 +16,7 @@ use Rattle.coap_serve.specs.declared.server.Stamp.{Stamp}
 use Rattle.coap_serve.specs.values.Dues.{sooner, same_stamp, stamp_of, outlook_of}
 use Rattle.coap_serve.specs.values.Servers.{ServerValue}
 use Rattle.coap_serve.specs.streams.Wires.{IsTold}
-use Rattle.coap_serve.specs.streams.Turns.{FarEnd, agenda_with, agenda_past, IsAsked, IsServed, IsServedOnce, CanGoOn, IsAtRest, IsInTurn, IsRestAnswer, IsAgendaOf, least_with, least_due, wait_until, wait_of, wants_in, wants_of, can_go_on, MayWait}
+use Rattle.coap_serve.specs.streams.Turns.{FarEnd, agenda_with, agenda_past, IsAsked, IsServed, IsServedOnce, CanGoOn, IsAtRest, IsInTurn, IsRestAnswer, IsAgendaOf, least_with, wants_in, wants_of, can_go_on}
 
 -- ---- what a connection is to be served for
 
@@ -93,10 +93,6 @@ is_same one other e =
     ∙ ap (λ n. record { moment = other.moment; versions = n; resources = one.resources }) versions
     ∙ ap (λ n. record { moment = other.moment; versions = other.versions; resources = n }) resources
 
--- at first nothing was looked at
-pub none_seen : (stamp : Stamp) → IsAgendaOf (record { at_once = false; due = None }) stamp []
-none_seen stamp = record { due = refl; rest = λ none. tt }
-
 -- one more was looked at
 pub seen_more : (a : Agenda) (stamp : Stamp) (all : List FarEnd) (e : FarEnd) (ready : Bool) → IsAgendaOf a stamp all → e.wants.stamp ≡ stamp → CanGoOn e ready → IsAgendaOf (agenda_with a ready e.wants.due) stamp (all ++ e ∷ [])
 seen_more a stamp all e ready seen same can = record {
@@ -157,16 +153,6 @@ seen_later far xs i a stamp later seen = record {
       ];
 }
 
-waits_until : (due : Option ℕ) (stamp : Stamp) (all : List FarEnd) → AllByRecursion (IsAtRest stamp) all → due ≡ least_due all → MayWait (wait_until due) stamp all
-waits_until None stamp all served is = (served, sym is)
-waits_until (Some moment) stamp all served is = (served, sym is)
-
-pub may_wait : (a : Agenda) (stamp : Stamp) (all : List FarEnd) → IsAgendaOf a stamp all → MayWait (wait_of a) stamp all
-may_wait a stamp all seen = elim a.at_once as (λ b. a.at_once ≡ b → MayWait (if b then wait_of (record a { at_once = true }) else wait_until a.due) stamp all) [
-  | true ↦ λ is. tt
-  | false ↦ λ is. waits_until a.due stamp all (seen.rest is) seen.due
-] refl
-
 -- ---- the front of a list
 
 take_more : {X : Type 0} (xs : List X) (i : ℕ) (x : X) → slice_get xs i ≡ Some x → take (suc i) xs ≡ take i xs ++ x ∷ []
@@ -176,12 +162,6 @@ take_more (y ∷ xs) (suc i) x at = ap (λ ys. y ∷ ys) (take_more xs i x at)
 
 pub front_more : {X : Type 0} (far : X → FarEnd) (xs : List X) (i : ℕ) (x : X) → slice_get xs i ≡ Some x → map far (take (i + 1) xs) ≡ map far (take i xs) ++ far x ∷ []
 front_more far xs i x at = ap (λ n. map far (take n xs)) (let next : i + 1 ≡ suc i = omega arith in next) ∙ ap (map far) (take_more xs i x at) ∙ map-append far (take i xs) (x ∷ [])
-
-pub front_all : {X : Type 0} (far : X → FarEnd) (xs : List X) (i : ℕ) → length xs ≤ i → map far (take i xs) ≡ map far xs
-front_all far [] zero most = refl
-front_all far [] (suc i) most = refl
-front_all far (x ∷ xs) zero most = absurd (omega (arith, most))
-front_all far (x ∷ xs) (suc i) most = ap (λ ws. far x ∷ ws) (front_all far xs i (omega (arith, most)))
 
 front_kept : {X : Type 0} (xs : List X) (i : ℕ) → take i (remove xs i) ≡ take i xs
 front_kept [] zero = refl

@@ -106,15 +106,6 @@ pub flushed_hears : (limits : LimitValues) (id : ℕ) (w : World) → AllHear w 
 unfolding flushed
 flushed_hears limits id w hear = times_hear limits id _ w hear
 
-times_ids : (limits : LimitValues) (id turns : ℕ) (w : World) → (written_times limits id turns w).ids ≡ w.ids
-unfolding written_times step acted
-times_ids limits id zero w = refl
-times_ids limits id (suc turns) w = times_ids limits id turns w
-
-pub flushed_ids : (limits : LimitValues) (id : ℕ) (w : World) → (flushed limits id w).ids ≡ w.ids
-unfolding flushed
-flushed_ids limits id w = times_ids limits id _ w
-
 after_is : (c : ConfigValues) (id : ℕ) (w : World) (ss : List Step) → IsWorld c w → IsWorld c (flushed_after c.limits id w ss)
 unfolding flushed_after
 after_is c id w [] is = is
@@ -124,26 +115,6 @@ after_hears : (limits : LimitValues) (id : ℕ) (w : World) (ss : List Step) →
 unfolding flushed_after
 after_hears limits id w [] hear = hear
 after_hears limits id w (s ∷ ss) hear = after_hears limits id (flushed limits id (step limits w s)) ss (flushed_hears limits id (step limits w s) (step_hears limits w s))
-
--- no number is given by a message or a fault
-step_ids : (limits : LimitValues) (id : ℕ) (w : World) (s : Step) → IsOfBytes id s → (step limits w s).ids ≡ w.ids
-unfolding step acted
-step_ids limits id w (world.Opened at) is = absurd is
-step_ids limits id w (world.Handled at m) is = refl
-step_ids limits id w (world.Faulted at fault) is = refl
-step_ids limits id w (world.Written at n) is = absurd is
-step_ids limits id w (world.Ticked now) is = absurd is
-step_ids limits id w (world.Stored path format bytes) is = absurd is
-step_ids limits id w (world.Removed path) is = absurd is
-step_ids limits id w (world.Ended at cut) is = absurd is
-step_ids limits id w (world.Released at) is = absurd is
-step_ids limits id w (world.Dropped at) is = absurd is
-
-after_ids : (limits : LimitValues) (id : ℕ) (w : World) (ss : List Step) → AreOfBytes id ss → (flushed_after limits id w ss).ids ≡ w.ids
-unfolding flushed_after
-after_ids limits id w [] all = refl
-after_ids limits id w (s ∷ ss) all =
-    after_ids limits id (flushed limits id (step limits w s)) ss all.1 ∙ flushed_ids limits id (step limits w s) ∙ step_ids limits id w s all.0
 
 -- ---- what a flush behind each step adds
 
@@ -226,16 +197,6 @@ opened_there c =
     ap (λ (w : World). side_of (only_id c) w.sides) (opened_first c)
     ∙ first_there (only_id c) (record { id = only_id c; side = new_side c.limits }) [] refl
 
-pub opened_well : (c : ConfigValues) → IsWorld c (step c.limits (new_world c) (world.Opened (only_id c)))
-opened_well c = step_is c (new_world c) (world.Opened (only_id c)) (new_world_is c)
-
-pub opened_hears : (c : ConfigValues) → AllHear (step c.limits (new_world c) (world.Opened (only_id c)))
-opened_hears c = step_hears c.limits (new_world c) (world.Opened (only_id c))
-
--- and its number was given last
-pub opened_ids : (c : ConfigValues) → (step c.limits (new_world c) (world.Opened (only_id c))).ids ≡ only_id c
-opened_ids c = ap (λ (w : World). w.ids) (opened_first c)
-
 -- the world in which it was opened and has written all that waits
 abbrev pub greeted_world : ConfigValues → World
 greeted_world c = flushed c.limits (only_id c) (step c.limits (new_world c) (world.Opened (only_id c)))
@@ -243,12 +204,6 @@ greeted_world c = flushed c.limits (only_id c) (step c.limits (new_world c) (wor
 pub world_for_is : (c : ConfigValues) (bytes : List ℕ) → world_for c bytes ≡ flushed_after c.limits (only_id c) (greeted_world c) (beyond (only_id c) (stream_of c []) (stream_of c bytes))
 unfolding world_for flushed_after
 world_for_is c bytes = ap (flushed_after c.limits (only_id c) (new_world c)) (steps_are c bytes)
-
-pub greeted_well : (c : ConfigValues) → IsWorld c (greeted_world c)
-greeted_well c = flushed_is c (only_id c) (step c.limits (new_world c) (world.Opened (only_id c))) (opened_well c)
-
-pub greeted_hears : (c : ConfigValues) → AllHear (greeted_world c)
-greeted_hears c = flushed_hears c.limits (only_id c) (step c.limits (new_world c) (world.Opened (only_id c))) (opened_hears c)
 
 no_bytes_spell : (c : ConfigValues) → stream_of c [] ≡ record { messages = []; rest = []; fault = None }
 no_bytes_spell c = split_unfinished c.limits.max_message [] (unfinished_empty c.limits.max_message)
@@ -275,16 +230,6 @@ pub world_for_written : (c : ConfigValues) (bytes : List ℕ) → (s : Side) × 
 world_for_written c bytes =
     subst (AllIsWritten (only_id c)) (sym (world_for_is c bytes))
     (after_written_all c.limits (only_id c) (greeted_world c) (beyond (only_id c) (stream_of c []) (stream_of c bytes)) (beyond_are (only_id c) (stream_of c []) (stream_of c bytes)) (greeted_written c))
-
-pub greeted_ids : (c : ConfigValues) → (greeted_world c).ids ≡ only_id c
-greeted_ids c = flushed_ids c.limits (only_id c) (step c.limits (new_world c) (world.Opened (only_id c))) ∙ opened_ids c
-
--- its number was given last
-pub world_for_ids : (c : ConfigValues) (bytes : List ℕ) → (world_for c bytes).ids ≡ only_id c
-world_for_ids c bytes =
-    ap (λ (w : World). w.ids) (world_for_is c bytes)
-    ∙ after_ids c.limits (only_id c) (greeted_world c) (beyond (only_id c) (stream_of c []) (stream_of c bytes)) (beyond_are (only_id c) (stream_of c []) (stream_of c bytes))
-    ∙ greeted_ids c
 
 -- ---- more bytes
 

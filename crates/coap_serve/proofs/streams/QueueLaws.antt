@@ -1,5 +1,5 @@
 -- What was queued on a connection stays queued: a message, a fault and a write only add to it.
-use Rattle.std.proofs.Common.{◌≡◌, ℕ, zero, suc, Bool, true, false, cond, List, [], ◌++◌, length, map, Option, Some, None, refl, sym, ap, subst, ◌∙◌, append_assoc, inl, inr}
+use Rattle.std.proofs.Common.{◌≡◌, ℕ, zero, suc, Bool, true, false, cond, List, [], ◌++◌, length, map, Option, Some, None, refl, sym, ap, ◌∙◌, append_assoc, inl, inr}
 use Rattle.std.specs.Prelude.{◌+◌, ◌&&◌, nat_le, option_map}
 use Rattle.std.proofs.lemmas.Bool.{cases_eq}
 use Rattle.std.proofs.lemmas.List.{append-nil}
@@ -132,13 +132,6 @@ grown_self id s w there = record { side = s; there = there; more = queues_self s
 
 pub grown_then : (id : ℕ) (s : Side) (w v : World) (one : HasGrown id s w) → HasGrown id one.side v → HasGrown id s v
 grown_then id s w v one two = record { side = two.side; there = two.there; more = queues_then s.history one.side.history two.side.history one.more two.more }
-
--- the same where it is known which connection is there
-pub grown_there : (id : ℕ) (s t : Side) (w : World) → HasGrown id s w → side_of id w.sides ≡ Some t → SideQueues s t
-grown_there id s t w grown there =
-    let same : ◌≡◌ {A = Option Side} (Some grown.side) (Some t) = sym grown.there ∙ there in
-    let is : grown.side ≡ t = cc in
-    subst (SideQueues s) is grown.more
 
 -- where one connection changes, and then all settle
 changed_grows : (store : StoreValue) (now at id : ℕ) (f : Side → Side) (ps : List Place) (s : Side) → ((u : Side) → SideQueues u (f u)) → side_of id ps ≡ Some s

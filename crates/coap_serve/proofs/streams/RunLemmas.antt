@@ -242,7 +242,3 @@ module _ (c : ConfigValues) (id turns read messages : ℕ) (v after : ServerValu
   faulted Write lt t = failed_write t.0 lt t.1 t.2
   faulted Memory lt t = refused t.0 lt t.1 t.2
   faulted Turns lt t = absurd t
-
-  -- no turn is left
-  pub out_of_turns : turns ≡ c.turns → Ran c a b x y (Err Turns)
-  out_of_turns all = (so_far.pieces, so_far.output, so_far.told, so_far.few, so_far.written, (so_far.counted ∙ all, record { goes_on = goes_on; written = so_far.text }))

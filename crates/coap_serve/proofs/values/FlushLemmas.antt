@@ -1,29 +1,11 @@
 -- A flush, one turn after the other, as the code makes it.
-use Rattle.std.proofs.Common.{◌≡◌, ℕ, suc, ◌≤◌, List, [], ◌∷◌, ◌++◌, length, Option, Some, None, Result, Ok, Err, Bool, true, false, refl, sym, ap, subst, ◌∙◌, append_assoc, arith, inl, inr}
-use Rattle.std.specs.Prelude.{option_map, not, OnErr}
+use Rattle.std.proofs.Common.{◌≡◌, ℕ, suc, ◌≤◌, List, [], ◌∷◌, ◌++◌, length, Option, Result, Ok, Err, Bool, true, false, refl, sym, ap, subst, ◌∙◌, append_assoc, inl}
+use Rattle.std.specs.Prelude.{not, OnErr}
 use Rattle.std.proofs.lemmas.List.{append-nil}
 use Rattle.coap_serve.specs.streams.Device.{AddsBytes, WritesPart}
-use Rattle.coap_serve.specs.values.Sessions.{SessionValue}
-use Rattle.coap_serve.specs.values.Servers.{ServerValue, session_of, server_written}
-use Rattle.coap_serve.specs.values.ServerAnswers.{front_of}
-use Rattle.coap_serve.specs.values.Flushes.{Flush, waiting_in, waiting_at, more_at, flush_once, flush_turns, IsFlushedOnce, IsFlushed, IsPartFlushed}
+use Rattle.coap_serve.specs.values.Servers.{ServerValue, server_written}
+use Rattle.coap_serve.specs.values.Flushes.{Flush, waiting_at, more_at, flush_once, flush_turns, IsFlushedOnce, IsFlushed, IsPartFlushed}
 use Rattle.coap_serve.proofs.streams.DeviceLemmas.{bytes_none, bytes_then}
-
-waits_on : (o : Option SessionValue) (w : List ℕ) → Some w ≡ option_map (λ s. s.link.waiting) o → w ≡ waiting_in o
-waits_on None w is = absurd cc
-waits_on (Some s) w is = cc
-
--- the front of a connection is what waits on it
-pub front_waits : (id : ℕ) (v : ServerValue) (w : List ℕ) → Some w ≡ front_of v id → w ≡ waiting_at id v
-front_waits id v w is = waits_on (session_of id v.sessions) w is
-
-none_on : (o : Option SessionValue) → None ≡ option_map (λ s. s.link.waiting) o → waiting_in o ≡ []
-none_on None is = refl
-none_on (Some s) is = absurd cc
-
--- where there is no connection nothing waits
-pub none_waits : (id : ℕ) (v : ServerValue) → None ≡ front_of v id → waiting_at id v ≡ []
-none_waits id v is = none_on (session_of id v.sessions) is
 
 pub none_left : (w : List ℕ) → length w ≡ 0 → w ≡ []
 none_left [] none = refl
@@ -57,10 +39,6 @@ module _ (id : ℕ) (v : ServerValue) (turns : ℕ) (now : ServerValue) (x y z :
   -- nothing waits
   pub nothing_waits : turns ≤ suc (more_at id v) → waiting_at id now ≡ [] → IsFlushed id v now (AddsBytes x y)
   nothing_waits within none = record { turns = turns; within = within; done = inl none; server = so_far.server; written = so_far.written }
-
-  -- all turns were made
-  pub all_turns : turns ≡ suc (more_at id v) → IsFlushed id v now (AddsBytes x y)
-  all_turns all = record { turns = turns; within = omega (arith, all); done = inr all; server = so_far.server; written = so_far.written }
 
   abbrev f : Flush
   f = flush_turns turns id v
@@ -123,7 +101,3 @@ turned id v turns now x y z next more false so_far within one did =
 pub goes_on_so : (id : ℕ) (v : ServerValue) (turns : ℕ) (now : ServerValue) (x y : Option (List ℕ)) (waited : Bool) → not waited ≡ false → Flushed id v turns now x y waited → Flushing id v turns now x y
 goes_on_so id v turns now x y true is so_far = so_far
 goes_on_so id v turns now x y false is so_far = absurd cc
-
-pub all_flushed : (id : ℕ) (v : ServerValue) (turns : ℕ) (now : ServerValue) (x y : Option (List ℕ)) (waited : Bool) → turns ≡ suc (more_at id v) → Flushed id v turns now x y waited → IsFlushed id v now (AddsBytes x y)
-all_flushed id v turns now x y true all so_far = all_turns id v turns now x y y so_far all
-all_flushed id v turns now x y false all so_far = so_far

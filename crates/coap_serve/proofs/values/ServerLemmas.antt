@@ -207,9 +207,6 @@ changed_value_or_not (Err e) v w id i f entries server lies same ok = tt
 -- ---- a server of which every connection settles
 
 module _ (v : ServerValue) (entries : Entries) (is : entries ≡ map (settled_entry v.host) v.sessions) where
-  pub settled_value : record v { sessions = entries } ≡ server_settled v
-  settled_value = ap (λ (es : Entries). record v { sessions = es }) is
-
   pub settled_server : AreNumbered v.ids v.sessions → length v.sessions ≤ v.config.connections → IsServer (record v { sessions = entries })
   settled_server numbered few =
       subst (λ (es : Entries). IsServer (record v { sessions = es })) (sym is)

@@ -1,5 +1,5 @@
 -- One turn of a flush, on the connection where it lies.
-use Rattle.std.proofs.Common.{◌≡◌, ℕ, ◌+◌, Bool, true, false, List, length, Option, Some, sym, ap, subst, ◌∙◌}
+use Rattle.std.proofs.Common.{◌≡◌, ℕ, Bool, true, false, List, length, Option, Some, sym, ap, subst, ◌∙◌}
 use Rattle.std.specs.Prelude.{slice_get}
 use Rattle.std.specs.Map.{keys_of, values_of}
 use Rattle.coap_conn.specs.Phases.{stop_of}
@@ -9,7 +9,7 @@ use Rattle.coap_serve.specs.streams.Device.{AddsBytes}
 use Rattle.indexmap.specs.IndexMap.{set_value_at}
 use Rattle.coap_serve.specs.values.Servers.{ServerValue, LiesAt, session_of, changed_at, server_written}
 use Rattle.coap_serve.specs.values.ServerAnswers.{stop_on}
-use Rattle.coap_serve.specs.values.Flushes.{waiting_in, waiting_at, more_in, more_at, IsFlushedAt, IsFlushedOnce}
+use Rattle.coap_serve.specs.values.Flushes.{waiting_in, IsFlushedAt, IsFlushedOnce}
 use Rattle.coap_serve.specs.views.ServerViews.{IsServer}
 use Rattle.coap_serve.proofs.values.ServerLemmas.{Entries, changed_one, changed_server, changed_value, written_at_index, lies_still, keys_where_one_changed}
 
@@ -36,12 +36,6 @@ module _ (v : ServerValue) (id i : ℕ) (s : SessionValue) (server : IsServer v)
       let g : SessionValue → SessionValue = λ u. session_settled v.host (session_written u (length s.link.waiting)) in
       lies_still id i v.sessions entries (ap keys_of (did.0 ∙ changed_one id g v.sessions i lies.distinct lies.index lies.within) ∙ keys_where_one_changed id g v.sessions) lies
   turned_lies false did = subst (LiesAt id i) (sym did.1) lies
-
-  pub more_here : more_at id v ≡ length s.link.held + length s.observers
-  more_here = ap more_in there
-
-  pub part_here : (wrote_part : List ℕ → Type 0) → wrote_part s.link.waiting → wrote_part (waiting_at id v)
-  part_here wrote_part did = subst wrote_part (ap waiting_in (sym there)) did
 
 -- what the connection tells is why it takes no message any more
 pub stop_here : (id i : ℕ) (s : SessionValue) (entries : Entries) → LiesAt id i entries → slice_get (values_of entries) i ≡ Some s → stop_of s.link.phase ≡ stop_on (session_of id entries)

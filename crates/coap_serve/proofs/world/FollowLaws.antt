@@ -19,7 +19,7 @@ use Rattle.coap_conn.specs.Reaction.{Standing, Effect, stop, abort, send_as, sen
 use Rattle.coap_conn.specs.Rejects.{reject_of, reject_reason}
 use Rattle.coap_conn.specs.Release.{release_refusal}
 use Rattle.coap_conn.specs.History.{History, IsHistory, bytes_of, standing_now, with_effect, after_message, after_send, after_reply, after_reject, after_end, after_release, after_written, after_hold, after_due, may_hold, standing_due, end_reason, release}
-use Rattle.coap_conn.specs.LinkValue.{link_of, LinkShows}
+use Rattle.coap_conn.specs.LinkValue.{link_of}
 use Rattle.coap_conn.proofs.LinkLemmas.{bytes_more, new_shown}
 use Rattle.coap_store.specs.Store.{StoreValue}
 use Rattle.coap_store.specs.Answer.{answer_of}
@@ -229,7 +229,3 @@ follower_is limits s t follows is = record {
   same_limits = follows.limits ∙ is.same_limits;
   is_server = follows.role ∙ is.is_server;
 }
-
--- so its link shows its history
-pub link_shows : (limits : LimitValues) (s : Side) → IsSide limits s → LinkShows (link_of s.history) s.history
-link_shows limits s is = record { is_history = is.is_history; same = refl }

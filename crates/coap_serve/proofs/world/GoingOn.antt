@@ -140,6 +140,3 @@ sent_link h now (held.Pong token) is = due_link h now is
 -- a fault stops a connection that takes messages, and the end of input and Release stop it too
 pub rejected_over : (h : History) (fault : Reject) → takes_messages h.phase ≡ true → takes_messages (after_reject h fault).phase ≡ false
 rejected_over h fault e = rw e refl
-
-pub ended_over : (h : History) (cut : Bool) → takes_messages (after_end h cut).phase ≡ false
-ended_over h cut = elim (takes_messages h.phase) as (λ b. takes_messages h.phase ≡ b → takes_messages (after_end h cut).phase ≡ false) [ true ↦ λ e. rw e refl | false ↦ λ e. (end_goes_on h cut).over e ] refl

@@ -17,10 +17,10 @@ use Rattle.coap_store.specs.Answer.{Change, answer_of, prompt_answer, changed}
 use Rattle.coap_store.specs.Messages.{response_with_observe}
 use Rattle.coap_store.specs.declared.plan.Watch.TheVariants as watch
 use Rattle.coap_serve.specs.world.Observers.{Observer, without_token, asks_entry, has_place, entry_for, is_whole, with_entry}
-use Rattle.coap_serve.specs.world.Sides.{Side, new_side, handles, waiting_on, with_history, side_answered, moment_after, held_for, side_replied, asks_answer, side_handled, side_after, change_after, store_after, side_faulted, side_written, side_ended, side_released}
+use Rattle.coap_serve.specs.world.Sides.{Side, new_side, handles, waiting_on, with_history, side_answered, moment_after, held_for, side_replied, asks_answer, side_handled, side_after, side_faulted, side_written, side_ended, side_released}
 use Rattle.coap_serve.proofs.world.KnownLaws.{IsKnown, IsVersioned, still_known, entry_known}
 use Rattle.coap_serve.proofs.world.EntryLemmas.{all_to, all_filter, all_if, all_entered}
-use Rattle.coap_serve.proofs.world.GoingOn.{GoesOn, as_before, further, message_goes_on, reply_goes_on, reject_goes_on, end_goes_on, release_goes_on, written_goes_on, hold_goes_on}
+use Rattle.coap_serve.proofs.world.GoingOn.{GoesOn, as_before, message_goes_on, reply_goes_on, reject_goes_on, end_goes_on, release_goes_on, written_goes_on, hold_goes_on}
 use Rattle.coap_serve.proofs.world.SideLaws.{asks_to_enter, AreKnown, IsKnownSide, known_with}
 
 -- ---- histories go on
@@ -33,37 +33,10 @@ goes_on_if : (b : Bool) (s t : Side) → (b ≡ true → SideGoesOn s t) → Sid
 goes_on_if true s t goes = goes refl
 goes_on_if false s t goes = as_before s.history
 
-replied_goes_on : (store : StoreValue) (now : ℕ) (h : History) (others : List Observer) (m : Message) (hold : Option ℕ) → GoesOn h (side_replied store now h others m hold).history
-replied_goes_on store now h others m None = reply_goes_on h _
-replied_goes_on store now h others m (Some seconds) = hold_goes_on h m.token (moment_after now seconds)
-
-handled_by : (store : StoreValue) (now : ℕ) (s : Side) (m : Message) (asks : Bool)
-    → SideGoesOn s (cond asks (side_replied store now (after_message s.history m) (without_token m.token s.observers) m (held_for (after_message s.history m) (answer_of store now m).hold)) (with_history s (after_message s.history m)))
-handled_by store now s m true =
-    let h = after_message s.history m in
-    further s.history h _ (message_goes_on s.history m) (replied_goes_on store now h (without_token m.token s.observers) m (held_for h (answer_of store now m).hold))
-handled_by store now s m false = message_goes_on s.history m
-
-pub after_goes_on : (store : StoreValue) (now : ℕ) (s : Side) (m : Message) → GoesOn s.history (side_after store now s m).history
-unfolding side_after
-after_goes_on store now s m = goes_on_if (handles s) s (side_handled store now s m) (λ e. handled_by store now s m (asks_answer s m))
-
-pub faulted_goes_on : (s : Side) (fault : StreamFault) → GoesOn s.history (side_faulted s fault).history
-unfolding side_faulted
-faulted_goes_on s fault = goes_on_if (handles s) s (with_history s (after_reject s.history (reject_of fault))) (λ e. reject_goes_on s.history (reject_of fault))
-
 pub side_written_goes_on : (s : Side) (n : ℕ) → GoesOn s.history (side_written s n).history
 unfolding side_written
 side_written_goes_on s n =
     goes_on_if (nat_le n (length (waiting_on s))) s (record s { history = after_written s.history n }) (λ e. written_goes_on s.history n (leb-true n (length (waiting_on s)) e))
-
-pub ended_goes_on : (s : Side) (cut : Bool) → GoesOn s.history (side_ended s cut).history
-unfolding side_ended
-ended_goes_on s cut = end_goes_on s.history cut
-
-pub released_goes_on : (s : Side) → GoesOn s.history (side_released s).history
-unfolding side_released
-released_goes_on s = goes_on_if (is_none (release_refusal (link_of s.history))) s (with_history s (after_release s.history)) (λ e. release_goes_on s.history)
 
 -- ---- what is known stays known
 
@@ -140,7 +113,3 @@ module _ (store : StoreValue) (now : ℕ) (small : now ≤ 18446744073709551615)
   pub after_known : (s : Side) (m : Message) → IsKnownSide store s → IsKnownSide store (side_after store now s m)
   unfolding side_after
   after_known s m known = known_if store (handles s) s (side_handled store now s m) known (λ e. known_by s m (asks_answer s m) known)
-
-  -- and is known in the store that it leaves
-  pub after_known_then : (s : Side) (m : Message) → IsKnownSide store s → IsKnownSide (store_after store now s m) (side_after store now s m)
-  after_known_then s m known = still_known_side store (change_after store now s m) (side_after store now s m) is (after_known s m known)

@@ -210,10 +210,6 @@ of_each P (p ∷ ps) distinct holds = (
   of_each P ps distinct.1 (λ id s e. holds id s (later_there id p ps (λ (same : p.id ≡ id). none_not_some s (sym distinct.0 ∙ ap (λ (n : ℕ). side_of n ps) same ∙ e)) ∙ e)),
 )
 
--- each is found by its number
-pub each_found : (ps : List Place) → AreDistinct ps → AllByRecursion (λ p. side_of p.id ps ≡ Some p.side) ps
-each_found ps distinct = of_each (λ id s. side_of id ps ≡ Some s) ps distinct (λ id s e. e)
-
 -- lists of which each place has it
 pub each_weaker : (P Q : Place → Type 0) → ((p : Place) → P p → Q p) → (ps : List Place) → AllByRecursion P ps → AllByRecursion Q ps
 each_weaker P Q go [] each = tt

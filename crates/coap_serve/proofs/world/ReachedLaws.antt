@@ -1,7 +1,6 @@
 -- What holds of the world after any accepted events: each number is given once, and the stream of a connection that takes
 -- messages has no fault.
 use Rattle.std.proofs.Common.{◌≡◌, ℕ, ◌+◌, ◌<◌, ◌≤◌, Bool, true, false, cond, List, [], ◌∷◌, ◌++◌, length, take, Option, Some, None, Result, Ok, Err, refl, sym, ap, subst, ◌∙◌, inl, inr, arith}
-use Rattle.std.specs.List.{AllByRecursion}
 use Rattle.std.proofs.lemmas.Bool.{cases_eq, and_parts}
 use Rattle.std.proofs.lemmas.List.{nil_from_length}
 use Rattle.coap_wire.specs.Message.{Message}
@@ -9,7 +8,7 @@ use Rattle.coap_wire.specs.Reading.{message_of}
 use Rattle.coap_wire.specs.declared.fault.FormatFault.{FormatFault}
 use Rattle.coap_wire.specs.Stream.{StreamFault, Stream, split}
 use Rattle.coap_wire.proofs.StreamSteps.{unfinished_empty, split_unfinished}
-use Rattle.coap_frame.specs.Framing.{Finding, Nothing, AFrame, AFault, framing, without_last}
+use Rattle.coap_frame.specs.Framing.{Finding, Nothing, AFrame, AFault, framing}
 use Rattle.coap_conn.specs.Phases.{takes_messages}
 use Rattle.coap_serve.specs.Configs.{ConfigValues}
 use Rattle.coap_serve.specs.world.Sides.{Side, has_room, handles}
@@ -18,8 +17,7 @@ use Rattle.coap_serve.specs.world.World as world
 use Rattle.coap_serve.specs.world.Events.{Event, taken_in, taken_on, stream_on, steps_by, steps_of, world_after, front_of, takes_of, takes, IfSide, IsAccepted, AreAccepted}
 use Rattle.coap_serve.specs.world.Events as event
 use Rattle.coap_serve.proofs.world.StepLaws.{taken_then, world_first, world_same, world_step, by_events, stream_same, taken_elsewhere, stream_elsewhere}
-use Rattle.coap_serve.proofs.world.TookLaws.{Adds, adds_nothing, adds_message, adds_bad, adds_fault, no_bytes_stream, no_bytes_steps, piece_whole, but_last_whole}
-use Rattle.coap_serve.proofs.world.PlaceLaws.{of_each}
+use Rattle.coap_serve.proofs.world.TookLaws.{Adds, adds_nothing, adds_message, adds_bad, adds_fault, no_bytes_stream, no_bytes_steps, piece_whole}
 use Rattle.coap_serve.proofs.world.WorldLaws.{IsWorld, new_world_is, steps_are, OpensNext, IsGivenNumber, IsNumbered, new_world_numbered, number_given, step_numbered, ids_grow, GoesOnFrom, step_from, faulted_is_stopped}
 
 -- the worlds of any events, accepted or not
@@ -208,11 +206,6 @@ event_reached c es (event.Dropped id) before is = step_reached c es (event.Dropp
 pub accepted_is : (c : ConfigValues) (es : List Event) → AreAccepted c es → IsReached c es
 accepted_is c es all = by_events c (λ fs. IsReached c fs) (first_reached c) (λ fs e accepted is before. event_reached c fs e before is) es all
 
--- the same of each connection
-pub each_goes_on : (c : ConfigValues) (es : List Event) → IsReached c es → AllByRecursion (λ p. takes_messages p.side.history.phase ≡ true → (stream_on c.limits.max_message p.id es).fault ≡ None) (world_after c es).sides
-each_goes_on c es is =
-    of_each (λ id s. takes_messages s.history.phase ≡ true → (stream_on c.limits.max_message id es).fault ≡ None) (world_after c es).sides is.world.distinct is.goes_on
-
 -- ---- which takes are accepted
 
 takes_accepted : (c : ConfigValues) (es : List Event) (id : ℕ) (bytes : List ℕ) (s : Side) → side_of id (world_after c es).sides ≡ Some s → takes c es id bytes ≡ length bytes → IsAccepted c es (event.Took id bytes)
@@ -229,10 +222,6 @@ module _ (c : ConfigValues) (es : List Event) (id : ℕ) (piece : List ℕ) (s :
   -- what a connection that handles messages takes of a piece
   pub front_accepted : so_far.fault ≡ None → IsAccepted c es (event.Took id (take (front_of c.limits.max_message so_far.rest piece) piece))
   front_accepted none = takes_accepted c es id _ s there (takes_handling _ ∙ piece_whole c.limits.max_message id es piece none)
-
-  -- and where that ends a frame, the bytes but the last
-  pub but_last_accepted : (frame : List ℕ) → so_far.fault ≡ None → (framing c.limits.max_message so_far.rest piece).finding ≡ AFrame frame → IsAccepted c es (event.Took id (without_last (take (front_of c.limits.max_message so_far.rest piece) piece)))
-  but_last_accepted frame none e = takes_accepted c es id _ s there (takes_handling _ ∙ but_last_whole c.limits.max_message id es piece none frame e)
 
 -- where none is taken, no byte is
 pub nothing_accepted : (c : ConfigValues) (es : List Event) (id : ℕ) (s : Side) → side_of id (world_after c es).sides ≡ Some s → handles s ≡ false → IsAccepted c es (event.Took id [])

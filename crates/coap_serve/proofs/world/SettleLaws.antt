@@ -13,13 +13,13 @@ use Rattle.coap_conn.specs.LinkValue.{link_of, link_after_reply}
 use Rattle.coap_conn.proofs.HeldLaws.{due_nothing, due_fewer}
 use Rattle.coap_store.specs.Store.{StoreValue}
 use Rattle.coap_store.specs.State.{state_of}
-use Rattle.coap_serve.specs.values.Sessions.{session_with, is_stale, next_stale, entry_left, session_notified_so, session_notified, next_held_in, session_settled_so, session_settled_once, session_settled_within, session_settled, IsSettled}
+use Rattle.coap_serve.specs.values.Sessions.{session_with, is_stale, next_stale, entry_left, session_notified_so, session_notified, next_held_in, session_settled_so, session_settled_once, session_settled_within, session_settled}
 use Rattle.coap_serve.specs.world.Observers.{Observer, is_due, is_whole, goes_on, notification, notification_message, left_of, first_becomes}
 use Rattle.coap_serve.specs.world.Sides.{Side, has_room, next_due, notified_so, notified, next_held, after_sent, settled_so, settled_once, settled_within, settled, HearsAll}
 use Rattle.coap_serve.specs.world.Shows.{observer_shown, kept_on, session_shown}
 use Rattle.coap_serve.proofs.world.KnownLaws.{IsKnown, IsVersioned, due_is_stale, told_now, not_due, mark_now, left_watchable, left_known, left_format}
 use Rattle.coap_serve.proofs.world.EntryLemmas.{all_to, all_if, all_become, found_all, none_due, TellTheSame, found_shown, become_shown, count_due, count_within, none_counted, count_less}
-use Rattle.coap_serve.proofs.world.GoingOn.{GoesOn, as_before, further, reply_goes_on, sent_goes_on, reply_link, sent_link}
+use Rattle.coap_serve.proofs.world.GoingOn.{reply_goes_on, sent_goes_on, reply_link, sent_link}
 use Rattle.coap_serve.proofs.world.SideLaws.{host_of, AreKnown, IsKnownSide, known_with, shown_with, kept_frame, settled_cases, held_room, reply_leaves, sent_held}
 
 -- nothing is left to settle: nothing that is held is due and no observer is, or there is no room
@@ -27,24 +27,6 @@ abbrev pub IsAtRest : StoreValue → ℕ → Side → Type 0
 IsAtRest store now s = (next_held now s ≡ None) × (next_due store now s ≡ None)
 
 -- ---- one turn
-
-notified_goes_on : (store : StoreValue) (now : ℕ) (s : Side) (found : Option Observer) → GoesOn s.history (notified store now s found).history
-notified_goes_on store now s None = as_before s.history
-notified_goes_on store now s (Some o) = reply_goes_on s.history (notification_message o.token (notification store now o))
-
-once_goes_on : (store : StoreValue) (now : ℕ) (s : Side) → GoesOn s.history (settled_once store now s).history
-once_goes_on store now s =
-    settled_cases store now s (λ t. GoesOn s.history t.history) (λ e is. sent_goes_on s.history now e) (λ none. notified_goes_on store now s (next_due store now s))
-
-within_goes_on : (turns : ℕ) (store : StoreValue) (now : ℕ) (s : Side) → GoesOn s.history (settled_within turns store now s).history
-unfolding settled_within
-within_goes_on zero store now s = as_before s.history
-within_goes_on (suc turns) store now s = further s.history (settled_once store now s).history _ (once_goes_on store now s) (within_goes_on turns store now (settled_once store now s))
-
--- settling keeps the role and the limits, and makes no connection live that was not
-pub settled_goes_on : (store : StoreValue) (now : ℕ) (s : Side) → GoesOn s.history (settled store now s).history
-unfolding settled
-settled_goes_on store now s = within_goes_on (length s.history.held + length s.observers) store now s
 
 -- the first that is due is among the observers
 next_all : (P : Observer → Type 0) (store : StoreValue) (now : ℕ) (s : Side) (o : Observer) → AllByRecursion P s.observers → next_due store now s ≡ Some o → P o
@@ -156,10 +138,6 @@ module _ (store : StoreValue) (now : ℕ) (small : now ≤ 18446744073709551615)
   settled_shown rest s known =
       within_shown (length s.history.held + length s.observers) rest s known
       ∙ ap (λ more. session_settled_within (length s.history.held + more) (host_of store now) (session_shown rest s)) (sym (length-map s.observers observer_shown))
-
-  -- where nothing is left to settle, the value is settled
-  pub rest_shown : (rest : List ℕ) (s : Side) → IsKnownSide store s → next_held now s ≡ None → next_due store now s ≡ None → IsSettled (host_of store now) (session_shown rest s)
-  rest_shown rest s known sent told = (sym (held_shown rest s) ∙ sent, sym (next_shown rest s known) ∙ ap (option_map observer_shown) told)
 
 -- ---- nothing is left that is due
 

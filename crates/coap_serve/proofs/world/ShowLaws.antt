@@ -64,13 +64,6 @@ side_there v es id t shows e = sessions_shown v es id shows ∙ ap (option_map (
 pub no_session : (v : ServerValue) (es : List Event) (id : ℕ) → Shows v es → side_of id (world_after v.config es).sides ≡ None → session_of id v.sessions ≡ None
 no_session v es id shows e = sessions_shown v es id shows ∙ ap (option_map (session_shown (stream_on v.config.limits.max_message id es).rest)) e
 
-none_mapped : (g : Side → SessionValue) (side : Option Side) → option_map g side ≡ None → side ≡ None
-none_mapped g None e = refl
-none_mapped g (Some t) e = absurd cc
-
-pub no_side : (v : ServerValue) (es : List Event) (id : ℕ) → Shows v es → session_of id v.sessions ≡ None → side_of id (world_after v.config es).sides ≡ None
-no_side v es id shows e = none_mapped (session_shown (stream_on v.config.limits.max_message id es).rest) (side_of id (world_after v.config es).sides) (sym (sessions_shown v es id shows) ∙ e)
-
 -- the resources and the moment, the number given last, and how many connections there are
 host_of_shown : (c : ConfigValues) (es : List Event) → (server_of c es).host ≡ host_of (world_after c es).store (world_after c es).now
 unfolding server_of

@@ -27,7 +27,7 @@ use Rattle.coap_store.specs.declared.plan.Watch.{Watch}
 use Rattle.coap_store.specs.declared.plan.Watch.TheVariants as watch
 use Rattle.coap_serve.specs.declared.host.Host.{Host}
 use Rattle.coap_serve.specs.world.Sides.{is_cut}
-use Rattle.coap_serve.specs.values.Sessions.{ObserverValue, session_takes, session_with, new_entry, session_answered, session_answered_as, held_in, session_replied, session_handled, change_by, session_rejected, session_written, session_ended, session_released, without_entry}
+use Rattle.coap_serve.specs.values.Sessions.{ObserverValue, session_with, new_entry, session_answered, session_answered_as, held_in, session_replied, session_handled, change_by, session_rejected, session_written, session_ended, session_released, without_entry}
 use Rattle.coap_serve.specs.world.Observers.{Observer, without_token, asks_entry, has_place, entry_for, is_whole, with_entry}
 use Rattle.coap_serve.specs.world.Sides.{Side, handles, waiting_on, has_room, side_with, with_history, answered_among, side_answered, moment_after, held_for, side_replied, asks_answer, side_handled, side_after, change_after, side_faulted, side_written, side_ended, side_released, next_due, notified, next_held, held_message, after_sent, settled_so, settled_once}
 use Rattle.coap_serve.specs.world.Shows.{observer_shown, kept_on, session_shown}
@@ -73,14 +73,7 @@ kept_frame s rest l vs over =
       | false ↦ λ e. any_frame rest [] l vs (over e)
     ] refl
 
--- a side that is not open any more has no observers
-pub closed_is_empty : (h : History) (os : List Observer) → is_open h.phase ≡ false → (side_with h os).observers ≡ []
-closed_is_empty h os e = rw e refl
-
 -- ---- what is seen
-
-pub handles_shown : (rest : List ℕ) (s : Side) → handles s ≡ session_takes (session_shown rest s)
-handles_shown rest s = refl
 
 pub handles_parts : (s : Side) → handles s ≡ true → (takes_messages s.history.phase ≡ true) × (has_room s ≡ true)
 handles_parts s e = and_parts (takes_messages s.history.phase) (has_room s) e
@@ -96,13 +89,6 @@ faulted_shown rest left s fault is e =
     ∙ shown_with left h s.observers
     ∙ any_frame left [] (link_of h) vs (rejected_over s.history (reject_of fault) (handles_parts s e).0)
     ∙ ap (λ l. session_with [] l vs) (reject_link s.history (reject_of fault) is)
-
--- it takes no message any more
-pub faulted_over : (s : Side) (fault : StreamFault) → handles s ≡ true → takes_messages (side_faulted s fault).history.phase ≡ false
-unfolding side_faulted
-faulted_over s fault e =
-    ap (λ (t : Side). takes_messages t.history.phase) (cond-true (handles s) (with_history s (after_reject s.history (reject_of fault))) s e)
-    ∙ rejected_over s.history (reject_of fault) (handles_parts s e).0
 
 pub written_shown : (rest : List ℕ) (s : Side) (n : ℕ) → IsHistory s.history → n ≤ length (waiting_on s) → session_shown rest (side_written s n) ≡ session_written (session_shown rest s) n
 unfolding side_written

@@ -70,13 +70,6 @@ behind_accepted c a [] e before last = (subst (λ (b : List Event). IsAccepted c
 behind_accepted c a (d ∷ es) e before last =
     (before.0, behind_accepted c (a ++ d ∷ []) es e before.1 (subst (λ (b : List Event). IsAccepted c b e) (sym (append_assoc a (d ∷ []) es)) last))
 
-behind_parts : (c : ConfigValues) (a es : List Event) (e : Event) → AreAcceptedBehind c a (es ++ e ∷ []) → AreAcceptedBehind c a es × IsAccepted c (a ++ es) e
-unfolding AreAcceptedBehind
-behind_parts c a [] e all = (tt, subst (λ (b : List Event). IsAccepted c b e) (sym (append-nil a)) all.0)
-behind_parts c a (d ∷ es) e all =
-    let parts = behind_parts c (a ++ d ∷ []) es e all.1 in
-    ((all.0, parts.0), subst (λ (b : List Event). IsAccepted c b e) (append_assoc a (d ∷ []) es) parts.1)
-
 -- nothing is accepted
 pub accepted_none : (c : ConfigValues) → AreAccepted c []
 unfolding AreAcceptedBehind
@@ -85,9 +78,6 @@ accepted_none c = tt
 -- one event more
 pub accepted_more : (c : ConfigValues) (es : List Event) (e : Event) → AreAccepted c es → IsAccepted c es e → AreAccepted c (es ++ e ∷ [])
 accepted_more c es e before last = behind_accepted c [] es e before last
-
-pub accepted_split : (c : ConfigValues) (es : List Event) (e : Event) → AreAccepted c (es ++ e ∷ []) → AreAccepted c es × IsAccepted c es e
-accepted_split c es e all = behind_parts c [] es e all
 
 -- what holds at first, and behind each event that is accepted, holds of all lists of accepted events
 by_events_behind : (c : ConfigValues) (P : List Event → Type 0) → ((es : List Event) (e : Event) → AreAccepted c es → IsAccepted c es e → P es → P (es ++ e ∷ [])) → (a es : List Event) → AreAccepted c a → P a → AreAcceptedBehind c a es → P (a ++ es)

@@ -115,10 +115,6 @@ others_told : (token : List ℕ) (h k : History) (os : List Observer) → Queues
 others_told token h k [] queues others told = tt
 others_told token h k (o ∷ os) queues others told = (other_told token h k o queues others.0 told.0, others_told token h k os queues others.1 told.1)
 
-own_if : (b : Bool) (os : List Observer) → HaveOwnTokens os → HaveOwnTokens (if b then os else [])
-own_if true os own = own
-own_if false os own = tt
-
 own_filter : (test : Observer → Bool) (os : List Observer) → HaveOwnTokens os → HaveOwnTokens (filter test os)
 own_filter test [] own = tt
 own_filter test (o ∷ os) own =

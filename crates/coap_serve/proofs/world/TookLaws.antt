@@ -52,24 +52,6 @@ pub nothing_kept : (M : ℕ) (kept piece : List ℕ) → (framing M kept piece).
 unfolding framing
 nothing_kept M kept piece e = ap (λ (b : Beginning). (framing_at kept piece b).kept) (nothing_finished M kept piece e)
 
-frame_kept_at : (kept piece frame : List ℕ) (b : Beginning) → (framing_at kept piece b).finding ≡ AFrame frame → (framing_at kept piece b).kept ≡ []
-frame_kept_at kept piece frame Unfinished e = absurd cc
-frame_kept_at kept piece frame (Whole found rest) e = refl
-frame_kept_at kept piece frame (Faulty fault) e = absurd cc
-
-pub frame_kept : (M : ℕ) (kept piece frame : List ℕ) → (framing M kept piece).finding ≡ AFrame frame → (framing M kept piece).kept ≡ []
-unfolding framing
-frame_kept M kept piece frame e = frame_kept_at kept piece frame (beginning M (kept ++ piece)) e
-
-fault_kept_at : (kept piece : List ℕ) (fault : FrameFault) (b : Beginning) → (framing_at kept piece b).finding ≡ AFault fault → (framing_at kept piece b).kept ≡ []
-fault_kept_at kept piece fault Unfinished e = absurd cc
-fault_kept_at kept piece fault (Whole found rest) e = absurd cc
-fault_kept_at kept piece fault (Faulty known) e = refl
-
-pub fault_kept : (M : ℕ) (kept piece : List ℕ) (fault : FrameFault) → (framing M kept piece).finding ≡ AFault fault → (framing M kept piece).kept ≡ []
-unfolding framing
-fault_kept M kept piece fault e = fault_kept_at kept piece fault (beginning M (kept ++ piece)) e
-
 -- ---- what a take adds
 
 -- the steps of a take, and the stream after it: those of what is added behind the stream before it
@@ -256,11 +238,6 @@ module _ (M id : ℕ) (es : List Event) (piece : List ℕ) (none : (stream_on M 
 
   pub piece_adds_fault : (fault : FrameFault) → (framing M kept_so_far piece).finding ≡ AFault fault → Adds M id es piece_front (record { messages = []; rest = fault_bytes fault (kept_so_far ++ piece_front); fault = Some (OfFrame fault) })
   piece_adds_fault fault e = adds_fault M id es piece_front none fault (piece_found (AFault fault) e)
-
-  -- a take that memory refused adds the bytes but the last, and no step
-  pub adds_but_last : (frame : List ℕ) → (framing M kept_so_far piece).finding ≡ AFrame frame → Adds M id es (without_last piece_front) (record { messages = []; rest = kept_so_far ++ without_last piece_front; fault = None })
-  adds_but_last frame e =
-      adds_nothing M id es (without_last piece_front) none (ap (λ (f : Framing). f.finding) (but_last M kept_so_far piece frame (rest_unfinished M id es none) e))
 
   -- all bytes but the last are taken
   pub but_last_whole : (frame : List ℕ) → (framing M kept_so_far piece).finding ≡ AFrame frame → (framing M kept_so_far (without_last piece_front)).taken ≡ length (without_last piece_front)
