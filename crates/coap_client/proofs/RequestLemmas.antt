@@ -31,14 +31,6 @@ row_pushed number os new value is row small short =
       each = forms-push os o row.each (small, omega (arith, short));
     })
 
--- the numbers of options that come later may be greater
-pub row_below : (low high : ℕ) (os : List CoapOption) → low ≤ high → IsRow low os → IsRow high os
-row_below low high os le row = record { ordered = row.ordered; last = omega (arith, le, row.last); each = row.each }
-
--- no option
-pub row_of_none : (number : ℕ) → IsRow number []
-row_of_none number = record { ordered = tt; last = omega arith; each = tt }
-
 -- the same, as the code keeps it
 pub row_of_pushed : (number : ℕ) (os : List OptionRef) (value : Bor (List ℕ)) (new : List OptionRef) → new ≡ os ++ record { number = number; value = value } ∷ [] → IsRow number (coap_options os) → number ≤ 65535 → length value.now ≤ 1034 → IsRow number (coap_options new)
 row_of_pushed number os value new is row small short =

@@ -95,11 +95,6 @@ ipv4_host (Ipv6 a) address text is same = cc is
 in_brackets : (inner : List ℕ) → slice_range (91 ∷ (inner ++ 93 ∷ [])) 1 (length (91 ∷ (inner ++ 93 ∷ [])) - 1) ≡ inner
 in_brackets inner = take_at inner (93 ∷ []) _ (omega (arith, length-append inner (93 ∷ [])))
 
-pub bracketed_length : (host : Host (Bor (List ℕ))) (address : Ipv6Addr) (text : List ℕ) → host ≡ Ipv6 address → text ≡ host_text (borrowed_host host) → 2 ≤ length text
-bracketed_length (Domain t) address text is same = cc is
-bracketed_length (Ipv4 a) address text is same = cc is
-bracketed_length (Ipv6 a) address text is same = omega (arith, ap (λ (t : List ℕ). length t) same, length-append (hex_groups_text a.segments) (93 ∷ []))
-
 -- an IPv6 address
 pub ipv6_host : (host : Host (Bor (List ℕ))) (address : Ipv6Addr) (text : List ℕ) → host ≡ Ipv6 address → text ≡ host_text (borrowed_host host) → slice_range text 1 (length text - 1) ≡ host_named (borrowed_host host)
 unfolding host_named

@@ -8,12 +8,13 @@ mod WorkedCustody
 pub mod StepLaws
 pub mod TookLaws
 pub mod PlaceLaws
-pub mod FollowLaws
+pub mod WalkLaws
+pub mod AcrossLaws
+pub mod GoingOn
 pub mod WorldLaws
 pub mod ReachedLaws
 pub mod KnownLaws
 pub mod EntryLemmas
-pub mod GoingOn
 pub mod SideLaws
 pub mod SettleLaws
 pub mod KeptLaws
@@ -24,7 +25,6 @@ pub mod CallLaws
 pub mod CutLaws
 pub mod ViewLaws
 pub mod LimitLaws
-pub mod AcrossLaws
 pub mod GrowLaws
 pub mod HandlingLaws
 pub mod HandledLaws

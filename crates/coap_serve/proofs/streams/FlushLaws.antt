@@ -280,7 +280,7 @@ quiet_flush limits id w s hear there none = quiet_times limits id (suc (more_of 
 pub once_hears : (limits : LimitValues) (id : ℕ) (w : World) → AllHear (written_once limits id w)
 once_hears limits id w = step_hears limits w _
 
-pub times_hear : (limits : LimitValues) (id turns : ℕ) (w : World) → AllHear w → AllHear (written_times limits id turns w)
+times_hear : (limits : LimitValues) (id turns : ℕ) (w : World) → AllHear w → AllHear (written_times limits id turns w)
 unfolding written_times
 times_hear limits id zero w hear = hear
 times_hear limits id (suc turns) w hear = once_hears limits id (written_times limits id turns w)

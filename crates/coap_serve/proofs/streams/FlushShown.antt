@@ -1,8 +1,6 @@
 -- A flush of a server that shows a world is the flush of that world.
 use Rattle.std.proofs.Common.{◌≡◌, ◌⊎◌, ℕ, zero, suc, ◌+◌, ◌≤◌, List, [], ◌∷◌, ◌++◌, length, Option, Some, refl, sym, ap, subst, ◌∙◌, append_assoc, arith, inl, inr}
-use Rattle.std.specs.Prelude.{option_map}
 use Rattle.std.proofs.lemmas.List.{append-nil, length-map}
-use Rattle.coap_conn.specs.Limits.{LimitValues}
 use Rattle.coap_serve.specs.Configs.{ConfigValues}
 use Rattle.coap_serve.specs.values.Servers.{ServerValue, session_of, server_written}
 use Rattle.coap_serve.specs.values.Flushes.{Flush, waiting_in, waiting_at, more_in, more_at, flush_turns}
@@ -14,20 +12,13 @@ use Rattle.coap_serve.specs.world.Shows.{Shows, session_shown}
 use Rattle.coap_serve.specs.streams.Output.{waiting_of, more_of, written_once, written_times, flushed}
 use Rattle.coap_serve.proofs.values.FlushLemmas.{no_turns, turn_more}
 use Rattle.coap_serve.proofs.world.StepLaws.{taken_then, world_step}
-use Rattle.coap_serve.proofs.world.PlaceLaws.{all_there, changed_here}
 use Rattle.coap_serve.proofs.world.HearingLaws.{world_hears}
 use Rattle.coap_serve.proofs.streams.FlushLaws.{flushed_so, flushed_early}
 use Rattle.coap_serve.proofs.world.ShowLaws.{side_there, shows_written}
-use Rattle.coap_serve.proofs.world.WorldLaws.{side_is}
-use Rattle.coap_serve.proofs.world.ReachedLaws.{world_is}
+use Rattle.coap_serve.proofs.world.GoingOn.{GoesOn, as_before, written_goes_on, side_is}
 use Rattle.coap_serve.proofs.world.GrowLaws.{front_written, same_front, written_all, settled_grows, settled_handled, written_handled}
-use Rattle.coap_serve.proofs.world.KeptLaws.{side_written_goes_on}
-
--- what waited was written
-pub written_there : (limits : LimitValues) (w : World) (id n : ℕ) (s : Side) → side_of id w.sides ≡ Some s → side_of id (world.step limits w (world.Written id n)).sides ≡ Some (settled w.store w.now (side_written s n))
-unfolding world.step world.acted
-written_there limits w id n s is =
-    all_there id (settled w.store w.now) _ ∙ ap (option_map (settled w.store w.now)) (changed_here id (λ u. side_written u n) w.sides ∙ ap (option_map (λ u. side_written u n)) is)
+use Rattle.coap_serve.proofs.world.WalkLaws.{written_between}
+use Rattle.coap_serve.proofs.world.AcrossLaws.{written_there}
 
 wrote_one : (M : ℕ) (es : List Event) (id n : ℕ) → steps_by M es (Wrote id n) ≡ world.Written id n ∷ []
 unfolding steps_by
@@ -86,8 +77,8 @@ module _ (c : ConfigValues) (es : List Event) (id : ℕ) (s : Side) (turns : ℕ
   next_said =
       let t : Side = so_far.side in
       let wrote : Side = side_written t n in
-      let is = (side_is c w id t (world_is c fs) so_far.there).is_history in
-      same_front wrote next ((side_written_goes_on t n).history is) (settled_grows w.store w.now wrote)
+      let is = (side_is c fs id t so_far.there).is_history in
+      same_front wrote next ((written_between GoesOn as_before written_goes_on t n).history is) (settled_grows w.store w.now wrote)
       ∙ ap (λ (k : ℕ). front_written (side_written t k)) (ap (λ (b : List ℕ). length b) waits_shown)
       ∙ written_all t
       ∙ ap (λ (b : List ℕ). b ++ waiting_on t) so_far.said

@@ -19,12 +19,13 @@ use Rattle.coap_serve.specs.world.World as world
 use Rattle.coap_serve.specs.world.Events.{Event, Opened, Took, taken_in, taken_on, stream_on, new_fault, beyond, steps_by, steps_behind, steps_of}
 use Rattle.coap_serve.specs.streams.Output.{written_times, flushed, flushed_after, only_id, stream_of, steps_for, world_for, side_for, outcome_on, outcome, stdio_output}
 use Rattle.coap_serve.proofs.world.EntryLemmas.{all_append}
-use Rattle.coap_serve.proofs.world.PlaceLaws.{first_there}
-use Rattle.coap_serve.proofs.world.WorldLaws.{IsWorld, new_world_is, step_is, opened_world}
+use Rattle.coap_serve.proofs.world.PlaceLaws.{AreDistinct, first_there}
+use Rattle.coap_serve.proofs.world.AcrossLaws.{opened_world}
+use Rattle.coap_serve.proofs.world.WorldLaws.{step_distinct}
 use Rattle.coap_serve.proofs.world.HearingLaws.{AllHear, step_hears}
 use Rattle.coap_serve.proofs.world.StepLaws.{taken_here, steps_of_more, stream_more}
 use Rattle.coap_serve.proofs.world.CutLaws.{cut_steps}
-use Rattle.coap_serve.proofs.streams.FlushLaws.{flushed_there, flushed_alone, flushed_empties, quiet_flush, times_hear}
+use Rattle.coap_serve.proofs.streams.FlushLaws.{flushed_there, flushed_alone, flushed_empties, quiet_flush}
 use Rattle.coap_serve.proofs.streams.QueueLaws.{HasGrown, grown_self, grown_then, handled_grows, faulted_grows, flushed_grows}
 use Rattle.coap_serve.proofs.streams.StoppedLaws.{stopped_step, stopped_fault}
 
@@ -93,35 +94,27 @@ steps_go_on c xs ys =
 
 -- ---- what a flush behind each step keeps
 
-times_are : (c : ConfigValues) (id turns : ℕ) (w : World) → IsWorld c w → IsWorld c (written_times c.limits id turns w)
-unfolding written_times
-times_are c id zero w is = is
-times_are c id (suc turns) w is = step_is c (written_times c.limits id turns w) _ (times_are c id turns w is)
+module _ (limits : LimitValues) (P : World → Type 0) (keeps : (w : World) (st : Step) → P w → P (step limits w st)) where
+  times_keep : (id turns : ℕ) (w : World) → P w → P (written_times limits id turns w)
+  unfolding written_times
+  times_keep id zero w is = is
+  times_keep id (suc turns) w is = keeps (written_times limits id turns w) _ (times_keep id turns w is)
 
-pub flushed_is : (c : ConfigValues) (id : ℕ) (w : World) → IsWorld c w → IsWorld c (flushed c.limits id w)
-unfolding flushed
-flushed_is c id w is = times_are c id _ w is
+  flushed_keeps : (id : ℕ) (w : World) → P w → P (flushed limits id w)
+  unfolding flushed
+  flushed_keeps id w is = times_keep id _ w is
 
-pub flushed_hears : (limits : LimitValues) (id : ℕ) (w : World) → AllHear w → AllHear (flushed limits id w)
-unfolding flushed
-flushed_hears limits id w hear = times_hear limits id _ w hear
-
-after_is : (c : ConfigValues) (id : ℕ) (w : World) (ss : List Step) → IsWorld c w → IsWorld c (flushed_after c.limits id w ss)
-unfolding flushed_after
-after_is c id w [] is = is
-after_is c id w (s ∷ ss) is = after_is c id (flushed c.limits id (step c.limits w s)) ss (flushed_is c id (step c.limits w s) (step_is c w s is))
-
-after_hears : (limits : LimitValues) (id : ℕ) (w : World) (ss : List Step) → AllHear w → AllHear (flushed_after limits id w ss)
-unfolding flushed_after
-after_hears limits id w [] hear = hear
-after_hears limits id w (s ∷ ss) hear = after_hears limits id (flushed limits id (step limits w s)) ss (flushed_hears limits id (step limits w s) (step_hears limits w s))
+  after_keeps : (id : ℕ) (w : World) (ss : List Step) → P w → P (flushed_after limits id w ss)
+  unfolding flushed_after
+  after_keeps id w [] is = is
+  after_keeps id w (st ∷ ss) is = after_keeps id (flushed limits id (step limits w st)) ss (flushed_keeps id (step limits w st) (keeps w st is))
 
 -- ---- what a flush behind each step adds
 
 pub step_grows : (limits : LimitValues) (id : ℕ) (w : World) (st : Step) (s : Side) → IsOfBytes id st → side_of id w.sides ≡ Some s → HasGrown id s (step limits w st)
 step_grows limits id w (world.Opened at) s is there = absurd is
-step_grows limits id w (world.Handled at m) s is there = handled_grows limits w at id m s there
-step_grows limits id w (world.Faulted at fault) s is there = faulted_grows limits w at id fault s there
+step_grows limits id w (world.Handled at m) s is there = subst (λ (n : ℕ). HasGrown id s (step limits w (world.Handled n m))) (sym is) (handled_grows limits w id m s there)
+step_grows limits id w (world.Faulted at fault) s is there = subst (λ (n : ℕ). HasGrown id s (step limits w (world.Faulted n fault))) (sym is) (faulted_grows limits w id fault s there)
 step_grows limits id w (world.Written at n) s is there = absurd is
 step_grows limits id w (world.Ticked now) s is there = absurd is
 step_grows limits id w (world.Stored path format bytes) s is there = absurd is
@@ -133,7 +126,7 @@ step_grows limits id w (world.Dropped at) s is there = absurd is
 step_flushed_grows : (limits : LimitValues) (id : ℕ) (w : World) (st : Step) (s : Side) → IsOfBytes id st → side_of id w.sides ≡ Some s → HasGrown id s (flushed limits id (step limits w st))
 step_flushed_grows limits id w st s is there =
     let one : HasGrown id s (step limits w st) = step_grows limits id w st s is there in
-    grown_then id s (step limits w st) (flushed limits id (step limits w st)) one (flushed_grows limits id id (step limits w st) one.side one.there)
+    grown_then id s (step limits w st) (flushed limits id (step limits w st)) one (flushed_grows limits id (step limits w st) one.side one.there)
 
 pub after_grows : (limits : LimitValues) (id : ℕ) (w : World) (ss : List Step) (s : Side) → AreOfBytes id ss → side_of id w.sides ≡ Some s → HasGrown id s (flushed_after limits id w ss)
 unfolding flushed_after
@@ -159,7 +152,7 @@ after_written_all limits id w (st ∷ ss) all written =
     after_written_all limits id (flushed limits id (step limits w st)) ss all.1 (step_flushed_written limits id w st written.0 all.0 written.1)
 
 -- where the connection takes no message, nothing changes
-stopped_by : (c : ConfigValues) (id : ℕ) (w : World) (st : Step) (s : Side) → IsOfBytes id st → IsWorld c w → AllHear w → side_of id w.sides ≡ Some s → takes_messages s.history.phase ≡ false → step c.limits w st ≡ w
+stopped_by : (c : ConfigValues) (id : ℕ) (w : World) (st : Step) (s : Side) → IsOfBytes id st → AreDistinct w.sides → AllHear w → side_of id w.sides ≡ Some s → takes_messages s.history.phase ≡ false → step c.limits w st ≡ w
 stopped_by c id w (world.Opened at) s of is hear there over = absurd of
 stopped_by c id w (world.Handled at m) s of is hear there over = ap (λ (n : ℕ). step c.limits w (world.Handled n m)) of ∙ stopped_step c w id s is hear there over m
 stopped_by c id w (world.Faulted at fault) s of is hear there over = ap (λ (n : ℕ). step c.limits w (world.Faulted n fault)) of ∙ stopped_fault c w id s is hear there over fault
@@ -171,7 +164,7 @@ stopped_by c id w (world.Ended at cut) s of is hear there over = absurd of
 stopped_by c id w (world.Released at) s of is hear there over = absurd of
 stopped_by c id w (world.Dropped at) s of is hear there over = absurd of
 
-pub after_stopped : (c : ConfigValues) (id : ℕ) (w : World) (ss : List Step) (s : Side) → AreOfBytes id ss → IsWorld c w → AllHear w → side_of id w.sides ≡ Some s → waiting_on s ≡ [] → takes_messages s.history.phase ≡ false → flushed_after c.limits id w ss ≡ w
+pub after_stopped : (c : ConfigValues) (id : ℕ) (w : World) (ss : List Step) (s : Side) → AreOfBytes id ss → AreDistinct w.sides → AllHear w → side_of id w.sides ≡ Some s → waiting_on s ≡ [] → takes_messages s.history.phase ≡ false → flushed_after c.limits id w ss ≡ w
 unfolding flushed_after
 after_stopped c id w [] s all is hear there none over = refl
 after_stopped c id w (st ∷ ss) s all is hear there none over =
@@ -214,13 +207,13 @@ unfolding flushed_after
 world_for_none c =
     world_for_is c [] ∙ ap (λ (s : Stream). flushed_after c.limits (only_id c) (greeted_world c) (beyond (only_id c) s s)) (no_bytes_spell c)
 
-pub world_for_well : (c : ConfigValues) (bytes : List ℕ) → IsWorld c (world_for c bytes)
+world_for_distinct : (c : ConfigValues) (bytes : List ℕ) → AreDistinct (world_for c bytes).sides
 unfolding world_for
-world_for_well c bytes = after_is c (only_id c) (new_world c) (steps_for c bytes) (new_world_is c)
+world_for_distinct c bytes = after_keeps c.limits (λ w. AreDistinct w.sides) (step_distinct c.limits) (only_id c) (new_world c) (steps_for c bytes) tt
 
 pub world_for_hears : (c : ConfigValues) (bytes : List ℕ) → AllHear (world_for c bytes)
 unfolding world_for
-world_for_hears c bytes = after_hears c.limits (only_id c) (new_world c) (steps_for c bytes) tt
+world_for_hears c bytes = after_keeps c.limits AllHear (λ w st hear. step_hears c.limits w st) (only_id c) (new_world c) (steps_for c bytes) tt
 
 pub greeted_written : (c : ConfigValues) → AllIsWritten (only_id c) (greeted_world c)
 greeted_written c = flushed_empties c.limits (only_id c) (step c.limits (new_world c) (world.Opened (only_id c))) (new_side c.limits) (opened_there c)
@@ -288,7 +281,7 @@ stopped_output c xs ys why stopped =
     let over : takes_messages s.history.phase ≡ false = ap (λ (o : Option Reason). is_none o) (sym (stop_there c xs s before.1) ∙ stopped) in
     let ss : List Step = beyond (only_id c) (stream_of c xs) (stream_of c (xs ++ ys)) in
     world_goes_on c xs ys
-    ∙ after_stopped c (only_id c) (world_for c xs) ss s (beyond_are (only_id c) (stream_of c xs) (stream_of c (xs ++ ys))) (world_for_well c xs) (world_for_hears c xs) before.1 before.2 over
+    ∙ after_stopped c (only_id c) (world_for c xs) ss s (beyond_are (only_id c) (stream_of c xs) (stream_of c (xs ++ ys))) (world_for_distinct c xs) (world_for_hears c xs) before.1 before.2 over
 
 pub stopped_outcome : (c : ConfigValues) (xs ys : List ℕ) (why : Reason) → (outcome c xs).stop ≡ Some why → outcome c (xs ++ ys) ≡ outcome c xs
 unfolding outcome

@@ -16,14 +16,11 @@ use Rattle.coap_serve.specs.world.Sides.{Side, has_room, handles, with_history, 
 use Rattle.coap_serve.specs.world.World.{Place, World, side_of, changed_at, stored_after, acted, step}
 use Rattle.coap_serve.specs.world.World as world
 use Rattle.coap_serve.proofs.world.PlaceLaws.{AreDistinct, of_each}
-use Rattle.coap_serve.proofs.world.WorldLaws.{IsWorld}
+use Rattle.coap_serve.proofs.world.AcrossLaws.{some_same}
 use Rattle.coap_serve.proofs.world.HearingLaws.{AllHear}
 use Rattle.coap_serve.proofs.streams.FlushLaws.{idle_step}
 
 -- ---- a connection that has stopped
-
-side_same : (s t : Side) → ◌≡◌ {A = Option Side} (Some s) (Some t) → s ≡ t
-side_same s t e = cc
 
 place_stays : (id : ℕ) (f : Side → Side) (p : Place) → (p.id ≡ id → f p.side ≡ p.side) → changed_at id f p ≡ p
 place_stays id f p stays =
@@ -42,7 +39,7 @@ one_stays : (id : ℕ) (f : Side → Side) (s : Side) (ps : List Place) → AreD
 one_stays id f s ps distinct there stays =
     places_stay id f ps
     (of_each (λ n t. n ≡ id → f t ≡ t) ps distinct
-    (λ n t at here. subst (λ (u : Side). f u ≡ u) (side_same s t (sym there ∙ ap (λ (k : ℕ). side_of k ps) (sym here) ∙ at)) stays))
+    (λ n t at here. subst (λ (u : Side). f u ≡ u) (some_same s t (sym there ∙ ap (λ (k : ℕ). side_of k ps) (sym here) ∙ at)) stays))
 
 over_handles : (s : Side) → takes_messages s.history.phase ≡ false → handles s ≡ false
 over_handles s over = ap (λ (b : Bool). b && has_room s) over
@@ -59,18 +56,18 @@ faulted_stays : (s : Side) (fault : StreamFault) → takes_messages s.history.ph
 unfolding side_faulted
 faulted_stays s fault over = ap (λ (b : Bool). cond b (with_history s (after s.history (call.Reject (reject_of fault)))) s) (over_handles s over)
 
-module _ (c : ConfigValues) (w : World) (id : ℕ) (s : Side) (is : IsWorld c w) (hear : AllHear w) (there : side_of id w.sides ≡ Some s) (over : takes_messages s.history.phase ≡ false) where
+module _ (c : ConfigValues) (w : World) (id : ℕ) (s : Side) (distinct : AreDistinct w.sides) (hear : AllHear w) (there : side_of id w.sides ≡ Some s) (over : takes_messages s.history.phase ≡ false) where
   handled_idle : (m : Message) → acted c.limits w (world.Handled id m) ≡ w
   unfolding acted
   handled_idle m =
       ap (λ (ps : List Place). record w { sides = ps; store = stored_after w m (side_of id w.sides) })
-      (one_stays id (λ t. side_after w.store w.now t m) s w.sides is.distinct there (after_stays w.store w.now s m over))
+      (one_stays id (λ t. side_after w.store w.now t m) s w.sides distinct there (after_stays w.store w.now s m over))
       ∙ ap (λ (o : Option Side). record w { store = stored_after w m o }) there
       ∙ ap (λ (change : Change). record w { store = changed w.store change }) (change_stays w.store w.now s m over)
 
   faulted_idle : (fault : StreamFault) → acted c.limits w (world.Faulted id fault) ≡ w
   unfolding acted
-  faulted_idle fault = ap (λ (ps : List Place). record w { sides = ps }) (one_stays id (λ t. side_faulted t fault) s w.sides is.distinct there (faulted_stays s fault over))
+  faulted_idle fault = ap (λ (ps : List Place). record w { sides = ps }) (one_stays id (λ t. side_faulted t fault) s w.sides distinct there (faulted_stays s fault over))
 
   -- A message on a connection that takes none leaves the world.
   pub stopped_step : (m : Message) → step c.limits w (world.Handled id m) ≡ w

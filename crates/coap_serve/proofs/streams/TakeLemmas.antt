@@ -35,8 +35,8 @@ use Rattle.coap_serve.specs.declared.server.Handled.TheVariants as handled
 use Rattle.coap_serve.proofs.values.FlushLemmas.{turn_more}
 use Rattle.coap_serve.proofs.world.StepLaws.{taken_then, taken_here, world_same, world_step}
 use Rattle.coap_serve.proofs.world.TookLaws.{nothing_kept, front_framing, rest_unfinished}
-use Rattle.coap_serve.proofs.world.WorldLaws.{side_is}
-use Rattle.coap_serve.proofs.world.ReachedLaws.{IsReached, world_is, accepted_is, takes_there, handling_goes_on}
+use Rattle.coap_serve.proofs.world.GoingOn.{side_is}
+use Rattle.coap_serve.proofs.world.ReachedLaws.{IsReached, accepted_is, takes_there, handling_goes_on}
 use Rattle.coap_serve.proofs.world.ShowLaws.{side_there}
 use Rattle.coap_serve.proofs.world.HandlingLaws.{messages_counted, one_step_at_most}
 use Rattle.coap_serve.proofs.world.GrowLaws.{SideGrows, front_written, same_front, all_written, took_grows}
@@ -158,7 +158,7 @@ module _ (v : ServerValue) (bytes piece : List ℕ) (stands : Stands v.config v 
 
   room : has_room s ≡ true
   room =
-      let is = side_is c (world_after c es) id s (world_is c es) there in
+      let is = side_is c es id s there in
       le-leb s.history.limits.max_sent _ (omega (arith, ranges.queue_low, ap (λ (l : LimitValues). l.max_sent) is.same_limits, ap (λ (l : LimitValues). l.queue) is.same_limits, ap (λ (b : List ℕ). length b) all_there.2))
 
   handling : handles s ≡ true
@@ -257,7 +257,7 @@ module _ (v : ServerValue) (bytes piece : List ℕ) (stands : Stands v.config v 
 
     said_before : front_written s1 ≡ stdio_output c bytes
     said_before =
-        same_front s s1 (side_is c (world_after c es) id s (world_is c es) there).is_history grown.2
+        same_front s s1 (side_is c es id s there).is_history grown.2
         ∙ all_written s all_there.2
         ∙ sym (output_of c bytes s all_there.1)
 

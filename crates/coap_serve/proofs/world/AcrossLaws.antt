@@ -1,18 +1,22 @@
 -- A relation between a connection before and after: where it holds of whatever happens to one, it holds across settling and
--- across any step.
-use Rattle.std.proofs.Common.{◌≡◌, ℕ, Bool, true, false, cond, ◌++◌, [], ◌∷◌, map, Option, Some, None, refl, sym, ap, subst, ◌∙◌, ◌⊎◌, inl, inr}
+-- across any step. So what each of these keeps of a connection is kept by any events.
+use Rattle.std.proofs.Common.{◌≡◌, ℕ, List, Bool, true, false, cond, ◌++◌, [], ◌∷◌, map, Option, Some, None, refl, sym, ap, subst, ◌∙◌, ◌⊎◌, inl, inr}
 use Rattle.std.specs.Prelude.{zero, suc, ◌+◌, length, is_none, option_map}
 use Rattle.std.proofs.lemmas.Bool.{cases_eq}
 use Rattle.coap_wire.specs.Message.{Message}
 use Rattle.coap_wire.specs.Stream.{StreamFault}
+use Rattle.coap_conn.specs.declared.phase.Role.TheVariants.{Server}
 use Rattle.coap_conn.specs.Limits.{LimitValues}
+use Rattle.coap_conn.specs.History.{History, new_history}
 use Rattle.coap_store.specs.Store.{StoreValue}
 use Rattle.coap_store.specs.Refusals.{put_refusal}
+use Rattle.coap_serve.specs.Configs.{ConfigValues}
 use Rattle.coap_serve.specs.world.Sides.{Side, new_side, side_after, side_faulted, side_written, side_ended, side_released, settled_once, settled_within, settled}
-use Rattle.coap_serve.specs.world.World.{Place, World, Step, side_of, changed_at, ticks, acted, all_settled}
+use Rattle.coap_serve.specs.world.World.{Place, World, Step, new_world, side_of, changed_at, ticks, acted, all_settled, after_steps}
 use Rattle.coap_serve.specs.world.World as world
-use Rattle.coap_serve.proofs.world.PlaceLaws.{found, nobody, all_there, changed_here, changed_elsewhere, still_there, new_there, but, dropped_here, dropped_elsewhere}
-use Rattle.coap_serve.proofs.world.WorldLaws.{opened_world, before_settled}
+use Rattle.coap_serve.specs.world.Events.{Event, steps_of, world_after}
+use Rattle.coap_serve.proofs.world.PlaceLaws.{none_not_some, found, nobody, all_there, changed_here, changed_elsewhere, still_there, new_there, but, dropped_here, dropped_elsewhere}
+use Rattle.coap_serve.proofs.world.WalkLaws.{Composes, Between, Hears, Replies, Holds, LetsGo, Pongs, Rejects, Ends, Releases, Writes, once_between, after_between, faulted_between, written_between, ended_between, released_between}
 
 -- ---- settling
 
@@ -45,12 +49,21 @@ pub record HoldsOf (R : Side → Side → Type 0) (w : World) (st : Step) (id : 
 abbrev pub HoldsFrom : (Side → Side → Type 0) → LimitValues → World → Step → ℕ → Side → Type 0
 HoldsFrom R limits w st id t = ((s : Side) × (side_of id w.sides ≡ Some s) × R s t) ⊎ ((side_of id w.sides ≡ None) × (st ≡ world.Opened id) × R (new_side limits) t)
 
+-- what a function makes of what may be there
 made_of : (g : Side → Side) (o : Option Side) (t : Side) → option_map g o ≡ Some t → (s : Side) × (o ≡ Some s) × (g s ≡ t)
 made_of g None t e = absurd cc
 made_of g (Some s) t e = (s, refl, cc)
 
-some_same : (s t : Side) → ◌≡◌ {A = Option Side} (Some s) (Some t) → s ≡ t
+pub some_same : (s t : Side) → ◌≡◌ {A = Option Side} (Some s) (Some t) → s ≡ t
 some_same s t e = cc
+
+-- the world with a new connection
+abbrev pub opened_world : LimitValues → World → ℕ → World
+opened_world limits w id = record w { sides = w.sides ++ record { id = id; side = new_side limits } ∷ []; ids = id }
+
+-- the connection that became one when all settled
+pub before_settled : (w : World) (id : ℕ) (t : Side) → side_of id (all_settled w).sides ≡ Some t → (s : Side) × (side_of id w.sides ≡ Some s) × (settled w.store w.now s ≡ t)
+before_settled w id t e = made_of (settled w.store w.now) (side_of id w.sides) t (sym (all_there id (settled w.store w.now) w.sides) ∙ e)
 
 module _ (R : Side → Side → Type 0) (limits : LimitValues) (w : World) (st : Step) (id : ℕ) (holds : HoldsOf R w st id) where
   same_across : (t : Side) → side_of id w.sides ≡ Some t → HoldsFrom R limits w st id t
@@ -133,3 +146,102 @@ faulted_there limits w id fault s there =
     let did : World = acted limits w (world.Faulted id fault) in
     all_there id (settled did.store did.now) did.sides
     ∙ ap (option_map (settled did.store did.now)) (changed_here id (λ u. side_faulted u fault) w.sides ∙ ap (option_map (λ u. side_faulted u fault)) there)
+
+pub written_there : (limits : LimitValues) (w : World) (id n : ℕ) (s : Side) → side_of id w.sides ≡ Some s → side_of id (world.step limits w (world.Written id n)).sides ≡ Some (settled w.store w.now (side_written s n))
+unfolding world.step acted
+written_there limits w id n s there =
+    all_there id (settled w.store w.now) (acted limits w (world.Written id n)).sides
+    ∙ ap (option_map (settled w.store w.now)) (changed_here id (λ u. side_written u n) w.sides ∙ ap (option_map (λ u. side_written u n)) there)
+
+-- ---- a relation between histories
+
+-- each part of what happens keeps it
+pub record KeepsAll (R : History → History → Type 0) : Type 0 where
+  pub composes : Composes R
+  pub hears : Hears R
+  pub replies : Replies R
+  pub holds : Holds R
+  pub lets_go : LetsGo R
+  pub pongs : Pongs R
+  pub rejects : Rejects R
+  pub ends : Ends R
+  pub releases : Releases R
+  pub writes : Writes R
+
+module _ (R : History → History → Type 0) (keeps : KeepsAll R) where
+  pub after_all : (store : StoreValue) (now : ℕ) (s : Side) (m : Message) → Between R s (side_after store now s m)
+  after_all = after_between R R keeps.composes.same keeps.composes.then keeps.hears keeps.composes.same keeps.replies keeps.holds
+
+  pub faulted_all : (s : Side) (fault : StreamFault) → Between R s (side_faulted s fault)
+  faulted_all = faulted_between R keeps.composes.same keeps.rejects
+
+  pub once_all : (store : StoreValue) (now : ℕ) (s : Side) → Between R s (settled_once store now s)
+  once_all = once_between R R keeps.composes.same keeps.composes.then keeps.replies keeps.lets_go keeps.pongs
+
+  pub all_across : (w : World) (st : Step) (id : ℕ) → HoldsOf (Between R) w st id
+  all_across w st id = record {
+    same = λ s. keeps.composes.same s.history;
+    handled = λ m is s. after_all w.store w.now s m;
+    faulted = λ fault is s. faulted_all s fault;
+    written = written_between R keeps.composes.same keeps.writes;
+    ended = ended_between R keeps.composes.same keeps.ends;
+    released = released_between R keeps.composes.same keeps.releases;
+    told = λ store now s t is. keeps.composes.then s.history t.history _ is (once_all store now t);
+  }
+
+-- ---- what each connection keeps, the world keeps
+
+-- a new connection has it, and whatever happens to one that has it leaves it
+pub record Keeps (limits : LimitValues) (P : Side → Type 0) : Type 0 where
+  pub first : P (new_side limits)
+  pub handled : (store : StoreValue) (now : ℕ) (s : Side) (m : Message) → P s → P (side_after store now s m)
+  pub faulted : (s : Side) (fault : StreamFault) → P s → P (side_faulted s fault)
+  pub written : (s : Side) (n : ℕ) → P s → P (side_written s n)
+  pub ended : (s : Side) (cut : Bool) → P s → P (side_ended s cut)
+  pub released : (s : Side) → P s → P (side_released s)
+  pub told : (store : StoreValue) (now : ℕ) (s : Side) → P s → P (settled_once store now s)
+
+module _ (limits : LimitValues) (P : Side → Type 0) (keeps : Keeps limits P) where
+  abbrev Each : World → Type 0
+  Each w = (id : ℕ) (s : Side) → side_of id w.sides ≡ Some s → P s
+
+  kept_across : (w : World) (st : Step) (id : ℕ) → HoldsOf (λ s t. P s → P t) w st id
+  kept_across w st id = record {
+    same = λ s is. is;
+    handled = λ m is s. keeps.handled w.store w.now s m;
+    faulted = λ fault is s. keeps.faulted s fault;
+    written = keeps.written;
+    ended = keeps.ended;
+    released = keeps.released;
+    told = λ store now s t goes is. keeps.told store now t (goes is);
+  }
+
+  step_keeps : (w : World) (st : Step) → Each w → Each (world.step limits w st)
+  step_keeps w st each id t there =
+      elim (step_across (λ s u. P s → P u) limits w st id (kept_across w st id) t there) [ inl old ↦ old.2 (each id old.0 old.1) | inr new ↦ new.2 keeps.first ]
+
+  steps_keep : (w : World) (ss : List Step) → Each w → Each (after_steps limits w ss)
+  unfolding after_steps
+  steps_keep w [] each = each
+  steps_keep w (st ∷ ss) each = steps_keep (world.step limits w st) ss (step_keeps w st each)
+
+-- so each connection has it after any events
+pub kept_after : (c : ConfigValues) (P : Side → Type 0) → Keeps c.limits P → (es : List Event) (id : ℕ) (s : Side) → side_of id (world_after c es).sides ≡ Some s → P s
+unfolding world_after
+kept_after c P keeps es = steps_keep c.limits P keeps (new_world c) (steps_of c.limits.max_message es) (λ id s there. absurd (none_not_some s (sym (nobody id) ∙ there)))
+
+-- the same of what a history keeps
+pub keeps_history : (limits : LimitValues) (P : History → Type 0) → P (new_history Server limits 0) → KeepsAll (λ h k. P h → P k) → Keeps limits (λ s. P s.history)
+keeps_history limits P first keeps = record {
+  first = first;
+  handled = after_all (λ h k. P h → P k) keeps;
+  faulted = faulted_all (λ h k. P h → P k) keeps;
+  written = written_between (λ h k. P h → P k) keeps.composes.same keeps.writes;
+  ended = ended_between (λ h k. P h → P k) keeps.composes.same keeps.ends;
+  released = released_between (λ h k. P h → P k) keeps.composes.same keeps.releases;
+  told = once_all (λ h k. P h → P k) keeps;
+}
+
+-- what is kept composes
+pub keeping : (P : History → Type 0) → Composes (λ h k. P h → P k)
+keeping P = record { same = λ h is. is; then = λ h k g one two is. two (one is) }

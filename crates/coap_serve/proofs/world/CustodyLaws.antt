@@ -1,7 +1,6 @@
 -- What is held stands in the order of the messages that asked for it, and a Pong with Custody is queued only where nothing that is
 -- held came before its Ping.
 use Rattle.std.proofs.Common.{◌≡◌, ℕ, zero, suc, Bool, true, false, cond, ◌&&◌, ◌||◌, ◌==◌, List, [], ◌∷◌, ◌++◌, length, Option, Some, None, refl, sym, ap, subst, ◌∙◌, inl, inr}
-use Rattle.std.specs.Prelude.{is_none, nat_le}
 use Rattle.std.specs.List.{AllByRecursion, list_any, remove}
 use Rattle.std.proofs.lemmas.Bool.{and_parts, and_right, or_cases}
 use Rattle.std.proofs.lemmas.List.{append_cancel_left}
@@ -13,37 +12,33 @@ use Rattle.coap_wire.specs.OptionNumbers as numbers
 use Rattle.coap_conn.specs.SignalOptions as option
 use Rattle.coap_conn.specs.declared.phase.Phase.{Phase}
 use Rattle.coap_conn.specs.declared.phase.Phase.TheVariants as phase
-use Rattle.coap_conn.specs.declared.phase.Reject.{Reject}
 use Rattle.coap_conn.specs.declared.phase.Reply.{Reply}
 use Rattle.coap_conn.specs.declared.phase.Reply.TheVariants.{Whole, Bare, Stopped}
-use Rattle.coap_conn.specs.declared.reason.Reason.TheVariants.{ReleasedHere}
 use Rattle.coap_conn.specs.Limits.{LimitValues}
 use Rattle.coap_conn.specs.Phases.{takes_messages, answers, is_open, is_waiting}
 use Rattle.coap_conn.specs.Verdicts.{VerdictValue, is_request}
 use Rattle.coap_conn.specs.Verdicts as verdict
 use Rattle.coap_conn.specs.Fit.{fit, bare_response}
-use Rattle.coap_conn.specs.Rejects.{reject_of, reject_reason}
-use Rattle.coap_conn.specs.Release.{release_refusal}
-use Rattle.coap_conn.specs.Held.{HeldValue, Answer, Pong, without_at, due_index, first_due, without_due}
-use Rattle.coap_conn.specs.Reaction.{Standing, Effect, stop, abort, send_as, send, react, due_effect, asks_custody, is_custody_pong, pong_with}
-use Rattle.coap_conn.specs.History.{History, limit_now, standing_now, with_effect, after, may_hold, link_of}
-use Rattle.coap_conn.specs.Calls.{end_reason, release, standing_due}
+use Rattle.coap_conn.specs.Held.{HeldValue, Answer, Pong, without_at, due_index, without_due}
+use Rattle.coap_conn.specs.Reaction.{Standing, Effect, send_as, send, react, asks_custody, is_custody_pong, pong_with}
+use Rattle.coap_conn.specs.History.{History, limit_now, standing_now, with_effect, after, may_hold}
 use Rattle.coap_conn.specs.Calls as call
 use Rattle.coap_conn.proofs.HeldLaws.{custody_at_once, due_pong}
 use Rattle.coap_conn.proofs.RequestLemmas.{react_asks}
 use Rattle.coap_store.specs.Store.{StoreValue}
-use Rattle.coap_store.specs.Answer.{Response, held_response, asks_late, answer_of, prompt_answer}
+use Rattle.coap_store.specs.Answer.{Response, asks_late, answer_of, prompt_answer}
 use Rattle.coap_store.specs.Messages.{option_at, number_at, each_at, empty_at, options_with_observe, response_with_observe}
 use Rattle.coap_store.proofs.HoldLaws.{held_of}
 use Rattle.coap_serve.specs.Configs.{ConfigValues}
-use Rattle.coap_serve.specs.world.Observers.{Observer, without_token, has_place, notification, notification_message, goes_on}
-use Rattle.coap_serve.specs.world.Sides.{Side, waiting_on, has_room, handles, with_history, side_replied, held_for, moment_after, asks_answer, side_handled, side_after, side_faulted, side_written, side_ended, side_released, next_due, notified, next_held, held_message, after_sent, settled_so, settled_once}
+use Rattle.coap_serve.specs.world.Observers.{Observer, without_token, has_place}
+use Rattle.coap_serve.specs.world.Sides.{Side, has_room, handles, with_history, side_replied, held_for, moment_after, asks_answer, side_handled, side_after, side_faulted, side_written, side_ended, side_released, next_held, held_message, settled_so, settled_once}
 use Rattle.coap_serve.specs.world.World.{side_of}
 use Rattle.coap_serve.specs.world.Events.{Event, world_after}
 use Rattle.coap_serve.specs.world.Custody.{asks_held, StandFor, QueuesCustody, IsFirstHeld}
 use Rattle.coap_serve.proofs.world.EntryLemmas.{all_append}
-use Rattle.coap_serve.proofs.world.LimitLaws.{Keeps, kept_after}
-use Rattle.coap_serve.proofs.world.ToldMessages.{Queues, queues_none, queues_effect, queues_to, queues_then, heard_queues, IsPlain, reject_queues, end_queues, release_queues, hold_queues, react_so}
+use Rattle.coap_serve.proofs.world.WalkLaws.{sent, without_first, Hears, Replies, Holds, Pongs, if_between, after_between, faulted_between, written_between, ended_between, released_between, once_between}
+use Rattle.coap_serve.proofs.world.AcrossLaws.{Keeps, kept_after}
+use Rattle.coap_serve.proofs.world.ToldMessages.{Queues, queues_none, queues_effect, queues_to, queues_then, heard_queues, IsPlain, reject_queues, end_queues, release_queues, holding_queues, queues_as, written_queues, react_so}
 
 -- the second of two tests
 or_later : (a b : Bool) → b ≡ true → (a || b) ≡ true
@@ -72,18 +67,15 @@ gives_all G (m ∷ ms) is = (λ pong. is, gives_all G ms is)
 no_pong : (G : Type 0) (m : Message) → is_custody_pong m ≡ false → Gives G m
 no_pong G m other is = absurd cc
 
-plain_gives : (G : Type 0) (h k : History) → Queues IsPlain h k → Queues (Gives G) h k
-plain_gives G h k queues = queues_to IsPlain (Gives G) (λ m is. no_pong G m is.1) h k queues
+-- a message that is no such Pong
+abbrev IsNoPong : Message → Type 0
+IsNoPong m = is_custody_pong m ≡ false
 
 -- so it holds where one is queued between two moments
 custody_gives : (G : Type 0) (s t : Side) → Queues (Gives G) s.history t.history → QueuesCustody s t → G
 custody_gives G s t queues custody =
     let same : custody.more ≡ queues.more = append_cancel_left s.history.queued custody.more queues.more (sym custody.queued ∙ queues.same) in
     gives_any G queues.more queues.such (subst (λ ms. list_any is_custody_pong ms ≡ true) same custody.pong)
-
-if_gives : (G : Type 0) (does : Bool) (s t : Side) → (does ≡ true → Queues (Gives G) s.history t.history) → Queues (Gives G) s.history (cond does t s).history
-if_gives G true s t go = go refl
-if_gives G false s t go = queues_none (Gives G) s.history
 
 -- ---- responses
 
@@ -129,106 +121,76 @@ response_no_pong token observe r =
 bare_no_pong : (m : Message) → is_custody_pong (bare_response m) ≡ false
 bare_no_pong m = and_right ((bare_response m).code == code.pong) false refl
 
-sent_gives : (G : Type 0) (s : Standing) (m : Message) (r : Reply) → is_custody_pong m ≡ false → AllByRecursion (Gives G) (send_as s m (bare_response m) r).queued
-sent_gives G s m Whole other = (no_pong G m other, tt)
-sent_gives G s m Bare other = (no_pong G (bare_response m) (bare_no_pong m), tt)
-sent_gives G s m Stopped other = tt
+sent_no_pong : (s : Standing) (m : Message) (r : Reply) → IsNoPong m → AllByRecursion IsNoPong (send_as s m (bare_response m) r).queued
+sent_no_pong s m Whole other = (other, tt)
+sent_no_pong s m Bare other = (bare_no_pong m, tt)
+sent_no_pong s m Stopped other = tt
 
 -- a response is no Pong with Custody
-reply_gives : (G : Type 0) (h : History) (token : List ℕ) (observe : Bool) (r : Response) → Queues (Gives G) h (after h (call.Reply (response_with_observe token observe r)))
-reply_gives G h token observe r =
+reply_no_pong : Replies (Queues IsNoPong)
+reply_no_pong h token observe r does room =
     let m : Message = response_with_observe token observe r in
-    queues_effect (Gives G) h (send (standing_now h) m (bare_response m)) (answers h.phase) (sent_gives G (standing_now h) m (fit (limit_now h) m (bare_response m)) (response_no_pong token observe r))
+    queues_effect IsNoPong h (send (standing_now h) m (bare_response m)) true (sent_no_pong (standing_now h) m (fit (limit_now h) m (bare_response m)) (response_no_pong token observe r))
+
+hold_no_pong : Holds (Queues IsNoPong)
+hold_no_pong h token moment opened may = holding_queues IsNoPong h _
+
+-- so what holds where one is queued goes on over it
+gives_then : (G : Type 0) (h k g : History) → Queues (Gives G) h k → Queues IsNoPong k g → Queues (Gives G) h g
+gives_then G h k g one two = queues_then (Gives G) h k g one (queues_to IsNoPong (Gives G) (no_pong G) k g two)
 
 -- ---- a message
 
-message_gives : (h : History) (m : Message) → Queues (Gives (h.held ≡ [])) h (after h (call.Handle m))
-message_gives h m =
+abbrev WhereNoneHeld : History → History → Type 0
+WhereNoneHeld h k = Queues (Gives (h.held ≡ [])) h k
+
+message_gives : Hears WhereNoneHeld
+message_gives h m takes room =
     let e : Effect = (react (standing_now h) m).effect in
-    heard_queues (Gives (h.held ≡ [])) h m e (takes_messages h.phase) (any_gives (h.held ≡ []) e.queued (custody_at_once (standing_now h) m))
-
-replied_gives : (G : Type 0) (store : StoreValue) (now : ℕ) (h : History) (others : List Observer) (m : Message) (hold : Option ℕ) → Queues (Gives G) h (side_replied store now h others m hold).history
-replied_gives G store now h others m None = reply_gives G h m.token (has_place h.limits.observers others (prompt_answer store now m).watch) (prompt_answer store now m).response
-replied_gives G store now h others m (Some seconds) = hold_queues (Gives G) h m.token (moment_after now seconds)
-
-handled_by_gives : (store : StoreValue) (now : ℕ) (s : Side) (m : Message) (others : List Observer) (hold : Option ℕ) (asks : Bool)
-    → Queues (Gives (s.history.held ≡ [])) s.history (cond asks (side_replied store now (after s.history (call.Handle m)) others m hold) (with_history s (after s.history (call.Handle m)))).history
-handled_by_gives store now s m others hold true =
-    let G : Type 0 = s.history.held ≡ [] in
-    let h : History = after s.history (call.Handle m) in
-    queues_then (Gives G) s.history h (side_replied store now h others m hold).history (message_gives s.history m) (replied_gives G store now h others m hold)
-handled_by_gives store now s m others hold false = message_gives s.history m
-
-handled_gives : (store : StoreValue) (now : ℕ) (s : Side) (m : Message) → Queues (Gives (s.history.held ≡ [])) s.history (side_handled store now s m).history
-handled_gives store now s m =
-    handled_by_gives store now s m (without_token m.token s.observers) (held_for (after s.history (call.Handle m)) (answer_of store now m).hold) (asks_answer s m)
+    heard_queues (Gives (h.held ≡ [])) h m e true (any_gives (h.held ≡ []) e.queued (custody_at_once (standing_now h) m))
 
 pub custody_waits : (store : StoreValue) (now : ℕ) (s : Side) (m : Message) → QueuesCustody s (side_after store now s m) → s.history.held ≡ []
-unfolding side_after
 custody_waits store now s m =
-    custody_gives (s.history.held ≡ []) s (side_after store now s m) (if_gives (s.history.held ≡ []) (handles s) s (side_handled store now s m) (λ does. handled_gives store now s m))
+    custody_gives (s.history.held ≡ []) s (side_after store now s m)
+    (after_between WhereNoneHeld (Queues IsNoPong) (λ h. queues_none (Gives (h.held ≡ [])) h) (λ h k g. gives_then (h.held ≡ []) h k g) message_gives (queues_none IsNoPong) reply_no_pong hold_no_pong store now s m)
 
 -- ---- all else but settling
 
+-- none is queued
+no_custody : (s t : Side) → Queues IsPlain s.history t.history → QueuesCustody s t → ⊥
+no_custody s t queues = custody_gives ⊥ s t (queues_to IsPlain (Gives ⊥) (λ m is. no_pong ⊥ m is.1) s.history t.history queues)
+
 pub faulted_no_custody : (s : Side) (fault : StreamFault) → QueuesCustody s (side_faulted s fault) → ⊥
-unfolding side_faulted
-faulted_no_custody s fault =
-    let h : History = after s.history (call.Reject (reject_of fault)) in
-    custody_gives ⊥ s (side_faulted s fault) (if_gives ⊥ (handles s) s (with_history s h) (λ does. plain_gives ⊥ s.history h (reject_queues s.history (reject_of fault))))
+faulted_no_custody s fault = no_custody s (side_faulted s fault) (faulted_between (Queues IsPlain) (queues_none IsPlain) reject_queues s fault)
 
 pub ended_no_custody : (s : Side) (cut : Bool) → QueuesCustody s (side_ended s cut) → ⊥
-unfolding side_ended
-ended_no_custody s cut = custody_gives ⊥ s (side_ended s cut) (plain_gives ⊥ s.history (after s.history (call.End cut)) (end_queues s.history cut))
+ended_no_custody s cut = no_custody s (side_ended s cut) (ended_between (Queues IsPlain) (queues_none IsPlain) end_queues s cut)
 
 pub released_no_custody : (s : Side) → QueuesCustody s (side_released s) → ⊥
-unfolding side_released
-released_no_custody s =
-    let h : History = after s.history call.Release in
-    custody_gives ⊥ s (side_released s) (if_gives ⊥ (is_none (release_refusal (link_of s.history))) s (with_history s h) (λ does. plain_gives ⊥ s.history h (release_queues s.history)))
-
-written_gives : (h : History) (n : ℕ) → Queues (Gives ⊥) h (after h (call.Written n))
-written_gives h n = let same : Queues (Gives ⊥) h h = queues_none (Gives ⊥) h in record { more = same.more; same = same.same; such = same.such; heard = same.heard; handled = same.handled }
+released_no_custody s = no_custody s (side_released s) (released_between (Queues IsPlain) (queues_none IsPlain) release_queues s)
 
 pub written_no_custody : (s : Side) (n : ℕ) → QueuesCustody s (side_written s n) → ⊥
-unfolding side_written
-written_no_custody s n =
-    custody_gives ⊥ s (side_written s n) (if_gives ⊥ (nat_le n (length (waiting_on s))) s (record s { history = after s.history (call.Written n) }) (λ does. written_gives s.history n))
+written_no_custody s n = no_custody s (side_written s n) (written_between (Queues IsPlain) (queues_none IsPlain) (λ h k within. written_queues IsPlain h k) s n)
 
 -- ---- settling
 
 -- the first that is held is a Pong
-abbrev PongFirst : Side → Type 0
-PongFirst s = (token : List ℕ) × IsFirstHeld s token
+abbrev WherePongFirst : History → History → Type 0
+WherePongFirst h k = Queues (Gives ((token : List ℕ) × (rest : List HeldValue) × (h.held ≡ Pong token ∷ rest))) h k
 
-due_gives : (s : Side) (now : ℕ) (found : Option HeldValue) → first_due now s.history.held ≡ found → AllByRecursion (Gives (PongFirst s)) (due_effect (standing_due now (standing_now s.history)) found).queued
-due_gives s now None e = tt
-due_gives s now (Some (Answer token moment)) e = tt
-due_gives s now (Some (Pong token)) e =
-    gives_all (PongFirst s) (due_effect (standing_due now (standing_now s.history)) (Some (Pong token))).queued
-    (token, record { rest = without_due now s.history.held; first = due_pong now s.history.held token e })
-
-taken_gives : (s : Side) (now : ℕ) → Queues (Gives (PongFirst s)) s.history (after s.history (call.Due now))
-taken_gives s now =
-    let found : Option HeldValue = first_due now s.history.held in
-    queues_effect (Gives (PongFirst s)) s.history (due_effect (standing_due now (standing_now s.history)) found) true (due_gives s now found refl)
-
-sent_held_gives : (s : Side) (now : ℕ) (e : HeldValue) → Queues (Gives (PongFirst s)) s.history (after_sent s.history now e)
-sent_held_gives s now (Answer token moment) =
-    queues_then (Gives (PongFirst s)) s.history (after s.history (call.Due now)) (after (after s.history (call.Due now)) (call.Reply (held_message token))) (taken_gives s now)
-    (reply_gives (PongFirst s) (after s.history (call.Due now)) token false held_response)
-sent_held_gives s now (Pong token) = taken_gives s now
-
-notified_gives : (G : Type 0) (store : StoreValue) (now : ℕ) (s : Side) (found : Option Observer) → Queues (Gives G) s.history (notified store now s found).history
-notified_gives G store now s None = queues_none (Gives G) s.history
-notified_gives G store now s (Some o) = reply_gives G s.history o.token (goes_on (notification store now o)) (notification store now o)
-
-settled_gives : (store : StoreValue) (now : ℕ) (s : Side) (found : Option HeldValue) → Queues (Gives (PongFirst s)) s.history (settled_so store now s found).history
-settled_gives store now s None = notified_gives (PongFirst s) store now s (next_due store now s)
-settled_gives store now s (Some e) = sent_held_gives s now e
+pong_gives : Pongs WherePongFirst
+pong_gives h now token due room =
+    let G : Type 0 = (token : List ℕ) × (rest : List HeldValue) × (h.held ≡ Pong token ∷ rest) in
+    let e : Effect = send (standing_now (without_first h now)) (pong_with true token) (pong_with false token) in
+    queues_as (Gives G) h (without_due now h.held) e (gives_all G e.queued (token, without_due now h.held, due_pong now h.held token due))
 
 pub custody_comes_first : (store : StoreValue) (now : ℕ) (s : Side) → QueuesCustody s (settled_once store now s) → (token : List ℕ) × IsFirstHeld s token
-unfolding settled_once
-custody_comes_first store now s = custody_gives (PongFirst s) s (settled_once store now s) (settled_gives store now s (next_held now s))
+custody_comes_first store now s custody =
+    let G : History → Type 0 = λ h. (token : List ℕ) × (rest : List HeldValue) × (h.held ≡ Pong token ∷ rest) in
+    let first = custody_gives (G s.history) s (settled_once store now s)
+    (once_between WherePongFirst (Queues IsNoPong) (λ h. queues_none (Gives (G h)) h) (λ h k g. gives_then (G h) h k g) reply_no_pong
+    (λ h now. holding_queues (Gives (G h)) h _) pong_gives store now s) custody in
+    (first.0, record { rest = first.1; first = first.2 })
 
 -- ---- the order of what is held
 
@@ -299,35 +261,16 @@ stand_asked (m ∷ ms) (b ∷ before) e after (inr later) = or_later (asks_held 
 abbrev pub Stands : History → Type 0
 Stands h = StandFor h.handled h.held
 
-stands_effect : (h : History) (e : Effect) (does : Bool) → StandFor h.handled e.held → Stands h → Stands (cond does (with_effect h e) h)
-stands_effect h e true then stand = then
-stands_effect h e false then stand = stand
-
 sent_stands : (ms : List Message) (s : Standing) (m less : Message) (r : Reply) → StandFor ms s.held → StandFor ms (send_as s m less r).held
 sent_stands ms s m less Whole stand = stand
 sent_stands ms s m less Bare stand = stand
 sent_stands ms s m less Stopped stand = stand_none ms
 
-pub reply_stands : (h : History) (m : Message) → Stands h → Stands (after h (call.Reply m))
-reply_stands h m stand =
-    stands_effect h (send (standing_now h) m (bare_response m)) (answers h.phase) (sent_stands h.handled (standing_now h) m (bare_response m) (fit (limit_now h) m (bare_response m)) stand) stand
+sent_so : (h : History) (m less : Message) → Stands h → Stands (sent h m less)
+sent_so h m less stand = sent_stands h.handled (standing_now h) m less (fit (limit_now h) m less) stand
 
-reject_stands : (h : History) (r : Reject) → Stands h → Stands (after h (call.Reject r))
-reject_stands h r stand = stands_effect h (abort (standing_now h) (reject_reason r)) (takes_messages h.phase) (stand_none h.handled) stand
-
-end_stands : (h : History) (cut : Bool) → Stands h → Stands (after h (call.End cut))
-end_stands h cut stand = stands_effect h (stop (standing_now h) (end_reason cut) []) (takes_messages h.phase) (stand_none h.handled) stand
-
-release_stands : (h : History) → Stands h → Stands (after h call.Release)
-release_stands h stand = stands_effect h (stop (standing_now h) ReleasedHere (release ∷ [])) (is_open h.phase) (stand_none h.handled) stand
-
-due_stands : (ms : List Message) (s : Standing) (found : Option HeldValue) → StandFor ms s.held → StandFor ms (due_effect s found).held
-due_stands ms s None stand = stand
-due_stands ms s (Some (Answer token moment)) stand = stand
-due_stands ms s (Some (Pong token)) stand = sent_stands ms s (pong_with true token) (pong_with false token) (fit s.limit (pong_with true token) (pong_with false token)) stand
-
-pub taken_stands : (h : History) (now : ℕ) → Stands h → Stands (after h (call.Due now))
-taken_stands h now stand = due_stands h.handled (standing_due now (standing_now h)) (first_due now h.held) (stand_due h.handled now h.held stand)
+reply_stands : Replies (λ h k. Stands h → Stands k)
+reply_stands h token observe r does room = let m : Message = response_with_observe token observe r in sent_so h m (bare_response m)
 
 -- a Ping with Custody may be held
 message_held : (ms : List Message) (s : Standing) (m : Message) → StandFor ms s.held → StandFor (ms ++ m ∷ []) (react s m).effect.held
@@ -335,8 +278,8 @@ message_held ms s m stand =
     let still : StandFor (ms ++ m ∷ []) s.held = stand_more m ms s.held stand in
     react_so s m (λ e. StandFor (ms ++ m ∷ []) e.held) (record {
       stays = still;
-      stands = λ now outstanding. still;
-      stops = λ why farewell plain. stand_none (ms ++ m ∷ []);
+      stands = λ now outstanding stands. still;
+      stops = λ why farewell plain one may. stand_none (ms ++ m ∷ []);
       queues = λ n is. still;
       keeps = λ ping custody. stand_last m (Pong m.token) ms s.held (rw (ping, custody, (bytes_decides m.token m.token).1 refl) refl) stand;
     })
@@ -381,7 +324,10 @@ hold_stands h token moment false then stand = stand
 
 replied_stands : (store : StoreValue) (now : ℕ) (h : History) (others : List Observer) (m : Message) (hold : Option ℕ) → ((seconds moment : ℕ) → hold ≡ Some seconds → StandFor h.handled (h.held ++ Answer m.token moment ∷ [])) → Stands h
     → Stands (side_replied store now h others m hold).history
-replied_stands store now h others m None then stand = reply_stands h _ stand
+replied_stands store now h others m None then stand =
+    let a = prompt_answer store now m in
+    let response : Message = response_with_observe m.token (has_place h.limits.observers others a.watch) a.response in
+    if_between (λ h k. Stands h → Stands k) (answers h.phase) h _ (λ is. is) (λ does. sent_so h response (bare_response response)) stand
 replied_stands store now h others m (Some seconds) then stand = hold_stands h m.token (moment_after now seconds) (is_open h.phase && may_hold h) (then seconds (moment_after now seconds) refl) stand
 
 -- ---- connections
@@ -404,47 +350,17 @@ unfolding side_after
 after_stands store now s m stand =
     if_stands (handles s) s (side_handled store now s m) stand (λ does. handled_stands store now s m (and_parts (takes_messages s.history.phase) (has_room s) does).0 stand)
 
-faulted_stands : (s : Side) (fault : StreamFault) → Stands s.history → Stands (side_faulted s fault).history
-unfolding side_faulted
-faulted_stands s fault stand = if_stands (handles s) s (with_history s (after s.history (call.Reject (reject_of fault)))) stand (λ does. reject_stands s.history (reject_of fault) stand)
-
-written_stands : (s : Side) (n : ℕ) → Stands s.history → Stands (side_written s n).history
-unfolding side_written
-written_stands s n stand = if_stands (nat_le n (length (waiting_on s))) s (record s { history = after s.history (call.Written n) }) stand (λ does. stand)
-
-ended_stands : (s : Side) (cut : Bool) → Stands s.history → Stands (side_ended s cut).history
-unfolding side_ended
-ended_stands s cut stand = end_stands s.history cut stand
-
-released_stands : (s : Side) → Stands s.history → Stands (side_released s).history
-unfolding side_released
-released_stands s stand = if_stands (is_none (release_refusal (link_of s.history))) s (with_history s (after s.history call.Release)) stand (λ does. release_stands s.history stand)
-
-notified_stands : (store : StoreValue) (now : ℕ) (s : Side) (found : Option Observer) → Stands s.history → Stands (notified store now s found).history
-notified_stands store now s None stand = stand
-notified_stands store now s (Some o) stand = reply_stands s.history (notification_message o.token (notification store now o)) stand
-
-sent_held_stands : (h : History) (now : ℕ) (e : HeldValue) → Stands h → Stands (after_sent h now e)
-sent_held_stands h now (Answer token moment) stand = reply_stands (after h (call.Due now)) (held_message token) (taken_stands h now stand)
-sent_held_stands h now (Pong token) stand = taken_stands h now stand
-
-settled_stands : (store : StoreValue) (now : ℕ) (s : Side) (found : Option HeldValue) → Stands s.history → Stands (settled_so store now s found).history
-settled_stands store now s None stand = notified_stands store now s (next_due store now s) stand
-settled_stands store now s (Some e) stand = sent_held_stands s.history now e stand
-
-once_stands : (store : StoreValue) (now : ℕ) (s : Side) → Stands s.history → Stands (settled_once store now s).history
-unfolding settled_once
-once_stands store now s stand = settled_stands store now s (next_held now s) stand
-
 pub stands_keeps : (limits : LimitValues) → Keeps limits (λ s. Stands s.history)
 stands_keeps limits = record {
   first = stand_none [];
   handled = after_stands;
-  faulted = faulted_stands;
-  written = written_stands;
-  ended = ended_stands;
-  released = released_stands;
-  told = once_stands;
+  faulted = faulted_between (λ h k. Stands h → Stands k) (λ h stand. stand) (λ h fault takes room stand. stand_none h.handled);
+  written = written_between (λ h k. Stands h → Stands k) (λ h stand. stand) (λ h n within stand. stand);
+  ended = ended_between (λ h k. Stands h → Stands k) (λ h stand. stand) (λ h cut takes stand. stand_none h.handled);
+  released = released_between (λ h k. Stands h → Stands k) (λ h stand. stand) (λ h opened none stand. stand_none h.handled);
+  told = once_between (λ h k. Stands h → Stands k) (λ h k. Stands h → Stands k) (λ h stand. stand) (λ h k g one two stand. two (one stand)) reply_stands
+      (λ h now. stand_due h.handled now h.held)
+      (λ h now token due room stand. sent_so (without_first h now) (pong_with true token) (pong_with false token) (stand_due h.handled now h.held stand));
 }
 
 -- what is held stands in the order of the messages that asked for it, after any events

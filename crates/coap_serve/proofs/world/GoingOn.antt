@@ -1,20 +1,34 @@
--- What each call keeps of a history, and the link that shows the history after it.
-use Rattle.std.proofs.Common.{◌≡◌, ℕ, ◌≤◌, Bool, true, false, ◌&&◌, cond, List, [], ◌∷◌, ◌++◌, length, Option, Some, None, refl, sym, ap, ◌∙◌}
+-- A history that another one goes on to: one of the same connection, which takes no message any more once it does not. What each call
+-- keeps of a history, and the link that shows the history after it.
+use Rattle.std.proofs.Common.{◌≡◌, ℕ, ◌≤◌, Bool, true, false, cond, ◌&&◌, List, [], ◌++◌, length, Option, Some, None, refl, sym, ap, ◌∙◌, arith}
+use Rattle.std.proofs.lemmas.Bool.{both_ways, and_parts}
+use Rattle.std.proofs.lemmas.List.{length-append, length-drop}
 use Rattle.coap_wire.specs.Message.{Message}
+use Rattle.coap_wire.specs.Stream.{StreamFault}
 use Rattle.coap_conn.specs.declared.phase.Reject.{Reject}
 use Rattle.coap_conn.specs.declared.phase.Reply.{Reply}
 use Rattle.coap_conn.specs.declared.phase.Reply.TheVariants as reply
+use Rattle.coap_conn.specs.declared.phase.Role.TheVariants.{Server}
+use Rattle.coap_conn.specs.Limits.{LimitValues}
 use Rattle.coap_conn.specs.Phases.{takes_messages, answers, is_open}
 use Rattle.coap_conn.specs.Fit.{fit, bare_response}
 use Rattle.coap_conn.specs.Held.{HeldValue, first_due}
 use Rattle.coap_conn.specs.Held as held
-use Rattle.coap_conn.specs.Reaction.{Standing, send_as, pong_with, due_effect}
-use Rattle.coap_conn.specs.History.{History, IsHistory, standing_now, after, may_hold, link_of, LinkShows}
+use Rattle.coap_conn.specs.Reaction.{Standing, Effect, send_as, pong_with, due_effect}
+use Rattle.coap_conn.specs.Rejects.{reject_of}
+use Rattle.coap_conn.specs.History.{History, IsHistory, standing_now, with_effect, after, may_hold, link_of, LinkShows}
+use Rattle.coap_conn.specs.LinkValue.{bytes_of}
 use Rattle.coap_conn.specs.Calls.{standing_due, link_after}
 use Rattle.coap_conn.specs.Calls as call
-use Rattle.coap_conn.proofs.LinkLemmas.{shows}
+use Rattle.coap_conn.proofs.LinkLemmas.{bytes_more, new_shown, shows}
+use Rattle.coap_store.specs.Store.{StoreValue}
+use Rattle.coap_serve.specs.Configs.{ConfigValues}
 use Rattle.coap_serve.specs.values.Sessions.{link_sent}
-use Rattle.coap_serve.specs.world.Sides.{held_message, after_sent}
+use Rattle.coap_serve.specs.world.Sides.{Side, new_side, handles, has_room, with_history, side_after, side_faulted, side_written, side_ended, side_released, held_message, after_sent, settled_once, settled}
+use Rattle.coap_serve.specs.world.World.{side_of}
+use Rattle.coap_serve.specs.world.Events.{Event, world_after}
+use Rattle.coap_serve.proofs.world.WalkLaws.{heard, sent, holding, without_first, Between, if_between, settled_between, written_between, ended_between, released_between}
+use Rattle.coap_serve.proofs.world.AcrossLaws.{KeepsAll, Keeps, kept_after, after_all, faulted_all, once_all}
 
 -- ---- what is kept
 
@@ -36,55 +50,70 @@ further g h k one two = record {
   over = λ e. two.over (one.over e);
 }
 
--- each link shows its history
-abbrev itself : (h : History) → IsHistory h → LinkShows (link_of h) h
-itself h is = record { is_history = is; same = refl }
+-- one that takes messages took them before
+pub was_live : (h k : History) → GoesOn h k → takes_messages k.phase ≡ true → takes_messages h.phase ≡ true
+was_live h k goes takes =
+    elim (takes_messages h.phase) as (λ b. takes_messages h.phase ≡ b → b ≡ true) [ true ↦ λ e. refl | false ↦ λ e. absurd (both_ways (takes_messages k.phase) (goes.over e) takes) ] refl
 
-after_if : (does : Bool) (h k : History) → k.role ≡ h.role → k.limits ≡ h.limits → (does ≡ true → takes_messages h.phase ≡ false → takes_messages k.phase ≡ false) → (IsHistory h → IsHistory (cond does k h)) → GoesOn h (cond does k h)
-after_if true h k role limits over history = record { role = role; limits = limits; history = history; over = over refl }
-after_if false h k role limits over history = as_before h
+-- ---- each part
 
--- ---- each call
+-- more is queued
+queued_more : (h : History) (ms : List Message) → IsHistory h → h.written ≤ length (bytes_of (h.queued ++ ms))
+queued_more h ms is = omega (arith, is, ap (λ (t : List ℕ). length t) (bytes_more h.queued ms), length-append (bytes_of h.queued) (bytes_of ms))
 
-pub message_goes_on : (h : History) (m : Message) → GoesOn h (after h (call.Handle m))
-message_goes_on h m =
-    after_if (takes_messages h.phase) h _ refl refl (λ takes none. absurd cc) (λ is. (shows (link_of h) (link_after (link_of h) (call.Handle m)) (call.Handle m) tt refl h (itself h is)).is_history)
+effect_goes_on : (h : History) (e : Effect) → (takes_messages h.phase ≡ false → takes_messages e.phase ≡ false) → GoesOn h (with_effect h e)
+effect_goes_on h e over = record { role = refl; limits = refl; history = queued_more h e.queued; over = over }
+
+heard_goes_on : (h : History) (m : Message) → takes_messages h.phase ≡ true → GoesOn h (heard h m)
+heard_goes_on h m takes = record { role = refl; limits = refl; history = queued_more h _; over = λ none. absurd cc }
 
 sent_over : (s : Standing) (m less : Message) (r : Reply) → takes_messages s.phase ≡ false → takes_messages (send_as s m less r).phase ≡ false
 sent_over s m less reply.Whole e = e
 sent_over s m less reply.Bare e = e
 sent_over s m less reply.Stopped e = refl
 
-pub reply_goes_on : (h : History) (m : Message) → GoesOn h (after h (call.Reply m))
-reply_goes_on h m =
-    after_if (answers h.phase) h _ refl refl (λ answers none. sent_over (standing_now h) m (bare_response m) (fit (standing_now h).limit m (bare_response m)) none)
-    (λ is. (shows (link_of h) (link_after (link_of h) (call.Reply m)) (call.Reply m) tt refl h (itself h is)).is_history)
+pub sent_goes_so : (h : History) (m less : Message) → GoesOn h (sent h m less)
+sent_goes_so h m less = effect_goes_on h _ (sent_over (standing_now h) m less (fit (standing_now h).limit m less))
 
-pub reject_goes_on : (h : History) (fault : Reject) → GoesOn h (after h (call.Reject fault))
-reject_goes_on h fault =
-    after_if (takes_messages h.phase) h _ refl refl (λ takes none. refl) (λ is. (shows (link_of h) (link_after (link_of h) (call.Reject fault)) (call.Reject fault) tt refl h (itself h is)).is_history)
-
-pub end_goes_on : (h : History) (cut : Bool) → GoesOn h (after h (call.End cut))
-end_goes_on h cut =
-    after_if (takes_messages h.phase) h _ refl refl (λ takes none. refl) (λ is. (shows (link_of h) (link_after (link_of h) (call.End cut)) (call.End cut) tt refl h (itself h is)).is_history)
-
-pub release_goes_on : (h : History) → GoesOn h (after h call.Release)
-release_goes_on h =
-    after_if (is_open h.phase) h _ refl refl (λ was none. refl) (λ is. (shows (link_of h) (link_after (link_of h) call.Release) call.Release tt refl h (itself h is)).is_history)
+holding_so : (h : History) (held : List HeldValue) → GoesOn h (holding h held)
+holding_so h held = record { role = refl; limits = refl; history = λ is. is; over = λ e. e }
 
 pub written_goes_on : (h : History) (n : ℕ) → n ≤ length (link_of h).waiting → GoesOn h (after h (call.Written n))
-written_goes_on h n within = record {
-  role = refl;
-  limits = refl;
-  history = λ is. (shows (link_of h) (link_after (link_of h) (call.Written n)) (call.Written n) within refl h (itself h is)).is_history;
-  over = λ e. e;
+written_goes_on h n within = record { role = refl; limits = refl; history = λ is. omega (arith, within, is, length-drop h.written (bytes_of h.queued)); over = λ e. e }
+
+pub all_go_on : KeepsAll GoesOn
+all_go_on = record {
+  composes = record { same = as_before; then = further };
+  hears = λ h m takes room. heard_goes_on h m takes;
+  replies = λ h token observe r does room. sent_goes_so h _ _;
+  holds = λ h token moment opened may. holding_so h _;
+  lets_go = λ h now. holding_so h _;
+  pongs = λ h now token due room. further h (without_first h now) _ (holding_so h _) (sent_goes_so (without_first h now) _ _);
+  rejects = λ h fault takes room. effect_goes_on h _ (λ none. refl);
+  ends = λ h cut takes. effect_goes_on h _ (λ none. refl);
+  releases = λ h opened none. effect_goes_on h _ (λ none. refl);
+  writes = written_goes_on;
 }
 
--- an answer is held
+-- ---- each call
+
+pub message_goes_on : (h : History) (m : Message) → GoesOn h (after h (call.Handle m))
+message_goes_on h m = if_between GoesOn (takes_messages h.phase) h _ (as_before h) (heard_goes_on h m)
+
+pub reply_goes_on : (h : History) (m : Message) → GoesOn h (after h (call.Reply m))
+reply_goes_on h m = if_between GoesOn (answers h.phase) h _ (as_before h) (λ does. sent_goes_so h m (bare_response m))
+
+pub reject_goes_on : (h : History) (fault : Reject) → GoesOn h (after h (call.Reject fault))
+reject_goes_on h fault = if_between GoesOn (takes_messages h.phase) h _ (as_before h) (λ takes. effect_goes_on h _ (λ none. refl))
+
+pub end_goes_on : (h : History) (cut : Bool) → GoesOn h (after h (call.End cut))
+end_goes_on h cut = if_between GoesOn (takes_messages h.phase) h _ (as_before h) (λ takes. effect_goes_on h _ (λ none. refl))
+
+pub release_goes_on : (h : History) → GoesOn h (after h call.Release)
+release_goes_on h = if_between GoesOn (is_open h.phase) h _ (as_before h) (λ opened. effect_goes_on h _ (λ none. refl))
+
 pub hold_goes_on : (h : History) (token : List ℕ) (moment : ℕ) → GoesOn h (after h (call.Hold token moment))
-hold_goes_on h token moment =
-    after_if (is_open h.phase && may_hold h) h (record h { held = h.held ++ held.Answer token moment ∷ [] }) refl refl (λ holds none. none)
-    (λ is. (shows (link_of h) (link_after (link_of h) (call.Hold token moment)) (call.Hold token moment) tt refl h (itself h is)).is_history)
+hold_goes_on h token moment = if_between GoesOn (is_open h.phase && may_hold h) h _ (as_before h) (λ holds. holding_so h _)
 
 due_over : (s : Standing) (first : Option HeldValue) → takes_messages s.phase ≡ false → takes_messages (due_effect s first).phase ≡ false
 due_over s None e = e
@@ -94,18 +123,20 @@ due_over s (Some (held.Pong token)) e =
 
 -- what is due first is held no more, and is sent
 pub due_goes_on : (h : History) (now : ℕ) → GoesOn h (after h (call.Due now))
-due_goes_on h now = record {
-  role = refl;
-  limits = refl;
-  history = λ is. (shows (link_of h) (link_after (link_of h) (call.Due now)) (call.Due now) tt refl h (itself h is)).is_history;
-  over = due_over (standing_due now (standing_now h)) (first_due now h.held);
-}
+due_goes_on h now = effect_goes_on h _ (due_over (standing_due now (standing_now h)) (first_due now h.held))
 
 pub sent_goes_on : (h : History) (now : ℕ) (e : HeldValue) → GoesOn h (after_sent h now e)
 sent_goes_on h now (held.Answer token moment) = further h (after h (call.Due now)) _ (due_goes_on h now) (reply_goes_on (after h (call.Due now)) (held_message token))
 sent_goes_on h now (held.Pong token) = due_goes_on h now
 
+pub settled_goes_on : (store : StoreValue) (now : ℕ) (s : Side) → Between GoesOn s (settled store now s)
+settled_goes_on = settled_between GoesOn all_go_on.composes all_go_on.replies all_go_on.lets_go all_go_on.pongs
+
 -- ---- the link after it
+
+-- each link shows its history
+abbrev itself : (h : History) → IsHistory h → LinkShows (link_of h) h
+itself h is = record { is_history = is; same = refl }
 
 pub message_link : (h : History) (m : Message) → IsHistory h → link_of (after h (call.Handle m)) ≡ link_after (link_of h) (call.Handle m)
 message_link h m is = sym (shows (link_of h) (link_after (link_of h) (call.Handle m)) (call.Handle m) tt refl h (itself h is)).same
@@ -138,6 +169,59 @@ sent_link h now (held.Pong token) is = due_link h now is
 
 -- ---- what stops
 
--- a fault stops a connection that takes messages, and the end of input and Release stop it too
+-- a fault stops a connection that takes messages
 pub rejected_over : (h : History) (fault : Reject) → takes_messages h.phase ≡ true → takes_messages (after h (call.Reject fault)).phase ≡ false
 rejected_over h fault e = rw e refl
+
+pub faulted_stops : (s : Side) (fault : StreamFault) → handles s ≡ true → takes_messages (side_faulted s fault).history.phase ≡ false
+unfolding side_faulted
+faulted_stops s fault does =
+    ap (λ (b : Bool). takes_messages (cond b (with_history s (after s.history (call.Reject (reject_of fault)))) s).history.phase) does
+    ∙ rejected_over s.history (reject_of fault) (and_parts (takes_messages s.history.phase) (has_room s) does).0
+
+-- ---- what each connection of a server is
+
+-- no more was written than was queued, and it has these limits and is the server's end
+pub record IsSide (limits : LimitValues) (s : Side) : Type 0 where
+  pub is_history : IsHistory s.history
+  pub same_limits : s.history.limits ≡ limits
+  pub is_server : s.history.role ≡ Server
+
+pub follower_is : (limits : LimitValues) (s t : Side) → Between GoesOn s t → IsSide limits s → IsSide limits t
+follower_is limits s t goes is = record { is_history = goes.history is.is_history; same_limits = goes.limits ∙ is.same_limits; is_server = goes.role ∙ is.is_server }
+
+pub sides_keep : (limits : LimitValues) → Keeps limits (IsSide limits)
+sides_keep limits = record {
+  first = record { is_history = (new_shown Server limits 0 _ refl).is_history; same_limits = refl; is_server = refl };
+  handled = λ store now s m. follower_is limits s _ (after_all GoesOn all_go_on store now s m);
+  faulted = λ s fault. follower_is limits s _ (faulted_all GoesOn all_go_on s fault);
+  written = λ s n. follower_is limits s _ (written_between GoesOn as_before written_goes_on s n);
+  ended = λ s cut. follower_is limits s _ (ended_between GoesOn as_before all_go_on.ends s cut);
+  released = λ s. follower_is limits s _ (released_between GoesOn as_before all_go_on.releases s);
+  told = λ store now s. follower_is limits s _ (once_all GoesOn all_go_on store now s);
+}
+
+-- the connection with a number is one
+pub side_is : (c : ConfigValues) (es : List Event) (id : ℕ) (s : Side) → side_of id (world_after c es).sides ≡ Some s → IsSide c.limits s
+side_is c es id s there = kept_after c (IsSide c.limits) (sides_keep c.limits) es id s there
+
+-- what such connections keep
+pub record KeepsOfSides (limits : LimitValues) (P : Side → Type 0) : Type 0 where
+  pub first : P (new_side limits)
+  pub handled : (store : StoreValue) (now : ℕ) (s : Side) (m : Message) → IsSide limits s → P s → P (side_after store now s m)
+  pub faulted : (s : Side) (fault : StreamFault) → P s → P (side_faulted s fault)
+  pub written : (s : Side) (n : ℕ) → P s → P (side_written s n)
+  pub ended : (s : Side) (cut : Bool) → P s → P (side_ended s cut)
+  pub released : (s : Side) → P s → P (side_released s)
+  pub told : (store : StoreValue) (now : ℕ) (s : Side) → P s → P (settled_once store now s)
+
+pub of_sides : (limits : LimitValues) (P : Side → Type 0) → KeepsOfSides limits P → Keeps limits (λ s. IsSide limits s × P s)
+of_sides limits P keeps = let is : Keeps limits (IsSide limits) = sides_keep limits in record {
+  first = (is.first, keeps.first);
+  handled = λ store now s m of. (is.handled store now s m of.0, keeps.handled store now s m of.0 of.1);
+  faulted = λ s fault of. (is.faulted s fault of.0, keeps.faulted s fault of.1);
+  written = λ s n of. (is.written s n of.0, keeps.written s n of.1);
+  ended = λ s cut of. (is.ended s cut of.0, keeps.ended s cut of.1);
+  released = λ s of. (is.released s of.0, keeps.released s of.1);
+  told = λ store now s of. (is.told store now s of.0, keeps.told store now s of.1);
+}

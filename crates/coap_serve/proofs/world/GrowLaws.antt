@@ -1,30 +1,25 @@
 -- What a connection queued stays queued, and nothing but a write counts bytes as written.
-use Rattle.std.proofs.Common.{◌≡◌, ℕ, zero, suc, ◌+◌, Bool, true, false, cond, List, [], ◌∷◌, ◌++◌, length, take, drop, Option, Some, None, refl, sym, ap, ◌∙◌, append_assoc, arith}
-use Rattle.std.specs.Prelude.{◌&&◌, nat_le, option_map, map}
+use Rattle.std.proofs.Common.{◌≡◌, ℕ, List, [], ◌∷◌, ◌++◌, length, take, drop, Option, Some, None, refl, sym, ap, ◌∙◌, append_assoc, arith}
+use Rattle.std.specs.Prelude.{map}
 use Rattle.std.proofs.lemmas.Bool.{le-leb}
 use Rattle.std.proofs.lemmas.List.{append-nil, take-append-le, take-append-drop}
 use Rattle.std.proofs.Math.Seq.{take-add, take-length}
 use Rattle.coap_wire.specs.Message.{Message}
 use Rattle.coap_wire.specs.Stream.{StreamFault, Stream}
-use Rattle.coap_conn.specs.declared.phase.Reject.{Reject}
 use Rattle.coap_conn.specs.Limits.{LimitValues}
-use Rattle.coap_conn.specs.Phases.{takes_messages, answers, is_open}
-use Rattle.coap_conn.specs.Held.{HeldValue, Answer, Pong}
-use Rattle.coap_conn.specs.Reaction.{Effect}
-use Rattle.coap_conn.specs.Rejects.{reject_of}
-use Rattle.coap_conn.specs.History.{History, IsHistory, with_effect, after, may_hold}
+use Rattle.coap_conn.specs.Held.{HeldValue}
+use Rattle.coap_conn.specs.Reaction.{Effect, react}
+use Rattle.coap_conn.specs.History.{History, IsHistory, standing_now, with_effect}
 use Rattle.coap_conn.specs.LinkValue.{bytes_of}
-use Rattle.coap_conn.specs.Calls as call
 use Rattle.coap_conn.proofs.LinkLemmas.{bytes_more}
 use Rattle.coap_store.specs.Store.{StoreValue}
-use Rattle.coap_store.specs.Answer.{answer_of}
-use Rattle.coap_serve.specs.world.Observers.{Observer, without_token}
-use Rattle.coap_serve.specs.world.Sides.{Side, waiting_on, handles, with_history, moment_after, held_for, side_replied, asks_answer, side_handled, side_after, side_faulted, side_written, next_due, notified, next_held, held_message, after_sent, settled_so, settled_once, settled_within, settled}
+use Rattle.coap_serve.specs.world.Sides.{Side, waiting_on, side_after, side_faulted, side_written, settled}
 use Rattle.coap_serve.specs.Configs.{ConfigValues}
-use Rattle.coap_serve.specs.world.World.{World, side_of, stored_after, after_steps}
+use Rattle.coap_serve.specs.world.World.{World, side_of, after_steps}
 use Rattle.coap_serve.specs.world.World as world
 use Rattle.coap_serve.specs.world.Events.{Event, Took, stream_on, new_fault, steps_by, world_after}
-use Rattle.coap_serve.proofs.world.PlaceLaws.{all_there, changed_here}
+use Rattle.coap_serve.proofs.world.WalkLaws.{holding, without_first, Replies, Composes, Between, after_between, faulted_between, written_between, settled_between}
+use Rattle.coap_serve.proofs.world.AcrossLaws.{handled_there, faulted_there}
 use Rattle.coap_serve.proofs.world.StepLaws.{world_more}
 
 -- more was queued, and as much is written
@@ -46,88 +41,33 @@ grows_then h k g a b = record {
 effect_grows : (h : History) (e : Effect) → Grows h (with_effect h e)
 effect_grows h e = record { more = e.queued; queued = refl; written = refl }
 
-grows_if : (does : Bool) (h k : History) → Grows h k → Grows h (cond does k h)
-grows_if true h k grows = grows
-grows_if false h k grows = grows_self h
-
-message_grows : (h : History) (m : Message) → Grows h (after h (call.Handle m))
-message_grows h m = grows_if (takes_messages h.phase) h _ (record { more = _; queued = refl; written = refl })
-
-reply_grows : (h : History) (m : Message) → Grows h (after h (call.Reply m))
-reply_grows h m = grows_if (answers h.phase) h _ (effect_grows h _)
-
-reject_grows : (h : History) (fault : Reject) → Grows h (after h (call.Reject fault))
-reject_grows h fault = grows_if (takes_messages h.phase) h _ (effect_grows h _)
+grows : Composes Grows
+grows = record { same = grows_self; then = grows_then }
 
 -- what is held is no matter
-held_grows : (h : History) (held : List HeldValue) (does : Bool) → Grows h (cond does (record h { held = held }) h)
-held_grows h held true = record { more = []; queued = sym (append-nil h.queued); written = refl }
-held_grows h held false = grows_self h
+holding_grows : (h : History) (held : List HeldValue) → Grows h (holding h held)
+holding_grows h held = record { more = []; queued = sym (append-nil h.queued); written = refl }
 
-hold_grows : (h : History) (token : List ℕ) (moment : ℕ) → Grows h (after h (call.Hold token moment))
-hold_grows h token moment = held_grows h (h.held ++ Answer token moment ∷ []) (is_open h.phase && may_hold h)
-
-sent_grows : (h : History) (now : ℕ) (e : HeldValue) → Grows h (after_sent h now e)
-sent_grows h now (Answer token moment) = grows_then h (after h (call.Due now)) _ (effect_grows h _) (reply_grows (after h (call.Due now)) (held_message token))
-sent_grows h now (Pong token) = effect_grows h _
-
-reply_handled_by : (does : Bool) (h : History) (e : Effect) → (cond does (with_effect h e) h).handled ≡ h.handled
-reply_handled_by true h e = refl
-reply_handled_by false h e = refl
-
-reply_handled : (h : History) (m : Message) → (after h (call.Reply m)).handled ≡ h.handled
-reply_handled h m = reply_handled_by (answers h.phase) h _
+reply_grows : Replies Grows
+reply_grows h token observe r does room = effect_grows h _
 
 -- ---- a connection
 
 abbrev pub SideGrows : Side → Side → Type 0
-SideGrows s t = Grows s.history t.history
+SideGrows = Between Grows
 
-side_if : (does : Bool) (s t : Side) → SideGrows s t → SideGrows s (cond does t s)
-side_if true s t grows = grows
-side_if false s t grows = grows_self s.history
+after_grows : (store : StoreValue) (now : ℕ) (s : Side) (m : Message) → SideGrows s (side_after store now s m)
+after_grows =
+    after_between Grows Grows grows_self grows_then (λ h m takes room. record { more = (react (standing_now h) m).effect.queued; queued = refl; written = refl })
+    grows_self reply_grows (λ h token moment opened may. holding_grows h _)
 
-replied_grows : (store : StoreValue) (now : ℕ) (h : History) (others : List Observer) (m : Message) (hold : Option ℕ) → Grows h (side_replied store now h others m hold).history
-replied_grows store now h others m None = reply_grows h _
-replied_grows store now h others m (Some seconds) = hold_grows h m.token (moment_after now seconds)
-
-handled_by : (store : StoreValue) (now : ℕ) (s : Side) (m : Message) (hold : Option ℕ) (asks : Bool)
-    → SideGrows s (cond asks (side_replied store now (after s.history (call.Handle m)) (without_token m.token s.observers) m hold) (with_history s (after s.history (call.Handle m))))
-handled_by store now s m hold true =
-    let h : History = after s.history (call.Handle m) in
-    grows_then s.history h _ (message_grows s.history m) (replied_grows store now h (without_token m.token s.observers) m hold)
-handled_by store now s m hold false = message_grows s.history m
-
-pub after_grows : (store : StoreValue) (now : ℕ) (s : Side) (m : Message) → SideGrows s (side_after store now s m)
-unfolding side_after
-after_grows store now s m = side_if (handles s) s (side_handled store now s m) (handled_by store now s m (held_for (after s.history (call.Handle m)) (answer_of store now m).hold) (asks_answer s m))
-
-pub faulted_grows : (s : Side) (fault : StreamFault) → SideGrows s (side_faulted s fault)
-unfolding side_faulted
-faulted_grows s fault = side_if (handles s) s (with_history s (after s.history (call.Reject (reject_of fault)))) (reject_grows s.history (reject_of fault))
-
-notified_grows : (store : StoreValue) (now : ℕ) (s : Side) (found : Option Observer) → SideGrows s (notified store now s found)
-notified_grows store now s None = grows_self s.history
-notified_grows store now s (Some o) = reply_grows s.history _
-
-once_by : (store : StoreValue) (now : ℕ) (s : Side) (e : Option HeldValue) → SideGrows s (settled_so store now s e)
-once_by store now s None = notified_grows store now s (next_due store now s)
-once_by store now s (Some e) = sent_grows s.history now e
-
-pub once_grows : (store : StoreValue) (now : ℕ) (s : Side) → SideGrows s (settled_once store now s)
-unfolding settled_once
-once_grows store now s = once_by store now s (next_held now s)
-
-within_grows : (turns : ℕ) (store : StoreValue) (now : ℕ) (s : Side) → SideGrows s (settled_within turns store now s)
-unfolding settled_within
-within_grows zero store now s = grows_self s.history
-within_grows (suc turns) store now s =
-    let once : Side = settled_once store now s in
-    grows_then s.history once.history _ (once_grows store now s) (within_grows turns store now once)
+faulted_grows : (s : Side) (fault : StreamFault) → SideGrows s (side_faulted s fault)
+faulted_grows = faulted_between Grows grows_self (λ h fault takes room. effect_grows h _)
 
 pub settled_grows : (store : StoreValue) (now : ℕ) (s : Side) → SideGrows s (settled store now s)
-unfolding settled
-settled_grows store now s = within_grows (length s.history.held + length s.observers) store now s
+settled_grows =
+    settled_between Grows grows reply_grows (λ h now. holding_grows h _)
+    (λ h now token due room. grows_then h (without_first h now) _ (holding_grows h _) (effect_grows (without_first h now) _))
 
 -- ---- what was written
 
@@ -162,23 +102,15 @@ abbrev SomeGrown : ℕ → World → Side → Type 0
 SomeGrown id w s = (t : Side) × (side_of id w.sides ≡ Some t) × SideGrows s t
 
 handled_grown : (limits : LimitValues) (w : World) (id : ℕ) (m : Message) (s : Side) → side_of id w.sides ≡ Some s → SomeGrown id (world.step limits w (world.Handled id m)) s
-unfolding world.step world.acted
 handled_grown limits w id m s is =
-    let store : StoreValue = stored_after w m (side_of id w.sides) in
-    let t : Side = side_after w.store w.now s m in (
-      settled store w.now t,
-      all_there id (settled store w.now) _ ∙ ap (option_map (settled store w.now)) (changed_here id (λ u. side_after w.store w.now u m) w.sides ∙ ap (option_map (λ u. side_after w.store w.now u m)) is),
-      grows_then s.history t.history (settled store w.now t).history (after_grows w.store w.now s m) (settled_grows store w.now t),
-    )
+    let there = handled_there limits w id m s is in
+    let t : Side = side_after w.store w.now s m in
+    (settled there.0 w.now t, there.1, grows_then s.history t.history (settled there.0 w.now t).history (after_grows w.store w.now s m) (settled_grows there.0 w.now t))
 
 faulted_grown : (limits : LimitValues) (w : World) (id : ℕ) (fault : StreamFault) (s : Side) → side_of id w.sides ≡ Some s → SomeGrown id (world.step limits w (world.Faulted id fault)) s
-unfolding world.step world.acted
 faulted_grown limits w id fault s is =
-    let t : Side = side_faulted s fault in (
-      settled w.store w.now t,
-      all_there id (settled w.store w.now) _ ∙ ap (option_map (settled w.store w.now)) (changed_here id (λ u. side_faulted u fault) w.sides ∙ ap (option_map (λ u. side_faulted u fault)) is),
-      grows_then s.history t.history (settled w.store w.now t).history (faulted_grows s fault) (settled_grows w.store w.now t),
-    )
+    let t : Side = side_faulted s fault in
+    (settled w.store w.now t, faulted_there limits w id fault s is, grows_then s.history t.history (settled w.store w.now t).history (faulted_grows s fault) (settled_grows w.store w.now t))
 
 fault_grown : (limits : LimitValues) (w : World) (id : ℕ) (before after : Option StreamFault) (s : Side) → side_of id w.sides ≡ Some s → SomeGrown id (after_steps limits w (new_fault id before after)) s
 unfolding after_steps
@@ -206,35 +138,12 @@ took_grows c es id bytes s is =
 
 -- ---- what was handled stays
 
-notified_handled : (store : StoreValue) (now : ℕ) (s : Side) (found : Option Observer) → (notified store now s found).history.handled ≡ s.history.handled
-notified_handled store now s None = refl
-notified_handled store now s (Some o) = reply_handled s.history _
-
-sent_handled : (h : History) (now : ℕ) (e : HeldValue) → (after_sent h now e).handled ≡ h.handled
-sent_handled h now (Answer token moment) = reply_handled (after h (call.Due now)) (held_message token)
-sent_handled h now (Pong token) = refl
-
-once_handled_by : (store : StoreValue) (now : ℕ) (s : Side) (e : Option HeldValue) → (settled_so store now s e).history.handled ≡ s.history.handled
-once_handled_by store now s None = notified_handled store now s (next_due store now s)
-once_handled_by store now s (Some e) = sent_handled s.history now e
-
-pub once_handled : (store : StoreValue) (now : ℕ) (s : Side) → (settled_once store now s).history.handled ≡ s.history.handled
-unfolding settled_once
-once_handled store now s = once_handled_by store now s (next_held now s)
-
-within_handled : (turns : ℕ) (store : StoreValue) (now : ℕ) (s : Side) → (settled_within turns store now s).history.handled ≡ s.history.handled
-unfolding settled_within
-within_handled zero store now s = refl
-within_handled (suc turns) store now s = within_handled turns store now (settled_once store now s) ∙ once_handled store now s
+abbrev SameHandled : History → History → Type 0
+SameHandled h k = k.handled ≡ h.handled
 
 pub settled_handled : (store : StoreValue) (now : ℕ) (s : Side) → (settled store now s).history.handled ≡ s.history.handled
-unfolding settled
-settled_handled store now s = within_handled (length s.history.held + length s.observers) store now s
-
-written_handled_by : (does : Bool) (s : Side) (n : ℕ) → (cond does (record s { history = after s.history (call.Written n) }) s).history.handled ≡ s.history.handled
-written_handled_by true s n = refl
-written_handled_by false s n = refl
+settled_handled =
+    settled_between SameHandled (record { same = λ h. refl; then = λ h k g one two. two ∙ one }) (λ h token observe r does room. refl) (λ h now. refl) (λ h now token due room. refl)
 
 pub written_handled : (s : Side) (n : ℕ) → (side_written s n).history.handled ≡ s.history.handled
-unfolding side_written
-written_handled s n = written_handled_by (nat_le n (length (waiting_on s))) s n
+written_handled = written_between SameHandled (λ h. refl) (λ h n within. refl)

@@ -1,6 +1,5 @@
 -- What was taken on a connection was handled: each message of the stream once and in order, and its fault stops the connection.
-use Rattle.std.proofs.Common.{◌≡◌, ◌≢◌, ℕ, ◌+◌, ◌<◌, Bool, true, false, cond, List, [], ◌∷◌, ◌++◌, length, Option, Some, None, refl, sym, ap, subst, ◌∙◌, inl, inr, arith}
-use Rattle.std.specs.Prelude.{is_none, nat_le}
+use Rattle.std.proofs.Common.{◌≡◌, ◌≢◌, ℕ, ◌+◌, ◌<◌, Bool, true, false, List, [], ◌∷◌, ◌++◌, length, Option, Some, None, refl, sym, ap, subst, ◌∙◌, inl, inr, arith}
 use Rattle.std.proofs.lemmas.Bool.{cases_eq}
 use Rattle.coap_wire.specs.Message.{Message}
 use Rattle.coap_wire.specs.Stream.{StreamFault, Stream, split}
@@ -8,17 +7,12 @@ use Rattle.coap_wire.proofs.StreamSteps.{unfinished_empty, split_unfinished}
 use Rattle.coap_conn.specs.declared.phase.Phase.{Phase}
 use Rattle.coap_conn.specs.declared.phase.Phase.TheVariants.{Stopped}
 use Rattle.coap_conn.specs.declared.reason.Reason.{Reason}
-use Rattle.coap_conn.specs.declared.reason.Reason.TheVariants.{ReleasedHere}
 use Rattle.coap_conn.specs.Limits.{LimitValues}
-use Rattle.coap_conn.specs.Phases.{takes_messages, is_open}
-use Rattle.coap_conn.specs.Reaction.{stop}
+use Rattle.coap_conn.specs.Phases.{takes_messages}
 use Rattle.coap_conn.specs.Rejects.{reject_of, reject_reason}
-use Rattle.coap_conn.specs.Release.{release_refusal}
-use Rattle.coap_conn.specs.History.{History, standing_now, after, link_of}
-use Rattle.coap_conn.specs.Calls.{end_reason, release}
-use Rattle.coap_conn.specs.Calls as call
+use Rattle.coap_conn.specs.Calls.{end_reason}
 use Rattle.coap_serve.specs.Configs.{ConfigValues}
-use Rattle.coap_serve.specs.world.Sides.{Side, new_side, waiting_on, with_history, side_written, side_ended, side_released}
+use Rattle.coap_serve.specs.world.Sides.{Side, new_side}
 use Rattle.coap_serve.specs.world.World.{World, Step, side_of}
 use Rattle.coap_serve.specs.world.World as world
 use Rattle.coap_serve.specs.world.Events.{Event, taken_in, taken_on, stream_on, steps_by, world_after, takes, IfSide, IsAccepted, AreAccepted}
@@ -27,8 +21,10 @@ use Rattle.coap_serve.proofs.world.StepLaws.{world_first, world_same, world_step
 use Rattle.coap_serve.proofs.world.PlaceLaws.{nobody}
 use Rattle.coap_serve.proofs.world.WorldLaws.{OpensNext}
 use Rattle.coap_serve.proofs.world.ReachedLaws.{IsReached, accepted_is}
-use Rattle.coap_serve.proofs.world.AcrossLaws.{HoldsOf, HoldsFrom, step_across}
-use Rattle.coap_serve.proofs.world.HandlingLaws.{HasStopped, Rests, rests_self, rests_then, effect_rests, open_no_stop, once_rests, TakesSo, NoStep, OneMessage, OneFault, Became, Stayed, Heard, Rejected, accepted_so, took_became, some_same}
+use Rattle.coap_serve.proofs.world.ToldMessages.{StopsAtMost}
+use Rattle.coap_serve.proofs.world.WalkLaws.{Between, written_between, ended_between, released_between}
+use Rattle.coap_serve.proofs.world.AcrossLaws.{some_same, HoldsOf, HoldsFrom, step_across}
+use Rattle.coap_serve.proofs.world.HandlingLaws.{HasStopped, Rests, rests_self, rests_then, open_no_stop, once_rests, TakesSo, NoStep, OneMessage, OneFault, Became, Stayed, Heard, Rejected, accepted_so, took_became}
 
 -- ---- what is no message and no fault
 
@@ -36,47 +32,23 @@ use Rattle.coap_serve.proofs.world.HandlingLaws.{HasStopped, Rests, rests_self, 
 takes_no_stop : (p : Phase) (why : Reason) → takes_messages p ≡ true → p ≡ Stopped why → ⊥
 takes_no_stop p why does is = let bad : false ≡ true = sym (ap takes_messages is) ∙ does in cc
 
-end_rests : (h : History) (cut : Bool) → Rests h (after h (call.End cut))
-end_rests h true = effect_rests h (stop (standing_now h) (end_reason true) []) (takes_messages h.phase) (λ does why is. takes_no_stop h.phase why does is) (λ is. refl)
-end_rests h false = effect_rests h (stop (standing_now h) (end_reason false) []) (takes_messages h.phase) (λ does why is. takes_no_stop h.phase why does is) (λ is. refl)
-
-release_rests : (h : History) → Rests h (after h call.Release)
-release_rests h = effect_rests h (stop (standing_now h) ReleasedHere (release ∷ [])) (is_open h.phase) (λ does why is. open_no_stop h.phase why does is) (λ is. refl)
-
--- a connection of which nothing was handled in between
-abbrev SideRests : Side → Side → Type 0
-SideRests s t = Rests s.history t.history
-
-if_rests : (does : Bool) (s t : Side) → SideRests s t → SideRests s (cond does t s)
-if_rests true s t is = is
-if_rests false s t is = rests_self s.history
-
-written_rests : (s : Side) (n : ℕ) → SideRests s (side_written s n)
-unfolding side_written
-written_rests s n =
-    if_rests (nat_le n (length (waiting_on s))) s (record s { history = after s.history (call.Written n) }) (record { handled = refl; stopped = λ why is. is; stops = λ is. is })
-
-ended_rests : (s : Side) (cut : Bool) → SideRests s (side_ended s cut)
-unfolding side_ended
-ended_rests s cut = end_rests s.history cut
-
-released_rests : (s : Side) → SideRests s (side_released s)
-unfolding side_released
-released_rests s = if_rests (is_none (release_refusal (link_of s.history))) s (with_history s (after s.history call.Release)) (release_rests s.history)
+end_stops : (cut : Bool) → StopsAtMost (Stopped (end_reason cut))
+end_stops true = refl
+end_stops false = refl
 
 -- no message and no fault of the connection
 record IsElsewhere (st : Step) (id : ℕ) : Type 0 where
   message : (m : Message) → st ≡ world.Handled id m → ⊥
   fault : (fault : StreamFault) → st ≡ world.Faulted id fault → ⊥
 
-rests_of : (w : World) (st : Step) (id : ℕ) → IsElsewhere st id → HoldsOf SideRests w st id
+rests_of : (w : World) (st : Step) (id : ℕ) → IsElsewhere st id → HoldsOf (Between Rests) w st id
 rests_of w st id away = record {
   same = λ s. rests_self s.history;
   handled = λ m is s. absurd (away.message m is);
   faulted = λ fault is s. absurd (away.fault fault is);
-  written = written_rests;
-  ended = ended_rests;
-  released = released_rests;
+  written = written_between Rests rests_self (λ h n within. record { handled = refl; stopped = λ why is. is; stops = λ is. is });
+  ended = ended_between Rests rests_self (λ h cut takes. record { handled = refl; stopped = λ why is. absurd (takes_no_stop h.phase why takes is.0); stops = λ is. end_stops cut });
+  released = released_between Rests rests_self (λ h opened none. record { handled = refl; stopped = λ why is. absurd (open_no_stop h.phase why opened is.0); stops = λ is. refl });
   told = λ store now s t is. rests_then s.history t.history _ is (once_rests store now t);
 }
 
@@ -86,7 +58,7 @@ pub record Agrees (u : Stream) (s : Side) : Type 0 where
   pub handled : s.history.handled ≡ u.messages
   pub stopped : (fault : StreamFault) → u.fault ≡ Some fault → HasStopped s.history (reject_reason (reject_of fault))
 
-rests_agrees : (u : Stream) (s t : Side) → Agrees u s → SideRests s t → Agrees u t
+rests_agrees : (u : Stream) (s t : Side) → Agrees u s → Between Rests s t → Agrees u t
 rests_agrees u s t is rests = record {
   handled = rests.handled ∙ is.handled;
   stopped = λ fault e. rests.stopped (reject_reason (reject_of fault)) (is.stopped fault e);
@@ -131,7 +103,7 @@ module _ (c : ConfigValues) (es : List Event) (id : ℕ) (is : IsReached c es) (
   most = c.limits.max_message
 
   -- the connection, or a new one, after a step that is none of its messages or faults
-  from_agrees : (st : Step) (t : Side) → OpensNext c (world_after c es) st → HoldsFrom SideRests c.limits (world_after c es) st id t → Agrees (stream_on c.limits.max_message id es) t
+  from_agrees : (st : Step) (t : Side) → OpensNext c (world_after c es) st → HoldsFrom (Between Rests) c.limits (world_after c es) st id t → Agrees (stream_on c.limits.max_message id es) t
   from_agrees st t next (inl old) = rests_agrees (stream_on most id es) old.0 t (before old.0 old.1) old.2
   from_agrees st t next (inr new) =
       let opened : (id ≡ (world_after c es).ids + 1) × (length (world_after c es).sides < c.connections) = subst (OpensNext c (world_after c es)) new.1 next in
@@ -141,7 +113,7 @@ module _ (c : ConfigValues) (es : List Event) (id : ℕ) (is : IsReached c es) (
   step_agrees e st one next away same t there =
       let at : side_of id (world.step c.limits (world_after c es) st).sides ≡ Some t = ap (λ (w : World). side_of id w.sides) (sym (world_step c es e st one)) ∙ there in
       subst (λ (u : Stream). Agrees u t) (sym same)
-      (from_agrees st t next (step_across SideRests c.limits (world_after c es) st id (rests_of (world_after c es) st id away) t at))
+      (from_agrees st t next (step_across (Between Rests) c.limits (world_after c es) st id (rests_of (world_after c es) st id away) t at))
 
   -- an event that makes one step and takes no byte
   bare_agrees : (e : Event) (st : Step) → steps_by most es e ≡ st ∷ [] → OpensNext c (world_after c es) st → IsElsewhere st id → taken_in id e ≡ [] → AgreesOn c (es ++ e ∷ []) id

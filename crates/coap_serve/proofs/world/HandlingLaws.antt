@@ -1,12 +1,10 @@
 -- What a take handled is told by the worlds before and after it: nothing, one message, or the reason of a stop.
 use Rattle.std.proofs.Common.{◌≡◌, ℕ, ◌+◌, Bool, true, false, cond, List, [], ◌∷◌, ◌++◌, length, take, Option, Some, None, Result, Ok, Err, refl, sym, ap, subst, ◌∙◌, ◌⊎◌, inl, inr, arith}
-use Rattle.std.specs.List.{list_any}
-use Rattle.std.specs.Prelude.{nat_lt, is_none, find, option_map, ◌&&◌, ◌==◌, IfOk}
-use Rattle.std.proofs.lemmas.Bool.{cond_both, cond-true, and_parts, lt-ltb, le-ltb}
+use Rattle.std.specs.Prelude.{nat_lt, is_none, option_map, ◌&&◌, IfOk}
+use Rattle.std.proofs.lemmas.Bool.{cond-true, and_parts, lt-ltb, le-ltb}
 use Rattle.std.proofs.lemmas.List.{append-nil, length-append, take_all}
 use Rattle.coap_wire.specs.Message.{Message}
 use Rattle.coap_wire.specs.Reading.{message_of}
-use Rattle.coap_wire.specs.Codes as code
 use Rattle.coap_wire.specs.declared.fault.FormatFault.{FormatFault}
 use Rattle.coap_wire.specs.Stream.{StreamFault, OfFrame, Format, Stream}
 use Rattle.coap_frame.specs.Framing.{Finding, Nothing, AFrame, AFault, framing}
@@ -16,22 +14,18 @@ use Rattle.coap_conn.specs.declared.phase.Reject.{Reject}
 use Rattle.coap_conn.specs.declared.phase.Reject.TheVariants as reject
 use Rattle.coap_conn.specs.declared.phase.Reply.{Reply}
 use Rattle.coap_conn.specs.declared.phase.Reply.TheVariants as reply
-use Rattle.coap_conn.specs.declared.phase.Role.{Role}
-use Rattle.coap_conn.specs.declared.phase.Role.TheVariants.{Server, Client}
 use Rattle.coap_conn.specs.declared.reason.Reason.{Reason}
-use Rattle.coap_conn.specs.Phases.{stop_of, takes_messages, answers, is_open, is_waiting}
-use Rattle.coap_conn.specs.Announced.{has_critical_option, bad_csm_option}
-use Rattle.coap_conn.specs.Fit.{fit, bare_response, without_options}
-use Rattle.coap_conn.specs.Outstanding.{OutstandingValue, is_asked, is_last, is_pinged}
-use Rattle.coap_conn.specs.Reaction.{Standing, Effect, Reaction, abort, send_as, send, sends, react, reaction_unless, live_reaction, open_reaction, csm_reaction, request_reaction, due_effect, is_reserved, is_signal, is_method, minds_critical_options, asks_custody, pong_with, pong_of, late_pong, ping_reaction, pong_reaction, answered, not_implemented}
+use Rattle.coap_conn.specs.Phases.{stop_of, takes_messages, answers, is_open}
+use Rattle.coap_conn.specs.Fit.{fit, bare_response}
+use Rattle.coap_conn.specs.Reaction.{Standing, abort, send_as, react, pong_with}
 use Rattle.coap_conn.specs.Held.{HeldValue, first_due, without_due, due_index}
 use Rattle.coap_conn.specs.Held as held
 use Rattle.coap_conn.specs.Rejects.{reject_of, reject_reason}
 use Rattle.coap_conn.specs.History.{History, standing_now, with_effect, after, may_hold}
-use Rattle.coap_conn.specs.Calls.{standing_due}
 use Rattle.coap_conn.specs.Calls as call
 use Rattle.coap_store.specs.Store.{StoreValue}
 use Rattle.coap_store.specs.Answer.{answer_of}
+use Rattle.coap_store.specs.Messages.{response_with_observe}
 use Rattle.coap_serve.specs.Configs.{ConfigValues}
 use Rattle.coap_serve.specs.declared.host.Host.{Host}
 use Rattle.coap_serve.specs.declared.server.Handled.TheVariants as handled
@@ -40,8 +34,8 @@ use Rattle.coap_serve.specs.declared.server.TakeFault.{TakeFault}
 use Rattle.coap_serve.specs.values.Sessions.{SessionValue, Taking, taking, taking_read, taking_found}
 use Rattle.coap_serve.specs.values.Servers.{ServerValue, session_of, count_taken, server_taken_on, server_taken}
 use Rattle.coap_serve.specs.values.ServerAnswers.{stop_on, handled_so, handled_on, handled_by}
-use Rattle.coap_serve.specs.world.Observers.{Observer, without_token, notification, notification_message}
-use Rattle.coap_serve.specs.world.Sides.{Side, handles, has_room, with_history, moment_after, held_for, side_replied, asks_answer, side_handled, side_after, side_faulted, next_due, notified, held_message, after_sent, settled_once, settled}
+use Rattle.coap_serve.specs.world.Observers.{without_token}
+use Rattle.coap_serve.specs.world.Sides.{Side, handles, has_room, with_history, moment_after, held_for, side_replied, asks_answer, side_handled, side_after, side_faulted, settled_once, settled}
 use Rattle.coap_serve.specs.world.World.{World, Step, side_of}
 use Rattle.coap_serve.specs.world.World as world
 use Rattle.coap_serve.specs.world.Events.{Event, Took, stream_on, beyond, steps_by, world_after, front_of, takes, IfSide, IsAccepted, AreAccepted}
@@ -49,81 +43,30 @@ use Rattle.coap_serve.specs.world.Shows.{session_shown, Shows}
 use Rattle.coap_serve.specs.world.Handling.{handled_since, handled_between, handled_in, message_reason, count_of}
 use Rattle.coap_serve.proofs.world.StepLaws.{world_same, world_step}
 use Rattle.coap_serve.proofs.world.TookLaws.{Adds, no_bytes_stream, no_bytes_steps, piece_adds_nothing, piece_adds_message, piece_adds_bad, piece_adds_fault}
-use Rattle.coap_serve.proofs.world.WorldLaws.{side_is}
-use Rattle.coap_serve.proofs.world.ReachedLaws.{IsReached, world_is, accepted_is, handling_goes_on, takes_there, piece_accepted}
-use Rattle.coap_serve.proofs.world.SideLaws.{settled_cases, replied_cases}
+use Rattle.coap_serve.proofs.world.GoingOn.{side_is}
+use Rattle.coap_serve.proofs.world.ReachedLaws.{IsReached, accepted_is, handling_goes_on, takes_there, piece_accepted}
+use Rattle.coap_serve.proofs.world.ToldMessages.{message_stop, StopsAtMost, react_so}
+use Rattle.coap_serve.proofs.world.SideLaws.{replied_cases}
 use Rattle.coap_serve.proofs.world.ShownLemmas.{taking_stopped, taking_front}
 use Rattle.coap_serve.proofs.world.ShowLaws.{sessions_shown, side_there, no_session, takes_shown, shows_taken}
-use Rattle.coap_serve.proofs.world.AcrossLaws.{settled_across, handled_there, faulted_there}
+use Rattle.coap_serve.proofs.world.WalkLaws.{sent, without_first, Replies, LetsGo, Pongs, Composes, if_between, once_between, settled_between}
+use Rattle.coap_serve.proofs.world.AcrossLaws.{some_same, handled_there, faulted_there}
 
 -- ---- why a connection stops on a message
 
--- a stop that a message can make, where there is one
-abbrev message_stop : Option Reason → ℕ
-message_stop None = 1
-message_stop (Some why) = message_reason why
-
-abbrev pub StopsAtMost : Phase → Type 0
-StopsAtMost p = message_stop (stop_of p) ≡ 1
-
--- what reacts so stops for such a reason, where the connection had not stopped for another
-abbrev ReactsSo : Reaction → Type 0
-ReactsSo r = StopsAtMost r.effect.phase
+message_stops : (s : Standing) (m : Message) → StopsAtMost s.phase → StopsAtMost (react s m).effect.phase
+message_stops s m is = react_so s m (λ e. StopsAtMost e.phase) (record {
+  stays = is;
+  stands = λ now outstanding stands. stands is;
+  stops = λ why farewell plain one may. may;
+  queues = λ n no. is;
+  keeps = λ ping custody. is;
+})
 
 sent_stops : (s : Standing) (m less : Message) (r : Reply) → StopsAtMost s.phase → StopsAtMost (send_as s m less r).phase
 sent_stops s m less reply.Whole is = is
 sent_stops s m less reply.Bare is = is
 sent_stops s m less reply.Stopped is = refl
-
-sends_so : (s : Standing) (m less : Message) → StopsAtMost s.phase → ReactsSo (sends s m less)
-sends_so s m less is = sent_stops s m less (fit s.limit m less) is
-
-csm_so : (s : Standing) (bad : Option ℕ) → ReactsSo (csm_reaction s bad)
-csm_so s None = refl
-csm_so s (Some number) = refl
-
-request_so : (s : Standing) (m : Message) (role : Role) → StopsAtMost s.phase → ReactsSo (request_reaction s m role)
-request_so s m Server is = is
-request_so s m Client is = sends_so s (not_implemented m) (bare_response (not_implemented m)) is
-
-late_pong_so : (s : Standing) (m : Message) → StopsAtMost s.phase → ReactsSo (late_pong s m)
-late_pong_so s m is = cond_both (nat_lt (length s.held) s.most) _ _ ReactsSo (λ e. is) (λ e. sends_so s (pong_with false m.token) (pong_with false m.token) is)
-
-ping_so : (s : Standing) (m : Message) → StopsAtMost s.phase → ReactsSo (ping_reaction s m)
-ping_so s m is = cond_both (asks_custody m && nat_lt 0 (length s.held)) _ _ ReactsSo (λ e. late_pong_so s m is) (λ e. sends_so s (pong_of m) (without_options (pong_of m)) is)
-
-pong_so : (s : Standing) (m : Message) → StopsAtMost s.phase → ReactsSo (pong_reaction s m)
-pong_so s m is = cond_both (list_any (is_pinged m.token) s.outstanding) _ _ ReactsSo (λ e. is) (λ e. is)
-
-answered_so : (s : Standing) (m : Message) (found : Option OutstandingValue) → StopsAtMost s.phase → ReactsSo (answered s m found)
-answered_so s m None is = is
-answered_so s m (Some e) is = cond_both (is_last m e) _ _ ReactsSo (λ last. is) (λ more. is)
-
-open_so : (s : Standing) (m : Message) → StopsAtMost s.phase → ReactsSo (open_reaction s m)
-open_so s m is =
-    cond_both (minds_critical_options m.code && has_critical_option m) _ _ ReactsSo (λ e. refl)
-    (λ e. cond_both (m.code == code.ping) _ _ ReactsSo (λ e. ping_so s m is)
-    (λ e. cond_both (m.code == code.release) _ _ ReactsSo (λ e. refl)
-    (λ e. cond_both (m.code == code.pong) _ _ ReactsSo (λ e. pong_so s m is)
-    (λ e. cond_both (is_signal m.code) _ _ ReactsSo (λ e. is)
-    (λ e. cond_both (is_method m.code) _ _ ReactsSo (λ e. request_so s m s.role is) (λ e. answered_so s m (find (is_asked m.token) s.outstanding) is))))))
-
-live_so : (s : Standing) (m : Message) → StopsAtMost s.phase → ReactsSo (live_reaction s m)
-unfolding live_reaction
-live_so s m is =
-    cond_both (is_reserved m.code) _ _ ReactsSo (λ e. refl)
-    (λ e. cond_both (m.code == code.empty) _ _ ReactsSo (λ e. is)
-    (λ e. cond_both (m.code == code.abort) _ _ ReactsSo (λ e. refl)
-    (λ e. cond_both (m.code == code.csm) _ _ ReactsSo (λ e. csm_so s (bad_csm_option m))
-    (λ e. cond_both (is_waiting s.phase) _ _ ReactsSo (λ e. refl) (λ e. open_so s m is)))))
-
-unless_so : (s : Standing) (m : Message) (over : Option Reason) → StopsAtMost s.phase → ReactsSo (reaction_unless s m over)
-unless_so s m None is = live_so s m is
-unless_so s m (Some why) is = is
-
-react_so : (s : Standing) (m : Message) → StopsAtMost s.phase → ReactsSo (react s m)
-unfolding react
-react_so s m is = unless_so s m (stop_of s.phase) is
 
 live_stop : (over : Option Reason) → is_none over ≡ true → message_stop over ≡ 1
 live_stop None e = refl
@@ -151,69 +94,55 @@ rests_then h k g p q = record {
   stops = λ is. q.stops (p.stops is);
 }
 
--- an effect where a test says so, which a stopped connection does not pass
-pub effect_rests : (h : History) (e : Effect) (does : Bool) → (does ≡ true → (why : Reason) → h.phase ≡ phase.Stopped why → ⊥) → (StopsAtMost h.phase → StopsAtMost e.phase) → Rests h (cond does (with_effect h e) h)
-effect_rests h e true live stops = record { handled = refl; stopped = λ why is. absurd (live refl why is.0); stops = stops }
-effect_rests h e false live stops = rests_self h
-
 no_answers : (p : Phase) (why : Reason) → answers p ≡ true → p ≡ phase.Stopped why → ⊥
 no_answers p why does is = let bad : false ≡ true = sym (ap answers is) ∙ does in cc
 
-pub reply_rests : (h : History) (m : Message) → Rests h (after h (call.Reply m))
-reply_rests h m =
-    effect_rests h (send (standing_now h) m (bare_response m)) (answers h.phase) (λ does why is. no_answers h.phase why does is)
-    (λ is. sent_stops (standing_now h) m (bare_response m) (fit (standing_now h).limit m (bare_response m)) is)
+sent_rests : (h : History) (m less : Message) → ((why : Reason) → HasStopped h why → ⊥) → Rests h (sent h m less)
+sent_rests h m less live = record {
+  handled = refl;
+  stopped = λ why is. absurd (live why is);
+  stops = sent_stops (standing_now h) m less (fit (standing_now h).limit m less);
+}
+
+reply_rests : (h : History) (m : Message) → Rests h (after h (call.Reply m))
+reply_rests h m = if_between Rests (answers h.phase) h _ (rests_self h) (λ does. sent_rests h m (bare_response m) (λ why is. no_answers h.phase why does is.0))
 
 -- one answer more is held only while the connection is open
 pub open_no_stop : (p : Phase) (why : Reason) → is_open p ≡ true → p ≡ phase.Stopped why → ⊥
 open_no_stop p why does is = let bad : false ≡ true = sym (ap is_open is) ∙ does in cc
 
-held_rests : (h : History) (es : List HeldValue) (does : Bool) → (does ≡ true → is_open h.phase ≡ true) → Rests h (cond does (record h { held = es }) h)
-held_rests h es true may = record { handled = refl; stopped = λ why is. absurd (open_no_stop h.phase why (may refl) is.0); stops = λ is. is }
-held_rests h es false may = rests_self h
-
 hold_rests : (h : History) (token : List ℕ) (moment : ℕ) → Rests h (after h (call.Hold token moment))
-hold_rests h token moment = held_rests h _ (is_open h.phase && may_hold h) (λ e. (and_parts (is_open h.phase) (may_hold h) e).0)
+hold_rests h token moment =
+    if_between Rests (is_open h.phase && may_hold h) h _ (rests_self h)
+    (λ does. record { handled = refl; stopped = λ why is. absurd (open_no_stop h.phase why (and_parts (is_open h.phase) (may_hold h) does).0 is.0); stops = λ is. is })
 
--- what is due first is taken out; where nothing is held, nothing is
-abbrev due_in : History → ℕ → List HeldValue → Effect
-due_in h now es = due_effect (standing_due now (record (standing_now h) { held = es })) (first_due now es)
-
-none_due : (h : History) (now : ℕ) → ((due_in h now []).phase ≡ h.phase) × ((due_in h now []).held ≡ [])
+-- where nothing is held, nothing is due
+none_due : (now : ℕ) → (first_due now [] ≡ None) × (without_due now [] ≡ [])
 unfolding first_due without_due due_index
-none_due h now = (refl, refl)
+none_due now = (refl, refl)
 
-due_stops : (s : Standing) (found : Option HeldValue) → StopsAtMost s.phase → StopsAtMost (due_effect s found).phase
-due_stops s None is = is
-due_stops s (Some (held.Answer token moment)) is = is
-due_stops s (Some (held.Pong token)) is = sent_stops s (pong_with true token) (pong_with false token) (fit s.limit (pong_with true token) (pong_with false token)) is
+first_rests : LetsGo Rests
+first_rests h now = record { handled = refl; stopped = λ why is. (is.0, ap (without_due now) is.1 ∙ (none_due now).1); stops = λ is. is }
 
-due_rests : (h : History) (now : ℕ) → Rests h (after h (call.Due now))
-due_rests h now = record {
-  handled = refl;
-  stopped = λ why is. (
-    ap (λ (es : List HeldValue). (due_in h now es).phase) is.1 ∙ (none_due h now).0 ∙ is.0,
-    ap (λ (es : List HeldValue). (due_in h now es).held) is.1 ∙ (none_due h now).1,
-  );
-  stops = due_stops (standing_due now (standing_now h)) (first_due now h.held);
-}
+pong_rests : Pongs Rests
+pong_rests h now token due room =
+    let k : History = without_first h now in
+    let live : (why : Reason) → HasStopped h why → ⊥ = λ why is. (let bad : ◌≡◌ {A = Option HeldValue} None (Some (held.Pong token)) = sym (none_due now).0 ∙ sym (ap (first_due now) is.1) ∙ due in cc) in
+    record { handled = refl; stopped = λ why is. absurd (live why is); stops = sent_stops (standing_now k) (pong_with true token) (pong_with false token) (fit (standing_now k).limit (pong_with true token) (pong_with false token)) }
 
-sent_rests : (h : History) (now : ℕ) (e : HeldValue) → Rests h (after_sent h now e)
-sent_rests h now (held.Answer token moment) = rests_then h (after h (call.Due now)) _ (due_rests h now) (reply_rests (after h (call.Due now)) (held_message token))
-sent_rests h now (held.Pong token) = due_rests h now
+rests : Composes Rests
+rests = record { same = rests_self; then = rests_then }
 
-notified_rests : (store : StoreValue) (now : ℕ) (s : Side) (due : Option Observer) → Rests s.history (notified store now s due).history
-notified_rests store now s None = rests_self s.history
-notified_rests store now s (Some o) = reply_rests s.history (notification_message o.token (notification store now o))
+response_rests : Replies Rests
+response_rests h token observe r does room =
+    let m : Message = response_with_observe token observe r in sent_rests h m (bare_response m) (λ why is. no_answers h.phase why does is.0)
 
 pub once_rests : (store : StoreValue) (now : ℕ) (s : Side) → Rests s.history (settled_once store now s).history
-once_rests store now s =
-    settled_cases store now s (λ t. Rests s.history t.history) (λ e is. sent_rests s.history now e) (λ is. notified_rests store now s (next_due store now s))
+once_rests = once_between Rests Rests rests_self rests_then response_rests first_rests pong_rests
 
 -- settling handles nothing
 pub settled_still : (store : StoreValue) (now : ℕ) (s : Side) → Rests s.history (settled store now s).history
-settled_still store now s =
-    settled_across (λ u t. Rests u.history t.history) (λ store now u t is. rests_then u.history t.history (settled_once store now t).history is (once_rests store now t)) store now s s (rests_self s.history)
+settled_still = settled_between Rests rests response_rests first_rests pong_rests
 
 -- ---- a message, and a fault
 
@@ -226,7 +155,7 @@ hears_then : (m : Message) (h k g : History) → Hears m h k → Rests k g → H
 hears_then m h k g p q = record { handled = q.handled ∙ p.handled; stops = q.stops p.stops }
 
 message_by : (h : History) (m : Message) (takes : Bool) → takes ≡ true → StopsAtMost h.phase → Hears m h (cond takes (record (with_effect h (react (standing_now h) m).effect) { handled = h.handled ++ m ∷ [] }) h)
-message_by h m true e is = record { handled = refl; stops = react_so (standing_now h) m is }
+message_by h m true e is = record { handled = refl; stops = message_stops (standing_now h) m is }
 message_by h m false e is = absurd cc
 
 message_hears : (h : History) (m : Message) → takes_messages h.phase ≡ true → Hears m h (after h (call.Handle m))
@@ -295,7 +224,7 @@ module _ (c : ConfigValues) (es : List Event) (id : ℕ) (piece : List ℕ) (s :
   session_then = session_shown so_far s
 
   side_limits : s.history.limits.max_message ≡ most
-  side_limits = ap (λ l. l.max_message) (side_is c (world_after c es) id s (world_is c es) there).same_limits
+  side_limits = ap (λ l. l.max_message) (side_is c es id s there).same_limits
 
   module _ (host : Host) (does : handles s ≡ true) where
     no_fault : (stream_on c.limits.max_message id es).fault ≡ None
@@ -514,9 +443,6 @@ counted before after s t message (Rejected none does fault rejects messages is) 
 counted_there : (c : ConfigValues) (es : List Event) (id : ℕ) (e : Event) (s t : Side) → side_of id (world_after c es).sides ≡ Some s → side_of id (world_after c (es ++ e ∷ [])).sides ≡ Some t → handled_in c es e id ≡ handled_between (Some s) (Some t)
 counted_there c es id e s t there then =
     ap (λ (o : Option Side). handled_between o (side_of id (world_after c (es ++ e ∷ [])).sides)) there ∙ ap (handled_between (Some s)) then
-
-pub some_same : (s t : Side) → ◌≡◌ {A = Option Side} (Some s) (Some t) → s ≡ t
-some_same s t e = cc
 
 -- An accepted take handled as many messages as what it says counts.
 pub bytes_counted : (c : ConfigValues) (es : List Event) (id : ℕ) (bytes : List ℕ) (s t : Side) → IsReached c es → takes c es id bytes ≡ length bytes → side_of id (world_after c es).sides ≡ Some s → side_of id (world_after c (es ++ Took id bytes ∷ [])).sides ≡ Some t

@@ -1,35 +1,34 @@
 -- What is held stays held in its place over all that happens to a connection, unless it stops; and what is due first is held no more,
 -- and sent as it fits.
-use Rattle.std.proofs.Common.{◌≡◌, ◌⊎◌, ℕ, Bool, true, false, cond, List, [], ◌∷◌, ◌++◌, length, Option, Some, None, refl, sym, ap, subst, ◌∙◌, arith, inl, inr}
-use Rattle.std.specs.Prelude.{is_none, nat_le, ◌&&◌}
+use Rattle.std.proofs.Common.{◌≡◌, ◌⊎◌, ℕ, Bool, true, false, cond, List, [], ◌∷◌, ◌++◌, Option, Some, None, refl, sym, ap, subst, ◌∙◌, arith, inl, inr}
+use Rattle.std.specs.Prelude.{◌&&◌}
 use Rattle.std.proofs.lemmas.List.{append-nil}
 use lib.Pointwise.{bytes_decides}
 use Rattle.coap_wire.specs.Message.{Message}
 use Rattle.coap_wire.specs.Stream.{StreamFault}
 use Rattle.coap_conn.specs.declared.phase.Phase.TheVariants.{Stopped}
-use Rattle.coap_conn.specs.declared.phase.Reject.{Reject}
 use Rattle.coap_conn.specs.declared.phase.Reply.{Reply}
 use Rattle.coap_conn.specs.declared.phase.Reply.TheVariants as reply
 use Rattle.coap_conn.specs.declared.reason.Reason.{Reason}
 use Rattle.coap_conn.specs.declared.reason.Reason.TheVariants.{ReleasedHere, PeerTooSmall}
 use Rattle.coap_conn.specs.Phases.{takes_messages, answers, is_open}
 use Rattle.coap_conn.specs.Fit.{fit, bare_response}
-use Rattle.coap_conn.specs.Rejects.{reject_of, reject_reason}
-use Rattle.coap_conn.specs.Release.{release_refusal}
+use Rattle.coap_conn.specs.Rejects.{reject_reason}
 use Rattle.coap_conn.specs.Held.{HeldValue, Answer, Pong, first_due, without_due}
-use Rattle.coap_conn.specs.Reaction.{Standing, Effect, stay, stop, abort, send_as, send, react, due_effect, pong_with}
-use Rattle.coap_conn.specs.History.{History, limit_now, standing_now, with_effect, after, may_hold, link_of}
-use Rattle.coap_conn.specs.Calls.{end_reason, release, standing_due}
+use Rattle.coap_conn.specs.Reaction.{Standing, Effect, stay, send_as, send, react, due_effect, pong_with}
+use Rattle.coap_conn.specs.History.{History, limit_now, standing_now, with_effect, after, may_hold}
+use Rattle.coap_conn.specs.Calls.{end_reason, standing_due}
 use Rattle.coap_conn.specs.Calls as call
 use Rattle.coap_store.specs.Store.{StoreValue}
 use Rattle.coap_store.specs.Answer.{asks_late, answer_of}
 use Rattle.coap_store.proofs.HoldLaws.{held_of}
 use Rattle.coap_serve.specs.world.Observers.{Observer, without_token, notification, notification_message}
-use Rattle.coap_serve.specs.world.Sides.{Side, waiting_on, handles, with_history, moment_after, held_for, side_replied, asks_answer, side_handled, side_after, side_faulted, side_written, side_ended, side_released, next_due, notified, next_held, held_message, after_sent, settled_so, settled_once}
+use Rattle.coap_serve.specs.world.Sides.{Side, handles, with_history, moment_after, held_for, side_replied, asks_answer, side_handled, side_after, side_faulted, side_written, side_ended, side_released, next_due, notified, next_held, held_message, after_sent, settled_so, settled_once}
 use Rattle.coap_serve.specs.world.Custody.{asks_held, KeepsHeld, AddsAsked, KeepsHeldOver}
 use Rattle.coap_serve.proofs.world.SideLaws.{held_room}
 use Rattle.coap_serve.proofs.world.CustodyLaws.{asked_at_all, asked_same, sent_when_due}
 use Rattle.coap_serve.proofs.world.ToldMessages.{react_so}
+use Rattle.coap_serve.proofs.world.WalkLaws.{faulted_between, written_between, ended_between, released_between}
 
 -- ---- what leaves what is held as it is
 
@@ -49,23 +48,10 @@ sent_leaves s m less reply.Stopped = inr (PeerTooSmall, refl)
 reply_leaves : (h : History) (m : Message) → Leaves h (after h (call.Reply m))
 reply_leaves h m = left_effect h (send (standing_now h) m (bare_response m)) (answers h.phase) (sent_leaves (standing_now h) m (bare_response m) (fit (limit_now h) m (bare_response m)))
 
-reject_leaves : (h : History) (r : Reject) → Leaves h (after h (call.Reject r))
-reject_leaves h r = left_effect h (abort (standing_now h) (reject_reason r)) (takes_messages h.phase) (inr (reject_reason r, refl))
-
-end_leaves : (h : History) (cut : Bool) → Leaves h (after h (call.End cut))
-end_leaves h cut = left_effect h (stop (standing_now h) (end_reason cut) []) (takes_messages h.phase) (inr (end_reason cut, refl))
-
-release_leaves : (h : History) → Leaves h (after h call.Release)
-release_leaves h = left_effect h (stop (standing_now h) ReleasedHere (release ∷ [])) (is_open h.phase) (inr (ReleasedHere, refl))
-
 -- so what is held stays
 left_kept : (s t : Side) → Leaves s.history t.history → KeepsHeld s t
 left_kept s t (inl same) = inl ([], same ∙ sym (append-nil s.history.held))
 left_kept s t (inr stopped) = inr stopped
-
-if_kept : (does : Bool) (s t : Side) → Leaves s.history t.history → KeepsHeld s (cond does t s)
-if_kept true s t leaves = left_kept s t leaves
-if_kept false s t leaves = left_kept s s (inl refl)
 
 -- ---- a message
 
@@ -99,8 +85,8 @@ react_over s m =
     let still : Adds m s.held s.held = adds_none m s.held s.held refl in
     react_so s m (λ e. Adds m s.held e.held ⊎ ((why : Reason) × (e.phase ≡ Stopped why))) (record {
       stays = inl still;
-      stands = λ now outstanding. inl still;
-      stops = λ why farewell plain. inr (why, refl);
+      stands = λ now outstanding stands. inl still;
+      stops = λ why farewell plain one may. inr (why, refl);
       queues = λ n is. inl still;
       keeps = λ ping custody. inl (adds_one m s.held (Pong m.token) (rw (ping, custody, (bytes_decides m.token m.token).1 refl) refl));
     })
@@ -146,24 +132,16 @@ message_keeps store now s m = if_over m (handles s) s (side_handled store now s 
 -- ---- all else that happens
 
 pub faulted_keeps : (s : Side) (fault : StreamFault) → KeepsHeld s (side_faulted s fault)
-unfolding side_faulted
-faulted_keeps s fault = if_kept (handles s) s (with_history s (after s.history (call.Reject (reject_of fault)))) (reject_leaves s.history (reject_of fault))
+faulted_keeps s fault = left_kept s (side_faulted s fault) (faulted_between Leaves (λ h. inl refl) (λ h r takes room. inr (reject_reason r, refl)) s fault)
 
 pub ended_keeps : (s : Side) (cut : Bool) → KeepsHeld s (side_ended s cut)
-unfolding side_ended
-ended_keeps s cut = left_kept s (with_history s (after s.history (call.End cut))) (end_leaves s.history cut)
+ended_keeps s cut = left_kept s (side_ended s cut) (ended_between Leaves (λ h. inl refl) (λ h cut takes. inr (end_reason cut, refl)) s cut)
 
 pub released_keeps : (s : Side) → KeepsHeld s (side_released s)
-unfolding side_released
-released_keeps s = if_kept (is_none (release_refusal (link_of s.history))) s (with_history s (after s.history call.Release)) (release_leaves s.history)
-
-if_same : (does : Bool) (s t : Side) → t.history.held ≡ s.history.held → (cond does t s).history.held ≡ s.history.held
-if_same true s t same = same
-if_same false s t same = refl
+released_keeps s = left_kept s (side_released s) (released_between Leaves (λ h. inl refl) (λ h opened none. inr (ReleasedHere, refl)) s)
 
 pub written_same : (s : Side) (n : ℕ) → (side_written s n).history.held ≡ s.history.held
-unfolding side_written
-written_same s n = if_same (nat_le n (length (waiting_on s))) s (record s { history = after s.history (call.Written n) }) refl
+written_same s n = written_between (λ h k. k.held ≡ h.held) (λ h. refl) (λ h n within. refl) s n
 
 notified_kept : (store : StoreValue) (now : ℕ) (s : Side) (found : Option Observer) → KeepsHeld s (notified store now s found)
 notified_kept store now s None = left_kept s s (inl refl)

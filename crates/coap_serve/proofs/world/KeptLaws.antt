@@ -20,23 +20,8 @@ use Rattle.coap_serve.specs.world.Observers.{Observer, without_token, asks_entry
 use Rattle.coap_serve.specs.world.Sides.{Side, new_side, handles, waiting_on, with_history, side_answered, moment_after, held_for, side_replied, asks_answer, side_handled, side_after, side_faulted, side_written, side_ended, side_released}
 use Rattle.coap_serve.proofs.world.KnownLaws.{IsKnown, IsVersioned, still_known, entry_known}
 use Rattle.coap_serve.proofs.world.EntryLemmas.{all_to, all_filter, all_if, all_entered}
-use Rattle.coap_serve.proofs.world.GoingOn.{GoesOn, as_before, message_goes_on, reply_goes_on, reject_goes_on, end_goes_on, release_goes_on, written_goes_on, hold_goes_on}
+use Rattle.coap_serve.proofs.world.GoingOn.{message_goes_on, reply_goes_on, reject_goes_on, end_goes_on, release_goes_on, written_goes_on, hold_goes_on}
 use Rattle.coap_serve.proofs.world.SideLaws.{asks_to_enter, AreKnown, IsKnownSide, known_with}
-
--- ---- histories go on
-
--- something happened to a connection, or nothing
-abbrev SideGoesOn : Side → Side → Type 0
-SideGoesOn s t = GoesOn s.history t.history
-
-goes_on_if : (b : Bool) (s t : Side) → (b ≡ true → SideGoesOn s t) → SideGoesOn s (cond b t s)
-goes_on_if true s t goes = goes refl
-goes_on_if false s t goes = as_before s.history
-
-pub side_written_goes_on : (s : Side) (n : ℕ) → GoesOn s.history (side_written s n).history
-unfolding side_written
-side_written_goes_on s n =
-    goes_on_if (nat_le n (length (waiting_on s))) s (record s { history = after s.history (call.Written n) }) (λ e. written_goes_on s.history n (leb-true n (length (waiting_on s)) e))
 
 -- ---- what is known stays known
 

@@ -6,7 +6,7 @@ use Rattle.std.proofs.lemmas.Bool.{eq-eqb, ne_eqb, eqb-true, eqb-false, cases_eq
 use Rattle.coap_serve.specs.world.Sides.{Side}
 use Rattle.coap_serve.specs.world.World.{Place, side_of, changed_at}
 
-none_not_some : {A : Type 0} (x : A) → ◌≡◌ {A = Option A} None (Some x) → ⊥
+pub none_not_some : {A : Type 0} (x : A) → ◌≡◌ {A = Option A} None (Some x) → ⊥
 none_not_some x e = cc
 
 -- ---- the first connection, or a later one

@@ -14,20 +14,18 @@ use Rattle.coap_serve.specs.Configs.{ConfigValues}
 use Rattle.coap_serve.specs.world.Sides.{Side, has_room, handles}
 use Rattle.coap_serve.specs.world.World.{World, Step, new_world, side_of}
 use Rattle.coap_serve.specs.world.World as world
-use Rattle.coap_serve.specs.world.Events.{Event, taken_in, taken_on, stream_on, steps_by, steps_of, world_after, front_of, takes_of, takes, IfSide, IsAccepted, AreAccepted}
+use Rattle.coap_serve.specs.world.Events.{Event, taken_in, taken_on, stream_on, steps_by, world_after, front_of, takes_of, takes, IfSide, IsAccepted, AreAccepted}
 use Rattle.coap_serve.specs.world.Events as event
 use Rattle.coap_serve.proofs.world.StepLaws.{taken_then, world_first, world_same, world_step, by_events, stream_same, taken_elsewhere, stream_elsewhere}
 use Rattle.coap_serve.proofs.world.TookLaws.{Adds, adds_nothing, adds_message, adds_bad, adds_fault, no_bytes_stream, no_bytes_steps, piece_whole}
-use Rattle.coap_serve.proofs.world.WorldLaws.{IsWorld, new_world_is, steps_are, OpensNext, IsGivenNumber, IsNumbered, new_world_numbered, number_given, step_numbered, ids_grow, GoesOnFrom, step_from, faulted_is_stopped}
-
--- the worlds of any events, accepted or not
-pub world_is : (c : ConfigValues) (es : List Event) → IsWorld c (world_after c es)
-unfolding world_after
-world_is c es = steps_are c (new_world c) (steps_of c.limits.max_message es) (new_world_is c)
+use Rattle.coap_serve.proofs.world.AcrossLaws.{HoldsFrom, step_across, all_across}
+use Rattle.coap_serve.proofs.world.GoingOn.{GoesOn, all_go_on, was_live}
+use Rattle.coap_serve.proofs.world.WalkLaws.{Between}
+use Rattle.coap_serve.proofs.world.WorldLaws.{OpensNext, IsGivenNumber, IsNumbered, new_world_numbered, number_given, step_numbered, ids_grow, faulted_is_stopped}
 
 -- where a connection takes messages, its stream has no fault
-abbrev pub GoesOn : ConfigValues → List Event → World → Type 0
-GoesOn c es w = (id : ℕ) (s : Side) → side_of id w.sides ≡ Some s → takes_messages s.history.phase ≡ true → (stream_on c.limits.max_message id es).fault ≡ None
+abbrev pub HaveNoFault : ConfigValues → List Event → World → Type 0
+HaveNoFault c es w = (id : ℕ) (s : Side) → side_of id w.sides ≡ Some s → takes_messages s.history.phase ≡ true → (stream_on c.limits.max_message id es).fault ≡ None
 
 -- no byte was taken on a connection that is still to come
 abbrev pub IsSilent : List Event → World → Type 0
@@ -35,21 +33,20 @@ IsSilent es w = (id : ℕ) → w.ids < id → taken_on id es ≡ []
 
 -- accepted events lead to a world so
 pub record IsReached (c : ConfigValues) (es : List Event) : Type 0 where
-  pub world : IsWorld c (world_after c es)
   pub numbered : IsNumbered c (world_after c es)
   pub silent : IsSilent es (world_after c es)
-  pub goes_on : GoesOn c es (world_after c es)
+  pub goes_on : HaveNoFault c es (world_after c es)
 
 -- the same, where this is the world
 record LeadsTo (c : ConfigValues) (es : List Event) (w : World) : Type 0 where
   numbered : IsNumbered c w
   silent : IsSilent es w
-  goes_on : GoesOn c es w
+  goes_on : HaveNoFault c es w
 
 reached : (c : ConfigValues) (es : List Event) (w : World) → world_after c es ≡ w → LeadsTo c es w → IsReached c es
 reached c es w is leads =
     let here : LeadsTo c es (world_after c es) = subst (LeadsTo c es) (sym is) leads in
-    record { world = world_is c es; numbered = here.numbered; silent = here.silent; goes_on = here.goes_on }
+    record { numbered = here.numbered; silent = here.silent; goes_on = here.goes_on }
 
 -- ---- at first
 
@@ -78,14 +75,14 @@ silent_more c es e w before grow none id h =
     ∙ none id (omega (arith, h, grow))
 
 -- the stream of a connection that takes messages after a step had no fault before it
-from_live : (c : ConfigValues) (es : List Event) (s : Step) (id : ℕ) (t : Side) → IsReached c es → OpensNext c (world_after c es) s → GoesOnFrom c.limits (world_after c es) s id t → takes_messages t.history.phase ≡ true → (stream_on c.limits.max_message id es).fault ≡ None
-from_live c es s id t before next (inl old) takes = before.goes_on id old.0 old.1 (old.2.live takes)
+from_live : (c : ConfigValues) (es : List Event) (s : Step) (id : ℕ) (t : Side) → IsReached c es → OpensNext c (world_after c es) s → HoldsFrom (Between GoesOn) c.limits (world_after c es) s id t → takes_messages t.history.phase ≡ true → (stream_on c.limits.max_message id es).fault ≡ None
+from_live c es s id t before next (inl old) takes = before.goes_on id old.0 old.1 (was_live old.0.history t.history old.2 takes)
 from_live c es s id t before next (inr new) takes =
     let opened : (id ≡ (world_after c es).ids + 1) × (length (world_after c es).sides < c.connections) = subst (OpensNext c (world_after c es)) new.1 next in
     silent_stream c.limits.max_message id es (before.silent id (omega (arith, opened.0)))
 
 step_live : (c : ConfigValues) (es : List Event) (s : Step) (id : ℕ) (t : Side) → IsReached c es → OpensNext c (world_after c es) s → side_of id (world.step c.limits (world_after c es) s).sides ≡ Some t → takes_messages t.history.phase ≡ true → (stream_on c.limits.max_message id es).fault ≡ None
-step_live c es s id t before next e takes = from_live c es s id t before next (step_from c.limits (world_after c es) s id t e) takes
+step_live c es s id t before next e takes = from_live c es s id t before next (step_across (Between GoesOn) c.limits (world_after c es) s id (all_across GoesOn all_go_on (world_after c es) s id) t e) takes
 
 -- an event with no bytes that makes one step
 step_reached : (c : ConfigValues) (es : List Event) (e : Event) (s : Step) → IsReached c es → steps_by c.limits.max_message es e ≡ s ∷ [] → OpensNext c (world_after c es) s → ((id : ℕ) → taken_in id e ≡ []) → IsReached c (es ++ e ∷ [])

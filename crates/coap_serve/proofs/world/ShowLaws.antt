@@ -28,8 +28,9 @@ use Rattle.coap_serve.specs.world.Events.{Event, Opened, Took, Wrote, Ticked, St
 use Rattle.coap_serve.specs.world.Shows.{session_shown, place_shown, server_shown, server_of, Shows}
 use Rattle.coap_serve.proofs.world.StepLaws.{world_first, accepted_none, accepted_more, stream_same}
 use Rattle.coap_serve.proofs.world.PlaceLaws.{of_number}
-use Rattle.coap_serve.proofs.world.WorldLaws.{side_is, opens}
-use Rattle.coap_serve.proofs.world.ReachedLaws.{world_is, IsReached, accepted_is, takes_there, piece_accepted}
+use Rattle.coap_serve.proofs.world.GoingOn.{side_is}
+use Rattle.coap_serve.proofs.world.WorldLaws.{opens}
+use Rattle.coap_serve.proofs.world.ReachedLaws.{IsReached, accepted_is, takes_there, piece_accepted}
 use Rattle.coap_serve.proofs.world.SideLaws.{host_of, written_shown, ended_shown, released_shown}
 use Rattle.coap_serve.proofs.world.HearingLaws.{world_hears}
 use Rattle.coap_serve.proofs.world.ShownLemmas.{session_found, dropped_shown, bare_step_server, changed_server, known_there, taking_front, taking_count, put_has_frame, server_takes, but_last_front}
@@ -303,7 +304,7 @@ shows_opened v es shows left room =
 
 -- the greatest message of a connection is that of the configuration
 most_of : (c : ConfigValues) (es : List Event) (id : ℕ) (t : Side) → side_of id (world_after c es).sides ≡ Some t → t.history.limits.max_message ≡ c.limits.max_message
-most_of c es id t there = ap (λ (l : LimitValues). l.max_message) (side_is c (world_after c es) id t (world_is c es) there).same_limits
+most_of c es id t there = ap (λ (l : LimitValues). l.max_message) (side_is c es id t there).same_limits
 
 takes_by : (c : ConfigValues) (es : List Event) (id : ℕ) (piece : List ℕ) (side : Option Side) → side_of id (world_after c es).sides ≡ side
     → count_on (server_of c es) piece (option_map (session_shown (stream_on c.limits.max_message id es).rest) side) ≡ takes_of c.limits.max_message (stream_on c.limits.max_message id es).rest piece side

@@ -30,8 +30,9 @@ use Rattle.coap_serve.specs.world.Shows.{session_shown, place_shown, server_show
 use Rattle.coap_serve.proofs.world.StepLaws.{world_same, world_step, streams_same, stream_elsewhere}
 use Rattle.coap_serve.proofs.world.TookLaws.{rest_unfinished, Adds, nothing_kept, front_framing, no_bytes_stream, no_bytes_steps, piece_adds_nothing, piece_adds_message, piece_adds_bad, piece_adds_fault, but_last_whole}
 use Rattle.coap_serve.proofs.world.PlaceLaws.{but, AreDistinct, of_number, of_each}
-use Rattle.coap_serve.proofs.world.WorldLaws.{side_is}
-use Rattle.coap_serve.proofs.world.ReachedLaws.{IsReached, world_is, handling_goes_on}
+use Rattle.coap_serve.proofs.world.GoingOn.{side_is}
+use Rattle.coap_serve.proofs.world.WorldLaws.{events_distinct}
+use Rattle.coap_serve.proofs.world.ReachedLaws.{IsReached, handling_goes_on}
 use Rattle.coap_serve.proofs.world.KnownLaws.{IsVersioned, not_due}
 use Rattle.coap_serve.proofs.world.SideLaws.{host_of, IsKnownSide, handles_parts, faulted_shown, handled_shown, change_shown}
 use Rattle.coap_serve.proofs.world.SettleLaws.{settled_shown, at_rest, hears_sent}
@@ -189,7 +190,7 @@ changed_server c es e st id t f g store small one acts there same becomes =
     step_server c es e st small one
     ∙ ap (λ (v : World). server_settled (server_shown c fs v)) acts
     ∙ ap (λ (os : List (ℕ × SessionValue)). server_settled (record (server_shown c es w) { host = host; sessions = os }))
-    (one_becomes c.limits.max_message id es fs f g t w.sides (world_is c es).distinct there same becomes)
+    (one_becomes c.limits.max_message id es fs f g t w.sides (events_distinct c es) there same becomes)
 
 -- and one that makes no step
 pub quiet_server : (c : ConfigValues) (es : List Event) (e : Event) (id : ℕ) (t : Side) (g : SessionValue → SessionValue) → c.starts.moment ≤ 18446744073709551615
@@ -205,7 +206,7 @@ quiet_server c es e id t g small none there same becomes =
     ∙ sym (resting_server c es fs small)
     ∙ ap (λ (ps : List Place). server_settled (server_shown c fs (record w { sides = ps }))) (sym (unchanged id w.sides))
     ∙ ap (λ (os : List (ℕ × SessionValue)). server_settled (record (server_shown c es w) { sessions = os }))
-    (one_becomes c.limits.max_message id es fs (λ s. s) g t w.sides (world_is c es).distinct there same becomes)
+    (one_becomes c.limits.max_message id es fs (λ s. s) g t w.sides (events_distinct c es) there same becomes)
 
 -- what is known of a connection of a world that was reached
 pub known_there : (c : ConfigValues) (es : List Event) (id : ℕ) (t : Side) → c.starts.moment ≤ 18446744073709551615 → side_of id (world_after c es).sides ≡ Some t → IsKnownSide (world_after c es).store t
@@ -279,7 +280,7 @@ module _ (c : ConfigValues) (es : List Event) (id : ℕ) (piece : List ℕ) (t :
   TakesAs k = server_taken_so (server_of c es) id k ≡ server_of c (es ++ Took id (take k.count piece) ∷ [])
 
   pub side_limits : t.history.limits.max_message ≡ most
-  side_limits = ap (λ l. l.max_message) (side_is c (world_after c es) id t (world_is c es) there).same_limits
+  side_limits = ap (λ l. l.max_message) (side_is c es id t there).same_limits
 
   elsewhere : (bytes : List ℕ) → OthersSame most id es (es ++ Took id bytes ∷ [])
   elsewhere bytes k apart = stream_elsewhere most k id es bytes apart

@@ -9,12 +9,12 @@ use lib.Pointwise.{bytes_decides}
 use Rattle.coap_wire.specs.Message.{Message}
 use Rattle.coap_wire.specs.Stream.{StreamFault}
 use Rattle.coap_conn.specs.Limits.{LimitValues}
-use Rattle.coap_conn.specs.Phases.{is_open}
+use Rattle.coap_conn.specs.Phases.{is_open, takes_messages}
 use Rattle.coap_conn.specs.Fit.{fit, bare_response}
 use Rattle.coap_conn.specs.Rejects.{reject_of}
 use Rattle.coap_conn.specs.Release.{release_refusal}
 use Rattle.coap_conn.specs.Held.{HeldValue, Answer, Pong, first_due}
-use Rattle.coap_conn.specs.History.{History, limit_now, after, link_of}
+use Rattle.coap_conn.specs.History.{History, limit_now, after, may_hold, link_of}
 use Rattle.coap_conn.specs.Calls as call
 use Rattle.coap_conn.proofs.HeldLaws.{due_answer}
 use Rattle.coap_store.specs.Paths.{same_bytes}
@@ -33,9 +33,10 @@ use Rattle.coap_serve.specs.world.Told.{responds, is_response, TellsState, asked
 use Rattle.coap_serve.specs.world.Custody.{StandFor}
 use Rattle.coap_serve.proofs.world.EntryLemmas.{all_to, all_append, all_filter, all_become, found_all}
 use Rattle.coap_serve.proofs.world.SideLaws.{asks_to_enter, replied_cases, settled_cases, held_room}
-use Rattle.coap_serve.proofs.world.FollowLaws.{IsSide, new_side_is, follower_is, after_follows, faulted_follows, side_written_follows, side_ended_follows, side_released_follows, once_follows}
-use Rattle.coap_serve.proofs.world.LimitLaws.{Keeps, kept_after}
-use Rattle.coap_serve.proofs.world.ToldMessages.{other_bytes, last_is, last_stays, Queues, queues_to, IsNoResponse, IsPlain, message_queues, reject_queues, end_queues, release_queues, hold_queues, due_queues, reply_queues, whole_last}
+use Rattle.coap_serve.proofs.world.WalkLaws.{if_between, ended_between}
+use Rattle.coap_serve.proofs.world.AcrossLaws.{Keeps, kept_after}
+use Rattle.coap_serve.proofs.world.GoingOn.{IsSide, KeepsOfSides, of_sides}
+use Rattle.coap_serve.proofs.world.ToldMessages.{other_bytes, last_is, last_stays, Queues, queues_none, queues_to, IsNoResponse, IsPlain, message_queues, reject_queues, end_queues, release_queues, holding_queues, due_queues, reply_queues, whole_last}
 use Rattle.coap_serve.proofs.world.CustodyLaws.{Stands, stand_asked, stands_keeps}
 use Rattle.coap_serve.proofs.world.ToldAnswers.{tells_responds, entry_tells, notification_tells}
 
@@ -200,7 +201,9 @@ plain_side s h queues are = kept_told h s.observers (λ opened. plain_told s.his
 
 -- an answer is held
 held_told : (h : History) (os : List Observer) (token : List ℕ) (moment : ℕ) → AreTold h os → IsTold (side_with (after h (call.Hold token moment)) os)
-held_told h os token moment are = kept_told (after h (call.Hold token moment)) os (λ opened. signalled_told h (after h (call.Hold token moment)) os (hold_queues IsNoResponse h token moment) are)
+held_told h os token moment are =
+    kept_told (after h (call.Hold token moment)) os
+    (λ opened. signalled_told h (after h (call.Hold token moment)) os (if_between (Queues IsNoResponse) (is_open h.phase && may_hold h) h _ (queues_none IsNoResponse h) (λ does. holding_queues IsNoResponse h _)) are)
 
 request_told : (store : StoreValue) (now : ℕ) (h : History) (others : List Observer) (m : Message) → AreOthers m.token others → AreTold h others → IsTold (side_replied store now h others m (held_for h (answer_of store now m).hold))
 request_told store now h others m apart are =
@@ -307,16 +310,17 @@ once_told store now s stand are =
 
 -- ---- what each connection keeps
 
-pub record IsToldSide (limits : LimitValues) (s : Side) : Type 0 where
-  pub is : IsSide limits s
-  pub stand : Stands s.history
-  pub are : AreTold s.history s.observers
+record IsToldSide (s : Side) : Type 0 where
+  stand : Stands s.history
+  are : AreTold s.history s.observers
 
 faulted_told : (s : Side) (fault : StreamFault) → IsTold s → IsTold (side_faulted s fault)
 unfolding side_faulted
 faulted_told s fault are =
-    if_told (handles s) s (with_history s (after s.history (call.Reject (reject_of fault)))) are
-    (λ does. plain_side s (after s.history (call.Reject (reject_of fault))) (reject_queues s.history (reject_of fault)) are)
+    let h : History = s.history in
+    if_told (handles s) s (with_history s (after h (call.Reject (reject_of fault)))) are
+    (λ does. plain_side s (after h (call.Reject (reject_of fault))) (if_between (Queues IsPlain) (takes_messages h.phase) h _ (queues_none IsPlain h)
+    (λ takes. reject_queues h (reject_of fault) takes (and_parts (takes_messages h.phase) (has_room s) does).1)) are)
 
 written_told : (s : Side) (n : ℕ) → IsTold s → IsTold (side_written s n)
 unfolding side_written
@@ -324,27 +328,31 @@ written_told s n are = if_told (nat_le n (length (waiting_on s))) s (record s { 
 
 ended_told : (s : Side) (cut : Bool) → IsTold s → IsTold (side_ended s cut)
 unfolding side_ended
-ended_told s cut are = plain_side s (after s.history (call.End cut)) (end_queues s.history cut) are
+ended_told s cut are = plain_side s (after s.history (call.End cut)) (ended_between (Queues IsPlain) (queues_none IsPlain) end_queues s cut) are
 
 released_told : (s : Side) → IsTold s → IsTold (side_released s)
 unfolding side_released
 released_told s are =
-    if_told (is_none (release_refusal (link_of s.history))) s (with_history s (after s.history call.Release)) are
-    (λ does. plain_side s (after s.history call.Release) (release_queues s.history) are)
+    let h : History = s.history in
+    if_told (is_none (release_refusal (link_of h))) s (with_history s (after h call.Release)) are
+    (λ does. plain_side s (after h call.Release) (if_between (Queues IsPlain) (is_open h.phase) h _ (queues_none IsPlain h) (λ opened. release_queues h opened does)) are)
 
-told_keeps : (limits : LimitValues) → Keeps limits (IsToldSide limits)
+told_keeps : (limits : LimitValues) → KeepsOfSides limits IsToldSide
 told_keeps limits = let stands : Keeps limits (λ s. Stands s.history) = stands_keeps limits in record {
-  first = record { is = new_side_is limits; stand = stands.first; are = record { own = tt; told = tt } };
-  handled = λ store now s m of. record { is = follower_is limits s _ (after_follows store now s m) of.is; stand = stands.handled store now s m of.stand; are = after_told limits store now s m of.is of.are };
-  faulted = λ s fault of. record { is = follower_is limits s _ (faulted_follows s fault) of.is; stand = stands.faulted s fault of.stand; are = faulted_told s fault of.are };
-  written = λ s n of. record { is = follower_is limits s _ (side_written_follows s n) of.is; stand = stands.written s n of.stand; are = written_told s n of.are };
-  ended = λ s cut of. record { is = follower_is limits s _ (side_ended_follows s cut) of.is; stand = stands.ended s cut of.stand; are = ended_told s cut of.are };
-  released = λ s of. record { is = follower_is limits s _ (side_released_follows s) of.is; stand = stands.released s of.stand; are = released_told s of.are };
-  told = λ store now s of. record { is = follower_is limits s _ (once_follows store now s) of.is; stand = stands.told store now s of.stand; are = once_told store now s of.stand of.are };
+  first = record { stand = stands.first; are = record { own = tt; told = tt } };
+  handled = λ store now s m is of. record { stand = stands.handled store now s m of.stand; are = after_told limits store now s m is of.are };
+  faulted = λ s fault of. record { stand = stands.faulted s fault of.stand; are = faulted_told s fault of.are };
+  written = λ s n of. record { stand = stands.written s n of.stand; are = written_told s n of.are };
+  ended = λ s cut of. record { stand = stands.ended s cut of.stand; are = ended_told s cut of.are };
+  released = λ s of. record { stand = stands.released s of.stand; are = released_told s of.are };
+  told = λ store now s of. record { stand = stands.told store now s of.stand; are = once_told store now s of.stand of.are };
 }
 
+are_told : (c : ConfigValues) (es : List Event) (id : ℕ) (s : Side) → side_of id (world_after c es).sides ≡ Some s → AreTold s.history s.observers
+are_told c es id s there = (kept_after c (λ t. IsSide c.limits t × IsToldSide t) (of_sides c.limits IsToldSide (told_keeps c.limits)) es id s there).1.are
+
 pub observers_told_last : (c : ConfigValues) (es : List Event) (id : ℕ) (s : Side) → side_of id (world_after c es).sides ≡ Some s → AllByRecursion (λ o. asked_late o.token s.history.handled ≡ false → WasToldLast s.history.queued o) s.observers
-observers_told_last c es id s there = (kept_after c (IsToldSide c.limits) (told_keeps c.limits) es id s there).are.told
+observers_told_last c es id s there = (are_told c es id s there).told
 
 pub observers_have_own_tokens : (c : ConfigValues) (es : List Event) (id : ℕ) (s : Side) → side_of id (world_after c es).sides ≡ Some s → HaveOwnTokens s.observers
-observers_have_own_tokens c es id s there = (kept_after c (IsToldSide c.limits) (told_keeps c.limits) es id s there).are.own
+observers_have_own_tokens c es id s there = (are_told c es id s there).own

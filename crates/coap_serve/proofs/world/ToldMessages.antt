@@ -1,6 +1,6 @@
 -- The last response with a token: what is queued behind it leaves it, unless it is a response with that token too. And what each
 -- thing that happens to a connection queues.
-use Rattle.std.proofs.Common.{◌≡◌, ◌≢◌, ℕ, Bool, true, false, cond, List, [], ◌∷◌, ◌++◌, Option, Some, None, refl, sym, ap, ◌∙◌}
+use Rattle.std.proofs.Common.{◌≡◌, ◌≢◌, ℕ, Bool, true, false, cond, List, [], ◌∷◌, ◌++◌, Option, Some, None, refl, sym, ap, ◌∙◌, ◌≤◌, arith}
 use Rattle.std.specs.Prelude.{length, nat_lt, reverse, find, ◌&&◌, ◌==◌}
 use Rattle.std.specs.List.{AllByRecursion, list_any}
 use Rattle.std.proofs.lemmas.Bool.{cond_both, cond-true, cond-false, false_from_ne_true, and_parts}
@@ -14,7 +14,6 @@ use Rattle.coap_conn.specs.declared.phase.Reply.{Reply}
 use Rattle.coap_conn.specs.declared.phase.Reply.TheVariants.{Whole, Bare, Stopped}
 use Rattle.coap_conn.specs.declared.phase.Role.{Role}
 use Rattle.coap_conn.specs.declared.phase.Role.TheVariants.{Server, Client}
-use Rattle.coap_conn.specs.declared.phase.Reject.{Reject}
 use Rattle.coap_conn.specs.declared.reason.Reason.{Reason}
 use Rattle.coap_conn.specs.declared.reason.Reason.TheVariants as reason
 use Rattle.coap_conn.specs.Phases.{stop_of, takes_messages, answers, is_open, is_waiting}
@@ -25,13 +24,15 @@ use Rattle.coap_conn.specs.Held.{HeldValue, Answer, Pong, first_due}
 use Rattle.coap_conn.specs.Outstanding.{OutstandingValue, is_asked, is_last, is_pinged, without_asked, without_pinged}
 use Rattle.coap_conn.specs.Reaction.{Standing, Effect, Reaction, stay, stop, abort, send_as, send, holds, react, reaction_unless, live_reaction, open_reaction, csm_reaction, request_reaction, ping_reaction, pong_reaction, answered, due_effect, is_reserved, is_signal, is_method, minds_critical_options, asks_custody, is_custody_pong, pong_with, pong_of, not_implemented}
 use Rattle.coap_conn.specs.Rejects.{reject_reason}
-use Rattle.coap_conn.specs.History.{History, limit_now, standing_now, with_effect, after, may_hold}
+use Rattle.coap_conn.specs.History.{History, limit_now, standing_now, with_effect, after}
 use Rattle.coap_conn.specs.Calls.{end_reason, release, standing_due}
 use Rattle.coap_conn.specs.Calls as call
 use Rattle.coap_store.specs.Paths.{same_bytes}
 use Rattle.coap_serve.specs.world.Observers.{is_whole}
+use Rattle.coap_serve.specs.world.Handling.{message_reason}
 use Rattle.coap_serve.specs.world.Told.{is_response, responds, last_response}
 use Rattle.coap_serve.proofs.world.EntryLemmas.{all_to, all_append}
+use Rattle.coap_serve.proofs.world.WalkLaws.{holding, Rejects, Ends, Releases}
 
 -- ---- tokens
 
@@ -81,6 +82,10 @@ pub queues_effect : (P : Message → Type 0) (h : History) (e : Effect) (does : 
 queues_effect P h e true such = record { more = e.queued; same = refl; such = such; heard = []; handled = sym (append-nil h.handled) }
 queues_effect P h e false such = queues_none P h
 
+-- an effect of what has the same queue
+pub queues_as : (P : Message → Type 0) (h : History) (k : List HeldValue) (e : Effect) → AllByRecursion P e.queued → Queues P h (with_effect (holding h k) e)
+queues_as P h k e such = record { more = e.queued; same = refl; such = such; heard = []; handled = sym (append-nil h.handled) }
+
 pub queues_to : (P Q : Message → Type 0) → ((m : Message) → P m → Q m) → (h k : History) → Queues P h k → Queues Q h k
 queues_to P Q to h k queues = record { more = queues.more; same = queues.same; such = all_to P Q to queues.more queues.such; heard = queues.heard; handled = queues.handled }
 
@@ -108,14 +113,31 @@ abort_plain limit (Some text) why e =
     fitted_plain m less Bare e f = (f, tt)
     fitted_plain m less Stopped e f = tt
 
+fitted_one : (m less : Message) (r : Reply) → length (fitted m less r) ≤ 1
+fitted_one m less Whole = omega arith
+fitted_one m less Bare = omega arith
+fitted_one m less Stopped = omega arith
+
+pub abort_one : (limit : ℕ) (o : Option Message) → length (abort_fitted limit o) ≤ 1
+abort_one limit None = omega arith
+abort_one limit (Some m) = fitted_one m (without_payload m) (fit limit m (without_payload m))
+
 -- ---- what a message does
+
+-- a stop that a message can make, where there is one
+abbrev pub message_stop : Option Reason → ℕ
+message_stop None = 1
+message_stop (Some why) = message_reason why
+
+abbrev pub StopsAtMost : Phase → Type 0
+StopsAtMost p = message_stop (stop_of p) ≡ 1
 
 -- What holds of each effect that a message may have: the server's own answers come from the caller, and a Ping that asks for Custody
 -- may be held.
 pub record ReactionCases (s : Standing) (m : Message) (P : Effect → Type 0) : Type 0 where
   pub stays : P (stay s)
-  pub stands : (now : Phase) (outstanding : List OutstandingValue) → P (record (stay s) { phase = now; outstanding = outstanding })
-  pub stops : (why : Reason) (farewell : List Message) → AllByRecursion IsPlain farewell → P (stop s why farewell)
+  pub stands : (now : Phase) (outstanding : List OutstandingValue) → (StopsAtMost s.phase → StopsAtMost now) → P (record (stay s) { phase = now; outstanding = outstanding })
+  pub stops : (why : Reason) (farewell : List Message) → AllByRecursion IsPlain farewell → length farewell ≤ 1 → message_reason why ≡ 1 → P (stop s why farewell)
   pub queues : (n : Message) → (s.role ≡ Server → IsNoResponse n) → P (record (stay s) { queued = n ∷ [] })
   pub keeps : (m.code == code.ping) ≡ true → asks_custody m ≡ true → P (holds s (Pong m.token)).effect
 
@@ -123,17 +145,17 @@ module _ (s : Standing) (m : Message) (P : Effect → Type 0) (cases : ReactionC
   abbrev Does : Reaction → Type 0
   Does r = P r.effect
 
-  aborts_so : (why : Reason) → P (abort s why)
-  aborts_so why = cases.stops why (abort_fitted s.limit (abort_of why)) (abort_plain s.limit (abort_text why) why refl)
+  aborts_so : (why : Reason) → message_reason why ≡ 1 → P (abort s why)
+  aborts_so why is = cases.stops why (abort_fitted s.limit (abort_of why)) (abort_plain s.limit (abort_text why) why refl) (abort_one s.limit (abort_of why)) is
 
   sends_so : (n less : Message) (r : Reply) → (s.role ≡ Server → IsNoResponse n) → (s.role ≡ Server → IsNoResponse less) → P (send_as s n less r)
   sends_so n less Whole whole bare = cases.queues n whole
   sends_so n less Bare whole bare = cases.queues less bare
-  sends_so n less Stopped whole bare = cases.stops reason.PeerTooSmall [] tt
+  sends_so n less Stopped whole bare = cases.stops reason.PeerTooSmall [] tt (omega arith) refl
 
   csm_so : (bad : Option ℕ) → Does (csm_reaction s bad)
-  csm_so None = cases.stands phase.Open s.outstanding
-  csm_so (Some number) = aborts_so (reason.BadCsm number)
+  csm_so None = cases.stands phase.Open s.outstanding (λ is. refl)
+  csm_so (Some number) = aborts_so (reason.BadCsm number) refl
 
   request_so : (role : Role) → s.role ≡ role → Does (request_reaction s m role)
   request_so Server is = cases.stays
@@ -156,17 +178,17 @@ module _ (s : Standing) (m : Message) (P : Effect → Type 0) (cases : ReactionC
 
   -- neither a Pong nor a response queues anything
   pong_so : Does (pong_reaction s m)
-  pong_so = cond_both (list_any (is_pinged m.token) s.outstanding) _ _ Does (λ e. cases.stands s.phase (without_pinged m.token s.outstanding)) (λ e. cases.stays)
+  pong_so = cond_both (list_any (is_pinged m.token) s.outstanding) _ _ Does (λ e. cases.stands s.phase (without_pinged m.token s.outstanding) (λ is. is)) (λ e. cases.stays)
 
   answered_so : (found : Option OutstandingValue) → Does (answered s m found)
   answered_so None = cases.stays
-  answered_so (Some e) = cond_both (is_last m e) _ _ Does (λ f. cases.stands s.phase (without_asked m.token s.outstanding)) (λ f. cases.stays)
+  answered_so (Some e) = cond_both (is_last m e) _ _ Does (λ f. cases.stands s.phase (without_asked m.token s.outstanding) (λ is. is)) (λ f. cases.stays)
 
   open_so : Does (open_reaction s m)
   open_so =
-      cond_both (minds_critical_options m.code && has_critical_option m) _ _ Does (λ e. aborts_so reason.BadSignalOption)
+      cond_both (minds_critical_options m.code && has_critical_option m) _ _ Does (λ e. aborts_so reason.BadSignalOption refl)
       (λ e. cond_both (m.code == code.ping) _ _ Does (λ ping. ping_so ping)
-      (λ e. cond_both (m.code == code.release) _ _ Does (λ e. cases.stands (phase.Releasing reason.PeerRelease) [])
+      (λ e. cond_both (m.code == code.release) _ _ Does (λ e. cases.stands (phase.Releasing reason.PeerRelease) [] (λ is. refl))
       (λ e. cond_both (m.code == code.pong) _ _ Does (λ e. pong_so)
       (λ e. cond_both (is_signal m.code) _ _ Does (λ e. cases.stays)
       (λ e. cond_both (is_method m.code) _ _ Does (λ e. request_so s.role refl) (λ e. answered_so (find (is_asked m.token) s.outstanding)))))))
@@ -174,11 +196,11 @@ module _ (s : Standing) (m : Message) (P : Effect → Type 0) (cases : ReactionC
   live_so : Does (live_reaction s m)
   unfolding live_reaction
   live_so =
-      cond_both (is_reserved m.code) _ _ Does (λ e. aborts_so reason.ReservedCode)
+      cond_both (is_reserved m.code) _ _ Does (λ e. aborts_so reason.ReservedCode refl)
       (λ e. cond_both (m.code == code.empty) _ _ Does (λ e. cases.stays)
-      (λ e. cond_both (m.code == code.abort) _ _ Does (λ e. aborts_so reason.PeerAbort)
+      (λ e. cond_both (m.code == code.abort) _ _ Does (λ e. aborts_so reason.PeerAbort refl)
       (λ e. cond_both (m.code == code.csm) _ _ Does (λ e. csm_so (bad_csm_option m))
-      (λ e. cond_both (is_waiting s.phase) _ _ Does (λ e. aborts_so reason.CsmExpected) (λ e. open_so)))))
+      (λ e. cond_both (is_waiting s.phase) _ _ Does (λ e. aborts_so reason.CsmExpected refl) (λ e. open_so)))))
 
   unless_so : (over : Option Reason) → Does (reaction_unless s m over)
   unless_so None = live_so
@@ -196,8 +218,8 @@ AreNoResponses ms = AllByRecursion IsNoResponse ms
 react_signals : (s : Standing) (m : Message) → s.role ≡ Server → AreNoResponses (react s m).effect.queued
 react_signals s m server = react_so s m (λ e. AreNoResponses e.queued) (record {
   stays = tt;
-  stands = λ now outstanding. tt;
-  stops = λ why farewell plain. all_to IsPlain IsNoResponse (λ n is. is.0) farewell plain;
+  stands = λ now outstanding stands. tt;
+  stops = λ why farewell plain one may. all_to IsPlain IsNoResponse (λ n is. is.0) farewell plain;
   queues = λ n is. (is server, tt);
   keeps = λ ping custody. tt;
 })
@@ -212,25 +234,25 @@ heard_queues P h m e false such = queues_none P h
 pub message_queues : (h : History) (m : Message) → h.role ≡ Server → Queues IsNoResponse h (after h (call.Handle m))
 message_queues h m server = heard_queues IsNoResponse h m (react (standing_now h) m).effect (takes_messages h.phase) (react_signals (standing_now h) m server)
 
-pub reject_queues : (h : History) (r : Reject) → Queues IsPlain h (after h (call.Reject r))
-reject_queues h r =
-    queues_effect IsPlain h (abort (standing_now h) (reject_reason r)) (takes_messages h.phase) (abort_plain (limit_now h) (abort_text (reject_reason r)) (reject_reason r) refl)
+pub reject_queues : Rejects (Queues IsPlain)
+reject_queues h r takes room =
+    queues_effect IsPlain h (abort (standing_now h) (reject_reason r)) true (abort_plain (limit_now h) (abort_text (reject_reason r)) (reject_reason r) refl)
 
-pub end_queues : (h : History) (cut : Bool) → Queues IsPlain h (after h (call.End cut))
-end_queues h cut = queues_effect IsPlain h (stop (standing_now h) (end_reason cut) []) (takes_messages h.phase) tt
+pub end_queues : Ends (Queues IsPlain)
+end_queues h cut takes = queues_effect IsPlain h (stop (standing_now h) (end_reason cut) []) true tt
 
-pub release_queues : (h : History) → Queues IsPlain h (after h call.Release)
-release_queues h = queues_effect IsPlain h (stop (standing_now h) reason.ReleasedHere (release ∷ [])) (is_open h.phase) ((refl, refl), tt)
+pub release_queues : Releases (Queues IsPlain)
+release_queues h opened none = queues_effect IsPlain h (stop (standing_now h) reason.ReleasedHere (release ∷ [])) true ((refl, refl), tt)
+
+-- a write queues nothing
+pub written_queues : (P : Message → Type 0) (h : History) (n : ℕ) → Queues P h (after h (call.Written n))
+written_queues P h n = record { more = []; same = sym (append-nil h.queued); such = tt; heard = []; handled = sym (append-nil h.handled) }
 
 -- ---- what is held
 
--- nothing is queued where an answer is held
-pub hold_queues : (P : Message → Type 0) (h : History) (token : List ℕ) (moment : ℕ) → Queues P h (after h (call.Hold token moment))
-hold_queues P h token moment = held_by (is_open h.phase && may_hold h)
-  where
-    held_by : (does : Bool) → Queues P h (cond does (record h { held = h.held ++ Answer token moment ∷ [] }) h)
-    held_by true = record { more = []; same = sym (append-nil h.queued); such = tt; heard = []; handled = sym (append-nil h.handled) }
-    held_by false = queues_none P h
+-- nothing is queued where something else is held
+pub holding_queues : (P : Message → Type 0) (h : History) (held : List HeldValue) → Queues P h (holding h held)
+holding_queues P h held = record { more = []; same = sym (append-nil h.queued); such = tt; heard = []; handled = sym (append-nil h.handled) }
 
 sent_pong : (s : Standing) (m less : Message) (r : Reply) → IsNoResponse m → IsNoResponse less → AreNoResponses (send_as s m less r).queued
 sent_pong s m less Whole e f = (e, tt)

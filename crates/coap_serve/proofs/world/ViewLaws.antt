@@ -19,7 +19,7 @@ use Rattle.coap_serve.specs.world.Events.{Event, steps_of, world_after}
 use Rattle.coap_serve.specs.world.View.{change_steps, change_on, change_made, change_by, concerns, view_step, view_of, after_view, AreSeen}
 use Rattle.coap_serve.proofs.world.StepLaws.{steps_then}
 use Rattle.coap_serve.proofs.world.PlaceLaws.{first_there, later_there, nobody, all_there, changed_here, changed_elsewhere, still_there, new_there, dropped_here, dropped_elsewhere}
-use Rattle.coap_serve.proofs.world.WorldLaws.{opened_world}
+use Rattle.coap_serve.proofs.world.AcrossLaws.{opened_world}
 use Rattle.coap_serve.proofs.world.EntryLemmas.{all_append}
 use Rattle.coap_serve.proofs.world.SettleLaws.{IsAtRest, at_rest, settled_rests}
 

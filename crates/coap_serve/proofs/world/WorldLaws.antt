@@ -1,8 +1,7 @@
 -- What holds of a world after any steps, and after steps that open each connection with the next number.
-use Rattle.std.proofs.Common.{◌≡◌, ℕ, ◌+◌, ◌<◌, ◌≤◌, Bool, true, false, cond, List, [], ◌∷◌, ◌++◌, length, map, Option, Some, None, refl, sym, ap, subst, ◌∙◌, ◌⊎◌, inl, inr, arith}
-use Rattle.std.specs.Prelude.{is_none, option_map, ◌==◌}
+use Rattle.std.proofs.Common.{◌≡◌, ℕ, ◌+◌, ◌<◌, ◌≤◌, Bool, true, false, cond, List, [], ◌∷◌, length, map, Option, Some, None, refl, sym, ap, subst, ◌∙◌, arith}
+use Rattle.std.specs.Prelude.{is_none}
 use Rattle.std.specs.List.{AllByRecursion}
-use Rattle.std.proofs.lemmas.Bool.{cases_eq}
 use Rattle.std.proofs.lemmas.List.{length-append, length-map}
 use Rattle.coap_wire.specs.Stream.{StreamFault}
 use Rattle.coap_conn.specs.Limits.{LimitValues}
@@ -12,86 +11,51 @@ use Rattle.coap_serve.specs.Configs.{ConfigValues}
 use Rattle.coap_serve.specs.world.Sides.{Side, new_side, handles, side_after, side_faulted, side_written, side_ended, side_released, settled}
 use Rattle.coap_serve.specs.world.World.{Place, World, Step, new_world, side_of, changed_at, ticks, acted, settled_place, all_settled, after_steps}
 use Rattle.coap_serve.specs.world.World as world
-use Rattle.coap_serve.proofs.world.PlaceLaws.{found, nobody, all_there, changed_here, changed_elsewhere, changed_id, still_there, new_there, but, dropped_here, dropped_elsewhere, AreDistinct, distinct_mapped, distinct_more, distinct_but, of_number, each_weaker, each_mapped, each_more, each_but, fewer}
-use Rattle.coap_serve.proofs.world.FollowLaws.{SideFollows, follows_self, follows_then, stays_stopped, after_follows, faulted_follows, side_written_follows, side_ended_follows, side_released_follows, settled_follows, faulted_stops, IsSide, new_side_is, follower_is}
+use Rattle.coap_serve.specs.world.Events.{Event, steps_of, world_after}
+use Rattle.coap_serve.proofs.world.PlaceLaws.{changed_id, AreDistinct, distinct_mapped, distinct_more, distinct_but, of_number, each_weaker, each_mapped, each_more, each_but, fewer}
+use Rattle.coap_serve.proofs.world.AcrossLaws.{opened_world, some_same, faulted_there}
+use Rattle.coap_serve.proofs.world.GoingOn.{settled_goes_on, faulted_stops}
 
 -- ---- after any steps
 
--- the numbers are distinct, and each connection is the server's end with the limits of the configuration
-pub record IsWorld (c : ConfigValues) (w : World) : Type 0 where
-  pub distinct : AreDistinct w.sides
-  pub sides : AllByRecursion (λ p. IsSide c.limits p.side) w.sides
+-- the numbers of connections are distinct
+opened_by : (limits : LimitValues) (w : World) (id : ℕ) (there : Option Side) → side_of id w.sides ≡ there → AreDistinct w.sides → AreDistinct (cond (is_none there) (opened_world limits w id) w).sides
+opened_by limits w id None e distinct = distinct_more w.sides (record { id = id; side = new_side limits }) distinct e
+opened_by limits w id (Some s) e distinct = distinct
 
-pub new_world_is : (c : ConfigValues) → IsWorld c (new_world c)
-new_world_is c = record { distinct = tt; sides = tt }
+if_distinct : (does : Bool) (w v : World) → AreDistinct w.sides → AreDistinct v.sides → AreDistinct (cond does v w).sides
+if_distinct true w v distinct then = then
+if_distinct false w v distinct then = distinct
 
--- the same connections with another store, at another moment
-same_sides : (c : ConfigValues) (w v : World) → IsWorld c w → v.sides ≡ w.sides → IsWorld c v
-same_sides c w v is same = record {
-  distinct = subst AreDistinct (sym same) is.distinct;
-  sides = subst (AllByRecursion (λ p. IsSide c.limits p.side)) (sym same) is.sides;
-}
+changed_distinct : (id : ℕ) (f : Side → Side) (ps : List Place) → AreDistinct ps → AreDistinct (map (changed_at id f) ps)
+changed_distinct id f ps distinct = distinct_mapped (changed_at id f) (changed_id id f) ps distinct
 
-place_follows : (limits : LimitValues) (id : ℕ) (f : Side → Side) → ((s : Side) → SideFollows s (f s)) → (p : Place) (same : Bool) → IsSide limits p.side → IsSide limits (cond same (record p { side = f p.side }) p).side
-place_follows limits id f follows p true is = follower_is limits p.side (f p.side) (follows p.side) is
-place_follows limits id f follows p false is = is
-
-changed_world : (c : ConfigValues) (w v : World) (id : ℕ) (f : Side → Side) → IsWorld c w → ((s : Side) → SideFollows s (f s)) → v.sides ≡ map (changed_at id f) w.sides → IsWorld c v
-changed_world c w v id f is follows same = record {
-  distinct = subst AreDistinct (sym same) (distinct_mapped (changed_at id f) (changed_id id f) w.sides is.distinct);
-  sides = subst (AllByRecursion (λ p. IsSide c.limits p.side)) (sym same)
-      (each_mapped (λ p. IsSide c.limits p.side) (λ p. IsSide c.limits p.side) (changed_at id f) (λ p. place_follows c.limits id f follows p (p.id == id)) w.sides is.sides);
-}
-
--- the world with a new connection
-abbrev pub opened_world : LimitValues → World → ℕ → World
-opened_world limits w id = record w { sides = w.sides ++ record { id = id; side = new_side limits } ∷ []; ids = id }
-
-opened_by : (c : ConfigValues) (w : World) (id : ℕ) (there : Option Side) → side_of id w.sides ≡ there → IsWorld c w → IsWorld c (cond (is_none there) (opened_world c.limits w id) w)
-opened_by c w id None e is = record {
-  distinct = distinct_more w.sides (record { id = id; side = new_side c.limits }) is.distinct e;
-  sides = each_more (λ p. IsSide c.limits p.side) w.sides (record { id = id; side = new_side c.limits }) is.sides (new_side_is c.limits);
-}
-opened_by c w id (Some s) e is = is
-
-if_world : (c : ConfigValues) (does : Bool) (w v : World) → IsWorld c w → IsWorld c v → IsWorld c (cond does v w)
-if_world c true w v is then = then
-if_world c false w v is then = is
-
-pub acted_is : (c : ConfigValues) (w : World) (s : Step) → IsWorld c w → IsWorld c (acted c.limits w s)
+acted_distinct : (limits : LimitValues) (w : World) (s : Step) → AreDistinct w.sides → AreDistinct (acted limits w s).sides
 unfolding acted
-acted_is c w (world.Opened id) is = opened_by c w id (side_of id w.sides) refl is
-acted_is c w (world.Handled id m) is = changed_world c w _ id (λ s. side_after w.store w.now s m) is (λ s. after_follows w.store w.now s m) refl
-acted_is c w (world.Faulted id fault) is = changed_world c w _ id (λ s. side_faulted s fault) is (λ s. faulted_follows s fault) refl
-acted_is c w (world.Written id n) is = changed_world c w _ id (λ s. side_written s n) is (λ s. side_written_follows s n) refl
-acted_is c w (world.Ticked now) is = if_world c (ticks w.now now) w _ is (same_sides c w _ is refl)
-acted_is c w (world.Stored path format bytes) is = if_world c (is_none (put_refusal w.store path bytes)) w _ is (same_sides c w _ is refl)
-acted_is c w (world.Removed path) is = same_sides c w _ is refl
-acted_is c w (world.Ended id cut) is = changed_world c w _ id (λ s. side_ended s cut) is (λ s. side_ended_follows s cut) refl
-acted_is c w (world.Released id) is = changed_world c w _ id side_released is side_released_follows refl
-acted_is c w (world.Dropped id) is = record {
-  distinct = distinct_but id w.sides is.distinct;
-  sides = each_but (λ p. IsSide c.limits p.side) id w.sides is.sides;
-}
+acted_distinct limits w (world.Opened id) distinct = opened_by limits w id (side_of id w.sides) refl distinct
+acted_distinct limits w (world.Handled id m) distinct = changed_distinct id (λ s. side_after w.store w.now s m) w.sides distinct
+acted_distinct limits w (world.Faulted id fault) distinct = changed_distinct id (λ s. side_faulted s fault) w.sides distinct
+acted_distinct limits w (world.Written id n) distinct = changed_distinct id (λ s. side_written s n) w.sides distinct
+acted_distinct limits w (world.Ticked now) distinct = if_distinct (ticks w.now now) w _ distinct distinct
+acted_distinct limits w (world.Stored path format bytes) distinct = if_distinct (is_none (put_refusal w.store path bytes)) w _ distinct distinct
+acted_distinct limits w (world.Removed path) distinct = distinct
+acted_distinct limits w (world.Ended id cut) distinct = changed_distinct id (λ s. side_ended s cut) w.sides distinct
+acted_distinct limits w (world.Released id) distinct = changed_distinct id side_released w.sides distinct
+acted_distinct limits w (world.Dropped id) distinct = distinct_but id w.sides distinct
 
-pub settled_is : (c : ConfigValues) (w : World) → IsWorld c w → IsWorld c (all_settled w)
-settled_is c w is = record {
-  distinct = distinct_mapped (settled_place w.store w.now) (λ p. refl) w.sides is.distinct;
-  sides = each_mapped (λ p. IsSide c.limits p.side) (λ p. IsSide c.limits p.side) (settled_place w.store w.now) (λ p. follower_is c.limits p.side (settled w.store w.now p.side) (settled_follows w.store w.now p.side)) w.sides is.sides;
-}
-
-pub step_is : (c : ConfigValues) (w : World) (s : Step) → IsWorld c w → IsWorld c (world.step c.limits w s)
+pub step_distinct : (limits : LimitValues) (w : World) (s : Step) → AreDistinct w.sides → AreDistinct (world.step limits w s).sides
 unfolding world.step
-step_is c w s is = settled_is c (acted c.limits w s) (acted_is c w s is)
+step_distinct limits w s distinct = distinct_mapped (settled_place (acted limits w s).store (acted limits w s).now) (λ p. refl) (acted limits w s).sides (acted_distinct limits w s distinct)
 
-pub steps_are : (c : ConfigValues) (w : World) (ss : List Step) → IsWorld c w → IsWorld c (after_steps c.limits w ss)
+steps_distinct : (limits : LimitValues) (w : World) (ss : List Step) → AreDistinct w.sides → AreDistinct (after_steps limits w ss).sides
 unfolding after_steps
-steps_are c w [] is = is
-steps_are c w (s ∷ ss) is = steps_are c (world.step c.limits w s) ss (step_is c w s is)
+steps_distinct limits w [] distinct = distinct
+steps_distinct limits w (s ∷ ss) distinct = steps_distinct limits (world.step limits w s) ss (step_distinct limits w s distinct)
 
--- the connection with a number is such a side
-pub side_is : (c : ConfigValues) (w : World) (id : ℕ) (s : Side) → IsWorld c w → side_of id w.sides ≡ Some s → IsSide c.limits s
-side_is c w id s is e = of_number (λ n t. IsSide c.limits t) id s w.sides is.sides e
+-- after any events, accepted or not
+pub events_distinct : (c : ConfigValues) (es : List Event) → AreDistinct (world_after c es).sides
+unfolding world_after
+events_distinct c es = steps_distinct c.limits (new_world c) (steps_of c.limits.max_message es) tt
 
 -- ---- after steps that give each number once
 
@@ -207,93 +171,10 @@ ids_grow c w (world.Ended id cut) next = omega arith
 ids_grow c w (world.Released id) next = omega arith
 ids_grow c w (world.Dropped id) next = omega arith
 
--- ---- where a connection came from
-
--- a connection after a step goes on from the one with its number, or was opened by it
-abbrev pub GoesOnFrom : LimitValues → World → Step → ℕ → Side → Type 0
-GoesOnFrom limits w st id t = ((s : Side) × (side_of id w.sides ≡ Some s) × SideFollows s t) ⊎ ((side_of id w.sides ≡ None) × (st ≡ world.Opened id) × SideFollows (new_side limits) t)
-
--- what a function makes of what may be there
-made_of : (g : Side → Side) (o : Option Side) (t : Side) → option_map g o ≡ Some t → (s : Side) × (o ≡ Some s) × (g s ≡ t)
-made_of g None t e = absurd cc
-made_of g (Some s) t e = (s, refl, cc)
-
-some_same : (s t : Side) → ◌≡◌ {A = Option Side} (Some s) (Some t) → s ≡ t
-some_same s t e = cc
-
-same_from : (limits : LimitValues) (w : World) (st : Step) (id : ℕ) (t : Side) → side_of id w.sides ≡ Some t → GoesOnFrom limits w st id t
-same_from limits w st id t e = inl (t, e, follows_self t.history)
-
-changed_from : (limits : LimitValues) (w : World) (st : Step) (at : ℕ) (f : Side → Side) (id : ℕ) (t : Side) → ((s : Side) → SideFollows s (f s)) → side_of id (map (changed_at at f) w.sides) ≡ Some t → GoesOnFrom limits w st id t
-changed_from limits w st at f id t follows e =
-    elim (cases_eq at id) [
-      | inl here ↦
-          let made = made_of f (side_of at w.sides) t (sym (changed_here at f w.sides) ∙ ap (λ (n : ℕ). side_of n (map (changed_at at f) w.sides)) here ∙ e) in
-          inl (made.0, ap (λ (n : ℕ). side_of n w.sides) (sym here) ∙ made.1, subst (SideFollows made.0) made.2 (follows made.0))
-      | inr apart ↦ same_from limits w st id t (sym (changed_elsewhere at id f w.sides apart) ∙ e)
-    ]
-
-opened_from_by : (limits : LimitValues) (w : World) (at id : ℕ) (t : Side) (there : Option Side) → side_of id w.sides ≡ there → side_of id (w.sides ++ record { id = at; side = new_side limits } ∷ []) ≡ Some t → GoesOnFrom limits w (world.Opened at) id t
-opened_from_by limits w at id t None none e =
-    let new : Place = record { id = at; side = new_side limits } in
-    elim (found id t new [] (sym (new_there id w.sides (new ∷ []) none) ∙ e)) [
-      | inl here ↦ inr (none, ap (λ (n : ℕ). world.Opened n) here.0, subst (SideFollows (new_side limits)) here.1 (follows_self (new_side limits).history))
-      | inr later ↦ absurd (let bad : ◌≡◌ {A = Option Side} None (Some t) = sym (nobody id) ∙ later.1 in cc)
-    ]
-opened_from_by limits w at id t (Some s) is e =
-    let same = some_same s t (sym (still_there id s w.sides (record { id = at; side = new_side limits } ∷ []) is) ∙ e) in
-    same_from limits w (world.Opened at) id t (is ∙ ap (λ (u : Side). Some u) same)
-
-if_from : (limits : LimitValues) (w v : World) (st : Step) (id : ℕ) (t : Side) (does : Bool) → (side_of id v.sides ≡ Some t → GoesOnFrom limits w st id t) → side_of id (cond does v w).sides ≡ Some t → GoesOnFrom limits w st id t
-if_from limits w v st id t true go e = go e
-if_from limits w v st id t false go e = same_from limits w st id t e
-
-dropped_from : (limits : LimitValues) (w : World) (at id : ℕ) (t : Side) → side_of id (but at w.sides) ≡ Some t → GoesOnFrom limits w (world.Dropped at) id t
-dropped_from limits w at id t e =
-    elim (cases_eq at id) [
-      | inl here ↦ absurd (let bad : ◌≡◌ {A = Option Side} None (Some t) = sym (dropped_here at w.sides) ∙ ap (λ (n : ℕ). side_of n (but at w.sides)) here ∙ e in cc)
-      | inr apart ↦ same_from limits w (world.Dropped at) id t (sym (dropped_elsewhere at id w.sides apart) ∙ e)
-    ]
-
-acted_from : (limits : LimitValues) (w : World) (st : Step) (id : ℕ) (t : Side) → side_of id (acted limits w st).sides ≡ Some t → GoesOnFrom limits w st id t
-unfolding acted
-acted_from limits w (world.Opened at) id t e = if_from limits w (opened_world limits w at) (world.Opened at) id t (is_none (side_of at w.sides)) (opened_from_by limits w at id t (side_of id w.sides) refl) e
-acted_from limits w (world.Handled at m) id t e = changed_from limits w _ at (λ s. side_after w.store w.now s m) id t (λ s. after_follows w.store w.now s m) e
-acted_from limits w (world.Faulted at fault) id t e = changed_from limits w _ at (λ s. side_faulted s fault) id t (λ s. faulted_follows s fault) e
-acted_from limits w (world.Written at n) id t e = changed_from limits w _ at (λ s. side_written s n) id t (λ s. side_written_follows s n) e
-acted_from limits w (world.Ticked now) id t e = if_from limits w _ (world.Ticked now) id t (ticks w.now now) (same_from limits w (world.Ticked now) id t) e
-acted_from limits w (world.Stored path format bytes) id t e = if_from limits w _ (world.Stored path format bytes) id t (is_none (put_refusal w.store path bytes)) (same_from limits w (world.Stored path format bytes) id t) e
-acted_from limits w (world.Removed path) id t e = same_from limits w (world.Removed path) id t e
-acted_from limits w (world.Ended at cut) id t e = changed_from limits w _ at (λ s. side_ended s cut) id t (λ s. side_ended_follows s cut) e
-acted_from limits w (world.Released at) id t e = changed_from limits w _ at side_released id t side_released_follows e
-acted_from limits w (world.Dropped at) id t e = dropped_from limits w at id t e
-
--- settling goes on
-settled_from : (limits : LimitValues) (w : World) (st : Step) (id : ℕ) (s t : Side) → GoesOnFrom limits w st id s → SideFollows s t → GoesOnFrom limits w st id t
-settled_from limits w st id s t (inl old) follows = inl (old.0, old.1, follows_then old.0.history s.history t.history old.2 follows)
-settled_from limits w st id s t (inr new) follows = inr (new.0, new.1, follows_then (new_side limits).history s.history t.history new.2 follows)
-
--- the connection that became one when all settled
-pub before_settled : (w : World) (id : ℕ) (t : Side) → side_of id (all_settled w).sides ≡ Some t → (s : Side) × (side_of id w.sides ≡ Some s) × (settled w.store w.now s ≡ t)
-before_settled w id t e = made_of (settled w.store w.now) (side_of id w.sides) t (sym (all_there id (settled w.store w.now) w.sides) ∙ e)
-
-pub step_from : (limits : LimitValues) (w : World) (st : Step) (id : ℕ) (t : Side) → side_of id (world.step limits w st).sides ≡ Some t → GoesOnFrom limits w st id t
-unfolding world.step
-step_from limits w st id t e =
-    let did : World = acted limits w st in
-    let made = before_settled did id t e in
-    settled_from limits w st id made.0 t (acted_from limits w st id made.0 made.1) (subst (SideFollows made.0) made.2 (settled_follows did.store did.now made.0))
+-- ---- a fault
 
 -- a fault stops the connection that it is on, where that handles messages
-faulted_there : (limits : LimitValues) (w : World) (id : ℕ) (fault : StreamFault) → side_of id (acted limits w (world.Faulted id fault)).sides ≡ option_map (λ s. side_faulted s fault) (side_of id w.sides)
-unfolding acted
-faulted_there limits w id fault = changed_here id (λ s. side_faulted s fault) w.sides
-
 pub faulted_is_stopped : (limits : LimitValues) (w : World) (id : ℕ) (fault : StreamFault) (s t : Side) → side_of id w.sides ≡ Some s → handles s ≡ true → side_of id (world.step limits w (world.Faulted id fault)).sides ≡ Some t → takes_messages t.history.phase ≡ false
-unfolding world.step
 faulted_is_stopped limits w id fault s t before does e =
-    let did : World = acted limits w (world.Faulted id fault) in
-    let made = before_settled did id t e in
-    let same : side_faulted s fault ≡ made.0 = some_same (side_faulted s fault) made.0 (sym (faulted_there limits w id fault ∙ ap (option_map (λ u. side_faulted u fault)) before) ∙ made.1) in
-    let stopped : takes_messages made.0.history.phase ≡ false = ap (λ (u : Side). takes_messages u.history.phase) (sym same) ∙ faulted_stops s fault does in
-    ap (λ (u : Side). takes_messages u.history.phase) (sym made.2) ∙ stays_stopped made.0.history (settled did.store did.now made.0).history (settled_follows did.store did.now made.0) stopped
+    let same : settled w.store w.now (side_faulted s fault) ≡ t = some_same _ t (sym (faulted_there limits w id fault s before) ∙ e) in
+    ap (λ (u : Side). takes_messages u.history.phase) (sym same) ∙ (settled_goes_on w.store w.now (side_faulted s fault)).over (faulted_stops s fault does)
