@@ -2,7 +2,6 @@
 #![tactic(auto)]
 
 mod answering;
-mod calls;
 mod config;
 mod device;
 mod door;

@@ -204,35 +204,6 @@ impl Server {
         Ok(Line::Short(in_line(id, taken as u64, stop)))
     }
 
-    /// Takes bytes until they are used up, or none is taken, and answers how many were.
-    ///
-    /// # Errors
-    ///
-    /// Where memory is refused.
-    pub(crate) fn take_all(&mut self, id: ConnId, bytes: &[u8]) -> Result<usize, AllocError>
-        ensures count { IfOk result (λ n. n ≡ (fed self.old id bytes.now).count) }
-        ensures within { IfOk result (λ n. n ≤ length bytes.now) }
-        ensures after { OnOk result (self.new ≡ (fed self.old id bytes.now).server) }
-        ensures shows { OnOk result (ShowsMore self.old self.new (took self.old id bytes.now)) }
-        ensures err { OnErr result (IsPartlyFed self.old id bytes.now self.new) }
-        ensures shows_refused { OnErr result (ShowsPart self.old (event.In id bytes.now) self.new) }
-    {
-        let mut taken = 0;
-        while taken < bytes.len() {
-            match self.take(id, &bytes[taken..]) {
-                Ok(piece) => {
-                    if piece.bytes == 0 {
-                        return Ok(taken);
-                    }
-                    taken += piece.bytes;
-                }
-                Err(TakeFault::NoSuch) => return Ok(taken),
-                Err(TakeFault::Memory { bytes: _ }) => return Err(AllocError),
-            }
-        }
-        Ok(taken)
-    }
-
     /// The number of the reason for which a connection takes no message any more, where there is one.
     fn stop_number(&self, id: ConnId) -> Option<u8>
         ensures { result ≡ stop_number (session_of id self.now.sessions) }

@@ -2,7 +2,7 @@ use Rattle.std.proofs.Common.{ap, ◌∙◌}
 use Rattle.indexmap.specs.IndexMap.{set_value_at}
 use Rattle.coap_serve.specs.values.Sessions.{session_settled, session_written}
 use Rattle.coap_serve.proofs.values.ServerLemmas.{written_at_index}
-use Rattle.coap_serve.proofs.server.written_at.Goals as goal
+use Rattle.coap_serve.proofs.server.sessions.written_at.Goals as goal
 
 pub returns : goal.returns
 returns c =

@@ -4,7 +4,7 @@ use Rattle.coap_serve.proofs.streams.DeviceLemmas.{bytes_none}
 use Rattle.coap_serve.proofs.values.FlushLemmas.{none_left, on_any_fault}
 use Rattle.coap_serve.proofs.values.ServerLemmas.{written_back}
 use Rattle.coap_serve.proofs.values.TurnLemmas.{same_session, turn_back, adds_same}
-use Rattle.coap_serve.proofs.server.flush_at.Goals as goal
+use Rattle.coap_serve.proofs.server.sessions.flush_at.Goals as goal
 
 pub returns-then-count-eq0-clause-ok : goal.returns-then-count-eq0-clause-ok
 returns-then-count-eq0-clause-ok g c = λ s here.

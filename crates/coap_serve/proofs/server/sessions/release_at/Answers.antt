@@ -3,7 +3,7 @@ use Rattle.std.proofs.lemmas.Result.{err_from_is_err_and}
 use Rattle.indexmap.specs.IndexMap.{set_value_at}
 use Rattle.coap_serve.specs.values.Sessions.{session_settled, session_released}
 use Rattle.coap_serve.proofs.values.ServerLemmas.{written_at_index, written_back}
-use Rattle.coap_serve.proofs.server.release_at.Goals as goal
+use Rattle.coap_serve.proofs.server.sessions.release_at.Goals as goal
 
 pub returns-in_err-release-clause-err : goal.returns-in_err-release-clause-err
 returns-in_err-release-clause-err c =

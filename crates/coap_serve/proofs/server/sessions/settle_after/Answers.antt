@@ -4,7 +4,7 @@ use Rattle.indexmap.specs.IndexMap.{set_value_at}
 use Rattle.coap_serve.specs.values.Servers.{changed_at, settled_entry}
 use Rattle.coap_serve.specs.values.Entries.{settled_held}
 use Rattle.coap_serve.proofs.values.ServerLemmas.{written_at_index}
-use Rattle.coap_serve.proofs.server.settle_after.Goals as goal
+use Rattle.coap_serve.proofs.server.sessions.settle_after.Goals as goal
 
 pub returns-else-changed : goal.returns-else-changed
 returns-else-changed c =

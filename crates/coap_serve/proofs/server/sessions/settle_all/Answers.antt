@@ -1,6 +1,6 @@
 use Rattle.std.proofs.Common.{length, ap, arith}
 use Rattle.coap_serve.proofs.values.ServerLemmas.{none_settled, length-settled_up_to, one_more_settled, all_settled}
-use Rattle.coap_serve.proofs.server.settle_all.Goals as goal
+use Rattle.coap_serve.proofs.server.sessions.settle_all.Goals as goal
 
 pub loop-at-init : goal.loop-at-init
 loop-at-init c = none_settled c.args.host.now c.args.sessions.now.entries

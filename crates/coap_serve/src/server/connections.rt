@@ -1,0 +1,138 @@
+//! The connections of a server: opened, ended, released, dropped, and how each is.
+
+use super::sessions::{end_at, find, release_at};
+use super::{ConnId, NoSuch, OpenFault, Outlook, ReleaseFault, Server, Status};
+use crate::session::Session;
+
+impl Server {
+    ghost use Rattle.std.specs.Prelude.{◌≡◌, ◌+◌, ◌++◌, ◌∷◌, List, [], is_ok, is_none, IfOk, OnOk, OnErr};
+    ghost use Rattle.coap_wire.specs.Refusal.{RefusedBy};
+    ghost use Rattle.coap_conn.specs.Limits.{AreInRange};
+    ghost use Rattle.coap_serve.specs.values.Servers.{session_of, is_there, server_opened, server_ended, server_released, server_dropped};
+    ghost use Rattle.coap_serve.specs.values.ServerAnswers.{OpenedOrMemory, open_refusal, released_refusal, status_of};
+    ghost use Rattle.coap_serve.specs.values.Dues.{outlook_of};
+    ghost use Rattle.coap_serve.specs.world.Events.{Event, Opened, Ended, Released, Dropped};
+    ghost use Rattle.coap_serve.specs.world.Shows.{Shows};
+
+    /// Whether `open` would be refused for want of memory alone.
+    pub(crate) fn can_open(&self) -> bool
+        ensures { result ≡ is_none (open_refusal self.now) }
+    {
+        self.sessions.len() < self.config.connections() && self.ids < u64::MAX
+    }
+
+    /// Opens a connection, whose own Capabilities and Settings wait, and answers its number: one more than the last one.
+    ///
+    /// # Errors
+    ///
+    /// In this order: `Full` where as many connections are there as the configuration allows, `IdsSpent` where every number was
+    /// given, `Memory` where memory was refused. Nothing has changed then.
+    pub fn open(&mut self) -> Result<ConnId, OpenFault>
+        ensures answer { OpenedOrMemory result (open_refusal self.old) }
+        ensures id { IfOk result (λ id. id ≡ self.old.ids + 1) }
+        ensures ok { OnOk result (self.new ≡ server_opened self.old) }
+        ensures ranges { OnOk result (AreInRange self.old.config.limits) }
+        ensures shows { IfOk result (λ id. (events : List Event) → Shows self.old events → Shows self.new (events ++ Opened id ∷ [])) }
+        ensures err { OnErr result (self.new ≡ self.old) }
+    {
+        if self.sessions.len() >= self.config.connections() {
+            return Err(OpenFault::Full);
+        }
+        if self.ids == u64::MAX {
+            return Err(OpenFault::IdsSpent);
+        }
+        let Ok(session) = Session::open(self.alloc, self.config.limits()) else {
+            return Err(OpenFault::Memory);
+        };
+        let id = self.ids + 1;
+        let Ok(_) = self.sessions.insert(id, session) else {
+            return Err(OpenFault::Memory);
+        };
+        self.ids = id;
+        Ok(id)
+    }
+
+    /// The input of a connection ended.
+    ///
+    /// # Errors
+    ///
+    /// Where no connection has the number. Nothing has changed then.
+    pub fn ended(&mut self, id: ConnId) -> Result<(), NoSuch>
+        ensures answer { is_ok result ≡ is_there (session_of id self.old.sessions) }
+        ensures ok { OnOk result (self.new ≡ server_ended self.old id) }
+        ensures shows { OnOk result ((events : List Event) → Shows self.old events → Shows self.new (events ++ Ended id ∷ [])) }
+        ensures err { OnErr result (self.new ≡ self.old) }
+    {
+        let Some(at) = find(&self.sessions, id) else {
+            return Err(NoSuch);
+        };
+        end_at(&mut self.sessions, at, &self.host);
+        Ok(())
+    }
+
+    /// Sends Release on a connection and stops it (RFC 8323 section 5.5).
+    ///
+    /// # Errors
+    ///
+    /// In this order: `NoSuch` where no connection has the number, `NotOpen` where it is not open, `NoRoom` where fewer than 2
+    /// bytes are free in its queue, `PeerTooSmall` where less than 2 bytes may be sent. Nothing has changed then.
+    pub fn release(&mut self, id: ConnId) -> Result<(), ReleaseFault>
+        ensures answer { RefusedBy result (released_refusal self.old id) }
+        ensures ok { OnOk result (self.new ≡ server_released self.old id) }
+        ensures shows { OnOk result ((events : List Event) → Shows self.old events → Shows self.new (events ++ Released id ∷ [])) }
+        ensures err { OnErr result (self.new ≡ self.old) }
+    {
+        let Some(at) = find(&self.sessions, id) else {
+            return Err(ReleaseFault::NoSuch);
+        };
+        release_at(&mut self.sessions, at, &self.host)
+    }
+
+    /// Drops a connection, with all that waits on it.
+    ///
+    /// # Errors
+    ///
+    /// Where no connection has the number. Nothing has changed then.
+    pub fn drop_conn(&mut self, id: ConnId) -> Result<(), NoSuch>
+        ensures answer { is_ok result ≡ is_there (session_of id self.old.sessions) }
+        ensures ok { OnOk result (self.new ≡ server_dropped self.old id) }
+        ensures shows { OnOk result ((events : List Event) → Shows self.old events → Shows self.new (events ++ Dropped id ∷ [])) }
+        ensures err { OnErr result (self.new ≡ self.old) }
+    {
+        let Some(at) = find(&self.sessions, id) else {
+            return Err(NoSuch);
+        };
+        self.sessions.shift_remove_index(at);
+        Ok(())
+    }
+
+    /// How a connection is, where one has the number.
+    pub fn status(&self, id: ConnId) -> Option<Status>
+        ensures { result ≡ status_of self.now id }
+    {
+        let session = self.sessions.get(&id)?;
+        Some(Status {
+            phase: session.phase(),
+            kept: session.kept(),
+            waiting: session.waiting(),
+            pending: session.pending(),
+            observers: session.observers(),
+            peer_max: session.peer_max(),
+            finished: session.finished(),
+        })
+    }
+
+    /// What is to be done on a connection, where one has the number.
+    pub(crate) fn outlook(&self, id: ConnId) -> Option<Outlook>
+        ensures { result ≡ outlook_of self.now id }
+    {
+        let session = self.sessions.get(&id)?;
+        Some(Outlook {
+            takes: session.takes(),
+            stopped: session.phase().stop().is_some(),
+            waits: session.waiting() > 0,
+            finished: session.finished(),
+            due: session.due(self.host.now),
+        })
+    }
+}

@@ -1,0 +1,137 @@
+//! What is done to the connections that a server holds, each by its index.
+
+ghost use Rattle.std.specs.Prelude.{◌≡◌, ◌<◌, ◌≤◌, false, None, Some, length, map, slice_get, if◌then◌else◌, is_err, IfNone, IfSome, IfOk, OnOk, OnErr};
+ghost use Rattle.indexmap.specs.IndexMap.{values};
+ghost use Rattle.coap_wire.specs.Refusal.{RefusedBy};
+ghost use Rattle.coap_serve.specs.streams.Device.{AddsBytes, WritesPart};
+ghost use Rattle.coap_serve.specs.values.Flushes.{IsFlushedAt};
+ghost use Rattle.coap_serve.specs.values.Sessions.{SessionValue, session_written, session_ended, session_released, session_settled};
+ghost use Rattle.coap_serve.specs.values.Servers.{LiesAt, session_of, changed_at, settled_entry};
+ghost use Rattle.coap_serve.specs.values.Entries.{settled_held};
+ghost use Rattle.coap_serve.specs.values.ServerAnswers.{released_refusal_on, handled_so};
+
+use super::{ConnId, Handled, ReleaseFault, Sessions};
+use crate::device::Outlet;
+use crate::host::Host;
+use crate::output::{WriteFailed, write_all};
+use coap_conn::Reason;
+
+/// The index of a connection.
+pub(super) fn find(sessions: &Sessions, id: ConnId) -> Option<usize>
+    ensures none { IfNone result (session_of id sessions.now.entries ≡ None) }
+    ensures some { IfSome result (λ at. LiesAt id at sessions.now.entries) }
+{
+    sessions.get_index_of(&id)
+}
+
+/// Every connection settles.
+pub(super) fn settle_all(sessions: &mut Sessions, host: &Host)
+    ensures { sessions.new.entries ≡ map (settled_entry host.entry.now) sessions.old.entries }
+{
+    for at in 0..sessions.len() {
+        sessions[at].settle(host);
+    }
+}
+
+/// Every connection settles where a message changed a resource, and else the one at an index, where it holds something.
+pub(super) fn settle_after(changed: bool, sessions: &mut Sessions, at: usize, host: &Host)
+    requires { at < length sessions.old.entries }
+    ensures { sessions.new.entries ≡ (if changed then map (settled_entry host.entry.now) sessions.old.entries else changed_at at (settled_held host.entry.now) sessions.old.entries) }
+{
+    if changed {
+        settle_all(sessions, host);
+    } else {
+        sessions[at].settle_held(host);
+    }
+}
+
+/// What was handled where a connection took bytes or not, handled a message or not, and then takes no message any more, if so.
+pub(super) fn what_was_handled(takes: bool, message: bool, stop: Option<Reason>) -> Handled
+    ensures { result ≡ handled_so takes message stop }
+{
+    if !takes {
+        return Handled::Nothing;
+    }
+    match stop {
+        Some(reason) => Handled::Stopped(reason),
+        None => {
+            if message {
+                Handled::Message
+            } else {
+                Handled::Nothing
+            }
+        }
+    }
+}
+
+/// The first so many bytes of the connection at an index were written. It settles.
+pub(super) fn written_at(sessions: &mut Sessions, at: usize, host: &Host, count: usize)
+    requires within { at < length sessions.old.entries }
+    requires waiting { IfSome (slice_get (values sessions.old) at) (λ s. count ≤ length s.link.waiting) }
+    ensures { sessions.new.entries ≡ changed_at at (λ s. session_settled host.entry.now (session_written s count)) sessions.old.entries }
+{
+    let session = &mut sessions[at];
+    session.written(count);
+    session.settle(host);
+}
+
+/// The input of the connection at an index ended. It settles.
+pub(super) fn end_at(sessions: &mut Sessions, at: usize, host: &Host)
+    requires { at < length sessions.old.entries }
+    ensures { sessions.new.entries ≡ changed_at at (λ s. session_settled host.entry.now (session_ended s)) sessions.old.entries }
+{
+    let session = &mut sessions[at];
+    session.end();
+    session.settle(host);
+}
+
+/// Releases the connection at an index. It settles.
+///
+/// # Errors
+///
+/// As `Session::release`. Nothing has changed then.
+pub(super) fn release_at(
+    sessions: &mut Sessions,
+    at: usize,
+    host: &Host,
+) -> Result<(), ReleaseFault>
+    requires { at < length sessions.old.entries }
+    ensures answer { RefusedBy result (released_refusal_on (slice_get (values sessions.old) at)) }
+    ensures ok { OnOk result (sessions.new.entries ≡ changed_at at (λ s. session_settled host.entry.now (session_released s)) sessions.old.entries) }
+    ensures err { OnErr result (sessions.new.entries ≡ sessions.old.entries) }
+{
+    let session = &mut sessions[at];
+    session.release()?;
+    session.settle(host);
+    Ok(())
+}
+
+/// Writes all that waits on the connection at an index, where anything does, and answers whether it did. It settles then.
+///
+/// # Errors
+///
+/// Where a write failed. The connection is then as before.
+pub(super) fn flush_at<W: Outlet>(
+    sessions: &mut Sessions,
+    at: usize,
+    host: &Host,
+    writer: &mut W,
+) -> Result<bool, WriteFailed>
+    requires within { at < length sessions.old.entries }
+    requires works { W.is_failed writer.old ≡ false }
+    ensures ok { IfOk result (λ waited. (s : SessionValue) → slice_get (values sessions.old) at ≡ Some s → IsFlushedAt at host.entry.now s sessions.old.entries sessions.new.entries (AddsBytes (W.written writer.old) (W.written writer.new)) waited) }
+    ensures part { OnErr result ((s : SessionValue) → slice_get (values sessions.old) at ≡ Some s → WritesPart (W.written writer.old) (W.written writer.new) s.link.waiting) }
+    ensures err { OnErr result (sessions.new.entries ≡ sessions.old.entries) }
+    ensures failure { W.is_failed writer.new ≡ is_err result }
+{
+    let session = &mut sessions[at];
+    let waiting = session.front();
+    let count = waiting.len();
+    if count == 0 {
+        return Ok(false);
+    }
+    write_all(writer, waiting)?;
+    session.written(count);
+    session.settle(host);
+    Ok(true)
+}
