@@ -3,6 +3,7 @@
 
 mod answering;
 mod calls;
+mod cause;
 mod config;
 mod device;
 mod door;
@@ -11,6 +12,7 @@ mod host;
 pub mod laws;
 mod observers;
 mod output;
+mod path_set;
 mod replay;
 mod response;
 mod rest;

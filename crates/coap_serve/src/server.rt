@@ -1,19 +1,22 @@
 //! A server over several connections.
 
-ghost use Rattle.std.specs.Prelude.{◌≡◌, ◌<◌, ◌≤◌, false, None, Some, length, map, slice_get, if◌then◌else◌, is_err, IfNone, IfSome, IfOk, OnOk, OnErr};
+ghost use Rattle.std.specs.Prelude.{◌≡◌, ◌<◌, ◌≤◌, false, None, Some, length, map, slice_get, if◌then◌else◌, is_err, is_some, IfNone, IfSome, IfOk, OnOk, OnErr};
 ghost use Rattle.indexmap.specs.IndexMap.{values};
 ghost use Rattle.coap_wire.specs.Refusal.{RefusedBy};
 ghost use Rattle.coap_serve.specs.streams.Device.{AddsBytes, WritesPart};
 ghost use Rattle.coap_serve.specs.values.Flushes.{IsFlushedAt};
 ghost use Rattle.coap_serve.specs.values.Sessions.{SessionValue, session_written, session_ended, session_released, session_settled};
 ghost use Rattle.coap_serve.specs.values.Servers.{LiesAt, session_of, changed_at, settled_entry};
+ghost use Rattle.coap_serve.specs.values.Causes.{AreSettledUntouched, AreOthersSettled};
 ghost use Rattle.coap_serve.specs.values.Entries.{settled_held};
 ghost use Rattle.coap_serve.specs.values.ServerAnswers.{released_refusal_on, handled_so};
 
+use crate::cause::Cause;
 use crate::config::Config;
 use crate::device::Outlet;
 use crate::host::Host;
 use crate::output::{WriteFailed, write_all};
+use crate::path_set::hash_of;
 use crate::session::{Session, Taking};
 use coap_conn::{Phase, Reason, SendFault};
 use coap_store::{PathKey, StoreFault};
@@ -214,6 +217,7 @@ impl Server {
     ghost use mathlib.Core.Option.{none};
     ghost use Rattle.coap_wire.specs.Refusal.{RefusedBy};
     ghost use Rattle.coap_conn.specs.Limits.{AreInRange};
+    ghost use Rattle.coap_store.specs.Invariant.{IsStore};
     ghost use Rattle.coap_store.specs.Refusals.{RefusedOrMemory, put_refusal, remove_refusal};
     ghost use Rattle.coap_serve.specs.values.Servers.{AreSettled, new_server, session_of, is_there, server_opened, count_taken, server_taken, server_written, server_ticked, server_put, server_removed, server_ended, server_released, server_dropped};
     ghost use Rattle.coap_serve.specs.values.Dues.{outlook_of, stamp_of};
@@ -400,9 +404,10 @@ impl Server {
         if now < self.host.now {
             return Err(Backwards);
         }
-        if now > self.host.now {
+        let before = self.stamp();
+        if now > before.moment {
             self.host.now = now;
-            settle_all(&mut self.sessions, &self.host);
+            settle_touched(&mut self.sessions, &self.host, Cause::Moment(before.moment));
         }
         Ok(())
     }
@@ -424,7 +429,7 @@ impl Server {
         ensures err { OnErr result (self.new ≡ self.old) }
     {
         let version = self.host.store.put(path, format, bytes)?;
-        settle_all(&mut self.sessions, &self.host);
+        settle_touched(&mut self.sessions, &self.host, Cause::Path(hash_of(path)));
         Ok(version)
     }
 
@@ -439,7 +444,7 @@ impl Server {
         ensures err { OnErr result (self.new ≡ self.old) }
     {
         self.host.store.remove(path)?;
-        settle_all(&mut self.sessions, &self.host);
+        settle_touched(&mut self.sessions, &self.host, Cause::Path(hash_of(path)));
         Ok(())
     }
 
@@ -504,6 +509,7 @@ impl Server {
     /// What may concern every connection, if it changes. Each of them is settled, as after every call.
     pub(crate) fn stamp(&self) -> Stamp
         ensures stamp { result ≡ stamp_of self.now.host }
+        ensures store { IsStore self.now.host.store }
         ensures settled { AreSettled self.now.host self.now.sessions }
     {
         Stamp {
@@ -552,24 +558,29 @@ fn find(sessions: &Sessions, id: ConnId) -> Option<usize>
     sessions.get_index_of(&id)
 }
 
-/// Every connection settles.
-fn settle_all(sessions: &mut Sessions, host: &Host)
+/// Every connection settles. Those that a change does not touch are settled already, and cost a look.
+fn settle_touched(sessions: &mut Sessions, host: &Host, cause: Cause)
+    requires { AreSettledUntouched cause host.now sessions.old.entries }
     ensures { sessions.new.entries ≡ map (settled_entry host.entry.now) sessions.old.entries }
 {
     for at in 0..sessions.len() {
-        sessions[at].settle(host);
+        sessions[at].settle_where_touched(host, cause);
     }
 }
 
-/// Every connection settles where a message changed a resource, and else the one at an index, where it holds something.
-fn settle_after(changed: bool, sessions: &mut Sessions, at: usize, host: &Host)
-    requires { at < length sessions.old.entries }
-    ensures { sessions.new.entries ≡ (if changed then map (settled_entry host.entry.now) sessions.old.entries else changed_at at (settled_held host.entry.now) sessions.old.entries) }
+/// Every connection settles where the connection at an index changed the resource at a path with this hash, and else that one alone,
+/// where it holds something.
+fn settle_after(changed: Option<u8>, sessions: &mut Sessions, at: usize, host: &Host)
+    requires within { at < length sessions.old.entries }
+    requires others { AreOthersSettled changed at host.now sessions.old.entries }
+    ensures { sessions.new.entries ≡ (if is_some changed then map (settled_entry host.entry.now) sessions.old.entries else changed_at at (settled_held host.entry.now) sessions.old.entries) }
 {
-    if changed {
-        settle_all(sessions, host);
-    } else {
-        sessions[at].settle_held(host);
+    match changed {
+        None => sessions[at].settle_held(host),
+        Some(hash) => {
+            sessions[at].settle(host);
+            settle_touched(sessions, host, Cause::Path(hash));
+        }
     }
 }
 

@@ -1,6 +1,6 @@
 use Rattle.std.proofs.Common.{◌≡◌}
 use Rattle.coap_serve.proofs.values.ServerLemmas.{settled_up_to}
-use Rattle.coap_serve.proofs.server.settle_all.Given as goal
+use Rattle.coap_serve.proofs.server.settle_touched.Given as goal
 
 -- those before this one have settled
 abbrev pub invariant-loop-at : goal.invariant-loop-at
