@@ -9,3 +9,5 @@ pub mod TakenLemmas
 pub mod FlushLemmas
 pub mod TurnLemmas
 pub mod DueLemmas
+pub mod CauseLemmas
+pub mod CoverLemmas

@@ -4,3 +4,4 @@ pub mod Servers
 pub mod ServerAnswers
 pub mod Flushes
 pub mod Dues
+pub mod Causes

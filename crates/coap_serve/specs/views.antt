@@ -1,4 +1,5 @@
 pub mod ConfigViews
+pub mod PathSetViews
 pub mod ObserverViews
 pub mod SessionViews
 pub mod ServerViews

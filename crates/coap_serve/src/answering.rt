@@ -8,8 +8,10 @@ ghost use Rattle.coap_conn.specs.Calls.{link_after};
 ghost use Rattle.coap_conn.specs.Calls as call;
 ghost use Rattle.coap_store.specs.Answer.{changed, unheld};
 ghost use Rattle.coap_store.specs.Messages.{response_message};
+ghost use Rattle.coap_store.specs.PlanViews.{change_value};
 ghost use Rattle.coap_store.specs.Requests.{path_of};
-ghost use Rattle.coap_store.specs.Changes.{IsPut, TakesChange, changes};
+ghost use Rattle.coap_store.specs.Changes.{IsPut, TakesChange};
+ghost use Rattle.coap_serve.specs.values.Causes.{change_hash};
 ghost use Rattle.coap_store.specs.Watching.{MayWatch};
 ghost use Rattle.coap_serve.specs.world.Observers.{asks_entry as asks, is_whole as is_sent_whole};
 ghost use Rattle.coap_serve.specs.values.Sessions.{ObserverValue, answer_on, hold_on, held_in, host_changed, is_stale, link_sent, new_entry, notification_on, without_entry};
@@ -18,15 +20,16 @@ ghost use Rattle.coap_serve.specs.views.ObserverViews.{observer_value};
 
 use crate::host::{Host, mark_at};
 use crate::observers::{Observer, Observers};
+use crate::path_set::hash_of;
 use crate::response::respond;
 use coap_conn::{Due, Link, Reply};
-use coap_store::{Plan, State, Store, Watch, held_response, request_path};
+use coap_store::{Change, Plan, State, Store, Watch, held_response, request_path};
 use coap_wire::{Code, MessageRef, copy_of};
 use std::alloc::AllocError;
 
-/// Answers a request, or holds its answer, and answers whether that put or deleted a resource. What it changes is changed before it is
-/// answered. The entry with its token goes, and where it asks to be entered as an observer and there is room, it is, if its response
-/// is sent whole (RFC 7641 section 4.1).
+/// Answers a request, or holds its answer, and answers the hash of the path where that put or deleted a resource, if it did. What it
+/// changes is changed before it is answered. The entry with its token goes, and where it asks to be entered as an observer and there is
+/// room, it is, if its response is sent whole (RFC 7641 section 4.1).
 ///
 /// # Errors
 ///
@@ -36,10 +39,10 @@ pub(crate) fn answer(
     observers: &mut Observers,
     host: &mut Host,
     request: &MessageRef,
-) -> Result<bool, AllocError>
+) -> Result<Option<u8>, AllocError>
     requires ready { IsReady link.old }
     requires open { is_open link.old.phase ≡ true }
-    ensures changed { IfOk result (λ changed. changed ≡ changes (answer_on host.old request.now).change) }
+    ensures changed { IfOk result (λ changed. changed ≡ change_hash (answer_on host.old request.now).change) }
     ensures link { OnOk result (link.new ≡ link_replied host.old link.old observers.old.room (without_entry request.now.token observers.old.entries) request.now (held_in link.old (hold_on host.old request.now))) }
     ensures entries { OnOk result (observers.new ≡ record observers.old { entries = entries_replied host.old link.old observers.old.room (without_entry request.now.token observers.old.entries) request.now (held_in link.old (hold_on host.old request.now)) }) }
     ensures host { OnOk result (host.new ≡ host_changed host.old (answer_on host.old request.now).change) }
@@ -52,14 +55,14 @@ pub(crate) fn answer(
     if let Some(seconds) = plan.hold() {
         let moment = host.now.saturating_add(u64::from(seconds));
         answer_late(link, observers, request, plan, moment);
-        return Ok(false);
+        return Ok(None);
     }
     if plan.changes() {
         let plan = plan.without_payload();
-        change(&mut host.store, &plan)?;
+        let changed = change(&mut host.store, &plan)?;
         observers.forget(request.token());
         respond(link, request.token(), &plan, false);
-        return Ok(true);
+        return Ok(changed);
     }
     observers.forget(request.token());
     let observes = asks_entry(plan.watch()) && !observers.is_full();
@@ -67,22 +70,37 @@ pub(crate) fn answer(
     if observes && is_whole(reply) {
         enter(observers, host, request);
     }
-    Ok(false)
+    Ok(None)
 }
 
-/// Makes the change of an answer that this store gave. (Apart from `answer`, since a function clears all its locals.)
+/// Makes the change of an answer that this store gave, and answers the hash of the path where it is. (Apart from `answer`, since a function clears all its locals.)
 ///
 /// # Errors
 ///
 /// Where memory is refused for the representation that is stored. The store is then as before.
 #[inline(never)]
-fn change(store: &mut Store, plan: &Plan) -> Result<(), AllocError>
+fn change(store: &mut Store, plan: &Plan) -> Result<Option<u8>, AllocError>
     requires { TakesChange store.old plan.now.change }
     ensures ok { OnOk result (store.new ≡ changed store.old plan.now.change) }
+    ensures hash { IfOk result (λ hash. hash ≡ change_hash plan.now.change) }
     ensures put { OnErr result (IsPut plan.now.change) }
     ensures err { OnErr result (store.new ≡ store.old) }
 {
-    store.apply(plan.change())
+    let change = plan.change();
+    let hash = hash_of_change(&change);
+    store.apply(change)?;
+    Ok(hash)
+}
+
+/// The hash of the path where a change is, if it is one.
+fn hash_of_change(change: &Change) -> Option<u8>
+    ensures { result ≡ change_hash (change_value change.now) }
+{
+    match change {
+        Change::Nothing => None,
+        Change::Put { path, .. } => Some(hash_of(path)),
+        Change::Delete(path) => Some(hash_of(path)),
+    }
 }
 
 /// Holds the answer to a request until a moment, or refuses it for now where no more can be held. The observer with its token goes.

@@ -2,6 +2,7 @@
 #![tactic(auto)]
 
 mod answering;
+mod cause;
 mod config;
 mod device;
 mod door;
@@ -10,6 +11,7 @@ mod host;
 pub mod laws;
 mod observers;
 mod output;
+mod path_set;
 mod replay;
 mod response;
 mod rest;

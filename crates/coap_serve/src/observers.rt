@@ -1,6 +1,6 @@
 //! The observers of a connection (RFC 7641).
 
-ghost use Rattle.std.specs.Prelude.{◌≡◌, ◌≤◌, length, map};
+ghost use Rattle.std.specs.Prelude.{◌≡◌, ◌≤◌, false, length, map};
 ghost use Rattle.std.specs.List.{list_any};
 ghost use Rattle.std.specs.Vec.{vec_capacity};
 ghost use Rattle.coap_serve.specs.values.Dues.{tells_time as observes_time};
@@ -9,6 +9,7 @@ ghost use Rattle.coap_serve.specs.values.Sessions.{is_stale as stale, without_en
 ghost use Rattle.coap_serve.specs.views.ObserverViews.{observer_value};
 
 use crate::host::Host;
+use crate::path_set::{PathSet, paths_of};
 use coap_store::PathKey;
 use coap_wire::Token;
 use std::alloc::{AllocError, Global};
@@ -55,6 +56,7 @@ impl Observer {
 pub(crate) struct Observers {
     room: usize,
     entries: Vec<Observer>,
+    paths: PathSet,
 }
 
 impl Model for Observers {
@@ -70,8 +72,9 @@ impl Model for Observers {
 }
 
 impl Observers {
-    ghost use Rattle.std.specs.Prelude.{◌≡◌, ◌≤◌, ◌<◌, ◌++◌, ◌∷◌, [], length, not, nat_lt, IfOk, IfSome, Some, slice_get, slice_set};
+    ghost use Rattle.std.specs.Prelude.{◌≡◌, ◌≤◌, ◌<◌, ◌++◌, ◌∷◌, [], false, length, not, nat_lt, IfOk, IfSome, Some, slice_get, slice_set};
     ghost use Rattle.std.specs.List.{remove, list_any};
+    ghost use Rattle.coap_serve.specs.values.Causes.{ObservesNone};
     ghost use Rattle.coap_serve.specs.values.Dues.{tells_time as observes_time};
     ghost use Rattle.coap_serve.specs.values.Sessions.{ObserverValue, without_entry, is_stale};
     ghost use Rattle.coap_serve.specs.values.Entries.{first_index};
@@ -88,6 +91,7 @@ impl Observers {
         Ok(Observers {
             room,
             entries: Vec::with_capacity(alloc, room)?,
+            paths: PathSet::new(),
         })
     }
 
@@ -110,7 +114,14 @@ impl Observers {
     pub(crate) fn tell_time(&self) -> bool
         ensures { result ≡ list_any observes_time self.now.entries }
     {
-        tells_time(&self.entries)
+        self.paths.may_have_built_in() && tells_time(&self.entries)
+    }
+
+    /// Whether one of them may observe a path with this hash.
+    pub(crate) fn may_observe(&self, hash: u8) -> bool
+        ensures { result ≡ false → ObservesNone hash self.now.entries }
+    {
+        self.paths.may_have(hash)
     }
 
     /// The index of the first one that was told another state of its path than the one on this host.
@@ -143,13 +154,16 @@ impl Observers {
         ensures { self.new ≡ record self.old { entries = remove self.old.entries index } }
     {
         self.entries.remove(index);
+        self.paths = paths_of(&self.entries);
     }
 
     /// The entry with this token goes.
     pub(crate) fn forget(&mut self, token: &Token)
         ensures { self.new ≡ record self.old { entries = without_entry token.now.items self.old.entries } }
     {
-        keep_others(&mut self.entries, token);
+        if keep_others(&mut self.entries, token) {
+            self.paths = paths_of(&self.entries);
+        }
     }
 
     /// An entry goes last, for which there must be room.
@@ -157,6 +171,7 @@ impl Observers {
         requires { length self.old.entries < self.old.room }
         ensures { self.new ≡ record self.old { entries = self.old.entries ++ observer_value observer ∷ [] } }
     {
+        self.paths.insert(&observer.path);
         self.entries.push_reserved(observer);
     }
 
@@ -164,7 +179,10 @@ impl Observers {
     pub(crate) fn clear(&mut self)
         ensures { self.new ≡ record self.old { entries = [] } }
     {
-        self.entries.clear();
+        if !self.entries.is_empty() {
+            self.entries.clear();
+            self.paths = PathSet::new();
+        }
     }
 }
 
@@ -187,11 +205,14 @@ fn tells_time(observers: &[Observer]) -> bool
     observers.iter().any(|observer| observer.tells_time())
 }
 
-/// All stay but those with this token.
-fn keep_others(observers: &mut Vec<Observer>, token: &Token)
+/// All stay but those with this token, and whether there were any is answered.
+fn keep_others(observers: &mut Vec<Observer>, token: &Token) -> bool
     ensures others { map observer_value observers.new.items ≡ without_entry token.now.items (map observer_value observers.old.items) }
     ensures fewer { length observers.new.items ≤ length observers.old.items }
     ensures capacity { vec_capacity observers.new ≡ vec_capacity observers.old }
+    ensures same { result ≡ false → observers.new.items ≡ observers.old.items }
 {
+    let before = observers.len();
     observers.retain(|observer| observer.token != *token);
+    observers.len() < before
 }

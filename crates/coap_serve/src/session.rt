@@ -3,12 +3,14 @@
 ghost use Rattle.std.specs.Prelude.{◌≡◌, ℕ, List, [], IfOk, OnOk, OnErr};
 ghost use Rattle.coap_conn.specs.Phases.{IsLive};
 ghost use Rattle.coap_conn.specs.LinkValue.{IsReady};
-ghost use Rattle.coap_store.specs.Changes.{IsPut, changes};
+ghost use Rattle.coap_store.specs.Changes.{IsPut};
+ghost use Rattle.coap_serve.specs.values.Causes.{change_hash};
 ghost use Rattle.coap_serve.specs.values.Sessions.{change_by, host_changed, observers_on, session_handled, session_with};
 ghost use Rattle.coap_serve.specs.values.Dues.{sooner as lesser};
 ghost use Rattle.coap_serve.specs.values.Entries.{framer_on};
 
 use crate::answering::{answer, notify, send_due};
+use crate::cause::Cause;
 use crate::host::Host;
 use crate::observers::Observers;
 use coap_conn::{Limits, Link, Phase, Reject, Role, SendFault, Verdict};
@@ -24,21 +26,21 @@ pub(crate) struct Taking {
     pub count: usize,
     /// Whether a message was handled.
     pub handled: bool,
-    /// Whether a resource was put or deleted.
-    pub changed: bool,
+    /// The hash of the path where a resource was put or deleted, if one was.
+    pub changed: Option<u8>,
 }
 
 impl Taking {
-    ghost use Rattle.std.specs.Prelude.{◌≡◌, false};
+    ghost use Rattle.std.specs.Prelude.{◌≡◌, false, None};
 
     /// So many bytes without a message.
     fn without_message(count: usize) -> Taking
-        ensures { result ≡ record { count = count; handled = false; changed = false } }
+        ensures { result ≡ record { count = count; handled = false; changed = None } }
     {
         Taking {
             count,
             handled: false,
-            changed: false,
+            changed: None,
         }
     }
 }
@@ -64,14 +66,14 @@ impl Model for Session {
 }
 
 impl Session {
-    ghost use Rattle.std.specs.Prelude.{◌≡◌, ◌≤◌, ◌+◌, ◌||◌, ⊤, length, take, is_some, IfOk, IfErr, OnOk, OnErr};
+    ghost use Rattle.std.specs.Prelude.{◌≡◌, ◌≤◌, ◌+◌, ◌||◌, ⊤, false, length, take, is_some, IfOk, IfErr, OnOk, OnErr};
     ghost use Rattle.std.specs.Borrow.{sem, follows_so};
     ghost use mathlib.Core.Option.{none};
     ghost use Rattle.coap_wire.specs.Refusal.{RefusedBy};
     ghost use Rattle.coap_conn.specs.Limits.{AreInRange};
     ghost use Rattle.coap_conn.specs.LinkValue.{is_finished};
     ghost use Rattle.coap_conn.specs.Release.{release_refusal};
-    ghost use Rattle.coap_store.specs.Changes.{changes};
+    ghost use Rattle.coap_serve.specs.values.Causes.{change_hash, IsUntouched};
     ghost use Rattle.coap_serve.specs.values.Sessions.{new_session, session_takes, next_held_in, next_stale, session_notified, session_settled_once, taking, host_changed, session_written, session_ended, session_released, session_settled, IsSettled, RefusesPiece};
     ghost use Rattle.coap_serve.specs.values.Dues.{due_on, next_told as next_told_of};
     ghost use Rattle.coap_serve.specs.values.Entries.{settled_held};
@@ -112,7 +114,7 @@ impl Session {
         ensures count { IfOk result (λ t. t.count ≡ (taking host.old self.old piece.now).count) }
         ensures within { IfOk result (λ t. t.count ≤ length piece.now) }
         ensures handled { IfOk result (λ t. t.handled ≡ (taking host.old self.old piece.now).handled) }
-        ensures changed { IfOk result (λ t. t.changed ≡ changes (taking host.old self.old piece.now).change) }
+        ensures changed { IfOk result (λ t. t.changed ≡ change_hash (taking host.old self.old piece.now).change) }
         ensures after { OnOk result (self.new ≡ (taking host.old self.old piece.now).session) }
         ensures host { OnOk result (host.new ≡ host_changed host.old (taking host.old self.old piece.now).change) }
         ensures refused { IfErr result (λ count. RefusesPiece host.old self.old piece.now count) }
@@ -165,6 +167,29 @@ impl Session {
             if !self.settle_once(host) {
                 return;
             }
+        }
+    }
+
+    /// The same where what changed may have made something due on it. Else it must be settled already.
+    pub(crate) fn settle_where_touched(&mut self, host: &Host, cause: Cause)
+        requires { IsUntouched cause host.now.now self.old → IsSettled host.now self.old }
+        ensures { self.new ≡ session_settled host.entry.now self.old }
+    {
+        if self.is_touched(cause, host.now) {
+            self.settle(host);
+        }
+    }
+
+    /// Whether what changed may make something due on it: an observer of such a path may be there, or the moment of something came.
+    fn is_touched(&self, cause: Cause, now: u64) -> bool
+        ensures { result ≡ false → IsUntouched cause now self.now }
+    {
+        match cause {
+            Cause::Path(hash) => self.observers.may_observe(hash),
+            Cause::Moment(before) => match self.due(before) {
+                None => false,
+                Some(due) => due <= now,
+            },
         }
     }
 
@@ -334,7 +359,7 @@ pub(crate) fn sooner(one: Option<u64>, other: Option<u64>) -> Option<u64>
     }
 }
 
-/// Handles a message, and answers whether a resource was put or deleted.
+/// Handles a message, and answers the hash of the path where a resource was put or deleted, if one was.
 ///
 /// # Errors
 ///
@@ -344,14 +369,14 @@ fn handle(
     observers: &mut Observers,
     host: &mut Host,
     message: &MessageRef,
-) -> Result<bool, AllocError>
+) -> Result<Option<u8>, AllocError>
     requires ready { IsReady link.old }
     requires live { IsLive link.old.phase }
     requires room { observers.old.room ≡ link.old.limits.observers }
     ensures after { OnOk result ((frame : List ℕ) → session_with [] link.new observers.new.entries ≡ session_handled host.old (record { frame = frame; link = link.old; observers = observers.old.entries }) message.now) }
     ensures room { OnOk result (observers.new.room ≡ observers.old.room) }
     ensures limits { OnOk result (link.new.limits ≡ link.old.limits) }
-    ensures changed { IfOk result (λ changed. changed ≡ changes (change_by host.old link.old message.now)) }
+    ensures changed { IfOk result (λ changed. changed ≡ change_hash (change_by host.old link.old message.now)) }
     ensures host { OnOk result (host.new ≡ host_changed host.old (change_by host.old link.old message.now)) }
     ensures put { OnErr result (IsPut (change_by host.old link.old message.now)) }
     ensures unchanged { OnErr result (host.new ≡ host.old) }
@@ -360,7 +385,7 @@ fn handle(
 {
     match link.on(message) {
         Verdict::Request => answer(link, observers, host, message),
-        _ => Ok(false),
+        _ => Ok(None),
     }
 }
 

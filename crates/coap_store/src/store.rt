@@ -147,7 +147,8 @@ impl Store {
 
     /// How many resources are stored.
     pub fn count(&self) -> usize
-        ensures { result ≡ length self.now.resources }
+        ensures count { result ≡ length self.now.resources }
+        ensures store { IsStore self.now }
     {
         self.resources.len()
     }

@@ -28,6 +28,7 @@ use Rattle.coap_serve.specs.declared.host.Host.{Host}
 use Rattle.coap_serve.specs.world.Sides.{moment_after}
 use Rattle.coap_serve.specs.world.Observers.{asks_entry, is_whole, with_entry, goes_on, first_becomes}
 use Rattle.coap_serve.specs.values.Sessions.{ObserverValue, new_entry, answer_on, hold_on, held_in, host_changed, entry_left, is_stale, mark_of, notification_on, state_on}
+use Rattle.coap_serve.specs.values.Causes.{change_hash}
 use Rattle.coap_serve.specs.values.Entries.{first_index, is_observed, response_on, is_sent, entries_asked, link_replied, entries_replied, entries_notified}
 use Rattle.coap_serve.proofs.values.EntryLemmas.{is_first}
 
@@ -70,8 +71,8 @@ nothing_changed (answer.Delete path) e = absurd cc
 late_quiet : (host : Host) (m : Message) (seconds : ℕ) → hold_on host m ≡ Some seconds → (answer_on host m).change ≡ answer.Nothing
 late_quiet host m seconds e = same_change host.store host.now m ∙ (held_of host.store host.now m seconds e).change
 
-pub late_changes : (host : Host) (m : Message) (seconds : ℕ) → hold_on host m ≡ Some seconds → false ≡ changes (answer_on host m).change
-late_changes host m seconds e = ap changes (sym (late_quiet host m seconds e))
+pub late_hash : (host : Host) (m : Message) (seconds : ℕ) → hold_on host m ≡ Some seconds → None ≡ change_hash (answer_on host m).change
+late_hash host m seconds e = ap change_hash (sym (late_quiet host m seconds e))
 
 pub late_host : (host : Host) (m : Message) (seconds : ℕ) → hold_on host m ≡ Some seconds → host ≡ host_changed host (answer_on host m).change
 late_host host m seconds e = ap (host_changed host) (sym (late_quiet host m seconds e))

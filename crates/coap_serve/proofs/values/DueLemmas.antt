@@ -22,7 +22,7 @@ use Rattle.coap_serve.proofs.world.SettleLaws.{nothing_first}
 abbrev Entries : Type 0
 Entries = List (ℕ × SessionValue)
 
-abbrev at_moment : Host → ℕ → Host
+abbrev pub at_moment : Host → ℕ → Host
 at_moment host later = record host { now = later }
 
 -- ---- the lesser of two moments
@@ -118,7 +118,7 @@ stale_so host later o store stored =
     (marked_so host.now later o.mark (state_on host o.path) (λ r e. numbered_at host.store host.now (key_for o.path) (place_of o.path) r store is e)
     ∙ ap (is_marked later o.mark) (same_at host.store host.now later (key_for o.path) (place_of o.path) is))
 
-none_found : {X : Type 0} (p : X → Bool) (x : X) (xs : List X) → find p (x ∷ xs) ≡ None → (p x ≡ false) × (find p xs ≡ None)
+pub none_found : {X : Type 0} (p : X → Bool) (x : X) (xs : List X) → find p (x ∷ xs) ≡ None → (p x ≡ false) × (find p xs ≡ None)
 none_found p x xs e = elim (p x) as (λ b. p x ≡ b → (if b then Some x else find p xs) ≡ None → (p x ≡ false) × (find p xs ≡ None)) [
   | true ↦ λ is e. absurd cc
   | false ↦ λ is e. (is, e)
@@ -144,7 +144,7 @@ told_first now later observers more fits before = elim (list_any tells_time obse
 
 -- ---- a connection, and all of them
 
-stays_settled : (host : Host) (later : ℕ) (v : SessionValue) → IsStore host.store → IsSettled host v → host.now < later → later < 2 ^ 64 → IsBefore later (due_on host.now v) → IsSettled (at_moment host later) v
+pub stays_settled : (host : Host) (later : ℕ) (v : SessionValue) → IsStore host.store → IsSettled host v → host.now < later → later < 2 ^ 64 → IsBefore later (due_on host.now v) → IsSettled (at_moment host later) v
 unfolding next_held_in next_stale
 stays_settled host later v store settled more fits before =
     let held = before_one later (next_moment host.now v.link.held) (next_told host.now v.observers) before in

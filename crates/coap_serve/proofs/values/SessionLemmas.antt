@@ -90,7 +90,7 @@ request_handled host v m l after room o p asks is room_is after_is p_is =
     ∙ replied_as host first others m (held_in first hold)
     ∙ sym (cond-true (asks_this v.link m) (session_replied host first others m (held_in first hold)) (session_with [] first v.observers) asks)
 
-pub on_request : {E : Type 0} (r : Result Bool E) (host : Host) (v : SessionValue) (m : Message) (l after : LinkValue) (o p : ObserversValue) → asks_this v.link m ≡ true → l ≡ link_after v.link (call.Handle m) → o.room ≡ v.link.limits.observers → o.entries ≡ v.observers
+pub on_request : {T E : Type 0} (r : Result T E) (host : Host) (v : SessionValue) (m : Message) (l after : LinkValue) (o p : ObserversValue) → asks_this v.link m ≡ true → l ≡ link_after v.link (call.Handle m) → o.room ≡ v.link.limits.observers → o.entries ≡ v.observers
     → OnOk r (after ≡ link_replied host l o.room (without_entry m.token o.entries) m (held_in l (hold_on host m))) → OnOk r (p ≡ record o { entries = entries_replied host l o.room (without_entry m.token o.entries) m (held_in l (hold_on host m)) })
     → OnOk r ((frame : List ℕ) → session_with [] after p.entries ≡ session_handled host (record v { frame = frame }) m)
 on_request r host v m l after o p asks is room entries =

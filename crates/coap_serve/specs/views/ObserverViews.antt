@@ -1,9 +1,12 @@
 -- How the code's observers are seen in contracts.
-use Rattle.std.specs.Prelude.{◌≤◌, length, map}
+use Rattle.std.specs.Prelude.{◌≤◌, List, length, map}
+use Rattle.std.specs.List.{AllByRecursion}
 use Rattle.std.specs.Vec.{vec_capacity}
 use Rattle.coap_serve.specs.values.Sessions.{ObserverValue, ObserversValue}
 use Rattle.coap_serve.specs.declared.observers.Observer.{Observer}
 use Rattle.coap_serve.specs.declared.observers.Observers.TheInside.{Inside}
+use Rattle.coap_serve.specs.declared.path_set.PathSet.{PathSet}
+use Rattle.coap_serve.specs.views.PathSetViews.{Covers}
 
 abbrev pub observer_value : Observer → ObserverValue
 observer_value o = record { token = o.token.items; path = o.path; format = o.format; mark = o.mark }
@@ -11,6 +14,15 @@ observer_value o = record { token = o.token.items; path = o.path; format = o.for
 abbrev pub observers_value : Inside → ObserversValue
 observers_value o = record { room = o.room; entries = map observer_value o.entries.items }
 
--- no more are there than there is room for, and that was reserved
+-- the path of each observer is in the set
+abbrev pub AreCovered : PathSet → List ObserverValue → Type 0
+AreCovered set observers = AllByRecursion (λ o. Covers set o.path) observers
+
+-- no more are there than there is room for, and that was reserved; the paths of all are in the set
+pub record AreObservers (o : Inside) : Type 0 where
+  pub few : length o.entries.items ≤ o.room
+  pub reserved : o.room ≤ vec_capacity o.entries
+  pub covered : AreCovered o.paths (map observer_value o.entries.items)
+
 abbrev pub are_observers : Inside → Type 0
-are_observers o = (length o.entries.items ≤ o.room) × (o.room ≤ vec_capacity o.entries)
+are_observers o = AreObservers o

@@ -1,12 +1,15 @@
 //! What changes for every connection of a server: the moment, and what is stored.
 
-use super::sessions::settle_all;
+use super::sessions::settle_touched;
 use super::{Backwards, Server, Stamp};
+use crate::cause::Cause;
+use crate::path_set::hash_of;
 use coap_store::{PathKey, StoreFault};
 
 impl Server {
     ghost use Rattle.std.specs.Prelude.{◌≡◌, ◌+◌, ◌++◌, ◌∷◌, List, [], is_ok, is_none, nat_le, IfOk, OnOk, OnErr};
     ghost use Rattle.coap_wire.specs.Refusal.{RefusedBy};
+    ghost use Rattle.coap_store.specs.Invariant.{IsStore};
     ghost use Rattle.coap_store.specs.Refusals.{RefusedOrMemory, put_refusal, remove_refusal};
     ghost use Rattle.coap_serve.specs.values.Dues.{stamp_of};
     ghost use Rattle.coap_serve.specs.values.Servers.{AreSettled, server_ticked, server_put, server_removed};
@@ -27,9 +30,10 @@ impl Server {
         if now < self.host.now {
             return Err(Backwards);
         }
-        if now > self.host.now {
+        let before = self.stamp();
+        if now > before.moment {
             self.host.now = now;
-            settle_all(&mut self.sessions, &self.host);
+            settle_touched(&mut self.sessions, &self.host, Cause::Moment(before.moment));
         }
         Ok(())
     }
@@ -52,7 +56,7 @@ impl Server {
         ensures err { OnErr result (self.new ≡ self.old) }
     {
         let version = self.host.store.put(path, format, bytes)?;
-        settle_all(&mut self.sessions, &self.host);
+        settle_touched(&mut self.sessions, &self.host, Cause::Path(hash_of(path)));
         Ok(version)
     }
 
@@ -68,7 +72,7 @@ impl Server {
         ensures err { OnErr result (self.new ≡ self.old) }
     {
         self.host.store.remove(path)?;
-        settle_all(&mut self.sessions, &self.host);
+        settle_touched(&mut self.sessions, &self.host, Cause::Path(hash_of(path)));
         Ok(())
     }
 
@@ -82,6 +86,7 @@ impl Server {
     /// What may concern every connection, if it changes. Each of them is settled, as after every call.
     pub(crate) fn stamp(&self) -> Stamp
         ensures stamp { result ≡ stamp_of self.now.host }
+        ensures store { IsStore self.now.host.store }
         ensures settled { AreSettled self.now.host self.now.sessions }
     {
         Stamp {

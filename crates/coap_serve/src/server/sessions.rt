@@ -1,16 +1,18 @@
 //! What is done to the connections that a server holds, each by its index.
 
-ghost use Rattle.std.specs.Prelude.{◌≡◌, ◌<◌, ◌≤◌, false, None, Some, length, map, slice_get, if◌then◌else◌, is_err, IfNone, IfSome, IfOk, OnOk, OnErr};
+ghost use Rattle.std.specs.Prelude.{◌≡◌, ◌<◌, ◌≤◌, false, None, Some, length, map, slice_get, if◌then◌else◌, is_err, is_some, IfNone, IfSome, IfOk, OnOk, OnErr};
 ghost use Rattle.indexmap.specs.IndexMap.{values};
 ghost use Rattle.coap_wire.specs.Refusal.{RefusedBy};
 ghost use Rattle.coap_serve.specs.streams.Device.{AddsBytes, WritesPart};
 ghost use Rattle.coap_serve.specs.values.Flushes.{IsFlushedAt};
 ghost use Rattle.coap_serve.specs.values.Sessions.{SessionValue, session_written, session_ended, session_released, session_settled};
 ghost use Rattle.coap_serve.specs.values.Servers.{LiesAt, session_of, changed_at, settled_entry};
+ghost use Rattle.coap_serve.specs.values.Causes.{AreSettledUntouched, AreOthersSettled};
 ghost use Rattle.coap_serve.specs.values.Entries.{settled_held};
 ghost use Rattle.coap_serve.specs.values.ServerAnswers.{released_refusal_on, handled_so};
 
 use super::{ConnId, Handled, ReleaseFault, Sessions};
+use crate::cause::Cause;
 use crate::device::Outlet;
 use crate::host::Host;
 use crate::output::{WriteFailed, write_all};
@@ -24,24 +26,29 @@ pub(super) fn find(sessions: &Sessions, id: ConnId) -> Option<usize>
     sessions.get_index_of(&id)
 }
 
-/// Every connection settles.
-pub(super) fn settle_all(sessions: &mut Sessions, host: &Host)
+/// Every connection settles. Those that a change does not touch are settled already, and cost a look.
+pub(super) fn settle_touched(sessions: &mut Sessions, host: &Host, cause: Cause)
+    requires { AreSettledUntouched cause host.now sessions.old.entries }
     ensures { sessions.new.entries ≡ map (settled_entry host.entry.now) sessions.old.entries }
 {
     for at in 0..sessions.len() {
-        sessions[at].settle(host);
+        sessions[at].settle_where_touched(host, cause);
     }
 }
 
-/// Every connection settles where a message changed a resource, and else the one at an index, where it holds something.
-pub(super) fn settle_after(changed: bool, sessions: &mut Sessions, at: usize, host: &Host)
-    requires { at < length sessions.old.entries }
-    ensures { sessions.new.entries ≡ (if changed then map (settled_entry host.entry.now) sessions.old.entries else changed_at at (settled_held host.entry.now) sessions.old.entries) }
+/// Every connection settles where the one at an index changed the resource at a path with this hash, and else that one alone, where
+/// it holds something.
+pub(super) fn settle_after(changed: Option<u8>, sessions: &mut Sessions, at: usize, host: &Host)
+    requires within { at < length sessions.old.entries }
+    requires others { AreOthersSettled changed at host.now sessions.old.entries }
+    ensures { sessions.new.entries ≡ (if is_some changed then map (settled_entry host.entry.now) sessions.old.entries else changed_at at (settled_held host.entry.now) sessions.old.entries) }
 {
-    if changed {
-        settle_all(sessions, host);
-    } else {
-        sessions[at].settle_held(host);
+    match changed {
+        None => sessions[at].settle_held(host),
+        Some(hash) => {
+            sessions[at].settle(host);
+            settle_touched(sessions, host, Cause::Path(hash));
+        }
     }
 }
 

@@ -10,8 +10,9 @@ use Rattle.coap_store.specs.Changes.{IsPut, changes}
 use Rattle.coap_store.specs.Messages.{response_message, response_with_observe}
 use Rattle.coap_serve.specs.world.Observers.{asks_entry, is_whole, with_entry}
 use Rattle.coap_serve.specs.values.Sessions.{ObserverValue, ObserversValue, hold_on, host_changed, new_entry, without_entry}
+use Rattle.coap_serve.specs.values.Causes.{change_hash}
 use Rattle.coap_serve.specs.values.Entries.{is_observed}
-use Rattle.coap_serve.proofs.values.AnsweringLemmas.{nothing_changed, response_unobserved, late_changes, late_host, late_link, late_entries, prompt_is, prompt_link, prompt_entries, change_link, change_entries, observed_where_asked, observed_where_unasked, may_watch}
+use Rattle.coap_serve.proofs.values.AnsweringLemmas.{nothing_changed, response_unobserved, late_hash, late_host, late_link, late_entries, prompt_is, prompt_link, prompt_entries, change_link, change_entries, observed_where_asked, observed_where_unasked, may_watch}
 use Rattle.coap_serve.proofs.values.FlushLemmas.{on_any_fault}
 use Rattle.coap_serve.proofs.answering.answer.Goals.{then-asks_entry, else-asks_entry, else-observes-via-then-observes+else-is_whole, else-observes-via-else-observes}
 use Rattle.coap_serve.proofs.answering.answer.Goals as goal
@@ -29,7 +30,7 @@ returns-in-Some c =
     let holds : hold_on host m ≡ Some seconds = ap (λ (a : Answer). a.hold) (sym c.answer-plan.ensures.answer) ∙ sym c.in-Some.ensures.seconds in
     let at = c.saturating_add-moment.ensures ∙ ap (λ (n : ℕ). min (host.now + n) 18446744073709551615) c.from.ensures in
     record {
-      changed = late_changes host m seconds holds;
+      changed = late_hash host m seconds holds;
       link =
           c.answer_late.ensures.link
           ∙ ap (λ (a : Answer). if can_hold l then link_after l (call.Hold m.token moment) else link_after l (call.Reply (response_message m.token (unheld a).response))) c.answer-plan.ensures.answer
@@ -77,7 +78,7 @@ returns-then-is_whole c =
     let sent = c.respond-reply.ensures.reply ∙ ap (λ (t : List ℕ). fit (limit_in l) (response_with_observe t observes plan.response) (bare_response (response_with_observe t observes plan.response))) c.token-3.ensures in
     let enters : (observes && is_whole reply) ≡ true = ap (λ (b : Bool). b && is_whole reply) c.if-observes.true ∙ sym c.is_whole.ensures ∙ c.if-is_whole.true in
     record {
-      changed = ap changes (sym quiet);
+      changed = ap change_hash (sym quiet);
       link = c.respond-reply.ensures.after ∙ ap (λ (t : List ℕ). link_after l (call.Reply (response_with_observe t observes plan.response))) c.token-3.ensures ∙ prompt_link host m l room others plan observes none answer observed;
       entries =
           c.enter.ensures ∙ ap (λ (o : ObserversValue). record o { entries = o.entries ++ new_entry host m ∷ [] }) forgotten
@@ -116,7 +117,7 @@ returns-else-observes c =
       | else-observes-via-else-observes w ↦ ap (λ (b : Bool). b && is_whole reply) w.if-observes.false
     ] in
     record {
-      changed = ap changes (sym quiet);
+      changed = ap change_hash (sym quiet);
       link = c.respond-reply.ensures.after ∙ ap (λ (t : List ℕ). link_after l (call.Reply (response_with_observe t observes plan.response))) c.token-3.ensures ∙ prompt_link host m l room others plan observes none answer observed;
       entries =
           forgotten
@@ -130,13 +131,13 @@ returns-else-observes c =
     }
 
 -- a change whose memory was refused, and one that was made
-pub returns-in_err-change-clause-put : goal.returns-in_err-change-clause-put
-returns-in_err-change-clause-put c =
+pub returns-in_err-changed-clause-put : goal.returns-in_err-changed-clause-put
+returns-in_err-changed-clause-put c =
     let host = c.args.host.now in
     let m = c.args.request.now in
     let none : hold_on host m ≡ None = ap (λ (a : Answer). a.hold) (sym c.answer-plan.ensures.answer) ∙ sym c.hold.ensures.seconds ∙ c.in_default.is in
     let answer = prompt_is host m c.answer-plan.result c.answer-plan.ensures.answer none in
-    on_any_fault c.from_residual.result _ (subst IsPut (ap (λ (a : Answer). a.change) (c.without_payload-plan.ensures) ∙ ap (λ (a : Answer). a.change) answer) c.in_err-change.ensures.put)
+    on_any_fault c.from_residual.result _ (subst IsPut (ap (λ (a : Answer). a.change) (c.without_payload-plan.ensures) ∙ ap (λ (a : Answer). a.change) answer) c.in_err-changed.ensures.put)
 
 pub returns-then-changes : goal.returns-then-changes
 returns-then-changes c =
@@ -151,7 +152,7 @@ returns-then-changes c =
     let does = ap (λ (a : Answer). changes a.change) (sym answer) ∙ sym c.changes.ensures ∙ c.if-changes.true in
     let bare = subst (λ (a : Answer). changes a.change ≡ true → a.response.payload ≡ []) answer c.answer-plan.ensures.bare in
     record {
-      changed = sym does;
+      changed = c.in_ok-changed.ensures.hash ∙ ap change_hash change;
       link =
           c.respond.ensures.after
           ∙ change_link host m l room others _ none (
@@ -163,7 +164,7 @@ returns-then-changes c =
           c.forget.ensures
           ∙ ap (λ (t : List ℕ). record c.args.observers.now { entries = without_entry t c.args.observers.now.entries }) c.token.ensures
           ∙ ap (λ (os : List ObserverValue). record c.args.observers.now { entries = os }) (change_entries host m l room others none does);
-      host = ap (λ (s : StoreValue). record host { store = s }) (c.in_ok-change.ensures.ok ∙ ap (changed host.store) change);
+      host = ap (λ (s : StoreValue). record host { store = s }) (c.in_ok-changed.ensures.ok ∙ ap (changed host.store) change);
       put = tt;
       unchanged = tt;
       silent = tt;

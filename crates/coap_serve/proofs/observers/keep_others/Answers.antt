@@ -1,13 +1,24 @@
-use Rattle.std.proofs.Common.{rules, map, ap, ◌∙◌}
-use Rattle.std.specs.Prelude.{not}
+use Rattle.std.proofs.Common.{◌≡◌, ◌≤◌, ℕ, Bool, List, length, rules, map, ap, arith, ◌∙◌}
+use Rattle.std.specs.Prelude.{filter, not}
+use Rattle.std.proofs.lemmas.Bool.{ltb-false}
 use Rattle.std.proofs.lemmas.Fn.{filter_same}
 use Rattle.coap_store.specs.Paths.{same_bytes}
 use Rattle.coap_serve.specs.declared.observers.Observer.{Observer}
 use Rattle.coap_serve.specs.views.ObserverViews.{observer_value}
 use Rattle.coap_serve.proofs.values.EntryLemmas.{others_seen}
+use Rattle.coap_serve.proofs.values.CoverLemmas.{all_stay}
 use Rattle.coap_serve.proofs.observers.keep_others.Goals as goal
 
+abbrev keeps : List ℕ → Observer → Bool
+keeps token o = not (same_bytes o.token.items token)
+
+kept : (c : goal.After-len) → c.retain.new.self.items ≡ filter (keeps c.args.token.now.items) c.args.observers.now.items
+kept c = filter_same _ (keeps c.args.token.now.items) _ (λ x b q k. search rules) _ _ c.retain.ensures.filtered
+
 pub returns-clause-others : goal.returns-clause-others
-returns-clause-others c =
-    ap (map observer_value) (filter_same _ (λ (o : Observer). not (same_bytes o.token.items c.args.token.now.items)) _ (λ x b q k. search rules) _ _ c.retain.ensures.filtered)
-    ∙ others_seen c.args.token.now.items c.args.observers.now.items
+returns-clause-others c = ap (map observer_value) (kept c) ∙ others_seen c.args.token.now.items c.args.observers.now.items
+
+pub returns-clause-same : goal.returns-clause-same
+returns-clause-same c = λ no_less.
+    let many : c.len-before.result ≤ c.len.result = ltb-false c.len.result c.len-before.result no_less in
+    kept c ∙ all_stay (keeps c.args.token.now.items) c.args.observers.now.items (omega (arith, many, c.len-before.ensures, c.len.ensures, ap length (kept c)))

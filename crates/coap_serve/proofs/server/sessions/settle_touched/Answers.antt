@@ -1,6 +1,11 @@
 use Rattle.std.proofs.Common.{length, ap, arith}
 use Rattle.coap_serve.proofs.values.ServerLemmas.{none_settled, length-settled_up_to, one_more_settled, all_settled}
+<<<<<<<< HEAD:crates/coap_serve/proofs/server/sessions/settle_all/Answers.antt
 use Rattle.coap_serve.proofs.server.sessions.settle_all.Goals as goal
+========
+use Rattle.coap_serve.proofs.values.CauseLemmas.{next_untouched}
+use Rattle.coap_serve.proofs.server.sessions.settle_touched.Goals as goal
+>>>>>>>> 8ea3218b70e56b844ca93a16340cef21bbca889e:crates/coap_serve/proofs/server/settle_touched/Answers.antt
 
 pub loop-at-init : goal.loop-at-init
 loop-at-init c = none_settled c.args.host.now c.args.sessions.now.entries
@@ -9,8 +14,12 @@ pub index_mut-requires : goal.index_mut-requires
 index_mut-requires c =
     omega (arith, ap length c.loop-at.invariant, length-settled_up_to c.loop-at.at c.args.host.now c.args.sessions.now.entries, c.len-at-end.ensures.len)
 
+pub settle_where_touched-requires : goal.settle_where_touched-requires
+settle_where_touched-requires c =
+    next_untouched c.args.cause c.loop-at.at c.args.host.now c.args.sessions.now.entries _ _ c.loop-at.invariant c.requires c.index_mut.ensures.value
+
 pub loop-at-preserved : goal.loop-at-preserved
-loop-at-preserved c = one_more_settled c.loop-at.at c.args.host.now c.args.sessions.now.entries _ _ _ c.loop-at.invariant c.index_mut.ensures.value c.settle.ensures.after
+loop-at-preserved c = one_more_settled c.loop-at.at c.args.host.now c.args.sessions.now.entries _ _ _ c.loop-at.invariant c.index_mut.ensures.value c.settle_where_touched.ensures
 
 pub returns : goal.returns
 returns c = all_settled c.loop-at.at c.args.host.now c.args.sessions.now.entries _ c.loop-at.invariant (omega (arith, c.len-at-end.ensures.len))

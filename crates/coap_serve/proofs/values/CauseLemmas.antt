@@ -1,0 +1,155 @@
+-- What a change of a path, or of the moment, cannot touch stays settled.
+use Rattle.std.proofs.Common.{◌≡◌, ◌≢◌, ℕ, zero, suc, ◌<◌, ◌^◌, true, false, List, [], ◌∷◌, Option, Some, None, is_some, refl, sym, ap, subst, ◌∙◌}
+use Rattle.std.specs.Prelude.{find, map, not, slice_get, if◌then◌else◌}
+use Rattle.std.specs.List.{AllByRecursion}
+use Rattle.std.specs.Map.{values_of}
+use Rattle.indexmap.specs.IndexMap.{set_value_at}
+use Rattle.coap_store.specs.Paths.{Path, is_path}
+use Rattle.coap_store.specs.Store.{StoreValue, found_in, put_in, removed_in}
+use Rattle.coap_store.specs.State.{place_of, key_for, state_at}
+use Rattle.coap_store.specs.declared.place.Place.{Place}
+use Rattle.coap_store.specs.declared.place.Place.TheVariants.{Root, Time, Async, Listing, Dynamic}
+use Rattle.coap_store.specs.Answer.{Change, Nothing, Put, Delete, changed}
+use Rattle.coap_store.specs.Changes.{changes}
+use Rattle.coap_store.specs.Invariant.{IsStore}
+use Rattle.coap_store.proofs.ChangeLaws.{other_is_kept_on_put, other_is_kept_on_delete}
+use Rattle.coap_serve.specs.declared.host.Host.{Host}
+use Rattle.coap_serve.specs.declared.cause.Cause.{Cause}
+use Rattle.coap_serve.specs.declared.cause.Cause.TheVariants as cause
+use Rattle.coap_serve.specs.values.Sessions.{ObserverValue, SessionValue, is_marked, is_stale, session_ready, host_changed, next_stale, session_settled, IsSettled}
+use Rattle.coap_serve.specs.values.Servers.{AreSettled, changed_at, settled_entry}
+use Rattle.coap_serve.specs.values.Causes.{path_hash, change_hash, ObservesNone, IsUntouched, AreSettledUntouched, AreOthersSettled}
+use Rattle.coap_serve.proofs.values.SettleLemmas.{settled_is_settled, settled_stays}
+use Rattle.coap_serve.proofs.values.ServerLemmas.{Entries, written_at_index, settled_up_to}
+use Rattle.coap_serve.proofs.values.DueLemmas.{at_moment, none_found, stays_settled}
+
+-- ---- the hash of a change
+
+pub no_hash : (c : Change) → changes c ≡ false → None ≡ change_hash c
+no_hash Nothing none = refl
+no_hash (Put path format bytes) none = absurd cc
+no_hash (Delete path) none = absurd cc
+
+pub hash_where_changed : (c : Change) → is_some (change_hash c) ≡ changes c
+hash_where_changed Nothing = refl
+hash_where_changed (Put path format bytes) = refl
+hash_where_changed (Delete path) = refl
+
+-- what is stored at a path with another hash is kept
+kept_elsewhere : (s : StoreValue) (c : Change) (hash : ℕ) → change_hash c ≡ Some hash → (q : Path) → path_hash q ≢ hash → found_in (changed s c).resources q ≡ found_in s.resources q
+kept_elsewhere s Nothing hash is q other = absurd cc
+kept_elsewhere s (Put path format bytes) hash is q other =
+    let same : path_hash path ≡ hash = cc in other_is_kept_on_put s path q format bytes (λ e. other (ap path_hash e ∙ same))
+kept_elsewhere s (Delete path) hash is q other =
+    let same : path_hash path ≡ hash = cc in other_is_kept_on_delete s path q (λ e. other (ap path_hash e ∙ same))
+
+-- ---- a state that did not change
+
+key_is : (p q : Path) → key_for p ≡ Some q → p ≡ q
+unfolding key_for
+key_is p q e = elim (is_path p) as (λ b. (if b then Some p else None) ≡ Some q → p ≡ q) [ true ↦ λ is. cc | false ↦ λ is. absurd cc ] e
+
+-- what is built in has the moment as its mark, whatever is stored
+marked_at : (s t : StoreValue) (now mark : ℕ) (key : Option Path) (p : Place) → ((q : Path) → key ≡ Some q → found_in t.resources q ≡ found_in s.resources q) → is_marked now mark (state_at t now key p) ≡ is_marked now mark (state_at s now key p)
+unfolding state_at
+marked_at s t now mark key Root same = refl
+marked_at s t now mark key Time same = refl
+marked_at s t now mark key Async same = refl
+marked_at s t now mark key Listing same = refl
+marked_at s t now mark None Dynamic same = refl
+marked_at s t now mark (Some q) Dynamic same = ap (is_marked now mark) (same q refl)
+
+stale_elsewhere : (host : Host) (c : Change) (hash : ℕ) (o : ObserverValue) → change_hash c ≡ Some hash → path_hash o.path ≢ hash → is_stale host o ≡ is_stale (host_changed host c) o
+unfolding is_stale
+stale_elsewhere host c hash o is other =
+    ap not (sym (marked_at host.store (changed host.store c) host.now o.mark (key_for o.path) (place_of o.path)
+    (λ q e. kept_elsewhere host.store c hash is q (λ same. other (ap path_hash (key_is o.path q e) ∙ same)))))
+
+none_elsewhere : (host : Host) (c : Change) (hash : ℕ) (os : List ObserverValue) → change_hash c ≡ Some hash → ObservesNone hash os → find (is_stale host) os ≡ None → find (is_stale (host_changed host c)) os ≡ None
+none_elsewhere host c hash [] is others none = refl
+none_elsewhere host c hash (o ∷ os) is others none =
+    let found = none_found (is_stale host) o os none in
+    rw (sym (stale_elsewhere host c hash o is others.0) ∙ found.0) (none_elsewhere host c hash os is others.1 found.1)
+
+settled_elsewhere : (host : Host) (c : Change) (hash : ℕ) (v : SessionValue) → change_hash c ≡ Some hash → ObservesNone hash v.observers → IsSettled host v → IsSettled (host_changed host c) v
+unfolding next_stale
+settled_elsewhere host c hash v is others settled = (
+  settled.0,
+  elim (session_ready v) as (λ b. (if b then find (is_stale host) v.observers else None) ≡ None → (if b then find (is_stale (host_changed host c)) v.observers else None) ≡ None) [
+    | true ↦ λ none. none_elsewhere host c hash v.observers is others none
+    | false ↦ λ none. refl
+  ] settled.1,
+)
+
+-- ---- all connections
+
+pub untouched_by_change : (host : Host) (c : Change) (hash : ℕ) (es : Entries) → change_hash c ≡ Some hash → AreSettled host es → AreSettledUntouched (cause.Path hash) (host_changed host c) es
+untouched_by_change host c hash [] is settled = tt
+untouched_by_change host c hash (e ∷ es) is settled = (λ others. settled_elsewhere host c hash e.1 is others settled.0, untouched_by_change host c hash es is settled.1)
+
+pub untouched_by_moment : (host : Host) (later : ℕ) (es : Entries) → IsStore host.store → host.now < later → later < 2 ^ 64 → AreSettled host es → AreSettledUntouched (cause.Moment host.now) (at_moment host later) es
+untouched_by_moment host later [] store more fits settled = tt
+untouched_by_moment host later (e ∷ es) store more fits settled = (λ before. stays_settled host later e.1 store settled.0 more fits before, untouched_by_moment host later es store more fits settled.1)
+
+-- the same after calls: a representation was put, a resource was removed, the moment moved on
+pub untouched_by_put : (host : Host) (path : Path) (format : Option ℕ) (bytes : List ℕ) (hash : ℕ) (es : Entries) (store : StoreValue) → store ≡ put_in host.store path format bytes → hash ≡ path_hash path → AreSettled host es → AreSettledUntouched (cause.Path hash) (record host { store = store }) es
+untouched_by_put host path format bytes hash es store is same settled =
+    subst (λ (s : StoreValue). AreSettledUntouched (cause.Path hash) (record host { store = s }) es) (sym is)
+    (untouched_by_change host (Put path format bytes) hash es (ap Some (sym same)) settled)
+
+pub untouched_by_removal : (host : Host) (path : Path) (hash : ℕ) (es : Entries) (store : StoreValue) → store ≡ removed_in host.store path → hash ≡ path_hash path → AreSettled host es → AreSettledUntouched (cause.Path hash) (record host { store = store }) es
+untouched_by_removal host path hash es store is same settled =
+    subst (λ (s : StoreValue). AreSettledUntouched (cause.Path hash) (record host { store = s }) es) (sym is)
+    (untouched_by_change host (Delete path) hash es (ap Some (sym same)) settled)
+
+-- ---- the loop over them
+
+untouched_at : (why : Cause) (host : Host) (i : ℕ) (es : Entries) (s : SessionValue) → AreSettledUntouched why host es → slice_get (values_of es) i ≡ Some s → IsUntouched why host.now s → IsSettled host s
+untouched_at why host i [] s all at = absurd cc
+untouched_at why host zero (e ∷ es) s all at = subst (λ (u : SessionValue). IsUntouched why host.now u → IsSettled host u) (let is : e.1 ≡ s = cc in is) all.0
+untouched_at why host (suc i) (e ∷ es) s all at = untouched_at why host i es s all.1 at
+
+not_yet_settled : (n : ℕ) (host : Host) (es : Entries) → slice_get (values_of (settled_up_to n host es)) n ≡ slice_get (values_of es) n
+unfolding settled_up_to
+not_yet_settled zero host es = refl
+not_yet_settled (suc n) host [] = refl
+not_yet_settled (suc n) host (e ∷ es) = not_yet_settled n host es
+
+-- the next one is settled where it is not touched
+pub next_untouched : (why : Cause) (n : ℕ) (host : Host) (es now : Entries) (s : SessionValue) → now ≡ settled_up_to n host es → AreSettledUntouched why host es → slice_get (values_of now) n ≡ Some s → IsUntouched why host.now s → IsSettled host s
+next_untouched why n host es now s is all at untouched =
+    let before : slice_get (values_of es) n ≡ Some s = sym (ap (λ (fs : Entries). slice_get (values_of fs) n) is ∙ not_yet_settled n host es) ∙ at in
+    untouched_at why host n es s all before untouched
+
+-- ---- the one that changed something
+
+-- it settles first
+settled_first : (host : Host) (i : ℕ) (es : Entries) (s : SessionValue) → slice_get (values_of es) i ≡ Some s → map (settled_entry host) (changed_at i (λ _. session_settled host s) es) ≡ map (settled_entry host) es
+unfolding changed_at
+settled_first host i [] s at = absurd cc
+settled_first host zero (e ∷ es) s at =
+    let is : s ≡ e.1 = cc in
+    ap (λ (v : SessionValue). (e.0, v) ∷ map (settled_entry host) es) (settled_stays host (session_settled host s) (settled_is_settled host s) ∙ ap (session_settled host) is)
+settled_first host (suc i) (e ∷ es) s at = ap (λ (rest : Entries). settled_entry host e ∷ rest) (settled_first host i es s at)
+
+module _ (host : Host) (i hash : ℕ) (es : Entries) (s after : SessionValue) (at : slice_get (values_of es) i ≡ Some s) (settles : after ≡ session_settled host s) where
+  first_is : set_value_at es i after ≡ changed_at i (λ _. session_settled host s) es
+  first_is = ap (set_value_at es i) settles ∙ written_at_index (λ _. session_settled host s) es i s at
+
+  pub others_untouched : AreOthersSettled (Some hash) i host es → AreSettledUntouched (cause.Path hash) host (set_value_at es i after)
+  others_untouched others = subst (AreSettledUntouched (cause.Path hash) host) (sym first_is) (others (session_settled host s) (settled_is_settled host s))
+
+  pub all_settle : map (settled_entry host) (set_value_at es i after) ≡ map (settled_entry host) es
+  all_settle = ap (map (settled_entry host)) first_is ∙ settled_first host i es s at
+
+one_in_place : (P : ℕ × SessionValue → Type 0) (i : ℕ) (es : Entries) (s u : SessionValue) → AllByRecursion P es → ((n : ℕ) → P (n, s)) → AllByRecursion P (changed_at i (λ _. s) (set_value_at es i u))
+unfolding changed_at
+one_in_place P i [] s u all here = tt
+one_in_place P zero (e ∷ es) s u all here = (here e.0, all.1)
+one_in_place P (suc i) (e ∷ es) s u all here = (all.0, one_in_place P i es s u all.1 here)
+
+-- what a connection took changed something: the others are settled where it does not touch them
+pub others_settled : (host : Host) (c : Change) (i : ℕ) (es : Entries) (u : SessionValue) (found : Option ℕ) → found ≡ change_hash c → AreSettled host es → AreOthersSettled found i (host_changed host c) (set_value_at es i u)
+others_settled host c i es u None is settled = tt
+others_settled host c i es u (Some hash) is settled = λ s here.
+    one_in_place (λ e. IsUntouched (cause.Path hash) host.now e.1 → IsSettled (host_changed host c) e.1) i es s u (untouched_by_change host c hash es (sym is) settled) (λ n _. here)
