@@ -530,6 +530,7 @@ IDLE = [
     ("timeout tunnel 15m", "timeout tunnel %ds" % TUNNEL),
     ("inspect-delay 10s", "inspect-delay %ds" % FIRST),
     ("timeout client 10s", "timeout client %ds" % HANDSHAKE),
+    ("timeout server 10s", "timeout server %ds" % FIRST),
 ]
 
 
