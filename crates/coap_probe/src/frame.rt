@@ -37,7 +37,8 @@ fn found(framed: &Framed, told: &mut Told) {
 fn each(framer: &mut Framer, bytes: &[u8], told: &mut Told) {
     told.word("More");
     for byte in bytes {
-        let framed = framer.next(&[*byte]);
+        let piece = [*byte];
+        let framed = framer.next(&piece);
         if framed.taken != 1 || !matches!(framed.what, Found::More) {
             told.word("not for each");
         }
