@@ -1,7 +1,7 @@
 # Proves, builds, runs, tests and measures. Needs Rattle's toolchain (`rt`) and Python 3; `make test` also installs Debian's
 # gcc, libc6-dev, libcoap3-bin, mandoc, tshark and valgrind where they are missing, and `make bench` all of these but mandoc and tshark.
 
-.PHONY: all run test edits bench try install uninstall clean
+.PHONY: all run test edits faults bench try install uninstall clean
 
 # Where `make install` puts the programs, their manuals and the unit of systemd; DESTDIR stands before it for what is packed.
 PREFIX ?= /usr/local
@@ -30,9 +30,14 @@ test:
 edits:
 	tests/edits.py --all $(CRATES)
 
-# Measures the server beside libcoap's, and then counts instructions and memory. It fails where either misses a target.
+# All 16,777,216 streams of three bytes, of which the gate plays a quarter: some minutes of all processors.
+faults: bin/coap-server
+	tests/bytes.py bin/coap-server --all
+
+# Measures the server beside libcoap's and beside observers that nobody reads, and then counts instructions and memory. It fails where
+# either misses a target.
 bench: bin/coap-server
-	bench/throughput; missed=$$?; bench/instructions && exit $$missed
+	bench/throughput; missed=$$?; tests/flood.py bin/coap-server observers && bench/instructions && exit $$missed
 
 # UNPROVED: runs the program on the recorded stream before any proof, in up to a minute, for work in progress.
 try:
