@@ -2,7 +2,7 @@
 # gcc, haproxy, libc6-dev, libcoap3-bin, mandoc, openssl, tshark and valgrind where they are missing, and `make bench` gcc, gnuplot-nox,
 # haproxy, libc6-dev, libcoap3-bin and valgrind.
 
-.PHONY: all run test edits bench try install uninstall clean
+.PHONY: all run test edits faults bench try install uninstall clean
 
 # Where `make install` puts the programs, their manuals, the unit of systemd and the configuration of HAProxy; DESTDIR stands before it
 # for what is packed.
@@ -32,11 +32,16 @@ test:
 edits:
 	tests/edits.py --all $(CRATES)
 
-# Measures the server beside libcoap's, then through HAProxy, and then counts instructions, copies and memory; draws what it measured anew in
-# docs/pictures. It fails where a target is missed.
+# All 16,777,216 streams of three bytes, of which the gate plays a quarter: some minutes of all processors.
+faults: bin/coap-server
+	tests/bytes.py bin/coap-server --all
+
+# Measures the server beside libcoap's, then through HAProxy and beside observers that nobody reads, and then counts instructions, copies
+# and memory; draws what it measured anew in docs/pictures. It fails where a target is missed.
 bench: bin/coap-server
 	tests/build coap_probe
-	bench/throughput; missed=$$?; bench/front || missed=1; bench/instructions && exit $$missed
+	bench/throughput; missed=$$?; bench/front || missed=1; tests/flood.py bin/coap-server observers || missed=1; \
+	bench/instructions && exit $$missed
 
 # UNPROVED: runs the program on the recorded stream before any proof, in up to a minute, for work in progress.
 try:

@@ -1,16 +1,18 @@
 /* Standard input and output as a run sets them. READ_BY: a read gives so many bytes at most; READ_CUTS: two places, past neither of which
    a read gives bytes; READ_FAILS: the read behind so many fails. WRITE_TAKING: a write takes so many bytes at most; WRITE_ROOM: all
-   writes together; WRITE_FAILS: the write behind so many fails. Where it is not set, a device gives and takes all.
-   Each call is told on the descriptor DEVICES_TOLD, in one line: `read ROOM GIVEN` and `write BYTES TAKEN`, where `failed` may stand for the count. */
+   writes together; WRITE_FAILS: the write behind so many fails. Where it is not set, a device gives and takes all. Of sockets RECV_FAILS and
+   SEND_FAILS are the calls behind so many that fail, and RECV_ENDS the one that finds the end.
+   Each call of standard input and output is told on the descriptor DEVICES_TOLD, in one line: `read ROOM GIVEN` and `write BYTES TAKEN`, where `failed` may stand for the count. */
 #include <errno.h>
 #include <stdio.h>
 #include <stdlib.h>
+#include <sys/socket.h>
 #include <sys/syscall.h>
 #include <unistd.h>
 
 #define ALL (1L << 40)
 
-static long reads, writes, given, taken;
+static long reads, writes, given, taken, receptions, sendings;
 
 static long set(const char *name, long usual) {
     const char *value = getenv(name);
@@ -84,3 +86,20 @@ static ssize_t wrote(int file, const void *bytes, size_t size) {
 ssize_t write(int file, const void *bytes, size_t size) { return wrote(file, bytes, size); }
 
 ssize_t __write(int file, const void *bytes, size_t size) { return wrote(file, bytes, size); }
+
+ssize_t recv(int socket, void *buffer, size_t room, int flags) {
+    long number = receptions++;
+    if (number == set("RECV_FAILS", -1)) {
+        errno = ECONNRESET;
+        return -1;
+    }
+    return number == set("RECV_ENDS", -1) ? 0 : syscall(SYS_recvfrom, socket, buffer, room, flags, NULL, NULL);
+}
+
+ssize_t send(int socket, const void *bytes, size_t size, int flags) {
+    if (sendings++ == set("SEND_FAILS", -1)) {
+        errno = EPIPE;
+        return -1;
+    }
+    return syscall(SYS_sendto, socket, bytes, size, flags, NULL, 0);
+}

@@ -10,7 +10,8 @@ bytes may be written as text and as messages in words (tests/spelling.py).
 --by-rattle plays them on the programs as Rattle's own compiler made them. --refuse refuses each allocation of each file in turn: the row
 that was struck must tell `memory`, all that only asks must tell what it told before, and the row is made again, from where all goes
 as the file says; a refusal that no row tells must change nothing. A line `allocations: N` in the file is their number; where N is not a
-number, it says why they are not refused.
+number, it says why they are not refused. (A line `cuts:` says why tests/cuts.py does not cut the rows of a file of servers.) Over all files
+it counts the refusals of each call, which the table of docs/TESTING.md must tell.
 The last line is 'N passed, M failed' over the rows, or over the refused allocations, and the status 0 where M is 0.
 """
 
@@ -21,6 +22,7 @@ import re
 import subprocess
 import sys
 import tempfile
+from collections import Counter
 from concurrent.futures import ThreadPoolExecutor
 from dataclasses import dataclass, field
 
@@ -30,13 +32,19 @@ ROWS = TESTS / "rows"
 # How a row tells that memory was refused.
 MEMORY = re.compile(r"\bmemory\b", re.IGNORECASE)
 
+# Where the refusals of each call are told, behind which line, and what is said of those that no call tells.
+TABLE = TESTS.parent / "docs" / "TESTING.md"
+BEGINS = "| Call | Growths refused | What is left, until it is made again |"
+MADE_UP_FOR = ("none, since it was made up for", "what there is without a refusal")
+
 
 @dataclass
 class RowFile:
-    """A file of rows: its values, each an opening and the rows behind it, and what it says of its allocations."""
+    """A file of rows: its values, each an opening and the rows behind it, and what it says of its allocations and of cuts."""
 
     path: pathlib.Path
     allocations: str = ""
+    cuts: str = ""
     values: list = field(default_factory=list)
 
     def name(self):
@@ -55,6 +63,8 @@ def read(path):
     for line in path.read_text(encoding="utf-8").splitlines():
         if line.startswith("allocations: "):
             file.allocations = line.partition(": ")[2]
+        elif line.startswith("cuts: "):
+            file.cuts = line.partition(": ")[2]
         elif line.startswith("= "):
             file.values.append((line[2:], []))
         elif line and not line.startswith("#"):
@@ -123,21 +133,24 @@ def struck_again(file, probe, steps, found, index, shim, number):
     step = steps[index]
     again = again_of(file)(lambda more: run(probe, more, shim, number).lines, events, index, found)
     before = run(probe, events[:index] + looks).lines[index:]
-    lines = run(probe, events[: index + 1] + looks + [again] + events[index + 1 :], shim, number).lines
-    after, rest = lines[index + 1 : index + 1 + len(looks)], lines[:index] + lines[index + 1 + len(looks) :]
+    between = looks + [it.event for it in step.meanwhile]
+    lines = run(probe, events[: index + 1] + between + [again] + events[index + 1 :], shim, number).lines
+    behind = index + 1 + len(between)
+    after, rest = lines[index + 1 : index + 1 + len(looks)], lines[:index] + lines[behind:]
     if again != events[index]:
         # what is made again is a part of the event, so that its line tells less, and what is kept is not as before
         rest[index], before, after = found[index], [], []
         steps = steps[:index] + [type(steps[index])(again, found[index].strip())] + steps[index + 1 :]
     wrong = [] if after == before else [f"{events[index][:120]}: {before} became {after}"]
+    wrong += differences(lines[index + 1 + len(looks) : behind], step.meanwhile)
     judge = getattr(file.layer(), "struck", lambda step, line, again, line_again: [])
-    wrong += judge(step, lines[index], again, lines[index + 1 + len(looks)])
+    wrong += judge(step, lines[index], again, lines[behind])
     return wrong + differences(rest, steps)
 
 
 def refuse_each(file, shim):
-    """Refuses each allocation of a file's rows in turn, and returns their number and what is wrong."""
-    probe, steps, wrong, count = probe_of(file), file.steps(), [], 0
+    """Refuses each allocation of a file's rows in turn, and returns their number, what is wrong, and how many each call was refused."""
+    probe, steps, wrong, count, calls = probe_of(file), file.steps(), [], 0, Counter()
     events = [step.event for step in steps]
     usual = run(probe, events).lines
     # the first ones are the probe's own room, which is had before the first row
@@ -145,9 +158,10 @@ def refuse_each(file, shim):
     while True:
         ran = run(probe, events, shim, first + count)
         if not ran.refused:
-            return count, wrong
+            return count, wrong, calls
         index = next((at for at, (line, before) in enumerate(zip(ran.lines, usual)) if line != before), None)
         # where every row tells what it tells with memory, the refusal was made up for
+        calls[MADE_UP_FOR if index is None else file.layer().refused(events[index], ran.lines[index])] += 1
         if index is not None:
             found = struck_again(file, probe, steps, ran.lines, index, shim, first + count)
             told = [] if MEMORY.search(ran.lines[index]) else [f"{events[index][:120]}: no memory is told: {ran.lines[index][:120]}"]
@@ -158,11 +172,19 @@ def refuse_each(file, shim):
 def refuse(file, shim):
     """Refuses each allocation of a file, whose number must be the one that the file says."""
     if not file.allocations.isdigit():
-        return 0, [] if file.allocations else ["it does not say how many allocations it makes"]
-    count, wrong = refuse_each(file, shim)
+        return 0, [] if file.allocations else ["it does not say how many allocations it makes"], Counter()
+    count, wrong, calls = refuse_each(file, shim)
     if count != int(file.allocations):
         wrong.append(f"it makes {count} allocations, and says {file.allocations}")
-    return count, wrong
+    return count, wrong, calls
+
+
+def untold(calls):
+    """What the table does not tell of the refusals of each call, or tells besides."""
+    _, _, behind = TABLE.read_text(encoding="utf-8").partition(BEGINS + "\n")
+    told = behind.split("\n\n")[0].splitlines()[1:]
+    wanted = [f"| {call} | {count} | {left} |" for (call, left), count in sorted(calls.items())]
+    return [f"there is no line {it}" for it in wanted if it not in told] + [f"nobody tells {it}" for it in told if it not in wanted]
 
 
 def compiled_shim(room):
@@ -177,14 +199,18 @@ def main(words):
     with tempfile.TemporaryDirectory(prefix="rows-") as room, ThreadPoolExecutor(len(os.sched_getaffinity(0))) as pool:
         shim = compiled_shim(room) if "--refuse" in flags else ""
         ending = ".by-rattle" if "--by-rattle" in flags else ""
-        results = pool.map(lambda file: refuse(file, shim) if shim else play(file, ending), files)
-        count = failed = 0
-        for file, (rows, wrong) in zip(files, results):
-            count, failed = count + rows, failed + len(wrong)
+        results = pool.map(lambda file: refuse(file, shim) if shim else (*play(file, ending), Counter()), files)
+        count, failed, calls = 0, 0, Counter()
+        for file, (rows, wrong, refused) in zip(files, results):
+            count, failed, calls = count + rows, failed + len(wrong), calls + refused
             for text in wrong[:3]:
                 print(f"{file.name()}: {text}")
             if len(wrong) > 3:
                 print(f"{file.name()}: and {len(wrong) - 3} more")
+    if shim and not named:
+        wrong = untold(calls)
+        failed += len(wrong)
+        print(*(f"{TABLE.name}: {text}" for text in wrong), sep="\n")
     print(f"{max(count - failed, 0)} passed, {failed} failed")
     return 1 if failed else 0
 

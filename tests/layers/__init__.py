@@ -10,8 +10,10 @@ from typing import Callable
 
 @dataclass
 class Step:
-    """A line for the probe, what is wanted of it, and what turns the line that the probe writes into that."""
+    """A line for the probe, what is wanted of it, and what turns the line that the probe writes into that. What happens meanwhile, where
+    memory is refused for it and it is made again, are steps too."""
 
     event: str
     wanted: str
     told: Callable[[str], str] = str.strip
+    meanwhile: tuple = ()

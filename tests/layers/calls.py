@@ -1,5 +1,6 @@
 """Servers, as in `serve`, and beside the lines of a script one call by itself: `take CONNECTION BYTES` tells how many bytes it took and what
 of them it handled, `nothing`, a `message` or `stopped`; where memory was refused, `memory` and the bytes that it took before; or `nosuch`.
+`written CONNECTION COUNT` says that so many waiting bytes were written, and tells `ok`, `toomany` or `nosuch`.
 """
 
 from layers import serve
@@ -25,3 +26,8 @@ def struck(step, line, again, line_again):
         return serve.struck(step, line, again, line_again)
     (_, before), (count, handled) = line.split(), line_again.split()
     return [] if f"{int(before) + int(count)} {handled}" == step.wanted else [f"{again}: {line_again}"]
+
+
+def refused(event, line):
+    """The call that was refused memory, and what is left."""
+    return serve.CALLS["in"] if event.startswith("take ") else serve.refused(event, line)

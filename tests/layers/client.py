@@ -3,7 +3,7 @@ first row, and written.
 
 The events: `take BYTES`, `send METHOD TARGET` and `cancel TOKEN TARGET` with words of what is asked for (`observe`, `plain`, `format:N`,
 `accept:N`, `option:N:BYTES`, `payload:BYTES`), `ping custody` or `ping plain`, `written COUNT`, `end` and `look`. `times N EVENT` makes an
-event so often, and each must give a token. What is told is the event's answer, or `-`, and then the phase, how much is outstanding, and
+event so often, and each must give a token; `{9*a}` in a target stands for 9 times `a`. What is told is the event's answer, or `-`, and then the phase, how much is outstanding, and
 the bytes that wait; these are then written, but not where `keep` stands before the event. Numbers and texts of faults are compared
 where a row has them.
 """
@@ -11,6 +11,7 @@ where a row has them.
 import re
 
 from layers import Step
+from layers.target import repeated
 from spelling import digits, spelled
 
 PROBE = "coap_client_probe"
@@ -46,9 +47,9 @@ def event_of(text):
     keep, text = ("keep ", text[5:]) if text.startswith("keep ") else ("", text)
     word, *rest = text.split(" ")
     if word == "send":
-        return f"{keep}send {rest[0]} {rest[1]} {asked(rest[2:])}"
+        return f"{keep}send {rest[0]} {repeated(rest[1])} {asked(rest[2:])}"
     if word == "cancel":
-        return f"{keep}cancel {rest[1]} {asked(rest[2:], rest[0])}"
+        return f"{keep}cancel {repeated(rest[1])} {asked(rest[2:], rest[0])}"
     return keep + spelled(text)
 
 
@@ -89,3 +90,8 @@ def steps(opening, rows):
             yield from [Step(event_of(times[2]), "given", given)] * int(times[1])
         else:
             yield step(row)
+
+
+def refused(event, line):
+    """The call that was refused memory, and what is left."""
+    return ("`Client::open`", "nothing") if event.startswith("= ") else ("`Target::read`", "nothing, and the client as before")

@@ -51,3 +51,8 @@ def steps(opening, rows):
             yield from cuts(digits(event.removeprefix("cuts ")), [digits(frame) for frame in wanted.split()])
         else:
             yield Step(spelled(event).removesuffix(" -"), spelled(wanted))
+
+
+def refused(event, line):
+    """The call that was refused memory, and what is left."""
+    return "`Framer::new`", "nothing"

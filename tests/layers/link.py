@@ -79,3 +79,8 @@ def steps(opening, rows):
     for row in [*first, *([row] if row else []), *rows]:
         event, _, wanted = row.partition(" => ")
         yield Step(event_of(event), wanted_of(wanted))
+
+
+def refused(event, line):
+    """The call that was refused memory, and what is left."""
+    return "`Link::open`", "nothing"

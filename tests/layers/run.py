@@ -56,3 +56,8 @@ def steps(opening, rows):
     for row in rows:
         event, _, wanted = row.partition(" => ")
         yield Step(event_of(event), wanted_of(wanted), told_as(wanted))
+
+
+def refused(event, line):
+    """The call that was refused memory, and what is left."""
+    return ("`run_client`", "nothing written") if "Memory" in line else ("`client_words`", "nothing")

@@ -1,9 +1,11 @@
 """Texts of scripts: `read TEXT`, in which `|` stands for a newline, `bytes BYTES`, and `faults`; what is wanted is each event that is read
-before a semicolon, `nothing` where there is none, or the number and the text of the fault. Text between two `'` is hex digits."""
+before a semicolon, `nothing` where there is none, or the number and the text of the fault. Text between two `'` is hex digits. `{9*a}`
+stands for 9 times `a`."""
 
 import re
 
 from layers import Step
+from layers.target import repeated
 from spelling import bytes_of
 
 PROBE = "coap_probe"
@@ -25,4 +27,9 @@ def steps(opening, rows):
     yield Step("= script", "")
     for row in rows:
         event, _, wanted = row.partition(" => ")
-        yield Step(event_of(event), re.sub(r"'([^']*)'", lambda text: text[1].encode().hex(), wanted), told)
+        yield Step(event_of(event), re.sub(r"'([^']*)'", lambda text: text[1].encode().hex(), repeated(wanted)), told)
+
+
+def refused(event, line):
+    """The call that was refused memory, and what is left."""
+    return "`script`", "nothing"

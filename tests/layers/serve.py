@@ -1,6 +1,8 @@
 """Servers: `= TITLE NAME=VALUE ..`, and then lines of a script with the line that each writes. Some events may stand in one row with `|`
-between them: they are replayed at once."""
+between them: they are replayed at once. `each 1..256 ROW` is a row for each of these numbers, with `{n}` for the number, and `{token}` for
+it as a token of two bytes. `meanwhile ROW` is played only where memory was refused for the row above it, before that is made again."""
 
+import itertools
 import re
 
 from layers import Step
@@ -9,6 +11,8 @@ from spelling import spelled
 PROBE = "coap_probe"
 
 LOOKS = ("status",)
+
+MEANWHILE = "meanwhile "
 
 # What a section may set, in the order in which the probe has them, and what holds where nothing is said.
 SETTINGS = {"max": 65536, "sent": 65536, "queue": 131072, "pending": 16, "observers": 16, "outstanding": 16, "connections": 16, "dynamic": 0,
@@ -29,16 +33,33 @@ def spelled_lines(text):
     return "|".join(spelled(line) for line in re.split(r"(?<! )\|(?! )", text))
 
 
+def each_of(row):
+    """The rows that a row stands for."""
+    if not row.startswith("each "):
+        return [row]
+    _, ends, row = row.split(" ", 2)
+    first, last = map(int, ends.split(".."))
+    return [row.replace("{n}", str(number)).replace("{token}", f"{number & 65535:04x}") for number in range(first, last + 1)]
+
+
 def lines_of(rows):
     """The events of rows and their lines, spelled."""
-    return [(spelled_lines(event), spelled_lines(line)) for event, _, line in (row.partition(" => ") for row in rows)]
+    rows = (row.partition(" => ") for several in rows if not several.startswith(MEANWHILE) for row in each_of(several))
+    return [(spelled_lines(event), spelled_lines(line)) for event, _, line in rows]
+
+
+def meanwhile_of(rows):
+    """What happens behind the first of these rows where memory is refused for it."""
+    behind = itertools.takewhile(lambda row: row.startswith(MEANWHILE), rows[1:])
+    return tuple(Step(*pair) for pair in lines_of([row.removeprefix(MEANWHILE) for row in behind]))
 
 
 def steps(opening, rows):
     said = said_of(opening)
     yield Step("= serve " + " ".join(str(said.get(name, usual)) for name, usual in SETTINGS.items()), "")
-    for event, line in lines_of(rows):
-        yield Step(event, line)
+    for place, row in enumerate(rows):
+        for event, line in lines_of([row]):
+            yield Step(event, line, meanwhile=meanwhile_of(rows[place:]))
 
 
 def ends_of(data):
@@ -89,3 +110,21 @@ def struck(step, line, again, line_again):
         (count, stop), wanted = count_of(line_again), count_of(step.wanted)
         return [] if (count + left, stop) == wanted else [f"{again}: {line_again}"]
     return [] if line_again.strip() == step.wanted else [f"{again}: {line_again}"]
+
+
+# The calls of events that may be refused memory, and what is left of each: of all others the line alone asks for memory.
+CALLS = {"open": ("`Server::open`", "the server as before"), "in": ("`Server::take`", "the bytes before the message's last, and nothing of it handled"),
+         "put": ("`Server::put`", "the server as before")}
+
+
+def refused(event, line):
+    """The call that was refused memory, and what is left."""
+    if event.startswith("= "):
+        return "`Server::new`", "nothing"
+    number = line.rpartition("memory ")[2].strip()
+    if not number.isdigit():
+        return "`script`", "nothing"
+    parts = event.split("|")
+    if len(parts) > 1:
+        return "`Server::replay` of several events", "what the events before it did, and their lines"
+    return CALLS.get(event.split(" ")[0], ("`Server::replay`, for a line", "the server as before"))

@@ -230,7 +230,7 @@ def steps(opening, rows):
         if run.opening() != last:
             last = run.opening()
             yield Step(last, "")
-        yield RunStep(run.event(), run.wanted(), run.told, run)
+        yield RunStep(run.event(), run.wanted(), run.told, run=run)
 
 
 def struck(step, line, again, line_again):
@@ -242,3 +242,8 @@ def struck(step, line, again, line_again):
     if run and run.refusals is not None and len(calls_of(begun)[0]) not in run.refusals:
         return [f"{again[:120]}: refused behind {begun or 'nothing'}"]
     return []
+
+
+def refused(event, line):
+    """The call that was refused memory, and what is left."""
+    return "`serve_one`", "a front of what it reads and writes with memory"

@@ -194,3 +194,14 @@ def steps(opening, rows):
             yield from (step_of(one) for one in each(int(count), row))
         else:
             yield step_of(row)
+
+
+# The calls of events that may be refused memory.
+CALLS = {"make": "`Store::apply`", "put": "`Store::put`"}
+
+
+def refused(event, line):
+    """The call that was refused memory, and what is left."""
+    if event.startswith("= "):
+        return "`Store::new`", "nothing"
+    return CALLS[event.split(" ")[0]], "the store as before"

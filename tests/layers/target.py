@@ -52,3 +52,8 @@ def steps(opening, rows):
     for row in rows:
         text, _, wanted = row.partition(" => ")
         yield Step(repeated(text), repeated(wanted), told_as(wanted))
+
+
+def refused(event, line):
+    """The call that was refused memory, and what is left."""
+    return "`Target::read`", "nothing"

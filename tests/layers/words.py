@@ -50,3 +50,8 @@ def steps(opening, rows):
             yield Step(event, wanted)
         else:
             yield Step(repeated(event).strip(), repeated(wanted), told_as(wanted))
+
+
+def refused(event, line):
+    """The call that was refused memory, and what is left."""
+    return f"`{event.partition(' ')[0].removesuffix('-text')}_words`", "nothing"

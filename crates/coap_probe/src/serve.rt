@@ -1,11 +1,12 @@
 //! Servers: `= serve` and the six limits of a connection, connections, resources, bytes of a representation, turns, and where the
 //! moment, the versions and the connections' numbers begin; and then the lines of a script, one a row, or some with `|` between them,
 //! whose lines are told so too. Where memory was refused, the lines before that are told, and the number of the event. Beside these
-//! lines `take CONNECTION BYTES` is one call, which tells the bytes that it took and what it handled.
+//! lines `take CONNECTION BYTES` is one call, which tells the bytes that it took and what it handled, and `written CONNECTION COUNT`
+//! another one.
 
 use crate::limits::{config_of, limits_of};
 use coap_serve::{
-    Config, Handled, ReplayFault, ScriptFault, Server, TakeFault, WriteOutlet, script,
+    Config, Handled, ReplayFault, ScriptFault, Server, TakeFault, WriteOutlet, WrittenFault, script,
 };
 use coap_told::{Told, next_number, read_hex};
 use std::alloc::{AllocError, Global};
@@ -56,6 +57,17 @@ fn take(server: &mut Server, text: &str, bytes: &mut Vec<u8>, told: &mut Told) {
     }
 }
 
+/// Says that bytes of a connection were written, and tells whether so many were waiting.
+fn written(server: &mut Server, text: &str, told: &mut Told) {
+    let (id, rest) = next_number(text);
+    let (count, _) = next_number(rest);
+    told.word(match server.written(id as u64, count) {
+        Ok(()) => "ok",
+        Err(WrittenFault::NoSuch) => "nosuch",
+        Err(WrittenFault::TooMany) => "toomany",
+    });
+}
+
 /// Replays the lines of a row, and tells the server's lines.
 pub(crate) fn play(
     alloc: Global,
@@ -66,6 +78,9 @@ pub(crate) fn play(
 ) {
     if let Some(text) = row.strip_prefix("take ") {
         return take(server, text, bytes, told);
+    }
+    if let Some(text) = row.strip_prefix("written ") {
+        return written(server, text, told);
     }
     bytes.clear();
     let _ = bytes.extend_from_slice(row.as_bytes());
