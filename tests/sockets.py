@@ -64,8 +64,8 @@ def check_observers(checks, programs):
         done = client(programs.client, ["-s", "2", "-w", "-B", "5", server.uri("/time")])
         moments = [int(it) for it in done[1].split()]
         # the first one, two more as the moment goes on, and the response to the cancellation
-        checks.same("observe /time", (done[0], len(moments) in (3, 4, 5), sorted(set(moments)) == list(range(moments[0], moments[-1] + 1)), done[2]),
-                    (0, True, True, b""))
+        are_all = sorted(set(moments)) == list(range(moments[0], moments[-1] + 1))
+        checks.same("observe /time", (done[0], len(moments) in (3, 4, 5), are_all, done[2]), (0, True, True, b""))
         client(programs.client, ["-m", "put", "-e", "one", server.uri("/a")])
         with subprocess.Popen([programs.client, "-s", "1", "-w", server.uri("/a")], stdout=subprocess.PIPE) as watching:
             checks.same("first state", line_of(watching.stdout), b"one\n")
@@ -188,7 +188,9 @@ class Programs:
         self.server, self.client = os.path.abspath(server), os.path.abspath(client_program)
 
 
-CHECKS = [check_requests, check_observers, check_bodies, check_connecting, check_ended, check_silent, check_address, check_files, check_close]
+CHECKS = [
+    check_requests, check_observers, check_bodies, check_connecting, check_ended, check_silent, check_address, check_files, check_close,
+]
 
 
 def main(words):
