@@ -16,7 +16,7 @@ import tempfile
 import threading
 
 import rows
-from listening import free_port
+from peers import free_port
 from program import CSM, GREETING, Checks
 from refused import ASKED, ASKING, HOST, LIMIT, LINES, SCRIPT, SERVER_HOST, answer, received
 from sockets import line_of

@@ -18,8 +18,9 @@ import sys
 import time
 
 import messages
-from hostile import HOST, PACKET, ROOM
-from listening import first_line, free_port, listening
+from hostile import PACKET, ROOM
+from peers import LOCAL as HOST
+from peers import Server
 from program import CSM, Checks
 from spelling import encoded, uint
 
@@ -107,11 +108,10 @@ class Peer:
 @contextlib.contextmanager
 def serving(checks, server, words):
     """A server that listens, and its address."""
-    port = free_port(HOST)
-    with listening(server, HOST, port, words) as process:
-        checks.same("it listens", first_line(process), f"coap-server: listening on {HOST}:{port}\n")
-        yield process, (HOST, port)
-        checks.same("it goes on", process.poll(), None)
+    with Server(server, words) as running:
+        checks.same("it listens", running.said, f"coap-server: listening on {HOST}:{running.port}\n")
+        yield running.process, (HOST, running.port)
+        checks.same("it goes on", running.process.poll(), None)
 
 
 def observe_all(peer, paths, count):

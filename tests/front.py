@@ -28,16 +28,14 @@ import time
 import warnings
 
 import messages
-from capture import LIMIT
-from listening import first_line, free_port, listening
 from packages import install
+from peers import LIMIT, Server, free_port
+from peers import LOCAL as HOST
 from program import CSM, ROOT, Checks
 
 PACKAGES = {"haproxy": "haproxy", "openssl": "openssl", "coap-client-openssl": "libcoap3-bin"}
 
 CONFIGURATION = os.path.join(ROOT, "install", "haproxy.cfg")
-
-HOST = "127.0.0.1"
 
 # The servers of the file, and their ports there.
 SERVERS = {"one": 5701, "two": 5702, "three": 5703, "four": 5704}
@@ -171,10 +169,10 @@ class Front:
     def start(self, name):
         """Starts a server, with its name stored at /who."""
         self.running[name] = self.stack.enter_context(contextlib.ExitStack())
-        process = self.running[name].enter_context(listening(self.server, HOST, self.ports[name], ["-d", "16", *self.words]))
-        if "listening" not in first_line(process):
+        server = self.running[name].enter_context(Server(self.server, ["-d", "16", *self.words], port=self.ports[name]))
+        if "listening" not in server.said:
             raise OSError("the server %s does not listen" % name)
-        self.processes[name] = process
+        self.processes[name] = server.process
         with Stream(connect(self.ports[name])) as it:
             it.greet()
             it.ask(spelled(PUT, b"w", "who", payload=name.encode()))

@@ -20,7 +20,7 @@ from concurrent.futures import ThreadPoolExecutor
 from dataclasses import dataclass
 
 import rows
-from listening import free_port
+from peers import free_port
 from program import CSM, GREETING
 from sockets import line_of
 from spelling import encoded
