@@ -1,11 +1,7 @@
 use Rattle.std.proofs.Common.{length, ap, arith}
 use Rattle.coap_serve.proofs.values.ServerLemmas.{none_settled, length-settled_up_to, one_more_settled, all_settled}
-<<<<<<<< HEAD:crates/coap_serve/proofs/server/sessions/settle_all/Answers.antt
-use Rattle.coap_serve.proofs.server.sessions.settle_all.Goals as goal
-========
 use Rattle.coap_serve.proofs.values.CauseLemmas.{next_untouched}
 use Rattle.coap_serve.proofs.server.sessions.settle_touched.Goals as goal
->>>>>>>> 8ea3218b70e56b844ca93a16340cef21bbca889e:crates/coap_serve/proofs/server/settle_touched/Answers.antt
 
 pub loop-at-init : goal.loop-at-init
 loop-at-init c = none_settled c.args.host.now c.args.sessions.now.entries
