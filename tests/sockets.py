@@ -55,6 +55,21 @@ def line_of(stream):
     return text
 
 
+def processor_time(process):
+    """The seconds of processor time that a process has used."""
+    with open("/proc/%d/stat" % process.pid, encoding="ascii") as it:
+        words = it.read().rpartition(")")[2].split()
+    return (int(words[11]) + int(words[12])) / os.sysconf("SC_CLK_TCK")
+
+
+def flood(peer, piece):
+    """Sends a piece again and again, until nothing more goes for a while."""
+    peer.setblocking(False)
+    until = time.monotonic() + LIMIT / 2
+    while select.select([], [peer], [], 0.3)[1] and time.monotonic() < until:
+        peer.send(piece)
+
+
 class Server:
     """A running coap-server, from the line that says where it listens."""
 
@@ -75,10 +90,7 @@ class Server:
         return socket.create_connection((self.host, self.port), LIMIT)
 
     def processor_time(self):
-        """The seconds of processor time that it has used."""
-        with open("/proc/%d/stat" % self.process.pid, encoding="ascii") as it:
-            words = it.read().rpartition(")")[2].split()
-        return (int(words[11]) + int(words[12])) / os.sysconf("SC_CLK_TCK")
+        return processor_time(self.process)
 
     def end(self, how=signal.SIGTERM):
         self.process.send_signal(how)
@@ -344,10 +356,7 @@ def check_peers(checks, programs):
         with server.connect() as peer:
             # pings whose answers nobody reads, until nothing more goes
             peer.sendall(bytes.fromhex("00e1"))
-            peer.setblocking(False)
-            until = time.monotonic() + LIMIT / 2
-            while select.select([], [peer], [], 0.3)[1] and time.monotonic() < until:
-                peer.send(bytes.fromhex("01e201") * 20_000)
+            flood(peer, bytes.fromhex("01e201") * 20_000)
             with server.connect() as other:
                 checks.same("others are served beside a flood", greeted(other), True)
             reset(peer)
@@ -369,6 +378,21 @@ def check_idle(checks, programs):
             checks.same("an idle client", (process.returncode, usage.ru_utime + usage.ru_stime < 0.5), (4, True))
 
 
+def check_flooded_client(checks, programs):
+    """A client whose peer sends pings and never reads: it waits for room, and still ends in time."""
+    with socket.create_server((LOCAL, 0)) as listener:
+        # little room on the peer's side, so that the client's queue is soon full
+        listener.setsockopt(socket.SOL_SOCKET, socket.SO_RCVBUF, 4096)
+        with subprocess.Popen([programs.client, "-B", "7", "coap+tcp://%s:%d/" % listener.getsockname()], stderr=subprocess.PIPE) as process:
+            with listener.accept()[0] as peer:
+                peer.sendall(bytes.fromhex("00e1"))
+                flood(peer, bytes.fromhex("01e201") * 20_000)
+                before = processor_time(process)
+                select.select([process.stderr], [], [], 4)
+                checks.same("a client in a flood, in 4 s", (process.poll(), processor_time(process) - before < 0.2), (None, True))
+                checks.same("it ends in time", (process.wait(LIMIT), process.stderr.read()), (4, b""))
+
+
 class Programs:
     """The two programs that are tried."""
 
@@ -378,7 +402,7 @@ class Programs:
 
 CHECKS = [
     check_requests, check_libcoap_server, check_observers, check_bodies, check_connecting, check_address, check_restart,
-    check_connections, check_files, check_peers, check_idle,
+    check_connections, check_files, check_peers, check_idle, check_flooded_client,
 ]
 
 
