@@ -43,6 +43,13 @@ def line_of(stream):
     return text
 
 
+def processor_time(process):
+    """The seconds of processor time that a process has used."""
+    with open("/proc/%d/stat" % process.pid, encoding="ascii") as file:
+        fields = file.read().rpartition(")")[2].split()
+    return (int(fields[11]) + int(fields[12])) / os.sysconf("SC_CLK_TCK")
+
+
 class Server:
     """A server that listens at an address of this machine until its block is left. It takes its address by -A and -p."""
 
@@ -71,10 +78,7 @@ class Server:
         return socket.create_connection((self.host, self.port), LIMIT)
 
     def processor_time(self):
-        """The seconds of processor time that it has used."""
-        with open("/proc/%d/stat" % self.process.pid, encoding="ascii") as file:
-            fields = file.read().rpartition(")")[2].split()
-        return (int(fields[11]) + int(fields[12])) / os.sysconf("SC_CLK_TCK")
+        return processor_time(self.process)
 
     def __enter__(self):
         return self

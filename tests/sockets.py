@@ -9,18 +9,27 @@ waited for. libcoap's programs are asked by tests/interop.py, and hostile peers 
 
 import contextlib
 import os
+import select
 import socket
 import subprocess
 import sys
 import tempfile
 import time
 
-from peers import LIMIT, LOCAL, Server, authority, free_port, is_silent, line_of, read_bytes, read_to_end, reset
+from peers import LIMIT, LOCAL, Server, authority, free_port, is_silent, line_of, processor_time, read_bytes, read_to_end, reset
 from program import ABORTS, CSM, GREETING, Checks
 
 # GET of the root with token 1 behind the peer's Capabilities and Settings, and all that the server says to it
 HELLO = bytes.fromhex("00e1" "010101")
 GREETED = bytes.fromhex(CSM + "a14501" + GREETING)
+
+
+def flood(peer, piece):
+    """Sends a piece again and again, until nothing more goes for a while."""
+    peer.setblocking(False)
+    until = time.monotonic() + LIMIT / 2
+    while select.select([], [peer], [], 0.3)[1] and time.monotonic() < until:
+        peer.send(piece)
 
 
 def client(program, words, stream=b"", seconds=LIMIT):
@@ -181,6 +190,21 @@ def check_close(checks, programs):
             checks.same("too much", read_to_end(peer), (bytes.fromhex(CSM + ABORTS["message too large"]), "the end"))
 
 
+def check_flooded_client(checks, programs):
+    """A client whose peer sends pings and never reads: it waits for room, and still ends in time."""
+    with socket.create_server((LOCAL, 0)) as listener:
+        # little room on the peer's side, so that the client's queue is soon full
+        listener.setsockopt(socket.SOL_SOCKET, socket.SO_RCVBUF, 4096)
+        with subprocess.Popen([programs.client, "-B", "7", "coap+tcp://%s:%d/" % listener.getsockname()], stderr=subprocess.PIPE) as process:
+            with listener.accept()[0] as peer:
+                peer.sendall(bytes.fromhex("00e1"))
+                flood(peer, bytes.fromhex("01e201") * 20_000)
+                before = processor_time(process)
+                select.select([process.stderr], [], [], 4)
+                checks.same("a client in a flood, in 4 s", (process.poll(), processor_time(process) - before < 0.2), (None, True))
+                checks.same("it ends in time", (process.wait(LIMIT), process.stderr.read()), (4, b""))
+
+
 class Programs:
     """The two programs that are tried."""
 
@@ -190,6 +214,7 @@ class Programs:
 
 CHECKS = [
     check_requests, check_observers, check_bodies, check_connecting, check_ended, check_silent, check_address, check_files, check_close,
+    check_flooded_client,
 ]
 
 

@@ -13,6 +13,9 @@ pub mod HandledLaws
 pub mod FitLaws
 pub mod WordLemmas
 pub mod PlanLemmas
+pub mod StandLemmas
+pub mod CourseLaws
+pub mod RunLemmas
 mod Worked
 mod WorkedClient
 mod WorkedLaws

@@ -13,3 +13,5 @@ pub mod PlanViews
 pub mod RunFaults
 pub mod RunTexts
 pub mod RunSteps
+pub mod RunCourse
+pub mod ClientRun

@@ -1,7 +1,10 @@
 -- What the steps of a client's run come to.
-use Rattle.std.specs.Prelude.{ℕ, ◌-◌, ◌==◌, nat_le, Bool, true, false, List, [], Vec, Option, Some, None, is_some, unwrap_or, option_map, if◌then◌else◌}
+use Rattle.std.specs.Prelude.{ℕ, ◌-◌, ◌==◌, nat_le, Bool, true, false, List, [], ◌∷◌, Vec, Option, Some, None, is_some, unwrap_or, option_map, if◌then◌else◌}
 use Rattle.coap_wire.specs.Codes.{class_of}
 use Rattle.coap_wire.specs.Message.{CoapOption}
+use Rattle.coap_conn.specs.Phases.{stop_of}
+use Rattle.coap_conn.specs.declared.reason.Reason.{Reason}
+use Rattle.coap_conn.specs.declared.reason.Reason.TheVariants as reason
 use Rattle.coap_conn.specs.declared.phase.Phase.{Phase}
 use Rattle.coap_conn.specs.declared.phase.Phase.TheVariants.{Waiting, Open, Releasing}
 use Rattle.coap_conn.specs.declared.phase.Phase.TheVariants as phase
@@ -9,6 +12,9 @@ use Rattle.coap_conn.specs.declared.phase.RequestFault.{RequestFault}
 use Rattle.coap_conn.specs.declared.phase.RequestFault.TheVariants.{NotOpen, TooMany, TooBig, NoRoom, TokensSpent, NoSuchToken}
 use Rattle.coap_client.specs.ClientValues.{ClientValue, send_refusal, client_sent, EventValue, Ready, Response, Notification, Rejected, Pong, Stranger, Stopped}
 use Rattle.coap_client.specs.ClientValues as value
+use Rattle.coap_client.specs.ClientWorld.{ClientCall, Wrote, Ended}
+use Rattle.coap_serve.specs.declared.wire.Got.{Got}
+use Rattle.coap_serve.specs.declared.wire.Got.TheVariants.{Bytes, Later, End, Failed}
 use Rattle.coap_conn.specs.Asking.{next_token}
 use Rattle.coap_client.specs.Requests.{ExtrasValue}
 use Rattle.coap_client.specs.RunTexts.{stop_line, fault_line, option_line, response_line, payload_text}
@@ -74,6 +80,47 @@ token_asking client token plan =
 abbrev pub cancelling_refusal : ClientValue → Option (List ℕ) → ClientPlan → Option RequestFault
 cancelling_refusal client None plan = None
 cancelling_refusal client (Some token) plan = value.cancelling_refusal client.link token plan.target (planned_extras plan)
+
+-- the call that a read makes on the client: it is told that the input ended
+abbrev pub calls_read : Got → List ClientCall
+calls_read (Bytes n) = []
+calls_read Later = []
+calls_read End = Ended ∷ []
+calls_read Failed = []
+
+-- the client behind a read
+abbrev pub client_read : ClientValue → Got → ClientValue
+client_read client (Bytes n) = client
+client_read client Later = client
+client_read client End = value.client_ended client
+client_read client Failed = client
+
+-- why a read ends the run: the input ended, or the wire failed
+abbrev pub stop_behind : Phase → Got → Option Reason
+stop_behind phase (Bytes n) = None
+stop_behind phase Later = None
+stop_behind phase End = stop_of phase
+stop_behind phase Failed = Some reason.Ended
+
+-- why a write ends the run, where nothing else did
+abbrev pub stop_written : Option ℕ → Got → Option Reason
+stop_written None (Bytes n) = None
+stop_written None Later = None
+stop_written None End = Some reason.Ended
+stop_written None Failed = Some reason.Ended
+stop_written (Some status) got = None
+
+-- the calls that a write makes on the client
+abbrev pub calls_written : Got → List ClientCall
+calls_written (Bytes n) = Wrote n ∷ []
+calls_written Later = []
+calls_written End = []
+calls_written Failed = []
+
+-- the client behind a cancellation
+abbrev pub client_cancelling : ClientValue → Option (List ℕ) → ClientPlan → ClientValue
+client_cancelling client None plan = client
+client_cancelling client (Some token) plan = unless_refused (value.cancelling_refusal client.link token plan.target (planned_extras plan)) (value.client_cancelled client token plan.target (planned_extras plan)) client
 
 -- the moment at which the observation was cancelled
 abbrev pub cancelled_at : {T : Type 0} → Option T → Option RequestFault → ℕ → Option ℕ → Option ℕ

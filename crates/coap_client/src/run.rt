@@ -1,11 +1,16 @@
 //! Runs a client over one wire, as a command line asks.
 
-ghost use Rattle.std.specs.Prelude.{◌≡◌, ◌≤◌, ◌||◌, false, is_err, Some, [], drop, option_map, IfOk, IfSome, OnOk, if◌then◌else◌};
+ghost use Rattle.std.specs.Prelude.{◌≡◌, ◌≤◌, ◌||◌, ◌++◌, ◌∷◌, ℕ, List, false, is_err, None, Some, Err, [], length, drop, option_map, IfOk, IfSome, OnOk, if◌then◌else◌};
+ghost use Rattle.coap_serve.specs.streams.Telling.{TellsMore};
+ghost use Rattle.coap_serve.specs.streams.Wires.{bytes_passed, count_passed};
 ghost use Rattle.coap_serve.specs.streams.Device.{AddsBytes};
 ghost use Rattle.coap_client.specs.EventViews.{event_value};
 ghost use Rattle.coap_client.specs.RequestViews.{extras_value};
 ghost use Rattle.coap_client.specs.RunFaults.{is_output_fault, IsStatus, EndsWithStatus};
 ghost use Rattle.coap_client.specs.ClientValues as value;
+ghost use Rattle.coap_client.specs.ClientWorld.{ClientCall, ClientShows};
+ghost use Rattle.coap_client.specs.RunCourse.{own_limits};
+ghost use Rattle.coap_client.specs.ClientRun.{IsClientRun, seen, with_outlets, with_wire, with_all, HasLooked, IsFresh, IsReady, IsHeard, IsAsked, IsFinished, IsFlushed, Leads, LeadsAll, Flushes};
 ghost use Rattle.coap_client.specs.RunSteps as spec;
 ghost use Rattle.coap_client.specs.RunTexts as text;
 
@@ -106,6 +111,8 @@ pub fn run_client<W: Wire, C: Clock, O: Outlet, E: Outlet>(
 ) -> Result<u8, ClientFault>
     requires out_works { O.is_failed out.old ≡ false }
     requires err_works { E.is_failed err.old ≡ false }
+    // It took a course that its devices told, and the status is that with which the course ends.
+    ensures run { IfOk result (IsClientRun plan.now (seen (W.given wire.old) (W.written wire.old) (W.answers wire.old) (C.moments clock.old) (O.written out.old) (E.written err.old)) (seen (W.given wire.new) (W.written wire.new) (W.answers wire.new) (C.moments clock.new) (O.written out.new) (E.written err.new))) }
     ensures status { IfOk result IsStatus }
     // Output is answered exactly where an outlet failed.
     ensures output { (O.is_failed out.new || E.is_failed err.new) ≡ is_output_fault result }
@@ -124,7 +131,14 @@ pub fn run_client<W: Wire, C: Clock, O: Outlet, E: Outlet>(
 
 impl Run {
     /// A run that begins at this moment, with the limits that both programs have where nothing else is said.
-    fn open(alloc: Global, started: u64) -> Result<Run, AllocError> {
+    fn open(alloc: Global, started: u64) -> Result<Run, AllocError>
+        ensures client { IfOk result (λ r. r.client ≡ value.new_client own_limits 0) }
+        ensures shows { IfOk result (λ r. ClientShows r.client 0 []) }
+        ensures rest { IfOk result (λ r. r.rest ≡ []) }
+        ensures token { IfOk result (λ r. r.token ≡ None) }
+        ensures started { IfOk result (λ r. (r.started ≡ started) × (r.moment ≡ started)) }
+        ensures moments { IfOk result (λ r. (r.first ≡ None) × (r.cancelled ≡ None)) }
+    {
         let Ok(limits) = Limits::new(65_536, 65_536, 131_072, 16, 16, 16) else {
             unreachable!()
         };
@@ -150,50 +164,89 @@ impl Run {
     ) -> Next
         requires out_works { O.is_failed out.old ≡ false }
         requires err_works { E.is_failed err.old ≡ false }
+        ensures runs { Leads (with_all (W.given wire.old) (W.written wire.old) (W.answers wire.old) (O.written out.old) (E.written err.old)) (with_all (W.given wire.new) (W.written wire.new) (W.answers wire.new) (O.written out.new) (E.written err.new)) IsFresh IsFlushed plan.now self.old self.new result }
         ensures status { IfOk result (λ next. IfSome next IsStatus) }
         ensures output { (O.is_failed out.new || E.is_failed err.new) ≡ is_err result }
     {
-        if let Some(reason) = self.read(wire) {
-            return stopped(err, reason);
+        if let Some(status) = self.listen(wire, err)? {
+            return Ok(Some(status));
         }
         let next = self.go_on(out, err, plan)?;
-        let broken = self.write(wire);
-        if broken && next.is_none() {
-            return stopped(err, Reason::Ended);
-        }
-        Ok(next)
+        self.flush(wire, err, next)
     }
 
-    /// Reads once, where nothing is left to take, and answers why the connection is at its end, where it is. A wire that failed counts as
-    /// one that ended.
-    fn read<W: Wire>(&mut self, wire: &mut W) -> Option<Reason> {
+    /// Reads once, where nothing is left to take. The run ends where the input ends or the wire fails.
+    fn listen<W: Wire, E: Outlet>(&mut self, wire: &mut W, err: &mut E) -> Next
+        requires { E.is_failed err.old ≡ false }
+        ensures runs { LeadsAll (with_wire (W.given wire.old) (W.written wire.old) (W.answers wire.old) (E.written err.old)) (with_wire (W.given wire.new) (W.written wire.new) (W.answers wire.new) (E.written err.new)) IsFresh IsHeard self.old self.new result }
+        ensures status { IfOk result (λ next. IfSome next IsStatus) }
+        ensures output { E.is_failed err.new ≡ is_err result }
+    {
         if !self.rest.is_empty() {
-            return None;
+            return Ok(None);
         }
+        let got = self.read(wire);
+        match stop_behind(self.client.phase(), got) {
+            Some(reason) => stopped(err, reason),
+            None => Ok(None),
+        }
+    }
+
+    /// Reads once, in place of what was left to take, and tells the client where the input ended.
+    fn read<W: Wire>(&mut self, wire: &mut W) -> Got
+        ensures count { length self.new.rest ≡ count_passed result }
+        ensures gave { AddsBytes (W.given wire.old) (W.given wire.new) self.new.rest }
+        ensures wrote { AddsBytes (W.written wire.old) (W.written wire.new) [] }
+        ensures answered { TellsMore (W.answers wire.old) (W.answers wire.new) (result ∷ []) }
+        ensures client { self.new.client ≡ spec.client_read self.old.client result }
+        ensures kept { (self.new.token ≡ self.old.token) × (self.new.started ≡ self.old.started) × (self.new.moment ≡ self.old.moment) × (self.new.first ≡ self.old.first) × (self.new.cancelled ≡ self.old.cancelled) }
+    {
         match self.rest.read(wire) {
-            Got::Bytes(_) => None,
-            Got::Later => None,
+            Got::Bytes(count) => Got::Bytes(count),
+            Got::Later => Got::Later,
             Got::End => {
                 self.client.ended();
-                self.client.phase().stop()
+                Got::End
             }
-            Got::Failed => Some(Reason::Ended),
+            Got::Failed => Got::Failed,
         }
     }
 
-    /// Writes once, where anything waits, and answers whether the wire failed.
-    fn write<W: Wire>(&mut self, wire: &mut W) -> bool {
+    /// Writes once, where anything waits. The run ends where the wire fails, if nothing else ended it.
+    fn flush<W: Wire, E: Outlet>(&mut self, wire: &mut W, err: &mut E, next: Option<u8>) -> Next
+        requires works { E.is_failed err.old ≡ false }
+        requires known { IfSome next IsStatus }
+        ensures runs { Flushes (with_wire (W.given wire.old) (W.written wire.old) (W.answers wire.old) (E.written err.old)) (with_wire (W.given wire.new) (W.written wire.new) (W.answers wire.new) (E.written err.new)) self.old self.new next result }
+        ensures status { IfOk result (λ next. IfSome next IsStatus) }
+        ensures output { E.is_failed err.new ≡ is_err result }
+    {
         if self.client.waiting() == 0 {
-            return false;
+            return Ok(next);
         }
+        let got = self.write(wire);
+        match stop_written(next, got) {
+            Some(reason) => stopped(err, reason),
+            None => Ok(next),
+        }
+    }
+
+    /// Writes once all that waits, as far as the wire takes it.
+    fn write<W: Wire>(&mut self, wire: &mut W) -> Got
+        ensures client { self.new.client ≡ value.client_written self.old.client (count_passed result) }
+        ensures shows { (tokens : ℕ) (calls : List ClientCall) → ClientShows self.old.client tokens calls → ClientShows self.new.client tokens (calls ++ spec.calls_written result) }
+        ensures wrote { AddsBytes (W.written wire.old) (W.written wire.new) (bytes_passed self.old.client.link.waiting result) }
+        ensures gave { AddsBytes (W.given wire.old) (W.given wire.new) [] }
+        ensures answered { TellsMore (W.answers wire.old) (W.answers wire.new) (result ∷ []) }
+        ensures kept { (self.new.rest ≡ self.old.rest) × (self.new.token ≡ self.old.token) × (self.new.started ≡ self.old.started) × (self.new.moment ≡ self.old.moment) × (self.new.first ≡ self.old.first) × (self.new.cancelled ≡ self.old.cancelled) }
+    {
         match wire.write(self.client.front()) {
             Got::Bytes(count) => {
                 self.client.written(count);
-                false
+                Got::Bytes(count)
             }
-            Got::Later => false,
-            Got::End => true,
-            Got::Failed => true,
+            Got::Later => Got::Later,
+            Got::End => Got::End,
+            Got::Failed => Got::Failed,
         }
     }
 
@@ -201,6 +254,7 @@ impl Run {
     fn go_on<O: Outlet, E: Outlet>(&mut self, out: &mut O, err: &mut E, plan: &ClientPlan) -> Next
         requires out_works { O.is_failed out.old ≡ false }
         requires err_works { E.is_failed err.old ≡ false }
+        ensures runs { Leads (with_outlets (O.written out.old) (E.written err.old)) (with_outlets (O.written out.new) (E.written err.new)) HasLooked IsFinished plan.now self.old self.new result }
         ensures status { IfOk result (λ next. IfSome next IsStatus) }
         ensures output { (O.is_failed out.new || E.is_failed err.new) ≡ is_err result }
     {
@@ -230,6 +284,7 @@ impl Run {
         ensures told { OnOk result (AddsBytes (E.written err.old) (E.written err.new) (spec.refusal_text (spec.asking_refusal self.old.client self.old.token plan.now))) }
         ensures after { self.new.client ≡ spec.client_asking self.old.client self.old.token plan.now }
         ensures token { option_map (λ t. t.items) self.new.token ≡ spec.token_asking self.old.client (option_map (λ t. t.items) self.old.token) plan.now }
+        ensures kept { (self.new.rest ≡ self.old.rest) × (self.new.started ≡ self.old.started) × (self.new.moment ≡ self.old.moment) × (self.new.first ≡ self.old.first) × (self.new.cancelled ≡ self.old.cancelled) }
         ensures status { IfOk result (λ next. IfSome next IsStatus) }
         ensures output { E.is_failed err.new ≡ is_err result }
     {
@@ -258,6 +313,7 @@ impl Run {
     ) -> Next
         requires out_works { O.is_failed out.old ≡ false }
         requires err_works { E.is_failed err.old ≡ false }
+        ensures runs { Leads (with_outlets (O.written out.old) (E.written err.old)) (with_outlets (O.written out.new) (E.written err.new)) IsReady IsAsked plan.now self.old self.new result }
         ensures status { IfOk result (λ next. IfSome next IsStatus) }
         ensures output { (O.is_failed out.new || E.is_failed err.new) ≡ is_err result }
     {
@@ -284,6 +340,8 @@ impl Run {
         ensures err { OnOk result (AddsBytes (E.written err.old) (E.written err.new) (spec.errors_told (value.taking self.old.client self.old.rest).event)) }
         ensures client { self.new.client ≡ (value.taking self.old.client self.old.rest).client }
         ensures rest { OnOk result (self.new.rest ≡ drop (value.taking self.old.client self.old.rest).count self.old.rest) }
+        ensures within { (value.taking self.old.client self.old.rest).count ≤ length self.old.rest }
+        ensures kept { (self.new.token ≡ self.old.token) × (self.new.started ≡ self.old.started) × (self.new.moment ≡ self.old.moment) × (self.new.cancelled ≡ self.old.cancelled) }
         ensures first { OnOk result (self.new.first ≡ spec.first_told (value.taking self.old.client self.old.rest).event self.old.first self.old.moment) }
         ensures status { IfOk result (λ next. IfSome next IsStatus) }
         ensures output { (O.is_failed out.new || E.is_failed err.new) ≡ is_err result }
@@ -310,6 +368,9 @@ impl Run {
     /// What is due by the moment: the observation is cancelled, or the run has waited long enough for its first or its last response.
     fn watch<E: Outlet>(&mut self, err: &mut E, plan: &ClientPlan) -> Next
         requires { E.is_failed err.old ≡ false }
+        ensures after { self.new.client ≡ (if spec.is_to_cancel self.old.cancelled self.old.first self.old.moment plan.now.observe then spec.client_cancelling self.old.client (option_map (λ t. t.items) self.old.token) plan.now else self.old.client) }
+        ensures cancelled { self.new.cancelled ≡ (if spec.is_to_cancel self.old.cancelled self.old.first self.old.moment plan.now.observe then spec.cancelled_at self.old.token (spec.cancelling_refusal self.old.client (option_map (λ t. t.items) self.old.token) plan.now) self.old.moment self.old.cancelled else self.old.cancelled) }
+        ensures kept { (self.new.rest ≡ self.old.rest) × (self.new.token ≡ self.old.token) × (self.new.started ≡ self.old.started) × (self.new.moment ≡ self.old.moment) × (self.new.first ≡ self.old.first) }
         ensures next { IfOk result (λ next. next ≡ spec.watched self.old.cancelled self.old.first self.old.started self.old.moment plan.now (spec.ended_by (spec.cancelling_refusal self.old.client (option_map (λ t. t.items) self.old.token) plan.now))) }
         ensures told { OnOk result (AddsBytes (E.written err.old) (E.written err.new) (if spec.is_to_cancel self.old.cancelled self.old.first self.old.moment plan.now.observe then spec.refusal_text (spec.cancelling_refusal self.old.client (option_map (λ t. t.items) self.old.token) plan.now) else [])) }
         ensures status { IfOk result (λ next. IfSome next IsStatus) }
@@ -332,7 +393,9 @@ impl Run {
         requires { E.is_failed err.old ≡ false }
         ensures next { IfOk result (λ next. next ≡ spec.ended_by (spec.cancelling_refusal self.old.client (option_map (λ t. t.items) self.old.token) plan.now)) }
         ensures told { OnOk result (AddsBytes (E.written err.old) (E.written err.new) (spec.refusal_text (spec.cancelling_refusal self.old.client (option_map (λ t. t.items) self.old.token) plan.now))) }
+        ensures after { self.new.client ≡ spec.client_cancelling self.old.client (option_map (λ t. t.items) self.old.token) plan.now }
         ensures cancelled { self.new.cancelled ≡ spec.cancelled_at self.old.token (spec.cancelling_refusal self.old.client (option_map (λ t. t.items) self.old.token) plan.now) self.old.moment self.old.cancelled }
+        ensures kept { (self.new.rest ≡ self.old.rest) × (self.new.token ≡ self.old.token) × (self.new.started ≡ self.old.started) × (self.new.moment ≡ self.old.moment) × (self.new.first ≡ self.old.first) }
         ensures status { IfOk result (λ next. IfSome next IsStatus) }
         ensures output { E.is_failed err.new ≡ is_err result }
     {
@@ -347,6 +410,33 @@ impl Run {
             Err(RequestFault::NoRoom) => Ok(None),
             Err(fault) => refused(err, fault),
         }
+    }
+}
+
+/// Why a read ends the run: the input ended, or the wire failed.
+fn stop_behind(phase: Phase, got: Got) -> Option<Reason>
+    ensures { result ≡ spec.stop_behind phase got }
+{
+    match got {
+        Got::Bytes(_) => None,
+        Got::Later => None,
+        Got::End => phase.stop(),
+        Got::Failed => Some(Reason::Ended),
+    }
+}
+
+/// Why a write ends the run, where nothing else did: the wire failed.
+fn stop_written(next: Option<u8>, got: Got) -> Option<Reason>
+    ensures { result ≡ spec.stop_written next got }
+{
+    if next.is_some() {
+        return None;
+    }
+    match got {
+        Got::Bytes(_) => None,
+        Got::Later => None,
+        Got::End => Some(Reason::Ended),
+        Got::Failed => Some(Reason::Ended),
     }
 }
 

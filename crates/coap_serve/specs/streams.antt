@@ -6,3 +6,4 @@ pub mod Faults
 pub mod Wires
 pub mod Turns
 pub mod Notes
+pub mod Telling

@@ -30,8 +30,9 @@ impl Model for Rest {
 }
 
 impl Rest {
-    ghost use Rattle.std.specs.Prelude.{◌≡◌, ◌==◌, ◌≤◌, ◌-◌, [], length, drop, IfOk};
+    ghost use Rattle.std.specs.Prelude.{◌≡◌, ◌==◌, ◌≤◌, ◌-◌, [], ◌∷◌, length, drop, IfOk};
     ghost use Rattle.coap_serve.specs.streams.Device.{AddsBytes};
+    ghost use Rattle.coap_serve.specs.streams.Telling.{TellsMore};
     ghost use Rattle.coap_serve.specs.streams.Wires.{count_passed};
 
     /// Nothing was read. The room of 16,384 bytes is reserved once.
@@ -84,6 +85,7 @@ impl Rest {
         ensures count { length self.new ≡ count_passed result }
         ensures gave { AddsBytes (W.given wire.old) (W.given wire.new) self.new }
         ensures wrote { AddsBytes (W.written wire.old) (W.written wire.new) [] }
+        ensures answered { TellsMore (W.answers wire.old) (W.answers wire.new) (result ∷ []) }
     {
         self.from = 0;
         self.to = 0;

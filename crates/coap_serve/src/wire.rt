@@ -1,8 +1,10 @@
 //! What connections and moments come from: wires, the door that hands them out, and the clock.
 
-ghost use Rattle.std.specs.Prelude.{ℕ, Bool, List, [], length, Option};
+ghost use Rattle.std.specs.Prelude.{ℕ, Bool, List, [], ◌∷◌, length, Option, None};
 ghost use Rattle.coap_serve.specs.streams.Device.{AddsBytes};
+ghost use Rattle.coap_serve.specs.streams.Telling.{TellsMore};
 ghost use Rattle.coap_serve.specs.streams.Wires.{IsWithin, IsTold, bytes_passed};
+ghost use Rattle.coap_serve.specs.declared.wire.Got.{Got};
 
 /// What a read or a write of a wire came to.
 #[derive(Clone, Copy, PartialEq, Eq)]
@@ -25,19 +27,24 @@ pub trait Wire {
     /// The bytes that its writes took so far, in order, where it tells.
     ghost written: { Self → Option (List ℕ) };
 
+    /// What its reads and writes came to so far, in order, where it tells.
+    ghost answers: { Self → Option (List Got) } = { λ _. None };
+
     /// Reads at least 1 byte and at most as many as the buffer has, into the front of the buffer. `Later` where no byte is
     /// there now, `End` where the peer sends nothing more, `Failed` where reading fails.
     fn read(&mut self, buffer: &mut [u8]) -> Got
         ensures within { IsWithin (length buffer.new) result }
         ensures gave { AddsBytes (given self.old) (given self.new) (bytes_passed buffer.new result) }
-        ensures wrote { AddsBytes (written self.old) (written self.new) [] };
+        ensures wrote { AddsBytes (written self.old) (written self.new) [] }
+        ensures answered { TellsMore (answers self.old) (answers self.new) (result ∷ []) };
 
     /// Writes at least 1 of the bytes, from their front. `Later` where none can be taken now, `Failed` where writing fails;
     /// `End` means the same as `Failed`.
     fn write(&mut self, bytes: &[u8]) -> Got
         ensures within { IsWithin (length bytes.now) result }
         ensures wrote { AddsBytes (written self.old) (written self.new) (bytes_passed bytes.now result) }
-        ensures gave { AddsBytes (given self.old) (given self.new) [] };
+        ensures gave { AddsBytes (given self.old) (given self.new) [] }
+        ensures answered { TellsMore (answers self.old) (answers self.new) (result ∷ []) };
 }
 
 /// Whether a wire is ready, as far as its owner knows without asking the system.
@@ -83,6 +90,10 @@ pub trait Door {
 
 /// What tells the moment.
 pub trait Clock {
+    /// The moments that it gave so far, in order, where it tells.
+    ghost moments: { Self → Option (List ℕ) } = { λ _. None };
+
     /// The moment, in seconds.
-    fn now(&mut self) -> u64;
+    fn now(&mut self) -> u64
+        ensures { TellsMore (moments self.old) (moments self.new) (result ∷ []) };
 }

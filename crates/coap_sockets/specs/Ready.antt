@@ -53,3 +53,10 @@ is_blocked_by offered (Bytes n) = nat_lt n offered
 is_blocked_by offered Later = true
 is_blocked_by offered End = false
 is_blocked_by offered Failed = false
+
+-- it found no room
+abbrev pub is_later : Got → Bool
+is_later (Bytes n) = false
+is_later Later = true
+is_later End = false
+is_later Failed = false

@@ -1,6 +1,7 @@
 //! A client's wire over TCP, which waits.
 
-ghost use Rattle.std.specs.Prelude.{◌≡◌};
+ghost use Rattle.std.specs.Prelude.{◌≡◌, length};
+ghost use Rattle.coap_serve.specs.streams.Wires.{IsWithin};
 ghost use Rattle.coap_sockets.specs.Ready.{is_blocked_by};
 
 use crate::answers::{read_got, write_got};
@@ -102,12 +103,14 @@ impl<'a, R: Net + time::Clock> Dialer<'a, R> {
             events: self.events,
             clock: RunClock::start(self.rt),
             is_blocked: true,
+            is_stuck: false,
             has_ticked: false,
         }
     }
 }
 
-/// The wire of a client. A read with nothing there waits, until the next second of the run begins at the most, and a write never does.
+/// The wire of a client. A read with nothing there waits, until the next second of the run begins at the most. So does a write with no
+/// room, where the call before it was one too: whoever writes twice and reads nothing has something to write first.
 #[derive(Drop)]
 pub struct Line<'a, R> {
     stream: TcpStream,
@@ -116,6 +119,8 @@ pub struct Line<'a, R> {
     clock: RunClock<'a, R>,
     /// Whether bytes may wait to be written: at first, and where the last write did not take all.
     is_blocked: bool,
+    /// Whether the last call was a write that found no room.
+    is_stuck: bool,
     /// Whether the last wait ended as a second of the run began. The run looks at that moment before it waits again.
     has_ticked: bool,
 }
@@ -154,13 +159,17 @@ impl<'a, R: Net + time::Clock> Line<'a, R> {
         self.clock.again()
     }
 
-    /// Waits until bytes are there to be read, or until bytes that wait can be written, or until the next second of the run begins.
-    fn wait(&mut self) {
-        let interest = if self.is_blocked {
+    /// What a read waits for: bytes, and room where bytes may wait to be written.
+    fn interest(&self) -> Interest {
+        if self.is_blocked {
             Interest::READABLE | Interest::WRITABLE
         } else {
             Interest::READABLE
-        };
+        }
+    }
+
+    /// Waits for one of these, or until the next second of the run begins.
+    fn wait(&mut self, interest: Interest) {
         // To register it once more has the system tell again what is ready. Where that fails, the wait ends with the second.
         let _ = self
             .poll
@@ -172,6 +181,18 @@ impl<'a, R: Net + time::Clock> Line<'a, R> {
             self.is_blocked = false;
         }
         self.has_ticked = self.events.is_empty();
+    }
+
+    /// Writes, and once more behind a wait for room, where there is none and the call before found none either.
+    fn write_or_wait(&mut self, bytes: &[u8]) -> Got
+        ensures { IsWithin (length bytes.now) result }
+    {
+        let got = write_got(self.stream.write(bytes));
+        if got != Got::Later || !self.is_stuck {
+            return got;
+        }
+        self.wait(Interest::WRITABLE);
+        write_got(self.stream.write(bytes))
     }
 }
 
@@ -188,10 +209,11 @@ fn is_blocked_by(offered: usize, got: Got) -> bool
 }
 
 impl<'a, R: Net + time::Clock> Wire for Line<'a, R> {
-    ghost use Rattle.std.specs.Prelude.{◌≡◌, None, [], length};
+    ghost use Rattle.std.specs.Prelude.{◌≡◌, None, [], ◌∷◌, length};
     ghost use Rattle.coap_serve.specs.streams.Device.{AddsBytes};
     ghost use Rattle.coap_serve.specs.streams.Wires.{IsWithin, bytes_passed};
-    ghost use Rattle.coap_sockets.specs.Ready.{is_blocked_by};
+    ghost use Rattle.coap_serve.specs.streams.Telling.{TellsMore};
+    ghost use Rattle.coap_sockets.specs.Ready.{is_blocked_by, is_later};
 
     // A socket tells nothing of what it passed on.
     ghost given = { λ _. None };
@@ -199,6 +221,7 @@ impl<'a, R: Net + time::Clock> Wire for Line<'a, R> {
     ghost written = { λ _. None };
 
     fn read(&mut self, buffer: &mut [u8]) -> Got {
+        self.is_stuck = false;
         let got = read_got(self.stream.read(buffer));
         if got != Got::Later {
             return got;
@@ -207,7 +230,7 @@ impl<'a, R: Net + time::Clock> Wire for Line<'a, R> {
             self.has_ticked = false;
             return Got::Later;
         }
-        self.wait();
+        self.wait(self.interest());
         read_got(self.stream.read(buffer))
     }
 
@@ -215,9 +238,12 @@ impl<'a, R: Net + time::Clock> Wire for Line<'a, R> {
         ensures within { IsWithin (length bytes.now) result }
         ensures wrote { AddsBytes None None (bytes_passed bytes.now result) }
         ensures gave { AddsBytes None None [] }
+        ensures answered { TellsMore None None (result ∷ []) }
         ensures blocked { self.new.is_blocked ≡ is_blocked_by (length bytes.now) result }
+        ensures stuck { self.new.is_stuck ≡ is_later result }
     {
-        let got = write_got(self.stream.write(bytes));
+        let got = self.write_or_wait(bytes);
+        self.is_stuck = got == Got::Later;
         self.is_blocked = is_blocked_by(bytes.len(), got);
         got
     }

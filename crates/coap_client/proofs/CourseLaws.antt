@@ -1,0 +1,266 @@
+-- What holds of every course of a client's run: what was taken is a front of what the wire gave, and what was written a front of what
+-- was queued.
+use Rattle.std.proofs.Common.{◌≡◌, ◌+◌, ◌≤◌, ℕ, Bool, true, false, cond, List, [], ◌∷◌, ◌++◌, length, map, take, drop, Option, Some, None, refl, sym, ap, subst, ◌∙◌, append_assoc, arith}
+use Rattle.std.specs.List.{flat_map}
+use Rattle.std.proofs.lemmas.List.{append-nil, take-append-drop, take-append-le, drop-append-le}
+use Rattle.std.proofs.Math.Seq.{drop-append_seam, take-append-add}
+use Rattle.std.proofs.lemmas.List.Concat.{flat_map-append}
+use Rattle.coap_wire.specs.Message.{Message}
+use Rattle.coap_wire.specs.Spelling.{spelling}
+use Rattle.coap_wire.specs.Stream.{StreamFault, Stream}
+use Rattle.coap_conn.specs.Limits.{LimitValues}
+use Rattle.coap_conn.specs.Phases.{takes_messages}
+use Rattle.coap_conn.specs.History.{History, IsHistory, bytes_of}
+use Rattle.coap_serve.specs.declared.wire.Got.{Got}
+use Rattle.coap_serve.specs.declared.wire.Got.TheVariants.{Bytes, Later, End, Failed}
+use Rattle.coap_serve.specs.streams.Wires.{bytes_passed, count_passed}
+use Rattle.coap_client.specs.declared.plan.ClientPlan.{ClientPlan}
+use Rattle.coap_client.specs.ClientWorld.{ClientCall, Took, Sent, Cancelled, Pinged, Wrote, Ended, ClientStep, Handles, Faults, Requests, Cancels, Pings, Writes, Ends, taken_by, stream_in, new_fault, steps_by, step, after_steps, client_after, client_of, AreAcceptedBehind, AreAccepted}
+use Rattle.coap_client.specs.RunSteps.{calls_read, calls_written}
+use Rattle.coap_client.specs.RunCourse.{Course, Begins, Turns, Reads, Calls, Refuses, GivesUp, Rests, own_limits, calls_in, history_in, waiting_in, taken_in, given_in, rest_in, written_in, IsPlanned, IsCourse}
+use Rattle.coap_client.specs.RunCourse as course
+use Rattle.coap_client.proofs.ClientSteps.{taken_then, client_first, client_more}
+use Rattle.coap_client.proofs.ClientReached.{accepted_is}
+use Rattle.coap_client.proofs.FitLaws.{step_grows}
+use Rattle.coap_client.proofs.StandLemmas.{front_length}
+
+-- ---- what was taken
+
+abbrev taken : List ClientCall → List ℕ
+taken calls = flat_map taken_by calls
+
+-- a call that takes no bytes
+taken_none : (calls : List ClientCall) (c : ClientCall) → taken_by c ≡ [] → taken (calls ++ c ∷ []) ≡ taken calls
+taken_none calls c none = taken_then calls c ∙ ap (λ (t : List ℕ). taken calls ++ t) none ∙ append-nil (taken calls)
+
+read_taken : (calls : List ClientCall) (got : Got) → taken (calls ++ calls_read got) ≡ taken calls
+read_taken calls (Bytes n) = ap taken (append-nil calls)
+read_taken calls Later = ap taken (append-nil calls)
+read_taken calls End = taken_none calls Ended refl
+read_taken calls Failed = ap taken (append-nil calls)
+
+written_taken : (calls : List ClientCall) (got : Got) → taken (calls ++ calls_written got) ≡ taken calls
+written_taken calls (Bytes n) = taken_none calls (Wrote n) refl
+written_taken calls Later = ap taken (append-nil calls)
+written_taken calls End = ap taken (append-nil calls)
+written_taken calls Failed = ap taken (append-nil calls)
+
+-- a front and what is behind it
+front_then : (n : ℕ) (xs bytes : List ℕ) → bytes ≡ take n xs → bytes ++ drop (length bytes) xs ≡ xs
+front_then n xs bytes is =
+    let whole : bytes ++ drop n xs ≡ xs = ap (λ (b : List ℕ). b ++ drop n xs) is ∙ take-append-drop n xs in
+    ap (λ (all : List ℕ). bytes ++ drop (length bytes) all) (sym whole)
+    ∙ ap (λ (t : List ℕ). bytes ++ t) (drop-append_seam bytes (drop n xs))
+    ∙ whole
+
+given_taken : (calls : List ClientCall) (given rest bytes : List ℕ) (n : ℕ) → given ≡ taken calls ++ rest → bytes ≡ take n rest → given ≡ taken (calls ++ Took bytes ∷ []) ++ drop (length bytes) rest
+given_taken calls given rest bytes n is front =
+    is
+    ∙ ap (λ (t : List ℕ). taken calls ++ t) (sym (front_then n rest bytes front))
+    ∙ sym (append_assoc (taken calls) bytes (drop (length bytes) rest))
+    ∙ ap (λ (t : List ℕ). t ++ drop (length bytes) rest) (sym (taken_then calls (Took bytes)))
+
+given_same : (calls more : List ClientCall) (given rest : List ℕ) → given ≡ taken calls ++ rest → taken more ≡ taken calls → given ≡ taken more ++ rest
+given_same calls more given rest is same = is ∙ ap (λ (t : List ℕ). t ++ rest) (sym same)
+
+given_read : (calls : List ClientCall) (given rest bytes : List ℕ) → given ≡ taken calls ++ rest → rest ≡ [] → given ++ bytes ≡ taken calls ++ bytes
+given_read calls given rest bytes is none = ap (λ (t : List ℕ). t ++ bytes) (is ∙ ap (λ (t : List ℕ). taken calls ++ t) none ∙ append-nil (taken calls))
+
+-- what was taken, and what is left, is what the wire gave
+pub course_taken : (plan : ClientPlan) (c : Course) → IsCourse plan c → given_in c ≡ taken_in c ++ rest_in c
+course_taken plan (Begins moment) is = refl
+course_taken plan (Turns before moment) is = course_taken plan before is.0
+course_taken plan (Reads before got bytes) is =
+    given_same (calls_in before) (calls_in before ++ calls_read got) (given_in before ++ bytes) bytes
+    (given_read (calls_in before) (given_in before) (rest_in before) bytes (course_taken plan before is.0) is.2) (read_taken (calls_in before) got)
+course_taken plan (Calls before (Took bytes)) is = given_taken (calls_in before) (given_in before) (rest_in before) bytes _ (course_taken plan before is.0) is.2
+course_taken plan (Calls before (Sent method target extras)) is =
+    given_same (calls_in before) (calls_in before ++ Sent method target extras ∷ []) (given_in before) (rest_in before) (course_taken plan before is.0) (taken_none (calls_in before) (Sent method target extras) refl)
+course_taken plan (Calls before (Cancelled token target extras)) is =
+    given_same (calls_in before) (calls_in before ++ Cancelled token target extras ∷ []) (given_in before) (rest_in before) (course_taken plan before is.0) (taken_none (calls_in before) (Cancelled token target extras) refl)
+course_taken plan (Calls before (Pinged custody)) is = absurd is.2
+course_taken plan (Calls before (Wrote n)) is = absurd is.2
+course_taken plan (Calls before Ended) is = absurd is.2
+course_taken plan (Refuses before fault) is = course_taken plan before is.0
+course_taken plan (GivesUp before) is = course_taken plan before is.0
+course_taken plan (Rests before) is = course_taken plan before is.0
+course_taken plan (course.Writes before got) is =
+    given_same (calls_in before) (calls_in before ++ calls_written got) (given_in before) (rest_in before) (course_taken plan before is.0) (written_taken (calls_in before) got)
+
+-- ---- what was written
+
+-- nothing more was written, and more may be queued
+record Grows (h k : History) : Type 0 where
+  written : k.written ≡ h.written
+  more : List Message
+  queued : k.queued ≡ h.queued ++ more
+
+grows_none : (h : History) → Grows h h
+grows_none h = record { written = refl; more = []; queued = sym (append-nil h.queued) }
+
+grows_then : (h k l : History) → Grows h k → Grows k l → Grows h l
+grows_then h k l one other = record {
+  written = other.written ∙ one.written;
+  more = one.more ++ other.more;
+  queued = other.queued ∙ ap (λ (ms : List Message). ms ++ other.more) one.queued ∙ append_assoc h.queued one.more other.more;
+}
+
+written_if : (does : Bool) (h k : History) → k.written ≡ h.written → (cond does k h).written ≡ h.written
+written_if true h k is = is
+written_if false h k is = refl
+
+-- a step that writes nothing
+abbrev IsQuiet : ClientStep → Type 0
+IsQuiet (Handles m) = Unit {0}
+IsQuiet (Faults fault) = Unit {0}
+IsQuiet (Requests m observe) = Unit {0}
+IsQuiet (Cancels token m) = Unit {0}
+IsQuiet (Pings custody) = Unit {0}
+IsQuiet (Writes n) = ⊥
+IsQuiet (Ends cut) = Unit {0}
+
+step_written : (h : History) (s : ClientStep) → IsQuiet s → (step h s).written ≡ h.written
+unfolding step
+step_written h (Handles m) quiet = written_if (takes_messages h.phase) h _ refl
+step_written h (Faults fault) quiet = written_if (takes_messages h.phase) h _ refl
+step_written h (Requests m observe) quiet = written_if _ h _ refl
+step_written h (Cancels token m) quiet = written_if _ h _ refl
+step_written h (Pings custody) quiet = written_if _ h _ refl
+step_written h (Writes n) quiet = absurd quiet
+step_written h (Ends cut) quiet = written_if (takes_messages h.phase) h _ refl
+
+step_quiet : (h : History) (s : ClientStep) → IsQuiet s → Grows h (step h s)
+step_quiet h s quiet = record { written = step_written h s quiet; more = (step_grows h s).0; queued = (step_grows h s).1 }
+
+fault_quiet : (h : History) (before after : Option StreamFault) → Grows h (after_steps h (new_fault before after))
+unfolding after_steps
+fault_quiet h before None = grows_none h
+fault_quiet h None (Some fault) = step_quiet h (Faults fault) tt
+fault_quiet h (Some old) (Some fault) = grows_none h
+
+messages_quiet : (h : History) (ms : List Message) (before after : Option StreamFault) → Grows h (after_steps h (map Handles ms ++ new_fault before after))
+unfolding after_steps
+messages_quiet h [] before after = fault_quiet h before after
+messages_quiet h (m ∷ ms) before after = grows_then h (step h (Handles m)) _ (step_quiet h (Handles m) tt) (messages_quiet (step h (Handles m)) ms before after)
+
+-- a call that writes nothing
+abbrev IsQuietCall : ClientCall → Type 0
+IsQuietCall (Took bytes) = Unit {0}
+IsQuietCall (Sent method target extras) = Unit {0}
+IsQuietCall (Cancelled token target extras) = Unit {0}
+IsQuietCall (Pinged custody) = Unit {0}
+IsQuietCall (Wrote n) = ⊥
+IsQuietCall Ended = Unit {0}
+
+call_steps : (h : History) (calls : List ClientCall) (c : ClientCall) → IsQuietCall c → Grows h (after_steps h (steps_by own_limits.max_message calls c))
+unfolding steps_by after_steps
+call_steps h calls (Took bytes) quiet =
+    let before : Stream = stream_in own_limits.max_message calls in
+    let after : Stream = stream_in own_limits.max_message (calls ++ Took bytes ∷ []) in
+    messages_quiet h (drop (length before.messages) after.messages) before.fault after.fault
+call_steps h calls (Sent method target extras) quiet = step_quiet h _ tt
+call_steps h calls (Cancelled token target extras) quiet = step_quiet h _ tt
+call_steps h calls (Pinged custody) quiet = step_quiet h _ tt
+call_steps h calls (Wrote n) quiet = absurd quiet
+call_steps h calls Ended quiet = step_quiet h _ tt
+
+abbrev reached : List ClientCall → History
+reached calls = client_after own_limits 0 calls
+
+-- what of the messages queued was written
+abbrev sent : History → List ℕ
+sent h = take h.written (bytes_of h.queued)
+
+call_grows : (calls : List ClientCall) (c : ClientCall) → IsQuietCall c → Grows (reached calls) (reached (calls ++ c ∷ []))
+call_grows calls c quiet = subst (λ (k : History). Grows (reached calls) k) (sym (client_more own_limits 0 calls c)) (call_steps (reached calls) calls c quiet)
+
+sent_grown : (h k : History) → IsHistory h → Grows h k → sent k ≡ sent h
+sent_grown h k is grows =
+    ap (λ (n : ℕ). take n (bytes_of k.queued)) grows.written
+    ∙ ap (λ (ms : List Message). take h.written (bytes_of ms)) grows.queued
+    ∙ ap (λ (bs : List ℕ). take h.written bs) (flat_map-append spelling h.queued grows.more)
+    ∙ take-append-le h.written (bytes_of h.queued) (bytes_of grows.more) is
+
+-- calls that are accepted begin with calls that are
+accepted_front : (limits : LimitValues) (tokens : ℕ) (earlier calls more : List ClientCall) → AreAcceptedBehind limits tokens earlier (calls ++ more) → AreAcceptedBehind limits tokens earlier calls
+unfolding AreAcceptedBehind
+accepted_front limits tokens earlier [] more all = tt
+accepted_front limits tokens earlier (c ∷ calls) more all = (all.0, accepted_front limits tokens (earlier ++ c ∷ []) calls more all.1)
+
+front_of : (calls more : List ClientCall) → AreAccepted own_limits 0 (calls ++ more) → AreAccepted own_limits 0 calls
+front_of calls more all = accepted_front own_limits 0 [] calls more all
+
+history_of : (calls : List ClientCall) → AreAccepted own_limits 0 calls → IsHistory (reached calls)
+history_of calls all = (accepted_is own_limits 0 calls all).is_history
+
+quiet_sent : (calls : List ClientCall) (c : ClientCall) → IsQuietCall c → AreAccepted own_limits 0 (calls ++ c ∷ []) → sent (reached (calls ++ c ∷ [])) ≡ sent (reached calls)
+quiet_sent calls c quiet all = sent_grown (reached calls) (reached (calls ++ c ∷ [])) (history_of calls (front_of calls (c ∷ []) all)) (call_grows calls c quiet)
+
+no_call_sent : (calls : List ClientCall) → sent (reached (calls ++ [])) ≡ sent (reached calls)
+no_call_sent calls = ap (λ (cs : List ClientCall). sent (reached cs)) (append-nil calls)
+
+read_sent : (calls : List ClientCall) (got : Got) → AreAccepted own_limits 0 (calls ++ calls_read got) → sent (reached (calls ++ calls_read got)) ≡ sent (reached calls)
+read_sent calls (Bytes n) all = no_call_sent calls
+read_sent calls Later all = no_call_sent calls
+read_sent calls End all = quiet_sent calls Ended tt all
+read_sent calls Failed all = no_call_sent calls
+
+-- a longer front
+longer_front : (n m : ℕ) (xs : List ℕ) → n ≤ length xs → take (n + m) xs ≡ take n xs ++ take m (drop n xs)
+longer_front n m xs few =
+    let front : length (take n xs) ≡ n = front_length n xs few in
+    ap (λ (k : ℕ). take (k + m) xs) (sym front)
+    ∙ ap (λ (all : List ℕ). take (length (take n xs) + m) all) (sym (take-append-drop n xs))
+    ∙ take-append-add (take n xs) (drop n xs) m
+
+wrote_history : (calls : List ClientCall) (n : ℕ) → reached (calls ++ Wrote n ∷ []) ≡ step (reached calls) (Writes n)
+unfolding steps_by after_steps
+wrote_history calls n = client_more own_limits 0 calls (Wrote n)
+
+wrote_sent : (calls : List ClientCall) (n : ℕ) → AreAccepted own_limits 0 (calls ++ Wrote n ∷ []) → sent (reached (calls ++ Wrote n ∷ [])) ≡ sent (reached calls) ++ take n (drop (reached calls).written (bytes_of (reached calls).queued))
+unfolding step
+wrote_sent calls n all =
+    ap sent (wrote_history calls n)
+    ∙ longer_front (reached calls).written n (bytes_of (reached calls).queued) (history_of calls (front_of calls (Wrote n ∷ []) all))
+
+-- what waits is what is queued behind that
+waits_behind : (calls : List ClientCall) → (client_of own_limits 0 calls).link.waiting ≡ drop (reached calls).written (bytes_of (reached calls).queued)
+unfolding client_of
+waits_behind calls = refl
+
+written_sent : (calls : List ClientCall) (got : Got) → AreAccepted own_limits 0 (calls ++ calls_written got)
+    → sent (reached (calls ++ calls_written got)) ≡ sent (reached calls) ++ bytes_passed (client_of own_limits 0 calls).link.waiting got
+written_sent calls (Bytes n) all = wrote_sent calls n all ∙ ap (λ (w : List ℕ). sent (reached calls) ++ take n w) (sym (waits_behind calls))
+written_sent calls Later all = no_call_sent calls ∙ sym (append-nil (sent (reached calls)))
+written_sent calls End all = no_call_sent calls ∙ sym (append-nil (sent (reached calls)))
+written_sent calls Failed all = no_call_sent calls ∙ sym (append-nil (sent (reached calls)))
+
+nothing_sent : sent (reached []) ≡ []
+nothing_sent = ap sent (client_first own_limits 0)
+
+planned_quiet : (plan : ClientPlan) (before : Course) (call : ClientCall) → IsPlanned plan before call → IsQuietCall call
+planned_quiet plan before (Took bytes) is = tt
+planned_quiet plan before (Sent method target extras) is = tt
+planned_quiet plan before (Cancelled token target extras) is = tt
+planned_quiet plan before (Pinged custody) is = tt
+planned_quiet plan before (Wrote n) is = is
+planned_quiet plan before Ended is = tt
+
+course_sent : (plan : ClientPlan) (c : Course) → IsCourse plan c → AreAccepted own_limits 0 (calls_in c) → written_in c ≡ sent (history_in c)
+course_sent plan (Begins moment) is all = sym nothing_sent
+course_sent plan (Turns before moment) is all = course_sent plan before is.0 all
+course_sent plan (Reads before got bytes) is all = course_sent plan before is.0 (front_of (calls_in before) (calls_read got) all) ∙ sym (read_sent (calls_in before) got all)
+course_sent plan (Calls before call) is all =
+    course_sent plan before is.0 (front_of (calls_in before) (call ∷ []) all) ∙ sym (quiet_sent (calls_in before) call (planned_quiet plan before call is.2) all)
+course_sent plan (Refuses before fault) is all = course_sent plan before is.0 all
+course_sent plan (GivesUp before) is all = course_sent plan before is.0 all
+course_sent plan (Rests before) is all = course_sent plan before is.0 all
+course_sent plan (course.Writes before got) is all =
+    ap (λ (w : List ℕ). w ++ bytes_passed (waiting_in before) got) (course_sent plan before is.0 (front_of (calls_in before) (calls_written got) all)) ∙ sym (written_sent (calls_in before) got all)
+
+-- what was written, and what waits, is what was queued
+pub course_queued : (plan : ClientPlan) (c : Course) → IsCourse plan c → AreAccepted own_limits 0 (calls_in c) → bytes_of (history_in c).queued ≡ written_in c ++ waiting_in c
+course_queued plan c is all =
+    sym (take-append-drop (history_in c).written (bytes_of (history_in c).queued))
+    ∙ ap (λ (w : List ℕ). w ++ drop (history_in c).written (bytes_of (history_in c).queued)) (sym (course_sent plan c is all))
+    ∙ ap (λ (w : List ℕ). written_in c ++ w) (sym (waits_behind (calls_in c)))

@@ -1,0 +1,118 @@
+-- What devices tell of a run, and what calls leave of its client.
+use Rattle.std.proofs.Common.{◌≡◌, ℕ, ◌≤◌, Bool, true, false, cond, List, [], ◌∷◌, ◌++◌, length, take, drop, Option, Some, None, Result, Ok, Err, refl, sym, ap, subst, ◌∙◌, append_assoc, arith}
+use Rattle.std.proofs.lemmas.List.{append-nil, length-take}
+use Rattle.coap_wire.specs.Message.{Message}
+use Rattle.coap_wire.specs.Reading.{message_of}
+use Rattle.coap_wire.specs.declared.fault.FormatFault.{FormatFault}
+use Rattle.coap_frame.specs.Framing.{Framing, Finding, Nothing, AFrame, AFault, framing}
+use Rattle.coap_conn.specs.Limits.{LimitValues}
+use Rattle.coap_conn.specs.Phases.{takes_messages}
+use Rattle.coap_conn.specs.LinkValue.{LinkValue, link_after_request, link_after_cancel}
+use Rattle.coap_conn.specs.declared.phase.RequestFault.{RequestFault}
+use Rattle.coap_serve.specs.declared.wire.Got.{Got}
+use Rattle.coap_serve.specs.declared.wire.Got.TheVariants.{Bytes, Later, End, Failed}
+use Rattle.coap_serve.specs.streams.Device.{AddsBytes}
+use Rattle.coap_serve.specs.streams.Telling.{TellsMore}
+use Rattle.coap_serve.specs.streams.Wires.{count_passed}
+use Rattle.coap_serve.proofs.streams.DeviceLemmas.{bytes_then}
+use Rattle.coap_client.specs.declared.request.Method.{Method}
+use Rattle.coap_client.specs.Targets.{TargetValue}
+use Rattle.coap_client.specs.Requests.{ExtrasValue, request_of, cancel_of}
+use Rattle.coap_client.specs.ClientValues.{ClientValue, EventValue, Taking, taking_read, taking_found, taking, client_written, client_sent, client_cancelled, send_refusal, cancelling_refusal}
+use Rattle.coap_client.specs.ClientWorld.{ClientCall, Took, Sent, Cancelled, Wrote, Ended, steps_by, event_of, ClientShows}
+use Rattle.coap_client.specs.RunSteps.{calls_read, calls_written, client_read}
+use Rattle.coap_client.proofs.TakingLemmas.{limits_end}
+use Rattle.coap_client.proofs.ClientShown.{sent_shown, cancelled_shown, wrote_shown, ended_shown}
+
+-- ---- what is told
+
+pub more_none : {A : Type 0} (a : Option (List A)) → TellsMore a a []
+more_none None = tt
+more_none {A} (Some x) = ap (λ (y : List A). Some y) (sym (append-nil x))
+
+pub more_then : {A : Type 0} (a b c : Option (List A)) (xs ys : List A) → TellsMore a b xs → TellsMore b c ys → TellsMore a c (xs ++ ys)
+more_then None b c xs ys p q = tt
+more_then {A} (Some x) b c xs ys p q =
+    let moved : TellsMore (Some (x ++ xs)) c ys = subst (λ (o : Option (List A)). TellsMore o c ys) p q in
+    moved ∙ ap (λ (y : List A). Some y) (append_assoc x xs ys)
+
+-- nothing more is told
+pub bytes_stay : (a b c : Option (List ℕ)) (xs : List ℕ) → AddsBytes a b xs → AddsBytes b c [] → AddsBytes a c xs
+bytes_stay a b c xs p q = subst (AddsBytes a c) (append-nil xs) (bytes_then a b c xs [] p q)
+
+-- the same, where what is told is none
+pub bytes_same : (a b : Option (List ℕ)) (xs ys : List ℕ) → AddsBytes a b xs → ys ≡ [] → AddsBytes a b (xs ++ ys)
+bytes_same a b xs ys p none = subst (AddsBytes a b) (sym (ap (λ (t : List ℕ). xs ++ t) none ∙ append-nil xs)) p
+
+-- a front has its length
+pub front_length : (n : ℕ) (xs : List ℕ) → n ≤ length xs → length (take n xs) ≡ n
+front_length n xs few = simp length-take (omega arith)
+
+-- ---- limits stay
+
+limits_if : (does : Bool) (l k : LinkValue) → k.limits ≡ l.limits → (cond does k l).limits ≡ l.limits
+limits_if true l k e = e
+limits_if false l k e = refl
+
+limits_read : (w : ClientValue) (n : ℕ) (read : Result Message FormatFault) → (taking_read w n read).client.link.limits ≡ w.link.limits
+limits_read w n (Ok m) = limits_if (takes_messages w.link.phase) w.link _ refl
+limits_read w n (Err e) = limits_if (takes_messages w.link.phase) w.link _ refl
+
+limits_found : (w : ClientValue) (f : Framing) (found : Finding) → (taking_found w f found).client.link.limits ≡ w.link.limits
+limits_found w f Nothing = refl
+limits_found w f (AFrame frame) = limits_read w f.taken (message_of frame)
+limits_found w f (AFault fault) = limits_if (takes_messages w.link.phase) w.link _ refl
+
+limits_taken : (does : Bool) (w : ClientValue) (t : Taking) → t.client.link.limits ≡ w.link.limits → (cond does t (record { count = 0; client = w; event = None })).client.link.limits ≡ w.link.limits
+limits_taken true w t e = e
+limits_taken false w t e = refl
+
+pub taking_limits : (v : ClientValue) (piece : List ℕ) → (taking v piece).client.link.limits ≡ v.link.limits
+unfolding taking
+taking_limits v piece = limits_taken _ v _ (limits_found v (framing v.link.limits.max_message v.frame piece) (framing v.link.limits.max_message v.frame piece).finding)
+
+pub sent_limits : (v : ClientValue) (method : Method) (target : TargetValue) (extras : ExtrasValue) → (client_sent v method target extras).link.limits ≡ v.link.limits
+sent_limits v method target extras = limits_if _ v.link _ refl
+
+pub cancelled_limits : (v : ClientValue) (token : List ℕ) (target : TargetValue) (extras : ExtrasValue) → (client_cancelled v token target extras).link.limits ≡ v.link.limits
+cancelled_limits v token target extras = limits_if _ v.link _ refl
+
+pub read_limits : (v : ClientValue) (got : Got) → (client_read v got).link.limits ≡ v.link.limits
+read_limits v (Bytes n) = refl
+read_limits v Later = refl
+read_limits v End = limits_end v.link _
+read_limits v Failed = refl
+
+-- ---- calls that are shown
+
+-- no call more
+shown_none : (v new : ClientValue) (calls : List ClientCall) → new ≡ v → ClientShows v 0 calls → ClientShows new 0 (calls ++ [])
+shown_none v new calls is shows = subst (λ (cs : List ClientCall). ClientShows new 0 cs) (sym (append-nil calls)) (subst (λ (w : ClientValue). ClientShows w 0 calls) (sym is) shows)
+
+pub read_shown : (v new : ClientValue) (got : Got) (calls : List ClientCall) → new ≡ client_read v got → ClientShows v 0 calls → ClientShows new 0 (calls ++ calls_read got)
+read_shown v new (Bytes n) calls is shows = shown_none v new calls is shows
+read_shown v new Later calls is shows = shown_none v new calls is shows
+read_shown v new End calls is shows = ended_shown v new is 0 calls shows
+read_shown v new Failed calls is shows = shown_none v new calls is shows
+
+pub asked_shown : (v new : ClientValue) (method : Method) (target : TargetValue) (extras : ExtrasValue) (calls : List ClientCall) → send_refusal v.link method target extras ≡ None → new ≡ client_sent v method target extras
+    → ClientShows v 0 calls → ClientShows new 0 (calls ++ Sent method target extras ∷ [])
+asked_shown v new method target extras calls none is shows =
+    let done : Result ℕ RequestFault = Ok 0 in
+    sent_shown done v new method target extras none is 0 calls shows
+
+pub given_up_shown : (v new : ClientValue) (token : List ℕ) (target : TargetValue) (extras : ExtrasValue) (calls : List ClientCall) → cancelling_refusal v.link token target extras ≡ None → new ≡ client_cancelled v token target extras
+    → ClientShows v 0 calls → ClientShows new 0 (calls ++ Cancelled token target extras ∷ [])
+given_up_shown v new token target extras calls none is shows =
+    let done : Result ℕ RequestFault = Ok 0 in
+    cancelled_shown done v new token target extras none is 0 calls shows
+
+-- ---- of what nothing is told
+
+pub sent_told : (calls : List ClientCall) (method : Method) (target : TargetValue) (extras : ExtrasValue) (limits : LimitValues) → event_of limits 0 calls (Sent method target extras) ≡ None
+unfolding event_of steps_by
+sent_told calls method target extras limits = refl
+
+pub cancelled_told : (calls : List ClientCall) (token : List ℕ) (target : TargetValue) (extras : ExtrasValue) (limits : LimitValues) → event_of limits 0 calls (Cancelled token target extras) ≡ None
+unfolding event_of steps_by
+cancelled_told calls token target extras limits = refl
