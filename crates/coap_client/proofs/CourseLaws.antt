@@ -10,7 +10,8 @@ use Rattle.coap_wire.specs.Spelling.{spelling}
 use Rattle.coap_wire.specs.Stream.{StreamFault, Stream}
 use Rattle.coap_conn.specs.Limits.{LimitValues}
 use Rattle.coap_conn.specs.Phases.{takes_messages}
-use Rattle.coap_conn.specs.History.{History, IsHistory, bytes_of}
+use Rattle.coap_conn.specs.History.{History, IsHistory}
+use Rattle.coap_conn.specs.LinkValue.{bytes_of}
 use Rattle.coap_serve.specs.declared.wire.Got.{Got}
 use Rattle.coap_serve.specs.declared.wire.Got.TheVariants.{Bytes, Later, End, Failed}
 use Rattle.coap_serve.specs.streams.Wires.{bytes_passed, count_passed}

@@ -47,7 +47,7 @@ asked_no_more s = react_does s (λ e. length e.outstanding ≤ length s.outstand
 })
 
 -- what is asked adds one where there is room
-asked_few : (h : History) (m : Message) (e : OutstandingValue) → length h.outstanding ≤ h.limits.outstanding → length (after_asking h m e).outstanding ≤ h.limits.outstanding
+pub asked_few : (h : History) (m : Message) (e : OutstandingValue) → length h.outstanding ≤ h.limits.outstanding → length (after_asking h m e).outstanding ≤ h.limits.outstanding
 asked_few h m e few =
     cond_both (is_none (asking_refusal (asking_now h) m)) _ h (λ (after : History). length after.outstanding ≤ h.limits.outstanding)
     (λ may. omega (arith, (asked_new (asking_now h) m (none_where (asking_refusal (asking_now h) m) may)).few, length-append h.outstanding (e ∷ [])))
