@@ -8,7 +8,7 @@ use Rattle.coap_serve.specs.declared.serve.IoFault.{IoFault}
 use Rattle.coap_serve.specs.declared.serve.IoFault.TheVariants.{Write, Memory}
 use Rattle.coap_serve.specs.values.Servers.{ServerValue, new_server, server_opened}
 use Rattle.coap_serve.specs.values.Flushes.{waiting_at, more_at, flush_turns, IsFlushed, IsPartFlushed}
-use Rattle.coap_serve.specs.world.Sides.{Side, new_side, waiting_on}
+use Rattle.coap_serve.specs.world.Sides.{new_side, waiting_on}
 use Rattle.coap_serve.specs.world.World.{World, new_world, side_of, step}
 use Rattle.coap_serve.specs.world.World as world
 use Rattle.coap_serve.specs.world.Events.{Event, Opened, taken_on, steps_by, world_after}
@@ -18,6 +18,7 @@ use Rattle.coap_serve.specs.streams.Output.{only_id, flushed, world_for, side_fo
 use Rattle.coap_serve.specs.streams.StdioRun.{IsStdioRun}
 use Rattle.coap_serve.specs.streams.Standing.{Stands, IsGoing}
 use Rattle.coap_serve.proofs.world.StepLaws.{world_first, world_step}
+use Rattle.coap_serve.proofs.world.AcrossLaws.{some_same}
 use Rattle.coap_serve.proofs.world.GrowLaws.{all_written}
 use Rattle.coap_serve.proofs.streams.DeviceLemmas.{bytes_none, bytes_then, given_none}
 use Rattle.coap_serve.proofs.streams.OutputLaws.{opened_there, world_for_written, world_for_none, output_of, none_stops}
@@ -33,9 +34,6 @@ opened_one M id = refl
 no_byte : (id : ℕ) → taken_on id (Opened id ∷ []) ≡ []
 unfolding taken_on
 no_byte id = refl
-
-same_side : (s t : Side) → ◌≡◌ {A = Option Side} (Some s) (Some t) → s ≡ t
-same_side s t e = cc
 
 module _ (c : ConfigValues) (v : ServerValue) (ranges : AreInRange c.limits) (config : v.config ≡ c) (shows : Shows v (Opened (only_id c) ∷ [])) where
   abbrev id : ℕ
@@ -67,7 +65,7 @@ module _ (c : ConfigValues) (v : ServerValue) (ranges : AreInRange c.limits) (co
     nothing_waits : waiting_on f.side ≡ []
     nothing_waits =
         let all = world_for_written c [] in
-        ap waiting_on (same_side f.side all.0 (sym side_is_there ∙ all.1)) ∙ all.2
+        ap waiting_on (some_same f.side all.0 (sym side_is_there ∙ all.1)) ∙ all.2
 
     text_is : stdio_output c [] ≡ (flush_turns turns id v).text
     text_is = output_of c [] f.side side_is_there ∙ sym (all_written f.side nothing_waits) ∙ f.said

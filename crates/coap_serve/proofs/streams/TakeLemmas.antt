@@ -39,6 +39,7 @@ use Rattle.coap_serve.proofs.world.GoingOn.{side_is}
 use Rattle.coap_serve.proofs.world.ReachedLaws.{IsReached, accepted_is, takes_there, handling_goes_on}
 use Rattle.coap_serve.proofs.world.ShowLaws.{side_there}
 use Rattle.coap_serve.proofs.world.HandlingLaws.{messages_counted, one_step_at_most}
+use Rattle.coap_serve.proofs.world.AcrossLaws.{some_same}
 use Rattle.coap_serve.proofs.world.GrowLaws.{SideGrows, front_written, same_front, all_written, took_grows}
 use Rattle.coap_serve.proofs.streams.FlushLaws.{quiet_flush}
 use Rattle.coap_serve.proofs.streams.OutputLaws.{one_step_more, no_step_more, world_for_written, world_for_hears, output_of, stop_there}
@@ -121,9 +122,6 @@ config_stays v id piece = config_on v id piece (session_of id v.sessions)
 messages_of : (c : ConfigValues) (bytes : List ℕ) (s : Side) → side_for c bytes ≡ Some s → (outcome c bytes).messages ≡ length s.history.handled
 unfolding outcome
 messages_of c bytes s there = ap (λ (o : Option Side). (outcome_on o).messages) there
-
-same_side : (s t : Side) → ◌≡◌ {A = Option Side} (Some s) (Some t) → s ≡ t
-same_side s t e = cc
 
 -- where nothing stops a connection it takes messages
 takes_where_going : (stop : Option Reason) → stop ≡ None → is_none stop ≡ true
@@ -292,7 +290,7 @@ module _ (v : ServerValue) (bytes piece : List ℕ) (stands : Stands v.config v 
       nothing_waits : waiting_on f.side ≡ []
       nothing_waits =
           let all = world_for_written c (bytes ++ T) in
-          ap waiting_on (same_side f.side all.0 (sym side_is_there ∙ all.1)) ∙ all.2
+          ap waiting_on (some_same f.side all.0 (sym side_is_there ∙ all.1)) ∙ all.2
 
       text_is : Says c bytes T (flush_turns turns id v1).text
       text_is = output_of c (bytes ++ T) f.side side_is_there ∙ sym (all_written f.side nothing_waits) ∙ f.said ∙ ap (λ (b : List ℕ). b ++ (flush_turns turns id v1).text) said_before
@@ -387,18 +385,7 @@ module _ (c : ConfigValues) (v : ServerValue) (id : ℕ) (bytes piece : List ℕ
 -- a take handles one message at most
 reason_few : (why : Reason) → message_reason why ≤ 1
 reason_few reason.Format = omega arith
-reason_few reason.TooLarge = omega arith
-reason_few reason.TokenLength = omega arith
-reason_few reason.ReservedCode = omega arith
-reason_few reason.CsmExpected = omega arith
-reason_few (reason.BadCsm number) = omega arith
-reason_few reason.BadSignalOption = omega arith
-reason_few reason.PeerAbort = omega arith
-reason_few reason.PeerRelease = omega arith
-reason_few reason.PeerTooSmall = omega arith
-reason_few reason.Ended = omega arith
-reason_few reason.Cut = omega arith
-reason_few reason.ReleasedHere = omega arith
+reason_few other = omega arith
 
 pub handled_few : (what : Handled) → count_of what ≤ 1
 handled_few handled.Nothing = omega arith

@@ -97,13 +97,8 @@ on_request r host v m l after o p asks is room entries =
 
 -- what is no request
 pub no_request : (what : Verdict) → (what ≡ told.Request → ⊥) → is_request (verdict_value what) ≡ false
-no_request told.Opened other = refl
-no_request told.Done other = refl
 no_request told.Request other = absurd (other refl)
-no_request (told.Answer token last) other = refl
-no_request (told.Pong token custody) other = refl
-no_request told.Stranger other = refl
-no_request (told.Stopped why) other = refl
+no_request what other = refl
 
 pub message_handled : (host : Host) (v : SessionValue) (m : Message) (l : LinkValue) → asks_this v.link m ≡ false → l ≡ link_after_message v.link m → session_with [] l v.observers ≡ session_handled host v m
 unfolding session_handled

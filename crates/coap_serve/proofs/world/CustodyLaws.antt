@@ -16,7 +16,6 @@ use Rattle.coap_conn.specs.declared.phase.Reply.{Reply}
 use Rattle.coap_conn.specs.declared.phase.Reply.TheVariants.{Whole, Bare, Stopped}
 use Rattle.coap_conn.specs.Limits.{LimitValues}
 use Rattle.coap_conn.specs.Phases.{takes_messages, answers, is_open, is_waiting}
-use Rattle.coap_conn.specs.Verdicts.{VerdictValue, is_request}
 use Rattle.coap_conn.specs.Verdicts as verdict
 use Rattle.coap_conn.specs.Fit.{fit, bare_response}
 use Rattle.coap_conn.specs.Held.{HeldValue, Answer, Pong, without_at, due_index, without_due}
@@ -35,7 +34,7 @@ use Rattle.coap_serve.specs.world.World.{side_of}
 use Rattle.coap_serve.specs.world.Events.{Event, world_after}
 use Rattle.coap_serve.specs.world.Custody.{asks_held, StandFor, QueuesCustody, IsFirstHeld}
 use Rattle.coap_serve.proofs.world.EntryLemmas.{all_append}
-use Rattle.coap_serve.proofs.world.WalkLaws.{sent, without_first, Hears, Replies, Holds, Pongs, if_between, after_between, faulted_between, written_between, ended_between, released_between, once_between}
+use Rattle.coap_serve.proofs.world.WalkLaws.{said_request, sent, without_first, Hears, Replies, Holds, Pongs, if_between, after_between, faulted_between, written_between, ended_between, released_between, once_between}
 use Rattle.coap_serve.proofs.world.AcrossLaws.{Keeps, kept_after}
 use Rattle.coap_serve.proofs.world.ToldMessages.{Queues, queues_none, queues_effect, queues_to, queues_then, heard_queues, IsPlain, reject_queues, end_queues, release_queues, holding_queues, queues_as, written_queues, react_so}
 
@@ -295,15 +294,6 @@ message_stands h m stand = heard_stands h m (react (standing_now h) m).effect (t
 pub asked_at_all : (h : History) (hold : Option ℕ) (seconds : ℕ) → held_for h hold ≡ Some seconds → hold ≡ Some seconds
 asked_at_all h None seconds e = e
 asked_at_all h (Some n) seconds e = elim (may_hold h) as (λ b. cond b (Some n) None ≡ Some seconds → Some n ≡ Some seconds) [ true ↦ λ is. is | false ↦ λ is. absurd cc ] e
-
-pub said_request : (v : VerdictValue) → is_request v ≡ true → v ≡ verdict.Request
-said_request verdict.Opened e = absurd cc
-said_request verdict.Done e = absurd cc
-said_request verdict.Request e = refl
-said_request (verdict.Answer token last) e = absurd cc
-said_request (verdict.Pong token custody) e = absurd cc
-said_request verdict.Stranger e = absurd cc
-said_request (verdict.Stopped why) e = absurd cc
 
 -- what is held after it, and the request behind it
 heard_one_more : (h : History) (m : Message) (e : Effect) (takes : Bool) (x : HeldValue) → takes ≡ true → e.held ≡ h.held → asks_held m x ≡ true → Stands h

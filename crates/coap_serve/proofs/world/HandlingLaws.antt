@@ -194,8 +194,7 @@ side_rejects s fault does =
 -- only a fault of the bytes has such a reason
 pub no_message_reason : (fault : Reject) → message_reason (reject_reason fault) ≡ 0
 no_message_reason reject.Format = refl
-no_message_reason reject.TooLarge = refl
-no_message_reason reject.TokenLength = refl
+no_message_reason other = refl
 
 -- ---- what a take does
 

@@ -198,8 +198,7 @@ one_small limit (m ∷ n ∷ ms) one each = absurd (omega (arith, one))
 
 sent_one : (s : Standing) (m less : Message) (r : Reply) → length (send_as s m less r).queued ≤ 1
 sent_one s m less Whole = omega arith
-sent_one s m less Bare = omega arith
-sent_one s m less Stopped = omega arith
+sent_one s m less other = omega arith
 
 -- a message queues one at most
 message_one : (s : Standing) (m : Message) → length (react s m).effect.queued ≤ 1

@@ -37,6 +37,7 @@ use Rattle.coap_serve.proofs.world.WalkLaws.{if_between, ended_between}
 use Rattle.coap_serve.proofs.world.AcrossLaws.{Keeps, kept_after}
 use Rattle.coap_serve.proofs.world.GoingOn.{IsSide, KeepsOfSides, of_sides}
 use Rattle.coap_serve.proofs.world.ToldMessages.{other_bytes, last_is, last_stays, Queues, queues_none, queues_to, IsNoResponse, IsPlain, message_queues, reject_queues, end_queues, release_queues, holding_queues, due_queues, reply_queues, whole_last}
+use Rattle.coap_serve.proofs.world.SettleLaws.{next_found}
 use Rattle.coap_serve.proofs.world.CustodyLaws.{Stands, stand_asked, stands_keeps}
 use Rattle.coap_serve.proofs.world.ToldAnswers.{tells_responds, entry_tells, notification_tells}
 
@@ -284,10 +285,6 @@ notified_told store now s (Some o) there are =
           (left_told store now s.history o (on && whole) (λ e. (and_parts on whole e).0) (λ e. (and_parts on whole e).1) opened);
     })
 
-next_there : (store : StoreValue) (now : ℕ) (s : Side) (o : Observer) → next_due store now s ≡ Some o → find (is_due store now) s.observers ≡ Some o
-next_there store now s o e =
-    elim (has_room s) as (λ b. (if b then find (is_due store now) s.observers else None) ≡ Some o → find (is_due store now) s.observers ≡ Some o) [ true ↦ λ is. is | false ↦ λ is. absurd cc ] e
-
 -- ---- what was held
 
 -- the token of an answer that is held is one of a request that is answered late
@@ -306,7 +303,7 @@ sent_told s now (Pong token) found stand are = signalled_side s (after_due s.his
 
 once_told : (store : StoreValue) (now : ℕ) (s : Side) → Stands s.history → IsTold s → IsTold (settled_once store now s)
 once_told store now s stand are =
-    settled_cases store now s IsTold (λ e is. sent_told s now e (held_room now s e is).1 stand are) (λ is. notified_told store now s (next_due store now s) (next_there store now s) are)
+    settled_cases store now s IsTold (λ e is. sent_told s now e (held_room now s e is).1 stand are) (λ is. notified_told store now s (next_due store now s) (next_found store now s) are)
 
 -- ---- what each connection keeps
 

@@ -18,14 +18,14 @@ use Rattle.coap_conn.specs.Held.{HeldValue, Answer, Pong, first_due, without_due
 use Rattle.coap_conn.specs.Reaction.{stop, abort, send, react, pong_with, due_effect}
 use Rattle.coap_conn.specs.Rejects.{reject_of, reject_reason}
 use Rattle.coap_conn.specs.Release.{release_refusal}
-use Rattle.coap_conn.specs.History.{History, standing_now, standing_due, with_effect, after_message, after_reply, after_reject, after_end, after_release, after_written, after_hold, after_due, may_hold, end_reason, release}
+use Rattle.coap_conn.specs.History.{History, standing_now, standing_due, with_effect, after_message, after_reply, after_reject, after_release, after_written, after_due, may_hold, end_reason, release}
 use Rattle.coap_conn.specs.LinkValue.{LinkValue, link_of, free_in, limit_in}
 use Rattle.coap_conn.proofs.RequestLemmas.{react_asks}
 use Rattle.coap_store.specs.Store.{StoreValue}
 use Rattle.coap_store.specs.Answer.{Response, held_response, answer_of, prompt_answer}
 use Rattle.coap_store.specs.Messages.{response_with_observe}
 use Rattle.coap_serve.specs.world.Observers.{Observer, is_due, without_token, has_place, goes_on, notification}
-use Rattle.coap_serve.specs.world.Sides.{Side, waiting_on, has_room, handles, with_history, moment_after, held_for, side_replied, asks_answer, side_handled, side_after, side_faulted, side_written, side_ended, side_released, next_due, notified, next_held, held_message, after_sent, settled_so, settled_once, settled_within, settled}
+use Rattle.coap_serve.specs.world.Sides.{Side, waiting_on, has_room, handles, with_history, moment_after, held_for, side_replied, asks_answer, side_handled, side_after, side_faulted, side_written, side_ended, side_released, notified, held_message, after_sent, settled_so, settled_once, settled_within, settled}
 
 -- ---- the parts
 
@@ -88,16 +88,11 @@ Between R s t = R s.history t.history
 
 -- ---- room
 
--- a request queues nothing, so there is as much room behind it
-said_request : (v : VerdictValue) → is_request v ≡ true → v ≡ verdict.Request
-said_request verdict.Opened e = absurd cc
-said_request verdict.Done e = absurd cc
+pub said_request : (v : VerdictValue) → is_request v ≡ true → v ≡ verdict.Request
 said_request verdict.Request e = refl
-said_request (verdict.Answer token last) e = absurd cc
-said_request (verdict.Pong token custody) e = absurd cc
-said_request verdict.Stranger e = absurd cc
-said_request (verdict.Stopped why) e = absurd cc
+said_request other e = absurd cc
 
+-- a request queues nothing, so there is as much room behind it
 asked_room : (h : History) (m : Message) → is_request (react (standing_now h) m).verdict ≡ true → room_in (heard h m) ≡ room_in h
 asked_room h m asks =
     ap (λ (ms : List Message). room_in (record h { queued = ms }))
@@ -208,9 +203,7 @@ module _ (R E : History → History → Type 0) (same : (h : History) → R h h)
 may_release : (v : LinkValue) (opened full small : Bool) → nat_lt (free_in v) 2 ≡ full → nat_lt (limit_in v) 2 ≡ small
     → is_none (cond opened (cond full (Some fault.NoRoom) (cond small (Some fault.PeerTooSmall) None)) (Some fault.NotOpen)) ≡ true → (2 ≤ free_in v) × (2 ≤ limit_in v)
 may_release v true false false full small none = (ltb-false (free_in v) 2 full, ltb-false (limit_in v) 2 small)
-may_release v true false true full small none = absurd cc
-may_release v true true b full small none = absurd cc
-may_release v false b d full small none = absurd cc
+may_release v opened b d full small none = absurd cc
 
 pub release_fits : (v : LinkValue) → is_none (release_refusal v) ≡ true → (2 ≤ free_in v) × (2 ≤ limit_in v)
 release_fits v none = may_release v (is_open v.phase) (nat_lt (free_in v) 2) (nat_lt (limit_in v) 2) refl refl none
