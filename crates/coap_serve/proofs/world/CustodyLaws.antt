@@ -35,7 +35,7 @@ use Rattle.coap_serve.specs.world.Events.{Event, world_after}
 use Rattle.coap_serve.specs.world.Custody.{asks_held, StandFor, QueuesCustody, IsFirstHeld}
 use Rattle.coap_serve.proofs.world.EntryLemmas.{all_append}
 use Rattle.coap_serve.proofs.world.WalkLaws.{said_request, sent, without_first, Hears, Replies, Holds, Pongs, if_between, after_between, faulted_between, written_between, ended_between, released_between, once_between}
-use Rattle.coap_serve.proofs.world.AcrossLaws.{Keeps, kept_after}
+use Rattle.coap_serve.proofs.world.GoingOn.{Keeps, kept_after}
 use Rattle.coap_serve.proofs.world.ToldMessages.{Queues, queues_none, queues_effect, queues_to, queues_then, heard_queues, IsPlain, reject_queues, end_queues, release_queues, holding_queues, queues_as, written_queues, react_so}
 
 -- the second of two tests
@@ -342,7 +342,7 @@ after_stands store now s m stand =
 pub stands_keeps : (limits : LimitValues) → Keeps limits (λ s. Stands s.history)
 stands_keeps limits = record {
   first = stand_none [];
-  handled = after_stands;
+  handled = λ store now s m is. after_stands store now s m;
   faulted = faulted_between (λ h k. Stands h → Stands k) (λ h stand. stand) (λ h fault takes room stand. stand_none h.handled);
   written = written_between (λ h k. Stands h → Stands k) (λ h stand. stand) (λ h n within stand. stand);
   ended = ended_between (λ h k. Stands h → Stands k) (λ h stand. stand) (λ h cut takes stand. stand_none h.handled);

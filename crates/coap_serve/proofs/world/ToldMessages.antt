@@ -1,7 +1,6 @@
 -- The last response with a token: what is queued behind it leaves it, unless it is a response with that token too. And what each
 -- thing that happens to a connection queues.
-use Rattle.std.proofs.Common.{◌≡◌, ◌≢◌, ℕ, Bool, true, false, cond, List, [], ◌∷◌, ◌++◌, Option, Some, None, refl, sym, ap, ◌∙◌, ◌≤◌, arith}
-use Rattle.std.specs.Prelude.{length, nat_lt, reverse, find, ◌&&◌, ◌==◌}
+use Rattle.std.proofs.Common.{◌≡◌, ◌≢◌, ℕ, Bool, true, false, cond, List, [], ◌∷◌, ◌++◌, Option, Some, None, refl, sym, ap, ◌∙◌, ◌≤◌, arith, length, nat_lt, reverse, find, ◌&&◌, ◌==◌}
 use Rattle.std.specs.List.{AllByRecursion, list_any}
 use Rattle.std.proofs.lemmas.Bool.{cond_both, cond-true, cond-false, false_from_ne_true, and_parts}
 use Rattle.std.proofs.lemmas.List.{append-nil, append_assoc, reverse-append}

@@ -1,5 +1,4 @@
-use Rattle.std.proofs.Common.{rules, map, ap, ◌∙◌}
-use Rattle.std.specs.Prelude.{not}
+use Rattle.std.proofs.Common.{rules, map, ap, ◌∙◌, not}
 use Rattle.std.proofs.lemmas.Fn.{filter_same}
 use Rattle.coap_store.specs.Paths.{same_bytes}
 use Rattle.coap_serve.specs.declared.observers.Observer.{Observer}

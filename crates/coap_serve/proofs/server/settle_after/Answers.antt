@@ -1,5 +1,4 @@
-use Rattle.std.proofs.Common.{Bool, sym, ap, ◌∙◌}
-use Rattle.std.specs.Prelude.{map, if◌then◌else◌}
+use Rattle.std.proofs.Common.{Bool, sym, ap, ◌∙◌, map, if◌then◌else◌}
 use Rattle.indexmap.specs.IndexMap.{set_value_at}
 use Rattle.coap_serve.specs.values.Servers.{changed_at, settled_entry}
 use Rattle.coap_serve.specs.values.Entries.{settled_held}
