@@ -1,6 +1,5 @@
 -- Worked values of the definitions: texts, and what they say.
-use Rattle.std.proofs.Common.{◌≡◌, [], ◌∷◌, ◌++◌, Some, None, Ok, Err, refl}
-use Rattle.std.specs.Prelude.{codes}
+use Rattle.std.proofs.Common.{◌≡◌, [], ◌∷◌, ◌++◌, Some, None, Ok, Err, refl, codes}
 use Rattle.hex.specs.Hex.{decode_pairs}
 use Rattle.percent_encoding.specs.Percent.{percent_decode}
 use Rattle.coap_store.specs.Paths.{is_path}

@@ -1,9 +1,7 @@
 -- The end of input, and the beginning of a run.
-use Rattle.std.proofs.Common.{◌≡◌, ℕ, Bool, true, false, cond, List, [], ◌∷◌, ◌++◌, Option, Some, None, refl, sym, ap, subst, ◌∙◌}
-use Rattle.std.specs.Prelude.{is_none, option_map}
+use Rattle.std.proofs.Common.{◌≡◌, ℕ, Bool, true, false, cond, List, [], ◌∷◌, ◌++◌, Option, Some, None, refl, sym, ap, subst, ◌∙◌, is_none}
 use Rattle.coap_wire.specs.Stream.{split}
 use Rattle.coap_conn.specs.declared.reason.Reason.{Reason}
-use Rattle.coap_conn.specs.Limits.{LimitValues}
 use Rattle.coap_conn.specs.Phases.{stop_of, takes_messages}
 use Rattle.coap_conn.specs.History.{History, with_effect, standing_now}
 use Rattle.coap_conn.specs.Calls.{end_reason}
@@ -19,7 +17,7 @@ use Rattle.coap_serve.specs.world.Events.{Event, Ended, stream_on, steps_by, wor
 use Rattle.coap_serve.specs.world.Shows.{Shows}
 use Rattle.coap_serve.specs.streams.Output.{only_id, stream_of, outcome}
 use Rattle.coap_serve.specs.streams.Standing.{Stands, IsGoing}
-use Rattle.coap_serve.proofs.world.PlaceLaws.{all_there, changed_here}
+use Rattle.coap_serve.proofs.world.AcrossLaws.{ended_there}
 use Rattle.coap_serve.proofs.world.StepLaws.{world_step}
 use Rattle.coap_serve.proofs.world.ShowLaws.{side_there}
 use Rattle.coap_serve.proofs.world.HandlingLaws.{HasStopped, settled_still}
@@ -36,11 +34,6 @@ ended_by h cut false is = absurd cc
 ended_side : (s : Side) (cut : Bool) → takes_messages s.history.phase ≡ true → HasStopped (side_ended s cut).history (end_reason cut)
 unfolding side_ended
 ended_side s cut takes = ended_by s.history cut (takes_messages s.history.phase) takes
-
-ended_there : (limits : LimitValues) (w : World) (id : ℕ) (cut : Bool) (s : Side) → side_of id w.sides ≡ Some s → side_of id (world.step limits w (world.Ended id cut)).sides ≡ Some (settled w.store w.now (side_ended s cut))
-unfolding world.step world.acted
-ended_there limits w id cut s is =
-    all_there id (settled w.store w.now) _ ∙ ap (option_map (settled w.store w.now)) (changed_here id (λ u. side_ended u cut) w.sides ∙ ap (option_map (λ u. side_ended u cut)) is)
 
 ended_one : (M : ℕ) (es : List Event) (id : ℕ) → steps_by M es (Ended id) ≡ world.Ended id (is_cut (stream_on M id es).rest) ∷ []
 unfolding steps_by

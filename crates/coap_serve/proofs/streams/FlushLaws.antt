@@ -1,28 +1,26 @@
 -- A flush leaves nothing that waits, and where nothing waits it leaves the world.
-use Rattle.std.proofs.Common.{◌≡◌, ℕ, zero, suc, ◌+◌, ◌≤◌, Bool, true, false, cond, List, [], ◌∷◌, length, map, Option, Some, None, refl, sym, ap, subst, ◌∙◌, ◌⊎◌, inl, inr, arith}
-use Rattle.std.specs.Prelude.{nat_le, option_map}
+use Rattle.std.proofs.Common.{◌≡◌, ℕ, zero, suc, ◌+◌, ◌≤◌, Bool, true, false, cond, List, [], ◌∷◌, length, map, Option, Some, refl, sym, ap, subst, ◌∙◌, ◌⊎◌, inl, inr, arith, nat_le, option_map}
 use Rattle.std.specs.List.{AllByRecursion}
 use Rattle.std.proofs.lemmas.Bool.{le-leb, cases_eq}
 use Rattle.std.proofs.lemmas.List.{length-drop, drop_all}
 use Rattle.coap_conn.specs.Limits.{LimitValues}
-use Rattle.coap_conn.specs.Phases.{is_open}
 use Rattle.coap_conn.specs.Held.{HeldValue}
 use Rattle.coap_conn.specs.History.{History, after}
 use Rattle.coap_conn.specs.LinkValue.{bytes_of}
 use Rattle.coap_conn.specs.Calls as call
 use Rattle.coap_store.specs.Store.{StoreValue}
-use Rattle.coap_serve.specs.world.Observers.{Observer, is_due, notification, notification_message}
-use Rattle.coap_serve.specs.world.Sides.{Side, waiting_on, side_written, next_due, notified, next_held, after_sent, settled_so, settled_once, settled_within, settled, HearsAll}
+use Rattle.coap_serve.specs.world.Observers.{Observer, is_due}
+use Rattle.coap_serve.specs.world.Sides.{Side, waiting_on, side_written, settled_once, settled_within, settled, HearsAll}
 use Rattle.coap_serve.specs.world.World.{Place, World, Step, side_of, changed_at, acted, settled_place, all_settled, step}
 use Rattle.coap_serve.specs.world.World as world
 use Rattle.coap_serve.specs.streams.Output.{waiting_of, more_of, written_once, written_times, flushed}
 use Rattle.coap_serve.proofs.world.GrowLaws.{settled_handled, written_handled}
 use Rattle.coap_serve.proofs.world.EntryLemmas.{count_due, count_within}
-use Rattle.coap_serve.proofs.world.SideLaws.{reply_leaves, sent_held}
-use Rattle.coap_serve.proofs.world.SettleLaws.{IsAtRest, next_found, notified_less, at_rest, settled_rests, hears_sent}
+use Rattle.coap_serve.proofs.world.SettleLaws.{IsAtRest, left_on, once_less, at_rest, settled_rests}
+use Rattle.coap_serve.proofs.world.WalkLaws.{written_between}
 use Rattle.coap_serve.proofs.world.PlaceLaws.{all_there, changed_here}
 use Rattle.coap_serve.proofs.world.HearingLaws.{AllHear, step_hears}
-use Rattle.coap_serve.proofs.world.ShownLemmas.{unchanged, hears_rests}
+use Rattle.coap_serve.proofs.world.ShownLemmas.{unchanged, settled_stays}
 
 -- ---- one write
 
@@ -30,19 +28,13 @@ observers_by : (does : Bool) (s : Side) (h : History) → (cond does (record s {
 observers_by true s h = refl
 observers_by false s h = refl
 
--- a write leaves the observers
+-- a write leaves the observers, and what is held
 written_observers : (s : Side) (n : ℕ) → (side_written s n).observers ≡ s.observers
 unfolding side_written
 written_observers s n = observers_by (nat_le n (length (waiting_on s))) s (after s.history (call.Written n))
 
-held_by : (does : Bool) (s : Side) (h : History) → h.held ≡ s.history.held → (cond does (record s { history = h }) s).history.held ≡ s.history.held
-held_by true s h same = same
-held_by false s h same = refl
-
--- and what is held
 written_held : (s : Side) (n : ℕ) → (side_written s n).history.held ≡ s.history.held
-unfolding side_written
-written_held s n = held_by (nat_le n (length (waiting_on s))) s (after s.history (call.Written n)) refl
+written_held = written_between (λ h k. k.held ≡ h.held) (λ h. refl) (λ h n within. refl)
 
 -- where all that waits is written, nothing waits
 written_empties : (s : Side) → waiting_on (side_written s (length (waiting_on s))) ≡ []
@@ -61,42 +53,6 @@ none_written s =
     ∙ ap (λ (n : ℕ). record s { history = record s.history { written = n } }) same
 
 -- ---- how much is left to be sent
-
--- how much a connection holds and how many observers are due on it, together
-abbrev left_on : StoreValue → ℕ → Side → ℕ
-left_on store now s = length s.history.held + count_due (is_due store now) s.observers
-
-count_if : (due : Observer → Bool) (b : Bool) (os : List Observer) → count_due due (cond b os []) ≤ count_due due os
-unfolding count_due
-count_if due true os = omega arith
-count_if due false os = omega arith
-
-notified_by : (store : StoreValue) (now : ℕ) (s : Side) (found : Option Observer) → next_due store now s ≡ found → (found ≡ None) ⊎ (left_on store now (notified store now s found) + 1 ≤ left_on store now s)
-notified_by store now s None e = inl refl
-notified_by store now s (Some o) e = inr (omega (arith, notified_less store now s o (next_found store now s o e), reply_leaves s.history (notification_message o.token (notification store now o))))
-
--- a turn sends nothing, or leaves less
-abbrev TurnsOnce : StoreValue → ℕ → Side → Type 0
-TurnsOnce store now s = IsAtRest store now s ⊎ (left_on store now (settled_once store now s) + 1 ≤ left_on store now s)
-
--- an answer or a Pong that was sent leaves no more observers that are due
-sent_due : (store : StoreValue) (now : ℕ) (s : Side) (e : HeldValue) → next_held now s ≡ Some e → count_due (is_due store now) (settled_once store now s).observers ≤ count_due (is_due store now) s.observers
-unfolding settled_once
-sent_due store now s e is =
-    subst (λ (found : Option HeldValue). count_due (is_due store now) (settled_so store now s found).observers ≤ count_due (is_due store now) s.observers) (sym is)
-    (count_if (is_due store now) (is_open (after_sent s.history now e).phase) s.observers)
-
-once_by : (store : StoreValue) (now : ℕ) (s : Side) (found : Option HeldValue) → next_held now s ≡ found → TurnsOnce store now s
-unfolding settled_once
-once_by store now s None is =
-    elim (notified_by store now s (next_due store now s) refl) [
-      | inl none ↦ inl (is, none)
-      | inr less ↦ inr (subst (λ (found : Option HeldValue). left_on store now (settled_so store now s found) + 1 ≤ left_on store now s) (sym is) less)
-    ]
-once_by store now s (Some e) is = inr (omega (arith, sent_held store now s e is, sent_due store now s e is))
-
-once_less : (store : StoreValue) (now : ℕ) (s : Side) → TurnsOnce store now s
-once_less store now s = once_by store now s (next_held now s) refl
 
 -- settling leaves no more
 within_left : (turns : ℕ) (store : StoreValue) (now : ℕ) (s : Side) → left_on store now (settled_within turns store now s) ≤ left_on store now s
@@ -231,10 +187,6 @@ flushed_empties limits id w s there =
     )
 
 -- ---- where nothing waits
-
-settled_stays : (store : StoreValue) (now : ℕ) (s : Side) → HearsAll store now s → settled store now s ≡ s
-unfolding settled
-settled_stays store now s hears = at_rest (length s.history.held + length s.observers) store now s (hears_sent store now s hears, hears_rests store now s hears)
 
 places_stay : (store : StoreValue) (now : ℕ) (ps : List Place) → AllByRecursion (λ p. HearsAll store now p.side) ps → map (settled_place store now) ps ≡ ps
 places_stay store now [] hear = refl

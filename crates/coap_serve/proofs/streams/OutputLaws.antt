@@ -1,7 +1,6 @@
 -- The world of one connection whose bytes are taken with a flush behind each step: it goes on with more bytes, what is written only
 -- grows, and a connection that has stopped stays as it is.
-use Rattle.std.proofs.Common.{◌≡◌, ℕ, zero, suc, false, List, [], ◌∷◌, ◌++◌, length, map, drop, Option, Some, None, refl, sym, ap, subst, ◌∙◌}
-use Rattle.std.specs.Prelude.{is_none}
+use Rattle.std.proofs.Common.{◌≡◌, ℕ, zero, suc, false, List, [], ◌∷◌, ◌++◌, length, map, drop, Option, Some, None, refl, sym, ap, subst, ◌∙◌, is_none}
 use Rattle.std.specs.List.{AllByRecursion}
 use Rattle.std.proofs.lemmas.List.{append-nil}
 use Rattle.coap_wire.specs.Message.{Message}
@@ -33,16 +32,14 @@ use Rattle.coap_serve.proofs.streams.StoppedLaws.{stopped_step, stopped_fault}
 
 -- a message of a connection, or the fault of its bytes
 abbrev pub IsOfBytes : ℕ → Step → Type 0
-IsOfBytes id (world.Opened at) = ⊥
 IsOfBytes id (world.Handled at m) = at ≡ id
 IsOfBytes id (world.Faulted at fault) = at ≡ id
-IsOfBytes id (world.Written at n) = ⊥
-IsOfBytes id (world.Ticked now) = ⊥
-IsOfBytes id (world.Stored path format bytes) = ⊥
-IsOfBytes id (world.Removed path) = ⊥
-IsOfBytes id (world.Ended at cut) = ⊥
-IsOfBytes id (world.Released at) = ⊥
-IsOfBytes id (world.Dropped at) = ⊥
+IsOfBytes id other = ⊥
+
+bytes_cases : (id : ℕ) (P : Step → Type 0) → ((m : Message) → P (world.Handled id m)) → ((fault : StreamFault) → P (world.Faulted id fault)) → (st : Step) → IsOfBytes id st → P st
+bytes_cases id P message faulted (world.Handled at m) of = subst (λ (n : ℕ). P (world.Handled n m)) (sym of) (message m)
+bytes_cases id P message faulted (world.Faulted at fault) of = subst (λ (n : ℕ). P (world.Faulted n fault)) (sym of) (faulted fault)
+bytes_cases id P message faulted other of = absurd of
 
 abbrev pub AreOfBytes : ℕ → List Step → Type 0
 AreOfBytes id steps = AllByRecursion (IsOfBytes id) steps
@@ -112,16 +109,7 @@ module _ (limits : LimitValues) (P : World → Type 0) (keeps : (w : World) (st 
 -- ---- what a flush behind each step adds
 
 pub step_grows : (limits : LimitValues) (id : ℕ) (w : World) (st : Step) (s : Side) → IsOfBytes id st → side_of id w.sides ≡ Some s → HasGrown id s (step limits w st)
-step_grows limits id w (world.Opened at) s is there = absurd is
-step_grows limits id w (world.Handled at m) s is there = subst (λ (n : ℕ). HasGrown id s (step limits w (world.Handled n m))) (sym is) (handled_grows limits w id m s there)
-step_grows limits id w (world.Faulted at fault) s is there = subst (λ (n : ℕ). HasGrown id s (step limits w (world.Faulted n fault))) (sym is) (faulted_grows limits w id fault s there)
-step_grows limits id w (world.Written at n) s is there = absurd is
-step_grows limits id w (world.Ticked now) s is there = absurd is
-step_grows limits id w (world.Stored path format bytes) s is there = absurd is
-step_grows limits id w (world.Removed path) s is there = absurd is
-step_grows limits id w (world.Ended at cut) s is there = absurd is
-step_grows limits id w (world.Released at) s is there = absurd is
-step_grows limits id w (world.Dropped at) s is there = absurd is
+step_grows limits id w st s is there = bytes_cases id (λ st. HasGrown id s (step limits w st)) (λ m. handled_grows limits w id m s there) (λ fault. faulted_grows limits w id fault s there) st is
 
 step_flushed_grows : (limits : LimitValues) (id : ℕ) (w : World) (st : Step) (s : Side) → IsOfBytes id st → side_of id w.sides ≡ Some s → HasGrown id s (flushed limits id (step limits w st))
 step_flushed_grows limits id w st s is there =
@@ -153,16 +141,7 @@ after_written_all limits id w (st ∷ ss) all written =
 
 -- where the connection takes no message, nothing changes
 stopped_by : (c : ConfigValues) (id : ℕ) (w : World) (st : Step) (s : Side) → IsOfBytes id st → AreDistinct w.sides → AllHear w → side_of id w.sides ≡ Some s → takes_messages s.history.phase ≡ false → step c.limits w st ≡ w
-stopped_by c id w (world.Opened at) s of is hear there over = absurd of
-stopped_by c id w (world.Handled at m) s of is hear there over = ap (λ (n : ℕ). step c.limits w (world.Handled n m)) of ∙ stopped_step c w id s is hear there over m
-stopped_by c id w (world.Faulted at fault) s of is hear there over = ap (λ (n : ℕ). step c.limits w (world.Faulted n fault)) of ∙ stopped_fault c w id s is hear there over fault
-stopped_by c id w (world.Written at n) s of is hear there over = absurd of
-stopped_by c id w (world.Ticked now) s of is hear there over = absurd of
-stopped_by c id w (world.Stored path format bytes) s of is hear there over = absurd of
-stopped_by c id w (world.Removed path) s of is hear there over = absurd of
-stopped_by c id w (world.Ended at cut) s of is hear there over = absurd of
-stopped_by c id w (world.Released at) s of is hear there over = absurd of
-stopped_by c id w (world.Dropped at) s of is hear there over = absurd of
+stopped_by c id w st s of is hear there over = bytes_cases id (λ st. step c.limits w st ≡ w) (stopped_step c w id s is hear there over) (stopped_fault c w id s is hear there over) st of
 
 pub after_stopped : (c : ConfigValues) (id : ℕ) (w : World) (ss : List Step) (s : Side) → AreOfBytes id ss → AreDistinct w.sides → AllHear w → side_of id w.sides ≡ Some s → waiting_on s ≡ [] → takes_messages s.history.phase ≡ false → flushed_after c.limits id w ss ≡ w
 unfolding flushed_after

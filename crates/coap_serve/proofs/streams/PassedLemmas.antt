@@ -1,6 +1,5 @@
 -- A connection on which nothing can be done: its part of a turn comes to nothing.
-use Rattle.std.proofs.Common.{◌≡◌, ℕ, zero, suc, Bool, true, false, ◌&&◌, List, [], ◌∷◌, length, map, drop, Option, Some, None, refl, sym, ap, subst, ◌∙◌, not, arith}
-use Rattle.std.specs.Prelude.{◌||◌, ◌==◌, is_some, option_map, slice_get, if◌then◌else◌}
+use Rattle.std.proofs.Common.{◌≡◌, ℕ, zero, suc, Bool, true, false, ◌&&◌, List, [], ◌∷◌, length, map, drop, Option, Some, None, refl, sym, ap, subst, ◌∙◌, not, arith, ◌||◌, ◌==◌, is_some, option_map, slice_get, if◌then◌else◌}
 use Rattle.std.specs.Map.{values_of}
 use Rattle.std.proofs.lemmas.Bool.{or_parts, eqb-true, ne_eqb}
 use Rattle.coap_conn.specs.Phases.{stop_of, is_over}

@@ -1,6 +1,5 @@
 -- A value written at an index of a map whose keys are numbers.
-use Rattle.std.proofs.Common.{◌≡◌, ℕ, zero, suc, List, [], ◌∷◌, take, Some, refl, ap, sym, subst}
-use Rattle.std.specs.Prelude.{slice_get, IfSome}
+use Rattle.std.proofs.Common.{◌≡◌, ℕ, zero, suc, List, [], ◌∷◌, take, Some, refl, ap, sym, subst, slice_get, IfSome}
 use Rattle.indexmap.specs.IndexMap.{set_value_at}
 
 -- what relates the value that was there to the one that is written relates the entries at that index

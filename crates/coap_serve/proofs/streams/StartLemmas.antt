@@ -8,22 +8,21 @@ use Rattle.coap_serve.specs.declared.serve.IoFault.{IoFault}
 use Rattle.coap_serve.specs.declared.serve.IoFault.TheVariants.{Write, Memory}
 use Rattle.coap_serve.specs.values.Servers.{ServerValue, new_server, server_opened}
 use Rattle.coap_serve.specs.values.Flushes.{waiting_at, more_at, flush_turns, IsFlushed, IsPartFlushed}
-use Rattle.coap_serve.specs.world.Sides.{Side, new_side, waiting_on}
+use Rattle.coap_serve.specs.world.Sides.{new_side}
 use Rattle.coap_serve.specs.world.World.{World, new_world, side_of, step}
 use Rattle.coap_serve.specs.world.World as world
 use Rattle.coap_serve.specs.world.Events.{Event, Opened, taken_on, steps_by, world_after}
 use Rattle.coap_serve.specs.world.Shows.{Shows}
 use Rattle.coap_serve.specs.streams.Device.{Told, HasGiven, AddsBytes, WritesPart}
-use Rattle.coap_serve.specs.streams.Output.{only_id, flushed, world_for, side_for, stdio_output}
+use Rattle.coap_serve.specs.streams.Output.{only_id, flushed, world_for, stdio_output}
 use Rattle.coap_serve.specs.streams.StdioRun.{IsStdioRun}
 use Rattle.coap_serve.specs.streams.Standing.{Stands, IsGoing}
 use Rattle.coap_serve.proofs.world.StepLaws.{world_first, world_step}
-use Rattle.coap_serve.proofs.world.GrowLaws.{all_written}
 use Rattle.coap_serve.proofs.streams.DeviceLemmas.{bytes_none, bytes_then, given_none}
-use Rattle.coap_serve.proofs.streams.OutputLaws.{opened_there, world_for_written, world_for_none, output_of, none_stops}
+use Rattle.coap_serve.proofs.streams.OutputLaws.{opened_there, world_for_none, none_stops}
 use Rattle.coap_serve.proofs.streams.FlushShown.{FlushShown}
 use Rattle.coap_serve.proofs.streams.FlushShown as shown
-use Rattle.coap_serve.proofs.streams.TakeLemmas.{first_none, text_grows}
+use Rattle.coap_serve.proofs.streams.TakeLemmas.{all_said, stands_behind, first_none, text_grows}
 use Rattle.coap_serve.proofs.streams.RunLemmas.{Ran}
 
 opened_one : (M id : ℕ) → steps_by M [] (Opened id) ≡ world.Opened id ∷ []
@@ -33,9 +32,6 @@ opened_one M id = refl
 no_byte : (id : ℕ) → taken_on id (Opened id ∷ []) ≡ []
 unfolding taken_on
 no_byte id = refl
-
-same_side : (s t : Side) → ◌≡◌ {A = Option Side} (Some s) (Some t) → s ≡ t
-same_side s t e = cc
 
 module _ (c : ConfigValues) (v : ServerValue) (ranges : AreInRange c.limits) (config : v.config ≡ c) (shows : Shows v (Opened (only_id c) ∷ [])) where
   abbrev id : ℕ
@@ -61,19 +57,11 @@ module _ (c : ConfigValues) (v : ServerValue) (ranges : AreInRange c.limits) (co
     abbrev f : FlushShown c es id (new_side c.limits) turns (flush_turns turns id v).server (flush_turns turns id v).text
     f = flushing turns
 
-    side_is_there : side_for c [] ≡ Some f.side
-    side_is_there = ap (λ (w : World). side_of id w.sides) (sym ends) ∙ f.there
-
-    nothing_waits : waiting_on f.side ≡ []
-    nothing_waits =
-        let all = world_for_written c [] in
-        ap waiting_on (same_side f.side all.0 (sym side_is_there ∙ all.1)) ∙ all.2
-
     text_is : stdio_output c [] ≡ (flush_turns turns id v).text
-    text_is = output_of c [] f.side side_is_there ∙ sym (all_written f.side nothing_waits) ∙ f.said
+    text_is = all_said c es (new_side c.limits) turns _ _ [] f ends
 
     stands_now : Stands c (flush_turns turns id v).server []
-    stands_now = record { config = f.config; events = f.events; shows = f.shows; world = ends; taken = λ still. f.taken ∙ no_byte id }
+    stands_now = stands_behind c es (new_side c.limits) turns _ _ [] f ends (no_byte id)
 
   -- what a run begins from
   pub goes_first : (after : ServerValue) (wrote : List ℕ → Type 0) → IsFlushed id v after wrote → IsGoing c after id []

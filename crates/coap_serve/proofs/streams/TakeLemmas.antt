@@ -1,6 +1,5 @@
 -- A take of a run and the flush behind it: what they write is what is defined for the bytes taken.
-use Rattle.std.proofs.Common.{◌≡◌, ◌⊎◌, ℕ, zero, suc, ◌+◌, ◌<◌, ◌≤◌, Bool, true, cond, List, [], ◌∷◌, ◌++◌, length, take, Option, Some, None, refl, sym, ap, subst, ◌∙◌, append_assoc, arith, inl, inr}
-use Rattle.std.specs.Prelude.{is_none}
+use Rattle.std.proofs.Common.{◌≡◌, ◌⊎◌, ℕ, zero, suc, ◌+◌, ◌<◌, ◌≤◌, Bool, true, cond, List, [], ◌∷◌, ◌++◌, length, take, Option, Some, None, refl, sym, ap, subst, ◌∙◌, append_assoc, arith, inl, inr, is_none}
 use Rattle.std.proofs.lemmas.Bool.{le-leb}
 use Rattle.std.proofs.lemmas.Bool.{cases_eq}
 use Rattle.coap_wire.specs.Message.{Message}
@@ -39,6 +38,7 @@ use Rattle.coap_serve.proofs.world.GoingOn.{side_is}
 use Rattle.coap_serve.proofs.world.ReachedLaws.{IsReached, accepted_is, takes_there, handling_goes_on}
 use Rattle.coap_serve.proofs.world.ShowLaws.{side_there}
 use Rattle.coap_serve.proofs.world.HandlingLaws.{messages_counted, one_step_at_most}
+use Rattle.coap_serve.proofs.world.AcrossLaws.{some_same}
 use Rattle.coap_serve.proofs.world.GrowLaws.{SideGrows, front_written, same_front, all_written, took_grows}
 use Rattle.coap_serve.proofs.streams.FlushLaws.{quiet_flush}
 use Rattle.coap_serve.proofs.streams.OutputLaws.{one_step_more, no_step_more, world_for_written, world_for_hears, output_of, stop_there}
@@ -122,8 +122,19 @@ messages_of : (c : ConfigValues) (bytes : List ℕ) (s : Side) → side_for c by
 unfolding outcome
 messages_of c bytes s there = ap (λ (o : Option Side). (outcome_on o).messages) there
 
-same_side : (s t : Side) → ◌≡◌ {A = Option Side} (Some s) (Some t) → s ≡ t
-same_side s t e = cc
+-- a flush that ends in the world for bytes
+module _ (c : ConfigValues) (es : List Event) (s : Side) (turns : ℕ) (after : ServerValue) (text bytes : List ℕ) (f : FlushShown c es (only_id c) s turns after text) (ends : world_after c f.events ≡ world_for c bytes) where
+  pub side_is_there : side_for c bytes ≡ Some f.side
+  side_is_there = ap (λ (w : World). side_of (only_id c) w.sides) (sym ends) ∙ f.there
+
+  pub all_said : stdio_output c bytes ≡ front_written s ++ text
+  all_said =
+      let all = world_for_written c bytes in
+      let none : waiting_on f.side ≡ [] = ap waiting_on (some_same f.side all.0 (sym side_is_there ∙ all.1)) ∙ all.2 in
+      output_of c bytes f.side side_is_there ∙ sym (all_written f.side none) ∙ f.said
+
+  pub stands_behind : taken_on (only_id c) es ≡ bytes → Stands c after bytes
+  stands_behind taken = record { config = f.config; events = f.events; shows = f.shows; world = ends; taken = λ still. f.taken ∙ taken }
 
 -- where nothing stops a connection it takes messages
 takes_where_going : (stop : Option Reason) → stop ≡ None → is_none stop ≡ true
@@ -286,27 +297,22 @@ module _ (v : ServerValue) (bytes piece : List ℕ) (stands : Stands v.config v 
       abbrev f : FlushShown c fs id s1 turns (flush_turns turns id v1).server (flush_turns turns id v1).text
       f = flushing turns
 
-      side_is_there : side_for c (bytes ++ T) ≡ Some f.side
-      side_is_there = ap (λ (w : World). side_of id w.sides) (sym ends) ∙ f.there
-
-      nothing_waits : waiting_on f.side ≡ []
-      nothing_waits =
-          let all = world_for_written c (bytes ++ T) in
-          ap waiting_on (same_side f.side all.0 (sym side_is_there ∙ all.1)) ∙ all.2
+      then_there : side_for c (bytes ++ T) ≡ Some f.side
+      then_there = side_is_there c fs s1 turns _ _ (bytes ++ T) f ends
 
       text_is : Says c bytes T (flush_turns turns id v1).text
-      text_is = output_of c (bytes ++ T) f.side side_is_there ∙ sym (all_written f.side nothing_waits) ∙ f.said ∙ ap (λ (b : List ℕ). b ++ (flush_turns turns id v1).text) said_before
+      text_is = all_said c fs s1 turns _ _ (bytes ++ T) f ends ∙ ap (λ (b : List ℕ). b ++ (flush_turns turns id v1).text) said_before
 
       messages_are : (outcome c (bytes ++ T)).messages ≡ (outcome c bytes).messages + count_of t.handled
-      messages_are = messages_of c (bytes ++ T) f.side side_is_there ∙ ap (λ (ms : List Message). length ms) f.handled ∙ counted_before
+      messages_are = messages_of c (bytes ++ T) f.side then_there ∙ ap (λ (ms : List Message). length ms) f.handled ∙ counted_before
 
       stands_now : Stands c (flush_turns turns id v1).server (bytes ++ T)
-      stands_now = record { config = f.config; events = f.events; shows = f.shows; world = ends; taken = λ still. f.taken ∙ taken_all }
+      stands_now = stands_behind c fs s1 turns _ _ (bytes ++ T) f ends taken_all
 
       stop_is : stop_on (session_of id (flush_turns turns id v1).server.sessions) ≡ (outcome c (bytes ++ T)).stop
       stop_is =
           ap stop_on (session_is c fs id s1 turns (flush_turns turns id v1).server (flush_turns turns id v1).text f)
-          ∙ sym (stop_there c (bytes ++ T) f.side side_is_there)
+          ∙ sym (stop_there c (bytes ++ T) f.side then_there)
 
     -- The take and its flush did what is defined for the bytes taken.
     pub served_front : (after : ServerValue) (wrote : List ℕ → Type 0) → IsFlushed id v1 after wrote → FrontServed c id bytes T after wrote (count_of t.handled)
@@ -387,18 +393,7 @@ module _ (c : ConfigValues) (v : ServerValue) (id : ℕ) (bytes piece : List ℕ
 -- a take handles one message at most
 reason_few : (why : Reason) → message_reason why ≤ 1
 reason_few reason.Format = omega arith
-reason_few reason.TooLarge = omega arith
-reason_few reason.TokenLength = omega arith
-reason_few reason.ReservedCode = omega arith
-reason_few reason.CsmExpected = omega arith
-reason_few (reason.BadCsm number) = omega arith
-reason_few reason.BadSignalOption = omega arith
-reason_few reason.PeerAbort = omega arith
-reason_few reason.PeerRelease = omega arith
-reason_few reason.PeerTooSmall = omega arith
-reason_few reason.Ended = omega arith
-reason_few reason.Cut = omega arith
-reason_few reason.ReleasedHere = omega arith
+reason_few other = omega arith
 
 pub handled_few : (what : Handled) → count_of what ≤ 1
 handled_few handled.Nothing = omega arith

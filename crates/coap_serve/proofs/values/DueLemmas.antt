@@ -1,6 +1,5 @@
 -- What is not due yet: a tick to a moment before each that is due changes nothing but the moment.
-use Rattle.std.proofs.Common.{◌≡◌, ℕ, ◌+◌, ◌<◌, ◌≤◌, ◌^◌, Bool, true, false, not, List, [], ◌∷◌, Option, Some, None, min, refl, sym, ap, subst, ◌∙◌, arith, inl, inr}
-use Rattle.std.specs.Prelude.{◌==◌, find, fold, nat_le, nat_lt, if◌then◌else◌}
+use Rattle.std.proofs.Common.{◌≡◌, ℕ, ◌+◌, ◌<◌, ◌≤◌, ◌^◌, Bool, true, false, not, List, [], ◌∷◌, Option, Some, None, min, refl, sym, ap, subst, ◌∙◌, arith, inl, inr, ◌==◌, find, fold, nat_le, nat_lt, if◌then◌else◌}
 use Rattle.std.specs.List.{AllByRecursion, list_any, filter_map, cons_option, reduce}
 use Rattle.std.proofs.lemmas.Bool.{cases_lt, cond-true, cond-false, or_parts, lt-ltb, le-leb, lt-leb, ne_eqb}
 use Rattle.coap_conn.specs.Held.{HeldValue, Answer, Pong, come, to_come, next_moment, first_due}

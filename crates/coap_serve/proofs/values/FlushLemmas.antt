@@ -1,6 +1,5 @@
 -- A flush, one turn after the other, as the code makes it.
-use Rattle.std.proofs.Common.{◌≡◌, ℕ, suc, ◌≤◌, List, [], ◌∷◌, ◌++◌, length, Option, Result, Ok, Err, Bool, true, false, refl, sym, ap, subst, ◌∙◌, append_assoc, inl}
-use Rattle.std.specs.Prelude.{not, OnErr}
+use Rattle.std.proofs.Common.{◌≡◌, ℕ, suc, ◌≤◌, List, [], ◌∷◌, ◌++◌, length, Option, Result, Ok, Err, Bool, true, false, refl, sym, ap, subst, ◌∙◌, append_assoc, inl, not, OnErr}
 use Rattle.std.proofs.lemmas.List.{append-nil}
 use Rattle.coap_serve.specs.streams.Device.{AddsBytes, WritesPart}
 use Rattle.coap_serve.specs.values.Servers.{ServerValue, server_written}

@@ -1,6 +1,5 @@
 -- What holds of a session as the code holds it, and what its calls do.
-use Rattle.std.proofs.Common.{◌≡◌, ℕ, zero, suc, ◌-◌, ◌<◌, ◌≤◌, Bool, true, false, List, [], ◌∷◌, ◌++◌, length, take, Option, Some, None, Result, Ok, Err, refl, sym, ap, subst, ◌∙◌, arith, inl, inr}
-use Rattle.std.specs.Prelude.{◌⊎◌, ◌||◌, find, slice_get, nat_le, is_some, OnOk, IsTrue, if◌then◌else◌}
+use Rattle.std.proofs.Common.{◌≡◌, ℕ, zero, suc, ◌-◌, ◌<◌, ◌≤◌, Bool, true, false, List, [], ◌∷◌, ◌++◌, length, take, Option, Some, None, Result, Ok, Err, refl, sym, ap, subst, ◌∙◌, arith, inl, inr, ◌⊎◌, ◌||◌, find, slice_get, nat_le, is_some, OnOk, IsTrue, if◌then◌else◌}
 use Rattle.std.proofs.lemmas.Bool.{le-leb, leb-true, cond-true, cond-false}
 use Rattle.std.proofs.lemmas.List.{length-take-le, take-take}
 use Rattle.coap_wire.specs.Message.{Message}
@@ -98,13 +97,8 @@ on_request r host v m l after o p asks is room entries =
 
 -- what is no request
 pub no_request : (what : Verdict) → (what ≡ told.Request → ⊥) → is_request (verdict_value what) ≡ false
-no_request told.Opened other = refl
-no_request told.Done other = refl
 no_request told.Request other = absurd (other refl)
-no_request (told.Answer token last) other = refl
-no_request (told.Pong token custody) other = refl
-no_request told.Stranger other = refl
-no_request (told.Stopped why) other = refl
+no_request what other = refl
 
 pub message_handled : (host : Host) (v : SessionValue) (m : Message) (l : LinkValue) → asks_this v.link m ≡ false → l ≡ link_after v.link (call.Handle m) → session_with [] l v.observers ≡ session_handled host v m
 unfolding session_handled

@@ -1,11 +1,10 @@
 -- What settling leaves: nothing that is held is due and no observer is stale, or there is no room.
-use Rattle.std.proofs.Common.{◌≡◌, ℕ, zero, suc, ◌+◌, ◌-◌, ◌≤◌, Bool, true, false, ◌&&◌, List, [], ◌∷◌, ◌++◌, length, Option, Some, None, refl, sym, ap, subst, ◌∙◌, arith}
-use Rattle.std.specs.Prelude.{◌||◌, find, is_some, not, if◌then◌else◌}
+use Rattle.std.proofs.Common.{◌≡◌, ℕ, zero, suc, ◌+◌, ◌-◌, ◌≤◌, Bool, true, false, ◌&&◌, List, [], ◌∷◌, ◌++◌, length, Option, Some, None, refl, sym, ap, subst, ◌∙◌, arith, ◌||◌, find, is_some, not, if◌then◌else◌}
 use Rattle.std.proofs.lemmas.Bool.{eq-eqb, eqb-true, cond-false}
 use Rattle.coap_wire.specs.Message.{Message}
 use Rattle.coap_wire.specs.Codes as code
 use Rattle.coap_conn.specs.declared.phase.Reply.{Reply}
-use Rattle.coap_conn.specs.declared.phase.Reply.TheVariants.{Whole, Bare, Stopped}
+use Rattle.coap_conn.specs.declared.phase.Reply.TheVariants.{Whole}
 use Rattle.coap_conn.specs.Phases.{answers, is_open}
 use Rattle.coap_conn.specs.Fit.{fit, bare_response}
 use Rattle.coap_conn.specs.Held.{HeldValue, Answer, Pong, first_due, without_due}
@@ -75,10 +74,9 @@ fewer_due due after (p ∷ os) o none first =
 -- ---- how much is held
 
 -- a message that is sent leaves no more
-send_held : (s : Standing) (m less : Message) (r : Reply) → length (send_as s m less r).held ≤ length s.held
+pub send_held : (s : Standing) (m less : Message) (r : Reply) → length (send_as s m less r).held ≤ length s.held
 send_held s m less Whole = omega arith
-send_held s m less Bare = omega arith
-send_held s m less Stopped = omega arith
+send_held s m less other = omega arith
 
 reply_held : (l : LinkValue) (m : Message) → length (link_after l (call.Reply m)).held ≤ length l.held
 reply_held l m =
@@ -86,7 +84,7 @@ reply_held l m =
     elim (answers l.phase) as (λ b. length (if b then link_with l (send (standing_in l) m (bare_response m)) else l).held ≤ length l.held) [ true ↦ sent | false ↦ omega arith ]
 
 -- what was due first is held no more
-due_held : (s : Standing) (e : Option HeldValue) → length (due_effect s e).held ≤ length s.held
+pub due_held : (s : Standing) (e : Option HeldValue) → length (due_effect s e).held ≤ length s.held
 due_held s None = omega arith
 due_held s (Some (Answer token moment)) = omega arith
 due_held s (Some (Pong token)) = send_held s (pong_with true token) (pong_with false token) (fit s.limit (pong_with true token) (pong_with false token))

@@ -1,6 +1,5 @@
 -- One turn of a flush, on the connection where it lies.
-use Rattle.std.proofs.Common.{◌≡◌, ℕ, Bool, true, false, List, length, Option, Some, sym, ap, subst, ◌∙◌}
-use Rattle.std.specs.Prelude.{slice_get}
+use Rattle.std.proofs.Common.{◌≡◌, ℕ, Bool, true, false, List, length, Option, Some, sym, ap, subst, ◌∙◌, slice_get}
 use Rattle.std.specs.Map.{keys_of, values_of}
 use Rattle.coap_conn.specs.Phases.{stop_of}
 use Rattle.coap_serve.specs.values.Sessions.{SessionValue, session_written, session_settled}

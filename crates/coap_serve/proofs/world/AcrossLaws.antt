@@ -1,7 +1,6 @@
 -- A relation between a connection before and after: where it holds of whatever happens to one, it holds across settling and
 -- across any step. So what each of these keeps of a connection is kept by any events.
-use Rattle.std.proofs.Common.{◌≡◌, ℕ, List, Bool, true, false, cond, ◌++◌, [], ◌∷◌, map, Option, Some, None, refl, sym, ap, subst, ◌∙◌, ◌⊎◌, inl, inr}
-use Rattle.std.specs.Prelude.{zero, suc, ◌+◌, length, is_none, option_map}
+use Rattle.std.proofs.Common.{◌≡◌, ℕ, List, Bool, true, false, cond, ◌++◌, [], ◌∷◌, map, Option, Some, None, refl, sym, ap, subst, ◌∙◌, ◌⊎◌, inl, inr, zero, suc, ◌+◌, length, is_none, option_map}
 use Rattle.std.proofs.lemmas.Bool.{cases_eq}
 use Rattle.coap_wire.specs.Message.{Message}
 use Rattle.coap_wire.specs.Stream.{StreamFault}
@@ -12,7 +11,7 @@ use Rattle.coap_store.specs.Store.{StoreValue}
 use Rattle.coap_store.specs.Refusals.{put_refusal}
 use Rattle.coap_serve.specs.Configs.{ConfigValues}
 use Rattle.coap_serve.specs.world.Sides.{Side, new_side, side_after, side_faulted, side_written, side_ended, side_released, settled_once, settled_within, settled}
-use Rattle.coap_serve.specs.world.World.{Place, World, Step, new_world, side_of, changed_at, ticks, acted, all_settled, after_steps}
+use Rattle.coap_serve.specs.world.World.{Place, World, Step, new_world, side_of, changed_at, stored_after, ticks, acted, settled_place, all_settled, after_steps}
 use Rattle.coap_serve.specs.world.World as world
 use Rattle.coap_serve.specs.world.Events.{Event, steps_of, world_after}
 use Rattle.coap_serve.proofs.world.PlaceLaws.{none_not_some, found, nobody, all_there, changed_here, changed_elsewhere, still_there, new_there, but, dropped_here, dropped_elsewhere}
@@ -129,29 +128,31 @@ module _ (R : Side → Side → Type 0) (limits : LimitValues) (w : World) (st :
 
 -- ---- what a step does to a connection that is there
 
+settles_there : (id : ℕ) (store : StoreValue) (now : ℕ) (f : Side → Side) (ps : List Place) (s : Side) → side_of id ps ≡ Some s → side_of id (map (settled_place store now) (map (changed_at id f) ps)) ≡ Some (settled store now (f s))
+settles_there id store now f ps s there =
+    all_there id (settled store now) (map (changed_at id f) ps) ∙ ap (option_map (settled store now)) (changed_here id f ps ∙ ap (option_map f) there)
+
 pub handled_there : (limits : LimitValues) (w : World) (id : ℕ) (m : Message) (s : Side) → side_of id w.sides ≡ Some s
     → (store : StoreValue) × (side_of id (world.step limits w (world.Handled id m)).sides ≡ Some (settled store w.now (side_after w.store w.now s m)))
 unfolding world.step acted
 handled_there limits w id m s there =
-    let did : World = acted limits w (world.Handled id m) in (
-      did.store,
-      all_there id (settled did.store did.now) did.sides
-          ∙ ap (option_map (settled did.store did.now)) (changed_here id (λ u. side_after w.store w.now u m) w.sides ∙ ap (option_map (λ u. side_after w.store w.now u m)) there),
-    )
+    let store : StoreValue = stored_after w m (side_of id w.sides) in
+    (store, settles_there id store w.now (λ u. side_after w.store w.now u m) w.sides s there)
 
 pub faulted_there : (limits : LimitValues) (w : World) (id : ℕ) (fault : StreamFault) (s : Side) → side_of id w.sides ≡ Some s
     → side_of id (world.step limits w (world.Faulted id fault)).sides ≡ Some (settled w.store w.now (side_faulted s fault))
 unfolding world.step acted
-faulted_there limits w id fault s there =
-    let did : World = acted limits w (world.Faulted id fault) in
-    all_there id (settled did.store did.now) did.sides
-    ∙ ap (option_map (settled did.store did.now)) (changed_here id (λ u. side_faulted u fault) w.sides ∙ ap (option_map (λ u. side_faulted u fault)) there)
+faulted_there limits w id fault s there = settles_there id w.store w.now (λ u. side_faulted u fault) w.sides s there
 
-pub written_there : (limits : LimitValues) (w : World) (id n : ℕ) (s : Side) → side_of id w.sides ≡ Some s → side_of id (world.step limits w (world.Written id n)).sides ≡ Some (settled w.store w.now (side_written s n))
+pub written_there : (limits : LimitValues) (w : World) (id n : ℕ) (s : Side) → side_of id w.sides ≡ Some s
+    → side_of id (world.step limits w (world.Written id n)).sides ≡ Some (settled w.store w.now (side_written s n))
 unfolding world.step acted
-written_there limits w id n s there =
-    all_there id (settled w.store w.now) (acted limits w (world.Written id n)).sides
-    ∙ ap (option_map (settled w.store w.now)) (changed_here id (λ u. side_written u n) w.sides ∙ ap (option_map (λ u. side_written u n)) there)
+written_there limits w id n s there = settles_there id w.store w.now (λ u. side_written u n) w.sides s there
+
+pub ended_there : (limits : LimitValues) (w : World) (id : ℕ) (cut : Bool) (s : Side) → side_of id w.sides ≡ Some s
+    → side_of id (world.step limits w (world.Ended id cut)).sides ≡ Some (settled w.store w.now (side_ended s cut))
+unfolding world.step acted
+ended_there limits w id cut s there = settles_there id w.store w.now (λ u. side_ended u cut) w.sides s there
 
 -- ---- a relation between histories
 
@@ -192,33 +193,13 @@ module _ (R : History → History → Type 0) (keeps : KeepsAll R) where
 -- ---- what each connection keeps, the world keeps
 
 -- a new connection has it, and whatever happens to one that has it leaves it
-pub record Keeps (limits : LimitValues) (P : Side → Type 0) : Type 0 where
-  pub first : P (new_side limits)
-  pub handled : (store : StoreValue) (now : ℕ) (s : Side) (m : Message) → P s → P (side_after store now s m)
-  pub faulted : (s : Side) (fault : StreamFault) → P s → P (side_faulted s fault)
-  pub written : (s : Side) (n : ℕ) → P s → P (side_written s n)
-  pub ended : (s : Side) (cut : Bool) → P s → P (side_ended s cut)
-  pub released : (s : Side) → P s → P (side_released s)
-  pub told : (store : StoreValue) (now : ℕ) (s : Side) → P s → P (settled_once store now s)
-
-module _ (limits : LimitValues) (P : Side → Type 0) (keeps : Keeps limits P) where
+module _ (limits : LimitValues) (P : Side → Type 0) (first : P (new_side limits)) (keeps : (w : World) (st : Step) (id : ℕ) → HoldsOf (λ s t. P s → P t) w st id) where
   abbrev Each : World → Type 0
   Each w = (id : ℕ) (s : Side) → side_of id w.sides ≡ Some s → P s
 
-  kept_across : (w : World) (st : Step) (id : ℕ) → HoldsOf (λ s t. P s → P t) w st id
-  kept_across w st id = record {
-    same = λ s is. is;
-    handled = λ m is s. keeps.handled w.store w.now s m;
-    faulted = λ fault is s. keeps.faulted s fault;
-    written = keeps.written;
-    ended = keeps.ended;
-    released = keeps.released;
-    told = λ store now s t goes is. keeps.told store now t (goes is);
-  }
-
   step_keeps : (w : World) (st : Step) → Each w → Each (world.step limits w st)
   step_keeps w st each id t there =
-      elim (step_across (λ s u. P s → P u) limits w st id (kept_across w st id) t there) [ inl old ↦ old.2 (each id old.0 old.1) | inr new ↦ new.2 keeps.first ]
+      elim (step_across (λ s u. P s → P u) limits w st id (keeps w st id) t there) [ inl old ↦ old.2 (each id old.0 old.1) | inr new ↦ new.2 first ]
 
   steps_keep : (w : World) (ss : List Step) → Each w → Each (after_steps limits w ss)
   unfolding after_steps
@@ -226,22 +207,16 @@ module _ (limits : LimitValues) (P : Side → Type 0) (keeps : Keeps limits P) w
   steps_keep w (st ∷ ss) each = steps_keep (world.step limits w st) ss (step_keeps w st each)
 
 -- so each connection has it after any events
-pub kept_after : (c : ConfigValues) (P : Side → Type 0) → Keeps c.limits P → (es : List Event) (id : ℕ) (s : Side) → side_of id (world_after c es).sides ≡ Some s → P s
+pub kept_by : (c : ConfigValues) (P : Side → Type 0) → P (new_side c.limits) → ((w : World) (st : Step) (id : ℕ) → HoldsOf (λ s t. P s → P t) w st id)
+    → (es : List Event) (id : ℕ) (s : Side) → side_of id (world_after c es).sides ≡ Some s → P s
 unfolding world_after
-kept_after c P keeps es = steps_keep c.limits P keeps (new_world c) (steps_of c.limits.max_message es) (λ id s there. absurd (none_not_some s (sym (nobody id) ∙ there)))
-
--- the same of what a history keeps
-pub keeps_history : (limits : LimitValues) (P : History → Type 0) → P (new_history Server limits 0) → KeepsAll (λ h k. P h → P k) → Keeps limits (λ s. P s.history)
-keeps_history limits P first keeps = record {
-  first = first;
-  handled = after_all (λ h k. P h → P k) keeps;
-  faulted = faulted_all (λ h k. P h → P k) keeps;
-  written = written_between (λ h k. P h → P k) keeps.composes.same keeps.writes;
-  ended = ended_between (λ h k. P h → P k) keeps.composes.same keeps.ends;
-  released = released_between (λ h k. P h → P k) keeps.composes.same keeps.releases;
-  told = once_all (λ h k. P h → P k) keeps;
-}
+kept_by c P first keeps es = steps_keep c.limits P first keeps (new_world c) (steps_of c.limits.max_message es) (λ id s there. absurd (none_not_some s (sym (nobody id) ∙ there)))
 
 -- what is kept composes
 pub keeping : (P : History → Type 0) → Composes (λ h k. P h → P k)
 keeping P = record { same = λ h is. is; then = λ h k g one two is. two (one is) }
+
+-- the same of what each part of what happens keeps of a history
+pub kept_history : (c : ConfigValues) (P : History → Type 0) → P (new_history Server c.limits 0) → KeepsAll (λ h k. P h → P k)
+    → (es : List Event) (id : ℕ) (s : Side) → side_of id (world_after c es).sides ≡ Some s → P s.history
+kept_history c P first keeps = kept_by c (λ s. P s.history) first (all_across (λ h k. P h → P k) keeps)

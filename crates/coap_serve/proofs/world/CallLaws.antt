@@ -1,6 +1,5 @@
 -- What the clauses of each call of a server say of its value shows the call's event.
-use Rattle.std.proofs.Common.{◌≡◌, ℕ, ◌+◌, ◌<◌, ◌^◌, Bool, true, false, List, [], ◌∷◌, ◌++◌, length, take, Option, Some, None, Result, Ok, Err, refl, sym, subst, ◌∙◌, arith}
-use Rattle.std.specs.Prelude.{is_ok, nat_le, nat_lt, option_map, IfOk, IfErr, OnOk, if◌then◌else◌}
+use Rattle.std.proofs.Common.{◌≡◌, ℕ, ◌+◌, ◌<◌, ◌^◌, Bool, true, false, List, [], ◌∷◌, ◌++◌, length, take, Option, Some, None, Result, Ok, Err, refl, sym, subst, ◌∙◌, arith, is_ok, nat_le, nat_lt, option_map, IfOk, IfErr, OnOk, if◌then◌else◌}
 use Rattle.std.proofs.lemmas.Bool.{leb-true, leb-false, ltb-false}
 use Rattle.coap_wire.specs.Refusal.{RefusedBy}
 use Rattle.coap_conn.specs.declared.phase.SendFault.{SendFault}

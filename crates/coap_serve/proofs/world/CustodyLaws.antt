@@ -16,7 +16,6 @@ use Rattle.coap_conn.specs.declared.phase.Reply.{Reply}
 use Rattle.coap_conn.specs.declared.phase.Reply.TheVariants.{Whole, Bare, Stopped}
 use Rattle.coap_conn.specs.Limits.{LimitValues}
 use Rattle.coap_conn.specs.Phases.{takes_messages, answers, is_open, is_waiting}
-use Rattle.coap_conn.specs.Verdicts.{VerdictValue, is_request}
 use Rattle.coap_conn.specs.Verdicts as verdict
 use Rattle.coap_conn.specs.Fit.{fit, bare_response}
 use Rattle.coap_conn.specs.Held.{HeldValue, Answer, Pong, without_at, due_index, without_due}
@@ -36,8 +35,8 @@ use Rattle.coap_serve.specs.world.World.{side_of}
 use Rattle.coap_serve.specs.world.Events.{Event, world_after}
 use Rattle.coap_serve.specs.world.Custody.{asks_held, StandFor, QueuesCustody, IsFirstHeld}
 use Rattle.coap_serve.proofs.world.EntryLemmas.{all_append}
-use Rattle.coap_serve.proofs.world.WalkLaws.{sent, without_first, Hears, Replies, Holds, Pongs, if_between, after_between, faulted_between, written_between, ended_between, released_between, once_between}
-use Rattle.coap_serve.proofs.world.AcrossLaws.{Keeps, kept_after}
+use Rattle.coap_serve.proofs.world.WalkLaws.{said_request, sent, without_first, Hears, Replies, Holds, Pongs, if_between, after_between, faulted_between, written_between, ended_between, released_between, once_between}
+use Rattle.coap_serve.proofs.world.GoingOn.{Keeps, kept_after}
 use Rattle.coap_serve.proofs.world.ToldMessages.{Queues, queues_none, queues_effect, queues_to, queues_then, heard_queues, IsPlain, reject_queues, end_queues, release_queues, holding_queues, queues_as, written_queues, react_so}
 
 -- the second of two tests
@@ -297,15 +296,6 @@ pub asked_at_all : (h : History) (hold : Option ℕ) (seconds : ℕ) → held_fo
 asked_at_all h None seconds e = e
 asked_at_all h (Some n) seconds e = elim (may_hold h) as (λ b. cond b (Some n) None ≡ Some seconds → Some n ≡ Some seconds) [ true ↦ λ is. is | false ↦ λ is. absurd cc ] e
 
-pub said_request : (v : VerdictValue) → is_request v ≡ true → v ≡ verdict.Request
-said_request verdict.Opened e = absurd cc
-said_request verdict.Done e = absurd cc
-said_request verdict.Request e = refl
-said_request (verdict.Answer token last) e = absurd cc
-said_request (verdict.Pong token custody) e = absurd cc
-said_request verdict.Stranger e = absurd cc
-said_request (verdict.Stopped why) e = absurd cc
-
 -- what is held after it, and the request behind it
 heard_one_more : (h : History) (m : Message) (e : Effect) (takes : Bool) (x : HeldValue) → takes ≡ true → e.held ≡ h.held → asks_held m x ≡ true → Stands h
     → StandFor (cond takes (record (with_effect h e) { handled = h.handled ++ m ∷ [] }) h).handled ((cond takes (record (with_effect h e) { handled = h.handled ++ m ∷ [] }) h).held ++ x ∷ [])
@@ -353,7 +343,7 @@ after_stands store now s m stand =
 pub stands_keeps : (limits : LimitValues) → Keeps limits (λ s. Stands s.history)
 stands_keeps limits = record {
   first = stand_none [];
-  handled = after_stands;
+  handled = λ store now s m is. after_stands store now s m;
   faulted = faulted_between (λ h k. Stands h → Stands k) (λ h stand. stand) (λ h fault takes room stand. stand_none h.handled);
   written = written_between (λ h k. Stands h → Stands k) (λ h stand. stand) (λ h n within stand. stand);
   ended = ended_between (λ h k. Stands h → Stands k) (λ h stand. stand) (λ h cut takes stand. stand_none h.handled);

@@ -1,12 +1,11 @@
 -- Where pieces are cut does not matter: a piece, and its two parts one after the other, make the same steps.
-use Rattle.std.proofs.Common.{◌≡◌, ℕ, Bool, true, false, List, [], ◌∷◌, ◌++◌, length, map, Option, Some, None, refl, sym, ap, subst, ◌∙◌, append_assoc, arith}
-use Rattle.std.specs.Prelude.{◌==◌, if◌then◌else◌}
+use Rattle.std.proofs.Common.{◌≡◌, ℕ, Bool, true, false, List, [], ◌∷◌, ◌++◌, length, map, Option, Some, None, refl, sym, ap, subst, ◌∙◌, append_assoc, arith, ◌==◌, if◌then◌else◌}
 use Rattle.std.proofs.lemmas.List.{append-nil, map-append, drop-append-le, drop_all}
 use Rattle.coap_wire.specs.Message.{Message}
 use Rattle.coap_wire.specs.Stream.{StreamFault, Stream, split, gone_on, split_on}
 use Rattle.coap_serve.specs.Configs.{ConfigValues}
 use Rattle.coap_serve.specs.world.Sides.{is_cut}
-use Rattle.coap_serve.specs.world.World.{World, Step, new_world, after_steps}
+use Rattle.coap_serve.specs.world.World.{Step, new_world, after_steps}
 use Rattle.coap_serve.specs.world.World as step
 use Rattle.coap_serve.specs.world.Events.{Event, Opened, Took, Wrote, Ticked, Stored, Removed, Ended, Released, Dropped, taken_on, stream_on, new_fault, beyond, steps_by, steps_behind, steps_of, world_after}
 use Rattle.coap_serve.proofs.world.StepLaws.{taken_more, behind_more, stream_more}

@@ -25,10 +25,10 @@ use Rattle.coap_store.specs.Store.{StoreValue}
 use Rattle.coap_serve.specs.Configs.{ConfigValues}
 use Rattle.coap_serve.specs.values.Sessions.{link_sent}
 use Rattle.coap_serve.specs.world.Sides.{Side, new_side, handles, has_room, with_history, side_after, side_faulted, side_written, side_ended, side_released, held_message, after_sent, settled_once, settled}
-use Rattle.coap_serve.specs.world.World.{side_of}
+use Rattle.coap_serve.specs.world.World.{World, Step, side_of}
 use Rattle.coap_serve.specs.world.Events.{Event, world_after}
-use Rattle.coap_serve.proofs.world.WalkLaws.{heard, sent, holding, without_first, Between, if_between, settled_between, written_between, ended_between, released_between}
-use Rattle.coap_serve.proofs.world.AcrossLaws.{KeepsAll, Keeps, kept_after, after_all, faulted_all, once_all}
+use Rattle.coap_serve.proofs.world.WalkLaws.{heard, sent, holding, without_first, Between, if_between, settled_between}
+use Rattle.coap_serve.proofs.world.AcrossLaws.{HoldsOf, KeepsAll, all_across, kept_by}
 
 -- ---- what is kept
 
@@ -190,23 +190,26 @@ pub record IsSide (limits : LimitValues) (s : Side) : Type 0 where
 pub follower_is : (limits : LimitValues) (s t : Side) → Between GoesOn s t → IsSide limits s → IsSide limits t
 follower_is limits s t goes is = record { is_history = goes.history is.is_history; same_limits = goes.limits ∙ is.same_limits; is_server = goes.role ∙ is.is_server }
 
-pub sides_keep : (limits : LimitValues) → Keeps limits (IsSide limits)
-sides_keep limits = record {
-  first = record { is_history = (new_shown Server limits 0 _ refl).is_history; same_limits = refl; is_server = refl };
-  handled = λ store now s m. follower_is limits s _ (after_all GoesOn all_go_on store now s m);
-  faulted = λ s fault. follower_is limits s _ (faulted_all GoesOn all_go_on s fault);
-  written = λ s n. follower_is limits s _ (written_between GoesOn as_before written_goes_on s n);
-  ended = λ s cut. follower_is limits s _ (ended_between GoesOn as_before all_go_on.ends s cut);
-  released = λ s. follower_is limits s _ (released_between GoesOn as_before all_go_on.releases s);
-  told = λ store now s. follower_is limits s _ (once_all GoesOn all_go_on store now s);
+sides_hold : (limits : LimitValues) (w : World) (st : Step) (id : ℕ) → HoldsOf (λ s t. IsSide limits s → IsSide limits t) w st id
+sides_hold limits w st id = let goes : HoldsOf (Between GoesOn) w st id = all_across GoesOn all_go_on w st id in record {
+  same = λ s is. is;
+  handled = λ m at s. follower_is limits s _ (goes.handled m at s);
+  faulted = λ fault at s. follower_is limits s _ (goes.faulted fault at s);
+  written = λ s n. follower_is limits s _ (goes.written s n);
+  ended = λ s cut. follower_is limits s _ (goes.ended s cut);
+  released = λ s. follower_is limits s _ (goes.released s);
+  told = λ store now s t before is. follower_is limits t _ (goes.told store now t t (goes.same t)) (before is);
 }
+
+new_side_is : (limits : LimitValues) → IsSide limits (new_side limits)
+new_side_is limits = record { is_history = (new_shown Server limits 0 _ refl).is_history; same_limits = refl; is_server = refl }
 
 -- the connection with a number is one
 pub side_is : (c : ConfigValues) (es : List Event) (id : ℕ) (s : Side) → side_of id (world_after c es).sides ≡ Some s → IsSide c.limits s
-side_is c es id s there = kept_after c (IsSide c.limits) (sides_keep c.limits) es id s there
+side_is c es id s there = kept_by c (IsSide c.limits) (new_side_is c.limits) (sides_hold c.limits) es id s there
 
--- what such connections keep
-pub record KeepsOfSides (limits : LimitValues) (P : Side → Type 0) : Type 0 where
+-- what such connections keep: a new one has it, and whatever happens to one that has it leaves it
+pub record Keeps (limits : LimitValues) (P : Side → Type 0) : Type 0 where
   pub first : P (new_side limits)
   pub handled : (store : StoreValue) (now : ℕ) (s : Side) (m : Message) → IsSide limits s → P s → P (side_after store now s m)
   pub faulted : (s : Side) (fault : StreamFault) → P s → P (side_faulted s fault)
@@ -215,13 +218,17 @@ pub record KeepsOfSides (limits : LimitValues) (P : Side → Type 0) : Type 0 wh
   pub released : (s : Side) → P s → P (side_released s)
   pub told : (store : StoreValue) (now : ℕ) (s : Side) → P s → P (settled_once store now s)
 
-pub of_sides : (limits : LimitValues) (P : Side → Type 0) → KeepsOfSides limits P → Keeps limits (λ s. IsSide limits s × P s)
-of_sides limits P keeps = let is : Keeps limits (IsSide limits) = sides_keep limits in record {
-  first = (is.first, keeps.first);
-  handled = λ store now s m of. (is.handled store now s m of.0, keeps.handled store now s m of.0 of.1);
-  faulted = λ s fault of. (is.faulted s fault of.0, keeps.faulted s fault of.1);
+keeps_hold : (limits : LimitValues) (P : Side → Type 0) → Keeps limits P → (w : World) (st : Step) (id : ℕ) → HoldsOf (λ s t. IsSide limits s × P s → IsSide limits t × P t) w st id
+keeps_hold limits P keeps w st id = let is : HoldsOf (λ s t. IsSide limits s → IsSide limits t) w st id = sides_hold limits w st id in record {
+  same = λ s of. of;
+  handled = λ m at s of. (is.handled m at s of.0, keeps.handled w.store w.now s m of.0 of.1);
+  faulted = λ fault at s of. (is.faulted fault at s of.0, keeps.faulted s fault of.1);
   written = λ s n of. (is.written s n of.0, keeps.written s n of.1);
   ended = λ s cut of. (is.ended s cut of.0, keeps.ended s cut of.1);
   released = λ s of. (is.released s of.0, keeps.released s of.1);
-  told = λ store now s of. (is.told store now s of.0, keeps.told store now s of.1);
+  told = λ store now s t before of. (is.told store now t t (λ same. same) (before of).0, keeps.told store now t (before of).1);
 }
+
+-- so each connection has it after any events
+pub kept_after : (c : ConfigValues) (P : Side → Type 0) → Keeps c.limits P → (es : List Event) (id : ℕ) (s : Side) → side_of id (world_after c es).sides ≡ Some s → P s
+kept_after c P keeps es id s there = (kept_by c (λ t. IsSide c.limits t × P t) (new_side_is c.limits, keeps.first) (keeps_hold c.limits P keeps) es id s there).1

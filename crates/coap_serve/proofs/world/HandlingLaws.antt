@@ -1,6 +1,5 @@
 -- What a take handled is told by the worlds before and after it: nothing, one message, or the reason of a stop.
-use Rattle.std.proofs.Common.{◌≡◌, ℕ, ◌+◌, Bool, true, false, cond, List, [], ◌∷◌, ◌++◌, length, take, Option, Some, None, Result, Ok, Err, refl, sym, ap, subst, ◌∙◌, ◌⊎◌, inl, inr, arith}
-use Rattle.std.specs.Prelude.{nat_lt, is_none, option_map, ◌&&◌, IfOk}
+use Rattle.std.proofs.Common.{◌≡◌, ℕ, ◌+◌, Bool, true, false, cond, List, [], ◌∷◌, ◌++◌, length, take, Option, Some, None, Result, Ok, Err, refl, sym, ap, subst, ◌∙◌, ◌⊎◌, inl, inr, arith, nat_lt, is_none, option_map, ◌&&◌, IfOk}
 use Rattle.std.proofs.lemmas.Bool.{cond-true, and_parts, lt-ltb, le-ltb}
 use Rattle.std.proofs.lemmas.List.{append-nil, length-append, take_all}
 use Rattle.coap_wire.specs.Message.{Message}
@@ -195,8 +194,7 @@ side_rejects s fault does =
 -- only a fault of the bytes has such a reason
 pub no_message_reason : (fault : Reject) → message_reason (reject_reason fault) ≡ 0
 no_message_reason reject.Format = refl
-no_message_reason reject.TooLarge = refl
-no_message_reason reject.TokenLength = refl
+no_message_reason other = refl
 
 -- ---- what a take does
 

@@ -1,15 +1,12 @@
 -- What each thing that happens to a connection keeps of it.
-use Rattle.std.proofs.Common.{◌≡◌, ℕ, ◌≤◌, Bool, true, false, cond, List, length, Option, Some, None, refl, arith}
-use Rattle.std.specs.Prelude.{◌&&◌, not, is_none, nat_le, nat_lt}
-use Rattle.std.proofs.lemmas.Bool.{and_parts, leb-true}
+use Rattle.std.proofs.Common.{◌≡◌, ℕ, ◌≤◌, Bool, true, false, cond, List, length, Option, Some, None, refl, arith, ◌&&◌, not, nat_lt}
+use Rattle.std.proofs.lemmas.Bool.{and_parts}
 use Rattle.coap_wire.specs.Message.{Message}
 use Rattle.coap_wire.specs.Stream.{StreamFault}
 use Rattle.coap_conn.specs.Limits.{LimitValues}
 use Rattle.coap_conn.specs.Phases.{is_open}
 use Rattle.coap_conn.specs.Fit.{fit, bare_response}
-use Rattle.coap_conn.specs.Rejects.{reject_of}
-use Rattle.coap_conn.specs.Release.{release_refusal}
-use Rattle.coap_conn.specs.History.{History, IsHistory, limit_now, after, link_of}
+use Rattle.coap_conn.specs.History.{History, IsHistory, limit_now, after}
 use Rattle.coap_conn.specs.Calls as call
 use Rattle.coap_store.specs.Paths.{same_bytes}
 use Rattle.coap_store.specs.Store.{StoreValue}
@@ -17,10 +14,12 @@ use Rattle.coap_store.specs.Answer.{Change, answer_of, prompt_answer, changed}
 use Rattle.coap_store.specs.Messages.{response_with_observe}
 use Rattle.coap_store.specs.declared.plan.Watch.TheVariants as watch
 use Rattle.coap_serve.specs.world.Observers.{Observer, without_token, asks_entry, has_place, entry_for, is_whole, with_entry}
-use Rattle.coap_serve.specs.world.Sides.{Side, new_side, handles, waiting_on, with_history, side_answered, moment_after, held_for, side_replied, asks_answer, side_handled, side_after, side_faulted, side_written, side_ended, side_released}
+use Rattle.coap_serve.specs.world.Sides.{Side, new_side, handles, with_history, side_answered, moment_after, held_for, side_replied, asks_answer, side_handled, side_after, side_faulted, side_written, side_ended, side_released}
 use Rattle.coap_serve.proofs.world.KnownLaws.{IsKnown, IsVersioned, still_known, entry_known}
 use Rattle.coap_serve.proofs.world.EntryLemmas.{all_to, all_filter, all_if, all_entered}
-use Rattle.coap_serve.proofs.world.GoingOn.{message_goes_on, reply_goes_on, reject_goes_on, end_goes_on, release_goes_on, written_goes_on, hold_goes_on}
+use Rattle.coap_serve.proofs.world.WalkLaws.{written_between, ended_between, released_between, observers_faulted, observers_written, observers_ended, observers_released}
+use Rattle.coap_serve.proofs.world.AcrossLaws.{faulted_all}
+use Rattle.coap_serve.proofs.world.GoingOn.{GoesOn, as_before, all_go_on, message_goes_on, reply_goes_on, written_goes_on, hold_goes_on}
 use Rattle.coap_serve.proofs.world.SideLaws.{asks_to_enter, AreKnown, IsKnownSide, known_with}
 
 -- ---- what is known stays known
@@ -40,26 +39,20 @@ known_if store true s t known new = new refl
 known_if store false s t known new = known
 
 pub faulted_known : (store : StoreValue) (s : Side) (fault : StreamFault) → IsKnownSide store s → IsKnownSide store (side_faulted s fault)
-unfolding side_faulted
 faulted_known store s fault known =
-    let h = after s.history (call.Reject (reject_of fault)) in
-    known_if store (handles s) s (with_history s h) known (λ e. known_with store s h (reject_goes_on s.history (reject_of fault)) known)
+    record { is_history = (faulted_all GoesOn all_go_on s fault).history known.is_history; told = observers_faulted (AreKnown store) tt s fault known.told }
 
 pub written_known : (store : StoreValue) (s : Side) (n : ℕ) → IsKnownSide store s → IsKnownSide store (side_written s n)
-unfolding side_written
 written_known store s n known =
-    known_if store (nat_le n (length (waiting_on s))) s (record s { history = after s.history (call.Written n) }) known
-    (λ e. record { is_history = (written_goes_on s.history n (leb-true n (length (waiting_on s)) e)).history known.is_history; told = known.told })
+    record { is_history = (written_between GoesOn as_before written_goes_on s n).history known.is_history; told = observers_written (AreKnown store) tt s n known.told }
 
 pub ended_known : (store : StoreValue) (s : Side) (cut : Bool) → IsKnownSide store s → IsKnownSide store (side_ended s cut)
-unfolding side_ended
-ended_known store s cut known = known_with store s (after s.history (call.End cut)) (end_goes_on s.history cut) known
+ended_known store s cut known =
+    record { is_history = (ended_between GoesOn as_before all_go_on.ends s cut).history known.is_history; told = observers_ended (AreKnown store) tt s cut known.told }
 
 pub released_known : (store : StoreValue) (s : Side) → IsKnownSide store s → IsKnownSide store (side_released s)
-unfolding side_released
 released_known store s known =
-    let h = after s.history call.Release in
-    known_if store (is_none (release_refusal (link_of s.history))) s (with_history s h) known (λ e. known_with store s h (release_goes_on s.history) known)
+    record { is_history = (released_between GoesOn as_before all_go_on.releases s).history known.is_history; told = observers_released (AreKnown store) tt s known.told }
 
 -- the other entries
 others_known : (store : StoreValue) (token : List ℕ) (os : List Observer) → AreKnown store os → AreKnown store (without_token token os)

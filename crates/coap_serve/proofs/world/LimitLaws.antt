@@ -1,7 +1,6 @@
 -- The limits of a server hold: after any events of the bytes that wait on a connection, of what it holds and of its observers, and
 -- after accepted events of the bytes that are kept of an unfinished frame.
-use Rattle.std.proofs.Common.{◌≡◌, ℕ, ◌+◌, ◌<◌, ◌≤◌, Bool, true, false, cond, List, [], ◌∷◌, ◌++◌, length, drop, Option, Some, None, refl, ap, ◌∙◌, arith}
-use Rattle.std.specs.Prelude.{nat_le, nat_lt, is_none, filter, ◌&&◌}
+use Rattle.std.proofs.Common.{◌≡◌, ℕ, ◌+◌, ◌<◌, ◌≤◌, Bool, true, false, cond, List, [], ◌∷◌, ◌++◌, length, drop, Option, Some, None, refl, ap, ◌∙◌, arith, nat_lt, filter, ◌&&◌}
 use Rattle.std.proofs.Math.Nat.{min-le_left}
 use Rattle.std.proofs.lemmas.Bool.{cond_both, leb-true, ltb-true, and_parts}
 use Rattle.std.proofs.lemmas.List.{length-append, length-drop}
@@ -18,8 +17,7 @@ use Rattle.coap_conn.specs.Announced.{announced}
 use Rattle.coap_conn.specs.Fit.{AllFit, fit, abort_fitted, bare_response}
 use Rattle.coap_conn.specs.Held.{HeldValue, Answer, first_due, without_due}
 use Rattle.coap_conn.specs.Reaction.{Standing, send_as, send, react, pong_with}
-use Rattle.coap_conn.specs.Rejects.{reject_of, reject_reason}
-use Rattle.coap_conn.specs.Release.{release_refusal}
+use Rattle.coap_conn.specs.Rejects.{reject_reason}
 use Rattle.coap_conn.specs.History.{History, IsHistory, limit_now, standing_now, after, link_of}
 use Rattle.coap_conn.specs.LinkValue.{bytes_of, free_in}
 use Rattle.coap_conn.specs.Calls.{release}
@@ -34,13 +32,13 @@ use Rattle.coap_store.specs.Answer.{answer_of, prompt_answer}
 use Rattle.coap_store.specs.Messages.{response_with_observe}
 use Rattle.coap_serve.specs.Configs.{ConfigValues}
 use Rattle.coap_serve.specs.world.Observers.{Observer, is_due, without_token, has_place, asks_entry, entry_for, is_whole, with_entry, goes_on, notification, notification_message, left_of, first_becomes}
-use Rattle.coap_serve.specs.world.Sides.{Side, new_side, waiting_on, handles, kept_open, with_history, side_answered, moment_after, held_for, side_replied, asks_answer, side_handled, side_after, side_faulted, side_written, side_ended, side_released, next_due, notified, next_held, after_sent, settled_so, settled_once}
+use Rattle.coap_serve.specs.world.Sides.{Side, new_side, waiting_on, handles, kept_open, with_history, side_answered, moment_after, held_for, side_replied, asks_answer, side_handled, side_after, next_due, notified, next_held, after_sent, settled_so, settled_once}
 use Rattle.coap_serve.specs.world.World.{side_of}
 use Rattle.coap_serve.specs.world.Events.{Event, stream_on, world_after, AreAccepted}
 use Rattle.coap_serve.specs.world.Shows.{kept_on}
-use Rattle.coap_serve.proofs.world.WalkLaws.{release_fits, room_in, heard, sent, without_first}
-use Rattle.coap_serve.proofs.world.AcrossLaws.{KeepsAll, kept_after, keeping, keeps_history}
-use Rattle.coap_serve.proofs.world.GoingOn.{GoesOn, all_go_on, sent_goes_so, message_goes_on, IsSide, side_is, KeepsOfSides, of_sides}
+use Rattle.coap_serve.proofs.world.WalkLaws.{observers_faulted, observers_written, observers_ended, observers_released, release_fits, room_in, heard, sent, without_first}
+use Rattle.coap_serve.proofs.world.AcrossLaws.{KeepsAll, keeping, kept_history}
+use Rattle.coap_serve.proofs.world.GoingOn.{GoesOn, all_go_on, sent_goes_so, message_goes_on, IsSide, side_is, Keeps, kept_after}
 use Rattle.coap_serve.proofs.world.ToldMessages.{abort_one, react_so}
 use Rattle.coap_serve.proofs.world.TookLaws.{rest_unfinished}
 use Rattle.coap_serve.proofs.world.ReachedLaws.{accepted_is}
@@ -118,24 +116,21 @@ once_few : (most : ℕ) (store : StoreValue) (now : ℕ) (s : Side) (e : Option 
 once_few most store now s None few = notified_few most store now s (next_due store now s) few
 once_few most store now s (Some e) few = omega (arith, few, open_fewer (after_sent s.history now e) s.observers)
 
-few_keeps : (limits : LimitValues) → KeepsOfSides limits (λ s. length s.observers ≤ limits.observers)
-unfolding side_faulted side_written side_ended side_released settled_once
-few_keeps limits = record {
+few_keeps : (limits : LimitValues) → Keeps limits (λ s. length s.observers ≤ limits.observers)
+unfolding settled_once
+few_keeps limits = let few : List Observer → Type 0 = λ os. length os ≤ limits.observers in record {
   first = omega arith;
   handled = handled_few limits;
-  faulted = λ s fault few.
-      if_few limits.observers (handles s) s (with_history s (after s.history (call.Reject (reject_of fault)))) few (omega (arith, open_fewer (after s.history (call.Reject (reject_of fault))) s.observers, few));
-  written = λ s n few. if_few limits.observers (nat_le n (length (waiting_on s))) s (record s { history = after s.history (call.Written n) }) few few;
-  ended = λ s cut few. omega (arith, open_fewer (after s.history (call.End cut)) s.observers, few);
-  released = λ s few.
-      if_few limits.observers (is_none (release_refusal (link_of s.history))) s (with_history s (after s.history call.Release)) few (omega (arith, open_fewer (after s.history call.Release) s.observers, few));
+  faulted = observers_faulted few (omega arith);
+  written = observers_written few (omega arith);
+  ended = observers_ended few (omega arith);
+  released = observers_released few (omega arith);
   told = λ store now s few. once_few limits.observers store now s (next_held now s) few;
 }
 
 -- no more observers than the limits allow
 pub observers_within : (c : ConfigValues) (es : List Event) (id : ℕ) (s : Side) → side_of id (world_after c es).sides ≡ Some s → length s.observers ≤ c.limits.observers
-observers_within c es id s there =
-    (kept_after c (λ t. IsSide c.limits t × (length t.observers ≤ c.limits.observers)) (of_sides c.limits (λ t. length t.observers ≤ c.limits.observers) (few_keeps c.limits)) es id s there).1
+observers_within c = kept_after c (λ t. length t.observers ≤ c.limits.observers) (few_keeps c.limits)
 
 -- ---- what is held
 
@@ -179,7 +174,7 @@ pub held_within : (c : ConfigValues) (es : List Event) (id : ℕ) (s : Side) →
 held_within c es id s there =
     omega (
       arith,
-      kept_after c (λ t. HoldsFew t.history) (keeps_history c.limits HoldsFew (omega arith) all_hold_few) es id s there,
+      kept_history c HoldsFew (omega arith) all_hold_few es id s there,
       ap (λ (l : LimitValues). l.pending) (side_is c es id s there).same_limits,
     )
 
@@ -200,8 +195,7 @@ one_small limit (m ∷ n ∷ ms) one each = absurd (omega (arith, one))
 
 sent_one : (s : Standing) (m less : Message) (r : Reply) → length (send_as s m less r).queued ≤ 1
 sent_one s m less Whole = omega arith
-sent_one s m less Bare = omega arith
-sent_one s m less Stopped = omega arith
+sent_one s m less other = omega arith
 
 -- a message queues one at most
 message_one : (s : Standing) (m : Message) → length (react s m).effect.queued ≤ 1
@@ -265,7 +259,7 @@ new_wait limits ranges = omega (arith, csm_bytes_small limits.max_message, range
 
 pub waiting_within : (c : ConfigValues) (es : List Event) (id : ℕ) (s : Side) → AreInRange c.limits → side_of id (world_after c es).sides ≡ Some s → length (waiting_on s) ≤ c.limits.queue
 waiting_within c es id s ranges there =
-    let waits : Waits s.history = kept_after c (λ t. Waits t.history) (keeps_history c.limits Waits (record { is = omega arith; few = new_wait c.limits ranges }) all_wait) es id s there in
+    let waits : Waits s.history = kept_history c Waits (record { is = omega arith; few = new_wait c.limits ranges }) all_wait es id s there in
     omega (arith, waits.few, ap (λ (l : LimitValues). l.queue) (side_is c es id s there).same_limits)
 
 -- ---- the bytes that are kept of an unfinished frame

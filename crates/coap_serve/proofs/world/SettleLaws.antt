@@ -1,6 +1,5 @@
 -- How a connection settles: its value does the same, what is known of it stays known, and no change is lost.
-use Rattle.std.proofs.Common.{◌≡◌, ℕ, zero, suc, ◌+◌, ◌≤◌, Bool, true, false, cond, List, [], ◌∷◌, length, map, Option, Some, None, refl, sym, ap, subst, ◌∙◌, arith}
-use Rattle.std.specs.Prelude.{◌&&◌, find, min, option_map, if◌then◌else◌}
+use Rattle.std.proofs.Common.{◌≡◌, ℕ, zero, suc, ◌+◌, ◌≤◌, Bool, true, false, cond, List, [], ◌∷◌, length, map, Option, Some, None, refl, sym, ap, subst, ◌∙◌, arith, ◌⊎◌, inl, inr, ◌&&◌, find, min, option_map, if◌then◌else◌}
 use Rattle.std.specs.List.{AllByRecursion, filter_map, reduce}
 use Rattle.std.proofs.lemmas.Bool.{and_parts}
 use Rattle.std.proofs.lemmas.List.{length-map}
@@ -19,7 +18,7 @@ use Rattle.coap_serve.specs.world.Observers.{Observer, is_due, is_whole, goes_on
 use Rattle.coap_serve.specs.world.Sides.{Side, has_room, next_due, notified_so, notified, next_held, after_sent, settled_so, settled_once, settled_within, settled, HearsAll}
 use Rattle.coap_serve.specs.world.Shows.{observer_shown, kept_on, session_shown}
 use Rattle.coap_serve.proofs.world.KnownLaws.{IsKnown, IsVersioned, due_is_stale, told_now, not_due, mark_now, left_watchable, left_known, left_format}
-use Rattle.coap_serve.proofs.world.EntryLemmas.{all_to, all_if, all_become, found_all, none_due, TellTheSame, found_shown, become_shown, count_due, count_within, none_counted, count_less}
+use Rattle.coap_serve.proofs.world.EntryLemmas.{all_to, all_if, all_become, found_all, none_due, TellTheSame, found_shown, become_shown, count_due, count_within, count_less}
 use Rattle.coap_serve.proofs.world.GoingOn.{reply_goes_on, sent_goes_on, reply_link, sent_link}
 use Rattle.coap_serve.proofs.world.SideLaws.{host_of, AreKnown, IsKnownSide, known_with, shown_with, kept_frame, settled_cases, held_room, reply_leaves, sent_held}
 
@@ -203,18 +202,30 @@ told_less : (store : StoreValue) (now : ℕ) (s : Side) (o : Observer) → next_
 told_less store now s o is =
     omega (arith, reply_leaves s.history (notification_message o.token (notification store now o)), notified_less store now s o (next_found store now s o is))
 
-rests_by : (turns : ℕ) (store : StoreValue) (now : ℕ) (s : Side) → length s.history.held + count_due (is_due store now) s.observers ≤ turns → IsAtRest store now (settled_within turns store now s)
-unfolding settled_within settled_once
-rests_by zero store now s few = (none_held now s (omega arith), next_none store now s (none_counted (is_due store now) s.observers (omega arith)))
-rests_by (suc turns) store now s few =
-    elim (next_held now s) as (λ found. next_held now s ≡ found → IsAtRest store now (settled_within turns store now (settled_so store now s found))) [
-      | Some e ↦ λ is. subst (λ t. IsAtRest store now (settled_within turns store now t)) (ap (settled_so store now s) is)
-          (rests_by turns store now (settled_once store now s) (omega (arith, sent_less store now s e is)))
-      | None ↦ λ held. elim (next_due store now s) as (λ found. next_due store now s ≡ found → IsAtRest store now (settled_within turns store now (notified store now s found))) [
-        | None ↦ λ is. subst (IsAtRest store now) (sym (at_rest turns store now s (held, is))) (held, is)
-        | Some o ↦ λ is. rests_by turns store now (notified store now s (Some o)) (omega (arith, told_less store now s o is))
+-- how much a connection holds and how many observers are due on it, together
+abbrev pub left_on : StoreValue → ℕ → Side → ℕ
+left_on store now s = length s.history.held + count_due (is_due store now) s.observers
+
+-- a turn sends nothing, or leaves less
+pub once_less : (store : StoreValue) (now : ℕ) (s : Side) → IsAtRest store now s ⊎ (left_on store now (settled_once store now s) + 1 ≤ left_on store now s)
+unfolding settled_once
+once_less store now s =
+    elim (next_held now s) as (λ found. next_held now s ≡ found → IsAtRest store now s ⊎ (left_on store now (settled_so store now s found) + 1 ≤ left_on store now s)) [
+      | Some e ↦ λ is. inr (subst (λ t. left_on store now t + 1 ≤ left_on store now s) (ap (settled_so store now s) is) (sent_less store now s e is))
+      | None ↦ λ held. elim (next_due store now s) as (λ found. next_due store now s ≡ found → IsAtRest store now s ⊎ (left_on store now (notified store now s found) + 1 ≤ left_on store now s)) [
+        | None ↦ λ is. inl (held, is)
+        | Some o ↦ λ is. inr (told_less store now s o is)
       ] refl
     ] refl
+
+rests_by : (turns : ℕ) (store : StoreValue) (now : ℕ) (s : Side) → left_on store now s ≤ turns → IsAtRest store now (settled_within turns store now s)
+unfolding settled_within
+rests_by zero store now s few = elim (once_less store now s) [ inl rests ↦ rests | inr less ↦ absurd (omega (arith, few, less)) ]
+rests_by (suc turns) store now s few =
+    elim (once_less store now s) [
+      | inl rests ↦ subst (IsAtRest store now) (sym (at_rest (suc turns) store now s rests)) rests
+      | inr less ↦ rests_by turns store now (settled_once store now s) (omega (arith, few, less))
+    ]
 
 -- each turn leaves less that is held, or fewer that are due, so that nothing is left to settle in the end
 pub settled_rests : (store : StoreValue) (now : ℕ) (s : Side) → IsAtRest store now (settled store now s)

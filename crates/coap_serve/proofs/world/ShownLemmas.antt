@@ -1,7 +1,6 @@
 -- The server that shows a world: its connections by their numbers, and what settling, a step and a change of one connection do to
 -- it.
-use Rattle.std.proofs.Common.{◌≡◌, ◌≢◌, ℕ, ◌+◌, ◌-◌, ◌≤◌, Bool, true, false, List, [], ◌∷◌, ◌++◌, length, map, take, Option, Some, None, Result, Ok, Err, refl, sym, ap, subst, ◌∙◌, take-take, arith}
-use Rattle.std.specs.Prelude.{not, filter, find, option_map, ◌==◌, if◌then◌else◌}
+use Rattle.std.proofs.Common.{◌≡◌, ◌≢◌, ℕ, ◌+◌, ◌-◌, ◌≤◌, Bool, true, false, List, [], ◌∷◌, ◌++◌, length, map, take, Some, None, Result, Ok, Err, refl, sym, ap, subst, ◌∙◌, take-take, arith, not, filter, find, option_map, ◌==◌, if◌then◌else◌}
 use Rattle.std.specs.List.{AllByRecursion}
 use Rattle.std.proofs.lemmas.Bool.{eqb-true, eqb-false}
 use Rattle.std.proofs.lemmas.List.{length-take-le}
@@ -30,6 +29,7 @@ use Rattle.coap_serve.specs.world.Shows.{session_shown, place_shown, server_show
 use Rattle.coap_serve.proofs.world.StepLaws.{world_same, world_step, streams_same, stream_elsewhere}
 use Rattle.coap_serve.proofs.world.TookLaws.{rest_unfinished, Adds, nothing_kept, front_framing, no_bytes_stream, no_bytes_steps, piece_adds_nothing, piece_adds_message, piece_adds_bad, piece_adds_fault, but_last_whole}
 use Rattle.coap_serve.proofs.world.PlaceLaws.{but, AreDistinct, of_number, of_each}
+use Rattle.coap_serve.proofs.world.AcrossLaws.{some_same}
 use Rattle.coap_serve.proofs.world.GoingOn.{side_is}
 use Rattle.coap_serve.proofs.world.WorldLaws.{events_distinct}
 use Rattle.coap_serve.proofs.world.ReachedLaws.{IsReached, handling_goes_on}
@@ -87,9 +87,6 @@ places_become M id es fs f g (p ∷ ps) same each =
     ap (λ (e : ℕ × SessionValue). e ∷ map (place_shown M fs) (map (changed_at id f) ps)) (place_becomes M id es fs f g p same each.0)
     ∙ ap (λ (os : List (ℕ × SessionValue)). session_becomes id g (place_shown M es p) ∷ os) (places_become M id es fs f g ps same each.1)
 
-some_is : (s t : Side) → ◌≡◌ {A = Option Side} (Some s) (Some t) → s ≡ t
-some_is s t e = cc
-
 -- numbers are distinct, so that it is enough to know the one connection
 pub one_becomes : (M id : ℕ) (es fs : List Event) (f : Side → Side) (g : SessionValue → SessionValue) (t : Side) (ps : List Place) → AreDistinct ps → side_of id ps ≡ Some t → OthersSame M id es fs
     → session_shown (stream_on M id fs).rest (f t) ≡ g (session_shown (stream_on M id es).rest t)
@@ -97,7 +94,7 @@ pub one_becomes : (M id : ℕ) (es fs : List Event) (f : Side → Side) (g : Ses
 one_becomes M id es fs f g t ps distinct there same becomes =
     places_become M id es fs f g ps same
     (of_each (λ n s. n ≡ id → BecomesAs M id es fs f g s) ps distinct
-    (λ n s at here. subst (BecomesAs M id es fs f g) (some_is t s (sym there ∙ ap (λ (k : ℕ). side_of k ps) (sym here) ∙ at)) becomes))
+    (λ n s at here. subst (BecomesAs M id es fs f g) (some_same t s (sym there ∙ ap (λ (k : ℕ). side_of k ps) (sym here) ∙ at)) becomes))
 
 -- where nothing happens to it, no connection changes
 pub unchanged : (id : ℕ) (ps : List Place) → map (changed_at id (λ s. s)) ps ≡ ps
@@ -129,16 +126,16 @@ all_quiet : (store : StoreValue) (now : ℕ) (os : List Observer) → AllByRecur
 all_quiet store now [] told = tt
 all_quiet store now (o ∷ os) told = (not_due store now o told.0, all_quiet store now os told.1)
 
-pub hears_rests : (store : StoreValue) (now : ℕ) (s : Side) → HearsAll store now s → next_due store now s ≡ None
+hears_rests : (store : StoreValue) (now : ℕ) (s : Side) → HearsAll store now s → next_due store now s ≡ None
 hears_rests store now s hears =
     elim (has_room s) as (λ b. (b ≡ true → AllByRecursion (λ o. o.told ≡ state_of store now o.path) s.observers) → (if b then find (is_due store now) s.observers else None) ≡ None) [
       | true ↦ λ told. none_found (is_due store now) s.observers (all_quiet store now s.observers (told refl))
       | false ↦ λ told. refl
     ] hears.told
 
-stays_settled : (store : StoreValue) (now : ℕ) (s : Side) → HearsAll store now s → settled store now s ≡ s
+pub settled_stays : (store : StoreValue) (now : ℕ) (s : Side) → HearsAll store now s → settled store now s ≡ s
 unfolding settled
-stays_settled store now s hears = at_rest (length s.history.held + length s.observers) store now s (hears_sent store now s hears, hears_rests store now s hears)
+settled_stays store now s hears = at_rest (length s.history.held + length s.observers) store now s (hears_sent store now s hears, hears_rests store now s hears)
 
 resting_places : (M : ℕ) (es : List Event) (store : StoreValue) (now : ℕ) (ps : List Place) → now ≤ 18446744073709551615 → IsVersioned store → AllByRecursion (IsKnownPlace store) ps → AllByRecursion (λ p. HearsAll store now p.side) ps
     → map (settled_entry (host_of store now)) (map (place_shown M es) ps) ≡ map (place_shown M es) ps
@@ -146,7 +143,7 @@ resting_places M es store now [] small is known hear = refl
 resting_places M es store now (p ∷ ps) small is known hear =
     let rest : List ℕ = (stream_on M p.id es).rest in
     ap (λ (v : SessionValue). (p.id, v) ∷ map (settled_entry (host_of store now)) (map (place_shown M es) ps))
-    (sym (settled_shown store now small is rest p.side known.0) ∙ ap (session_shown rest) (stays_settled store now p.side hear.0))
+    (sym (settled_shown store now small is rest p.side known.0) ∙ ap (session_shown rest) (settled_stays store now p.side hear.0))
     ∙ ap (λ (os : List (ℕ × SessionValue)). place_shown M es p ∷ os) (resting_places M es store now ps small is known.1 hear.1)
 
 -- the server of any world that was reached is settled, whatever is left of the bytes

@@ -1,6 +1,5 @@
 -- A connection of the world and the code's value of it do the same.
-use Rattle.std.proofs.Common.{◌≡◌, ℕ, ◌+◌, ◌≤◌, Bool, true, false, cond, List, [], length, map, Option, Some, None, refl, sym, ap, ◌∙◌, arith}
-use Rattle.std.specs.Prelude.{◌&&◌, is_none, nat_le, nat_lt, if◌then◌else◌}
+use Rattle.std.proofs.Common.{◌≡◌, ℕ, ◌+◌, ◌≤◌, Bool, true, false, cond, List, [], length, map, Option, Some, None, refl, sym, ap, ◌∙◌, arith, ◌&&◌, is_none, nat_le, nat_lt, if◌then◌else◌}
 use Rattle.std.specs.List.{AllByRecursion}
 use Rattle.std.proofs.lemmas.Bool.{and_parts, cond-true, le-leb}
 use Rattle.std.proofs.lemmas.List.{length-map}
@@ -11,11 +10,9 @@ use Rattle.coap_conn.specs.Phases.{takes_messages, answers, is_open}
 use Rattle.coap_conn.specs.Fit.{fit, bare_response}
 use Rattle.coap_conn.specs.Rejects.{reject_of}
 use Rattle.coap_conn.specs.Release.{release_refusal}
-use Rattle.coap_conn.specs.declared.phase.Reply.{Reply}
-use Rattle.coap_conn.specs.declared.phase.Reply.TheVariants as reply
 use Rattle.coap_conn.specs.Held.{HeldValue, first_due, without_due}
 use Rattle.coap_conn.specs.Held as held
-use Rattle.coap_conn.specs.Reaction.{Standing, send, send_as, pong_with, due_effect}
+use Rattle.coap_conn.specs.Reaction.{send}
 use Rattle.coap_conn.specs.History.{History, IsHistory, limit_now, standing_now, with_effect, after, link_of}
 use Rattle.coap_conn.specs.Calls.{standing_due, link_after}
 use Rattle.coap_conn.specs.Calls as call
@@ -33,6 +30,7 @@ use Rattle.coap_serve.specs.values.Sessions.{ObserverValue, session_with, new_en
 use Rattle.coap_serve.specs.world.Observers.{Observer, without_token, asks_entry, has_place, entry_for, is_whole, with_entry}
 use Rattle.coap_serve.specs.world.Sides.{Side, handles, waiting_on, has_room, side_with, with_history, answered_among, side_answered, moment_after, held_for, side_replied, asks_answer, side_handled, side_after, change_after, side_faulted, side_written, side_ended, side_released, next_due, notified, next_held, held_message, after_sent, settled_so, settled_once}
 use Rattle.coap_serve.specs.world.Shows.{observer_shown, kept_on, session_shown}
+use Rattle.coap_serve.proofs.values.SettleLemmas.{send_held, due_held}
 use Rattle.coap_serve.proofs.world.KnownLaws.{IsKnown, IsVersioned, IsWatchable, mark_now, entry_watchable}
 use Rattle.coap_serve.proofs.world.EntryLemmas.{all_if, without_shown, entered_shown}
 use Rattle.coap_serve.proofs.world.GoingOn.{GoesOn, end_goes_on, release_goes_on, message_goes_on, message_link, reply_link, reject_link, end_link, release_link, written_link, hold_link, rejected_over}
@@ -226,26 +224,15 @@ held_room now s e is =
       | false ↦ λ room found. absurd cc
     ] refl is
 
--- what is sent leaves what is held, or gives it up
-send_leaves : (s : Standing) (m less : Message) (r : Reply) → length (send_as s m less r).held ≤ length s.held
-send_leaves s m less reply.Whole = omega arith
-send_leaves s m less reply.Bare = omega arith
-send_leaves s m less reply.Stopped = omega arith
-
 leaves_if : (b : Bool) (h : History) (m less : Message) → length (cond b (with_effect h (send (standing_now h) m less)) h).held ≤ length h.held
-leaves_if true h m less = send_leaves (standing_now h) m less (fit (limit_now h) m less)
+leaves_if true h m less = send_held (standing_now h) m less (fit (limit_now h) m less)
 leaves_if false h m less = omega arith
 
 pub reply_leaves : (h : History) (m : Message) → length (after h (call.Reply m)).held ≤ length h.held
 reply_leaves h m = leaves_if (answers h.phase) h m (bare_response m)
 
-effect_leaves : (s : Standing) (first : Option HeldValue) → length (due_effect s first).held ≤ length s.held
-effect_leaves s None = omega arith
-effect_leaves s (Some (held.Answer token moment)) = omega arith
-effect_leaves s (Some (held.Pong token)) = send_leaves s (pong_with true token) (pong_with false token) (fit s.limit (pong_with true token) (pong_with false token))
-
 due_leaves : (h : History) (now : ℕ) → length (after h (call.Due now)).held ≤ length (without_due now h.held)
-due_leaves h now = effect_leaves (standing_due now (standing_now h)) (first_due now h.held)
+due_leaves h now = due_held (standing_due now (standing_now h)) (first_due now h.held)
 
 sent_leaves : (h : History) (now : ℕ) (e : HeldValue) → length (after_sent h now e).held ≤ length (without_due now h.held)
 sent_leaves h now (held.Answer token moment) = omega (arith, reply_leaves (after h (call.Due now)) (held_message token), due_leaves h now)

@@ -1,6 +1,5 @@
 -- What enters an observer, and what leaves one entered, tells the state of its path.
-use Rattle.std.proofs.Common.{◌≡◌, ℕ, Bool, true, false, List, Option, Some, None, refl, sym, ap, subst, ◌∙◌, inl, inr}
-use Rattle.std.specs.Prelude.{◌⊎◌, nat_eq, if◌then◌else◌}
+use Rattle.std.proofs.Common.{◌≡◌, ℕ, Bool, true, false, List, Option, Some, None, refl, sym, ap, subst, ◌∙◌, inl, inr, ◌⊎◌, nat_eq, if◌then◌else◌}
 use Rattle.std.specs.Option.{option_eq}
 use lib.Pointwise.{bytes_decides}
 use Rattle.coap_wire.specs.Message.{Message}
@@ -14,7 +13,7 @@ use Rattle.coap_store.specs.Messages.{response_with_observe}
 use Rattle.coap_store.specs.Notifications.{notification_at}
 use Rattle.coap_store.specs.declared.plan.Watch.TheVariants as watch
 use Rattle.coap_store.specs.declared.place.Place.{Place}
-use Rattle.coap_store.specs.declared.place.Place.TheVariants.{Root, Time, Async, Listing, Dynamic}
+use Rattle.coap_store.specs.declared.place.Place.TheVariants.{Dynamic}
 use Rattle.coap_store.proofs.AnswerLaws.{answer_cases, get_cases, store_cases}
 use Rattle.coap_serve.specs.world.Observers.{Observer, entry_for, goes_on, notification, notification_message}
 use Rattle.coap_serve.specs.world.Told.{responds, etag_of_state, TellsState}
@@ -64,11 +63,8 @@ stored_unwatched (Some path) (Some r) m = refl
 
 -- an ETag is among others only where the state is stored
 valid_says : (place : Place) (r : Representation) (etags : List (List ℕ)) → is_among (etag_at place r) etags ≡ true → SaysState place r (valid place r)
-valid_says Root r etags e = absurd cc
-valid_says Time r etags e = absurd cc
-valid_says Async r etags e = absurd cc
-valid_says Listing r etags e = absurd cc
 valid_says Dynamic r etags e = inr (refl, refl)
+valid_says other r etags e = absurd cc
 
 telling_at : (s : StoreValue) (t : Target) (m : Message) → TellsWell t.place t.state (answer_at s t m)
 telling_at s t m =

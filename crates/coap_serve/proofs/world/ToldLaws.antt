@@ -1,7 +1,6 @@
 -- After any events the last response with an observer's token tells it the state that it was told last, where no request that is
 -- answered late had that token.
-use Rattle.std.proofs.Common.{◌≡◌, ◌≢◌, ℕ, Bool, true, false, cond, List, [], ◌∷◌, ◌++◌, length, Option, Some, None, refl, sym, ap, subst, ◌∙◌}
-use Rattle.std.specs.Prelude.{filter, find, not, is_none, nat_le, nat_lt, ◌&&◌, if◌then◌else◌}
+use Rattle.std.proofs.Common.{◌≡◌, ◌≢◌, ℕ, Bool, true, false, cond, List, [], ◌∷◌, ◌++◌, length, Option, Some, None, refl, sym, ap, subst, ◌∙◌, filter, find, not, is_none, nat_le, nat_lt, ◌&&◌, if◌then◌else◌}
 use Rattle.std.specs.List.{AllByRecursion}
 use Rattle.std.proofs.lemmas.Bool.{cond_both, and_parts, and_right, or_parts}
 use Rattle.std.proofs.lemmas.List.Folds.{list_any-append}
@@ -34,9 +33,9 @@ use Rattle.coap_serve.specs.world.Custody.{StandFor}
 use Rattle.coap_serve.proofs.world.EntryLemmas.{all_to, all_append, all_filter, all_become, found_all}
 use Rattle.coap_serve.proofs.world.SideLaws.{asks_to_enter, replied_cases, settled_cases, held_room}
 use Rattle.coap_serve.proofs.world.WalkLaws.{if_between, ended_between}
-use Rattle.coap_serve.proofs.world.AcrossLaws.{Keeps, kept_after}
-use Rattle.coap_serve.proofs.world.GoingOn.{IsSide, KeepsOfSides, of_sides}
+use Rattle.coap_serve.proofs.world.GoingOn.{IsSide, Keeps, kept_after}
 use Rattle.coap_serve.proofs.world.ToldMessages.{other_bytes, last_is, last_stays, Queues, queues_none, queues_to, IsNoResponse, IsPlain, message_queues, reject_queues, end_queues, release_queues, holding_queues, due_queues, reply_queues, whole_last}
+use Rattle.coap_serve.proofs.world.SettleLaws.{next_found}
 use Rattle.coap_serve.proofs.world.CustodyLaws.{Stands, stand_asked, stands_keeps}
 use Rattle.coap_serve.proofs.world.ToldAnswers.{tells_responds, entry_tells, notification_tells}
 
@@ -284,10 +283,6 @@ notified_told store now s (Some o) there are =
           (left_told store now s.history o (on && whole) (λ e. (and_parts on whole e).0) (λ e. (and_parts on whole e).1) opened);
     })
 
-next_there : (store : StoreValue) (now : ℕ) (s : Side) (o : Observer) → next_due store now s ≡ Some o → find (is_due store now) s.observers ≡ Some o
-next_there store now s o e =
-    elim (has_room s) as (λ b. (if b then find (is_due store now) s.observers else None) ≡ Some o → find (is_due store now) s.observers ≡ Some o) [ true ↦ λ is. is | false ↦ λ is. absurd cc ] e
-
 -- ---- what was held
 
 -- the token of an answer that is held is one of a request that is answered late
@@ -306,7 +301,7 @@ sent_told s now (Pong token) found stand are = signalled_side s (after s.history
 
 once_told : (store : StoreValue) (now : ℕ) (s : Side) → Stands s.history → IsTold s → IsTold (settled_once store now s)
 once_told store now s stand are =
-    settled_cases store now s IsTold (λ e is. sent_told s now e (held_room now s e is).1 stand are) (λ is. notified_told store now s (next_due store now s) (next_there store now s) are)
+    settled_cases store now s IsTold (λ e is. sent_told s now e (held_room now s e is).1 stand are) (λ is. notified_told store now s (next_due store now s) (next_found store now s) are)
 
 -- ---- what each connection keeps
 
@@ -337,10 +332,10 @@ released_told s are =
     if_told (is_none (release_refusal (link_of h))) s (with_history s (after h call.Release)) are
     (λ does. plain_side s (after h call.Release) (if_between (Queues IsPlain) (is_open h.phase) h _ (queues_none IsPlain h) (λ opened. release_queues h opened does)) are)
 
-told_keeps : (limits : LimitValues) → KeepsOfSides limits IsToldSide
+told_keeps : (limits : LimitValues) → Keeps limits IsToldSide
 told_keeps limits = let stands : Keeps limits (λ s. Stands s.history) = stands_keeps limits in record {
   first = record { stand = stands.first; are = record { own = tt; told = tt } };
-  handled = λ store now s m is of. record { stand = stands.handled store now s m of.stand; are = after_told limits store now s m is of.are };
+  handled = λ store now s m is of. record { stand = stands.handled store now s m is of.stand; are = after_told limits store now s m is of.are };
   faulted = λ s fault of. record { stand = stands.faulted s fault of.stand; are = faulted_told s fault of.are };
   written = λ s n of. record { stand = stands.written s n of.stand; are = written_told s n of.are };
   ended = λ s cut of. record { stand = stands.ended s cut of.stand; are = ended_told s cut of.are };
@@ -349,7 +344,7 @@ told_keeps limits = let stands : Keeps limits (λ s. Stands s.history) = stands_
 }
 
 are_told : (c : ConfigValues) (es : List Event) (id : ℕ) (s : Side) → side_of id (world_after c es).sides ≡ Some s → AreTold s.history s.observers
-are_told c es id s there = (kept_after c (λ t. IsSide c.limits t × IsToldSide t) (of_sides c.limits IsToldSide (told_keeps c.limits)) es id s there).1.are
+are_told c es id s there = (kept_after c IsToldSide (told_keeps c.limits) es id s there).are
 
 pub observers_told_last : (c : ConfigValues) (es : List Event) (id : ℕ) (s : Side) → side_of id (world_after c es).sides ≡ Some s → AllByRecursion (λ o. asked_late o.token s.history.handled ≡ false → WasToldLast s.history.queued o) s.observers
 observers_told_last c es id s there = (are_told c es id s there).told

@@ -1,7 +1,6 @@
 -- The last response with a token: what is queued behind it leaves it, unless it is a response with that token too. And what each
 -- thing that happens to a connection queues.
-use Rattle.std.proofs.Common.{◌≡◌, ◌≢◌, ℕ, Bool, true, false, cond, List, [], ◌∷◌, ◌++◌, Option, Some, None, refl, sym, ap, ◌∙◌, ◌≤◌, arith}
-use Rattle.std.specs.Prelude.{length, nat_lt, reverse, find, ◌&&◌, ◌==◌}
+use Rattle.std.proofs.Common.{◌≡◌, ◌≢◌, ℕ, Bool, true, false, cond, List, [], ◌∷◌, ◌++◌, Option, Some, None, refl, sym, ap, ◌∙◌, ◌≤◌, arith, length, nat_lt, reverse, find, ◌&&◌, ◌==◌}
 use Rattle.std.specs.List.{AllByRecursion, list_any}
 use Rattle.std.proofs.lemmas.Bool.{cond_both, cond-true, cond-false, false_from_ne_true, and_parts}
 use Rattle.std.proofs.lemmas.List.{append-nil, append_assoc, reverse-append}
@@ -115,8 +114,7 @@ abort_plain limit (Some text) why e =
 
 fitted_one : (m less : Message) (r : Reply) → length (fitted m less r) ≤ 1
 fitted_one m less Whole = omega arith
-fitted_one m less Bare = omega arith
-fitted_one m less Stopped = omega arith
+fitted_one m less other = omega arith
 
 pub abort_one : (limit : ℕ) (o : Option Message) → length (abort_fitted limit o) ≤ 1
 abort_one limit None = omega arith
@@ -282,9 +280,7 @@ reply_queues h m =
 
 open_answers : (p : Phase) → answers p ≡ false → is_open p ≡ true → ⊥
 open_answers phase.Waiting does opened = cc
-open_answers phase.Open does opened = cc
-open_answers (phase.Releasing why) does opened = cc
-open_answers (phase.Stopped why) does opened = cc
+open_answers other does opened = cc
 
 -- where a response is sent whole and the connection is open afterwards, it is the last message queued
 whole_by : (h : History) (m : Message) (r : Reply) (does : Bool) → is_whole r ≡ true → answers h.phase ≡ does → is_open (cond does (with_effect h (send_as (standing_now h) m (bare_response m) r)) h).phase ≡ true

@@ -1,6 +1,5 @@
 -- A connection sees the others through the store alone: after the steps that it sees, it is as it is after all steps.
-use Rattle.std.proofs.Common.{◌≡◌, ◌≢◌, ℕ, ◌+◌, Bool, true, false, ◌&&◌, cond, List, [], ◌∷◌, length, map, Option, Some, None, refl, sym, ap, subst, ◌∙◌}
-use Rattle.std.specs.Prelude.{is_none, nat_le, option_map, ◌==◌, if◌then◌else◌}
+use Rattle.std.proofs.Common.{◌≡◌, ◌≢◌, ℕ, ◌+◌, Bool, true, false, ◌&&◌, cond, List, [], ◌∷◌, length, map, Option, Some, None, refl, sym, ap, subst, ◌∙◌, is_none, nat_le, option_map, ◌==◌, if◌then◌else◌}
 use Rattle.std.proofs.lemmas.Bool.{eqb-true, eqb-false}
 use Rattle.coap_wire.specs.Message.{Message}
 use Rattle.coap_conn.specs.Limits.{LimitValues}
@@ -80,16 +79,8 @@ on_passes w m None = tt
 on_passes w m (Some s) = after_passes w.store w.now s m
 
 by_passes : (w : World) (s : Step) → IsNotRefused w.store (change_by w s)
-by_passes w (world.Opened id) = tt
 by_passes w (world.Handled id m) = on_passes w m (side_of id w.sides)
-by_passes w (world.Faulted id fault) = tt
-by_passes w (world.Written id n) = tt
-by_passes w (world.Ticked now) = tt
-by_passes w (world.Stored path format bytes) = tt
-by_passes w (world.Removed path) = tt
-by_passes w (world.Ended id cut) = tt
-by_passes w (world.Released id) = tt
-by_passes w (world.Dropped id) = tt
+by_passes w other = tt
 
 -- ---- what a connection has of a world
 

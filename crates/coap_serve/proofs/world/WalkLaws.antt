@@ -1,9 +1,8 @@
 -- What happens to a connection, call by call. A relation between histories that composes holds across all that a call of a server
 -- does to a connection, and across settling, where each part of it keeps the relation. One that a part does not keep leaves out the
 -- calls which have that part.
-use Rattle.std.proofs.Common.{◌≡◌, ℕ, ◌≤◌, Bool, true, false, cond, List, [], ◌∷◌, ◌++◌, length, Option, Some, None, refl, sym, ap, subst, ◌∙◌}
-use Rattle.std.specs.Prelude.{zero, suc, ◌+◌, ◌&&◌, nat_le, nat_lt, is_none, find}
-use Rattle.std.proofs.lemmas.Bool.{and_parts, leb-true, ltb-false}
+use Rattle.std.proofs.Common.{◌≡◌, ℕ, ◌≤◌, Bool, true, false, cond, List, [], ◌∷◌, ◌++◌, length, Option, Some, None, refl, sym, ap, subst, ◌∙◌, zero, suc, ◌+◌, ◌&&◌, nat_le, nat_lt, is_none, find}
+use Rattle.std.proofs.lemmas.Bool.{cond_both, and_parts, leb-true, ltb-false}
 use Rattle.std.proofs.lemmas.List.{append-nil}
 use Rattle.coap_wire.specs.Message.{Message}
 use Rattle.coap_wire.specs.Stream.{StreamFault}
@@ -27,7 +26,7 @@ use Rattle.coap_store.specs.Store.{StoreValue}
 use Rattle.coap_store.specs.Answer.{Response, held_response, answer_of, prompt_answer}
 use Rattle.coap_store.specs.Messages.{response_with_observe}
 use Rattle.coap_serve.specs.world.Observers.{Observer, is_due, without_token, has_place, goes_on, notification}
-use Rattle.coap_serve.specs.world.Sides.{Side, waiting_on, has_room, handles, with_history, moment_after, held_for, side_replied, asks_answer, side_handled, side_after, side_faulted, side_written, side_ended, side_released, next_due, notified, next_held, held_message, after_sent, settled_so, settled_once, settled_within, settled}
+use Rattle.coap_serve.specs.world.Sides.{Side, waiting_on, has_room, handles, kept_open, with_history, moment_after, held_for, side_replied, asks_answer, side_handled, side_after, side_faulted, side_written, side_ended, side_released, notified, held_message, after_sent, settled_so, settled_once, settled_within, settled}
 
 -- ---- the parts
 
@@ -90,16 +89,11 @@ Between R s t = R s.history t.history
 
 -- ---- room
 
--- a request queues nothing, so there is as much room behind it
-said_request : (v : VerdictValue) → is_request v ≡ true → v ≡ verdict.Request
-said_request verdict.Opened e = absurd cc
-said_request verdict.Done e = absurd cc
+pub said_request : (v : VerdictValue) → is_request v ≡ true → v ≡ verdict.Request
 said_request verdict.Request e = refl
-said_request (verdict.Answer token last) e = absurd cc
-said_request (verdict.Pong token custody) e = absurd cc
-said_request verdict.Stranger e = absurd cc
-said_request (verdict.Stopped why) e = absurd cc
+said_request other e = absurd cc
 
+-- a request queues nothing, so there is as much room behind it
 asked_room : (h : History) (m : Message) → is_request (react (standing_now h) m).verdict ≡ true → room_in (heard h m) ≡ room_in h
 asked_room h m asks =
     ap (λ (ms : List Message). room_in (record h { queued = ms }))
@@ -210,9 +204,7 @@ module _ (R E : History → History → Type 0) (same : (h : History) → R h h)
 may_release : (v : LinkValue) (opened full small : Bool) → nat_lt (free_in v) 2 ≡ full → nat_lt (limit_in v) 2 ≡ small
     → is_none (cond opened (cond full (Some fault.NoRoom) (cond small (Some fault.PeerTooSmall) None)) (Some fault.NotOpen)) ≡ true → (2 ≤ free_in v) × (2 ≤ limit_in v)
 may_release v true false false full small none = (ltb-false (free_in v) 2 full, ltb-false (limit_in v) 2 small)
-may_release v true false true full small none = absurd cc
-may_release v true true b full small none = absurd cc
-may_release v false b d full small none = absurd cc
+may_release v opened b d full small none = absurd cc
 
 pub release_fits : (v : LinkValue) → is_none (release_refusal v) ≡ true → (2 ≤ free_in v) × (2 ≤ limit_in v)
 release_fits v none = may_release v (is_open v.phase) (nat_lt (free_in v) 2) (nat_lt (limit_in v) 2) refl refl none
@@ -242,3 +234,30 @@ module _ (R : History → History → Type 0) (same : (h : History) → R h h) w
   released_between releases s =
       if_side s (with_history s (after s.history call.Release)) (is_none (release_refusal (link_of s.history)))
       (λ does. if_between R (is_open s.history.phase) s.history _ (same s.history) (λ opened. releases s.history opened does))
+
+-- ---- observers
+
+-- what holds of the observers of a connection, and of none, holds where it may not be open any more
+module _ (P : List Observer → Type 0) (none : P []) where
+  open_or_none : (h : History) (os : List Observer) → P os → P (kept_open h os)
+  open_or_none h os is = cond_both (is_open h.phase) os [] P (λ e. is) (λ e. none)
+
+  either : (does : Bool) (s t : Side) → P s.observers → P t.observers → P (cond does t s).observers
+  either true s t is then = then
+  either false s t is then = is
+
+  pub observers_faulted : (s : Side) (fault : StreamFault) → P s.observers → P (side_faulted s fault).observers
+  unfolding side_faulted
+  observers_faulted s fault is = let h : History = after s.history (call.Reject (reject_of fault)) in either (handles s) s (with_history s h) is (open_or_none h s.observers is)
+
+  pub observers_written : (s : Side) (n : ℕ) → P s.observers → P (side_written s n).observers
+  unfolding side_written
+  observers_written s n is = either (nat_le n (length (waiting_on s))) s (record s { history = after s.history (call.Written n) }) is is
+
+  pub observers_ended : (s : Side) (cut : Bool) → P s.observers → P (side_ended s cut).observers
+  unfolding side_ended
+  observers_ended s cut is = open_or_none (after s.history (call.End cut)) s.observers is
+
+  pub observers_released : (s : Side) → P s.observers → P (side_released s).observers
+  unfolding side_released
+  observers_released s is = let h : History = after s.history call.Release in either (is_none (release_refusal (link_of s.history))) s (with_history s h) is (open_or_none h s.observers is)

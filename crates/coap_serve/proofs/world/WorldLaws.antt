@@ -1,6 +1,5 @@
 -- What holds of a world after any steps, and after steps that open each connection with the next number.
-use Rattle.std.proofs.Common.{◌≡◌, ℕ, ◌+◌, ◌<◌, ◌≤◌, Bool, true, false, cond, List, [], ◌∷◌, length, map, Option, Some, None, refl, sym, ap, subst, ◌∙◌, arith}
-use Rattle.std.specs.Prelude.{is_none}
+use Rattle.std.proofs.Common.{◌≡◌, ℕ, ◌+◌, ◌<◌, ◌≤◌, Bool, true, false, cond, List, [], ◌∷◌, length, map, Option, Some, None, refl, sym, ap, subst, ◌∙◌, arith, is_none}
 use Rattle.std.specs.List.{AllByRecursion}
 use Rattle.std.proofs.lemmas.List.{length-append, length-map}
 use Rattle.coap_wire.specs.Stream.{StreamFault}
@@ -62,15 +61,7 @@ events_distinct c es = steps_distinct c.limits (new_world c) (steps_of c.limits.
 -- a connection is opened with the next number, and where there is room for it
 abbrev pub OpensNext : ConfigValues → World → Step → Type 0
 OpensNext c w (world.Opened id) = (id ≡ w.ids + 1) × (length w.sides < c.connections)
-OpensNext c w (world.Handled id m) = Unit {0}
-OpensNext c w (world.Faulted id fault) = Unit {0}
-OpensNext c w (world.Written id n) = Unit {0}
-OpensNext c w (world.Ticked now) = Unit {0}
-OpensNext c w (world.Stored path format bytes) = Unit {0}
-OpensNext c w (world.Removed path) = Unit {0}
-OpensNext c w (world.Ended id cut) = Unit {0}
-OpensNext c w (world.Released id) = Unit {0}
-OpensNext c w (world.Dropped id) = Unit {0}
+OpensNext c w other = Unit {0}
 
 -- the number was given, where this was given last
 pub record IsGivenNumber (c : ConfigValues) (last id : ℕ) : Type 0 where
@@ -161,15 +152,9 @@ if_ids false w v h = omega arith
 pub ids_grow : (c : ConfigValues) (w : World) (s : Step) → OpensNext c w s → w.ids ≤ (world.step c.limits w s).ids
 unfolding world.step acted
 ids_grow c w (world.Opened id) next = if_ids (is_none (side_of id w.sides)) w (opened_world c.limits w id) (omega (arith, next.0))
-ids_grow c w (world.Handled id m) next = omega arith
-ids_grow c w (world.Faulted id fault) next = omega arith
-ids_grow c w (world.Written id n) next = omega arith
 ids_grow c w (world.Ticked now) next = if_ids (ticks w.now now) w _ (omega arith)
 ids_grow c w (world.Stored path format bytes) next = if_ids (is_none (put_refusal w.store path bytes)) w _ (omega arith)
-ids_grow c w (world.Removed path) next = omega arith
-ids_grow c w (world.Ended id cut) next = omega arith
-ids_grow c w (world.Released id) next = omega arith
-ids_grow c w (world.Dropped id) next = omega arith
+ids_grow c w other next = omega arith
 
 -- ---- a fault
 

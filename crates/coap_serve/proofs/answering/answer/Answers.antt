@@ -1,5 +1,4 @@
-use Rattle.std.proofs.Common.{◌≡◌, ◌+◌, Bool, true, false, ◌&&◌, List, ℕ, [], ◌∷◌, ◌++◌, min, Some, None, sym, ap, subst, ◌∙◌}
-use Rattle.std.specs.Prelude.{not, nat_lt, length, if◌then◌else◌}
+use Rattle.std.proofs.Common.{◌≡◌, ◌+◌, Bool, true, false, ◌&&◌, List, ℕ, [], ◌∷◌, ◌++◌, min, Some, None, sym, ap, subst, ◌∙◌, not, nat_lt, length, if◌then◌else◌}
 use Rattle.coap_conn.specs.Fit.{fit, bare_response}
 use Rattle.coap_conn.specs.LinkValue.{limit_in, can_hold}
 use Rattle.coap_conn.specs.Calls.{link_after}

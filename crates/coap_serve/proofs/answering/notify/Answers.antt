@@ -1,5 +1,4 @@
-use Rattle.std.proofs.Common.{◌≡◌, ℕ, true, false, ◌&&◌, List, refl, sym, ap, ◌∙◌}
-use Rattle.std.specs.Prelude.{slice_set}
+use Rattle.std.proofs.Common.{◌≡◌, ℕ, true, false, ◌&&◌, List, refl, sym, ap, ◌∙◌, slice_set}
 use Rattle.coap_serve.specs.world.Observers.{is_whole}
 use Rattle.coap_serve.specs.values.Sessions.{ObserverValue, is_stale, mark_of, state_on}
 use Rattle.coap_serve.specs.views.ObserverViews.{observer_value}

@@ -1,5 +1,4 @@
-use Rattle.std.proofs.Common.{◌≡◌, Option, subst, sym, ap, ◌∙◌, map, rules, tests}
-use Rattle.std.specs.Prelude.{nat_lt, IfOk, option_map}
+use Rattle.std.proofs.Common.{◌≡◌, Option, subst, sym, ap, ◌∙◌, map, rules, tests, nat_lt, IfOk, option_map}
 use Rattle.std.proofs.lemmas.Iterator.{YieldsList-from_slice}
 use Rattle.std.proofs.lemmas.Iterator.Search.{all_from_yields_List}
 use Rattle.coap_serve.specs.script.Events.{EventValue, event_of}

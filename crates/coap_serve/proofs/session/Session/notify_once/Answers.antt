@@ -1,5 +1,4 @@
-use Rattle.std.proofs.Common.{refl, sym, ap, ◌∙◌}
-use Rattle.std.specs.Prelude.{Option, find, is_some}
+use Rattle.std.proofs.Common.{refl, sym, ap, ◌∙◌, Option, find, is_some}
 use Rattle.std.proofs.lemmas.Bool.{le-leb}
 use Rattle.coap_conn.specs.LinkValue.{free_in}
 use Rattle.coap_serve.specs.values.Sessions.{ObserverValue, SessionValue, is_stale, session_ready, session_notified, next_stale}

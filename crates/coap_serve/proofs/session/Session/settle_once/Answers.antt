@@ -1,5 +1,4 @@
-use Rattle.std.proofs.Common.{refl, sym, ap, ◌∙◌}
-use Rattle.std.specs.Prelude.{◌||◌, Option, is_some}
+use Rattle.std.proofs.Common.{refl, sym, ap, ◌∙◌, ◌||◌, Option, is_some}
 use Rattle.coap_conn.specs.Held.{HeldValue, first_due}
 use Rattle.coap_conn.specs.LinkValue.{LinkValue}
 use Rattle.coap_serve.specs.values.Sessions.{ObserverValue, SessionValue, next_held_in, next_stale, session_ready, session_notified, session_settled_once}
