@@ -25,6 +25,10 @@ ROWS = [
     ("resources", "resources", [Setting(0, 0, it) for it in (1, 10, 100, 300, 998)]),
 ]
 
+# What others may cost, where each of the other connections observes something else as often as it can: a PUT so many times what it costs
+# with nobody observing, and a tick so many instructions for each of these connections.
+PUT_TIMES, TICK_EACH = 1.5, 20
+
 # the resource that observers observe, and the one that is asked for and changed
 SEEN, ASKED = b"seen", b"0000"
 
@@ -69,15 +73,28 @@ def costs(setting):
         yield round((spent - nothing) / TIMES)
 
 
+def judged(rows):
+    """Tells whether observers of something else cost what they may, by the first and the last row of settings with observers."""
+    (_, _, put_alone, _), (_, _, put_beside, tick) = rows[0], rows[-1]
+    times, each = put_beside / put_alone, tick / ROWS[1][2][-1].connections
+    met = times <= PUT_TIMES, each <= TICK_EACH
+    words = [f"a PUT beside observers of something else, {times:.2f} times, at most {PUT_TIMES}",
+             f"a tick for each connection that does not observe the moment, {each:.0f}, at most {TICK_EACH}"]
+    for one, said in zip(met, words):
+        print(f"{'met' if one else 'MISSED'}: {said}", flush=True)
+    return all(met)
+
+
 def over_settings():
-    """Tells the tables, keeps them and draws them, and tells whether they are drawn."""
-    tables = []
+    """Tells the tables, keeps them and draws them, and tells whether they are drawn and the targets met."""
+    tables, met = [], True
     for title, changed, settings in ROWS:
         print(f"\n| {title} | GET | PUT | tick |\n|---|---|---|---|")
         rows = []
         for setting in settings:
             rows.append([getattr(setting, changed), *costs(setting)])
             print("| %s |" % " | ".join(f"{it:,}" for it in rows[-1]), flush=True)
+        met = judged(rows) and met if changed == "observers" else met
         tables.append(pictures.table(title, [changed, "GET", "PUT", "tick"], rows))
     pictures.keep("instructions", tables)
-    return pictures.draw("instructions")
+    return pictures.draw("instructions") and met
