@@ -15,6 +15,7 @@ pub mod WordLemmas
 pub mod PlanLemmas
 pub mod StandLemmas
 pub mod CourseLaws
+pub mod TakenLemmas
 pub mod RunLemmas
 mod Worked
 mod WorkedClient

@@ -1,8 +1,8 @@
 -- What each step of a client's run adds to its course.
 use Rattle.std.proofs.Common.{◌≡◌, ◌≢◌, ◌+◌, ◌<◌, ◌≤◌, ◌⊎◌, ℕ, max, Bool, true, false, cond, List, [], ◌∷◌, ◌++◌, length, take, drop, Option, Some, None, Result, Ok, Err, refl, sym, ap, subst, ◌∙◌, inl, inr, arith}
 use Rattle.std.specs.Prelude.{◌==◌, IfOk, OnOk, IfSome, option_map, nat_lt, ◌&&◌, ◌||◌}
-use Rattle.std.proofs.lemmas.Bool.{eqb-true, lt-ltb}
-use Rattle.std.proofs.lemmas.List.{append-nil, nil_from_length}
+use Rattle.std.proofs.lemmas.Bool.{eqb-true, ltb-true, lt-ltb}
+use Rattle.std.proofs.lemmas.List.{append-nil, length-drop, nil_from_length}
 use Rattle.coap_conn.specs.Asking.{next_token}
 use Rattle.coap_conn.specs.Limits.{LimitValues}
 use Rattle.coap_conn.specs.declared.phase.Phase.{Phase}
@@ -17,16 +17,17 @@ use Rattle.coap_serve.specs.streams.Device.{AddsBytes}
 use Rattle.coap_serve.specs.streams.Telling.{TellsMore}
 use Rattle.coap_serve.specs.streams.Wires.{bytes_passed, count_passed}
 use Rattle.coap_serve.proofs.streams.DeviceLemmas.{bytes_none, bytes_then}
-use Rattle.coap_client.specs.ClientValues.{ClientValue, EventValue, taking, client_written, client_sent, client_cancelled, send_refusal}
+use Rattle.coap_client.specs.ClientValues.{ClientValue, EventValue, client_takes, taking, client_written, client_sent, client_cancelled, send_refusal}
 use Rattle.coap_client.specs.ClientValues as value
 use Rattle.coap_client.specs.ClientWorld.{ClientCall, Took, Sent, Cancelled, client_of, takes, event_of, AreAccepted, ClientShows}
-use Rattle.coap_client.specs.RunSteps.{is_to_ask, is_to_cancel, has_passed, late, watched, planned_extras, asking_refusal, cancelling_refusal, client_asking, client_cancelling, token_asking, cancelled_at, ended_by, refusal_text, status_told, first_told, output_told, errors_told, calls_read, calls_written, client_read, stop_behind, stop_written, unless_refused}
-use Rattle.coap_client.specs.RunCourse.{Course, Begins, Turns, Reads, Calls, Refuses, GivesUp, Rests, Writes, own_limits, calls_in, client_in, phase_in, waiting_in, event_in, token_in, moments_in, turns_in, moment_in, started_in, first_in, cancelled_in, waits_since, since_in, is_late_since, is_late, is_overdue_since, is_overdue, is_cancel_due, answers_in, given_in, rest_in, written_in, stop_read, status_stopped, stop_text, or_then, status_in, output_in, errors_in, has_looked, has_refused, IsAskedWhereDue, IsCancelledWhereDue, IsPlanned, IsRefused, IsDone, IsResting, IsBetween, IsCourse}
-use Rattle.coap_client.specs.ClientRun.{Seen, seen, IsTold, token_of, Stands, LeadsOn, IsFresh, IsAsked, IsHeard, IsFinished, IsFlushed, most_turns, IsOutOfTurns, IsClientRun}
+use Rattle.coap_client.specs.RunSteps.{may_take, is_to_ask, is_to_cancel, has_passed, late, watched, planned_extras, asking_refusal, cancelling_refusal, client_asking, client_cancelling, token_asking, cancelled_at, ended_by, refusal_text, status_told, first_told, output_told, errors_told, calls_read, calls_written, client_read, stop_behind, stop_written, unless_refused}
+use Rattle.coap_client.specs.RunCourse.{Course, Begins, Turns, Reads, Calls, Refuses, GivesUp, Rests, Writes, own_limits, calls_in, client_in, phase_in, waiting_in, event_in, token_in, moments_in, turns_in, moment_in, started_in, first_in, cancelled_in, waits_since, since_in, is_late_since, is_late, is_overdue_since, is_overdue, is_cancel_due, answers_in, given_in, rest_in, written_in, stop_read, status_stopped, stop_text, or_then, status_in, output_in, errors_in, has_looked, has_refused, IsAskedWhereDue, IsCancelledWhereDue, IsTakenUp, IsPlanned, IsRefused, IsDone, IsResting, IsBetween, IsCourse}
+use Rattle.coap_client.specs.ClientRun.{Seen, seen, IsTold, token_of, Stands, LeadsOn, IsFresh, IsAsked, IsTaken, IsHeard, IsFinished, IsFlushed, most_turns, IsOutOfTurns, IsClientRun}
 use Rattle.coap_client.specs.declared.plan.ClientPlan.{ClientPlan}
 use Rattle.coap_client.specs.declared.run.Run.{Run}
 use Rattle.coap_client.proofs.CourseLaws.{course_taken, course_queued}
 use Rattle.coap_client.proofs.ClientShown.{took_takes, took_told, took_shown}
+use Rattle.coap_client.proofs.TakenLemmas.{takes_some, cancelled_takes, may_parts, may_not}
 use Rattle.coap_client.proofs.StandLemmas.{more_none, more_then, bytes_stay, bytes_same, front_length, taking_limits, sent_limits, cancelled_limits, read_limits, read_shown, asked_shown, given_up_shown, sent_told, cancelled_told}
 
 -- ---- small facts
@@ -141,12 +142,16 @@ given_up_stand stands goes late = record {
   told = record { given = stands.told.given; written = stands.told.written; answers = stands.told.answers; moments = stands.told.moments; out = stands.told.out; err = stands.told.err };
 }
 
+-- its client is that of the course
+client_stands : {plan : ClientPlan} {start now : Seen} {r : Run} {c : Course} → Stands plan start now r c → r.client ≡ client_in c
+client_stands {plan} {start} {now} {r} {c} stands = stands.shows.same ∙ ap (λ (l : LimitValues). client_of l 0 (calls_in c)) stands.limits
+
 -- ---- a run that stands where a course led it
 
 module _ (plan : ClientPlan) (start now : Seen) (r : Run) (c : Course) (stands : Stands plan start now r c) where
   -- its client is that of the course
   client_same : r.client ≡ client_in c
-  client_same = stands.shows.same ∙ ap (λ (l : LimitValues). client_of l 0 (calls_in c)) stands.limits
+  client_same = client_stands stands
 
   -- and accepted its calls
   accepted_all : AreAccepted own_limits 0 (calls_in c)
@@ -158,6 +163,23 @@ module _ (plan : ClientPlan) (start now : Seen) (r : Run) (c : Course) (stands :
       sym (ask_same r.client.link.phase r.token (λ t. t.items))
       ∙ ap (λ (v : ClientValue). is_to_ask v.link.phase (token_of r)) client_same
       ∙ ap (λ (t : Option (List ℕ)). is_to_ask (phase_in c) t) stands.token
+
+  -- ---- what may be taken
+
+  taken_by : ((length r.rest == 0) ≡ true) ⊎ ((is_to_ask r.client.link.phase r.token ≡ true) ⊎ (client_takes r.client ≡ false)) → IsTakenUp c
+  taken_by (inl none) = inl (sym stands.rest ∙ none_left r.rest none)
+  taken_by (inr (inl asks)) = inr (inl (sym asks_same ∙ asks))
+  taken_by (inr (inr shut)) = inr (inr (ap client_takes (sym client_same) ∙ shut))
+
+  pub taken_up : may_take r.client r.rest r.token ≡ false → IsTakenUp c
+  taken_up is = taken_by (may_not (length r.rest == 0) (is_to_ask r.client.link.phase r.token) (client_takes r.client) is)
+
+  pub takes_one : may_take r.client r.rest r.token ≡ true → 1 ≤ (taking r.client r.rest).count
+  takes_one is =
+      let parts = may_parts (length r.rest == 0) (is_to_ask r.client.link.phase r.token) (client_takes r.client) is in
+      let one = takes_some (calls_in c) r.rest accepted_all (ap client_takes (sym client_same) ∙ parts.2) (ltb-true 0 (length r.rest) (some_left r.rest parts.0)) in
+      subst (λ (n : ℕ). 1 ≤ n)
+      (sym (took_takes r.client r.rest (taking r.client r.rest).count refl 0 (calls_in c) stands.shows ∙ ap (λ (l : LimitValues). takes l 0 (calls_in c) r.rest) stands.limits)) one
 
   -- ---- a take
 
@@ -411,7 +433,7 @@ module _ (plan : ClientPlan) (start now : Seen) (r : Run) (c : Course) (stands :
 
     wrote_stands : AddsBytes now.err e (stop_text (stop_written (status_in c) got)) → Stands plan start (seen given written answers now.moments now.out e) r' (Writes c got)
     wrote_stands err = record {
-      follows = (stands.follows, (λ no. some (waits_same ∙ no)), rests);
+      follows = (stands.follows, (λ shut. some (waits_same ∙ shut)), rests);
       shows = shown;
       limits = ap (λ (v : ClientValue). v.link.limits) client ∙ stands.limits;
       rest = rest ∙ stands.rest;
@@ -458,7 +480,7 @@ module _ (plan : ClientPlan) (start now : Seen) (r : Run) (c : Course) (stands :
 
   -- ---- what is due by the moment
 
-  module _ (r' : Run) (e : Option (List ℕ)) (goes : status_in c ≡ None) (looked : has_looked c ≡ true) (asked : IsAskedWhereDue c)
+  module _ (r' : Run) (e : Option (List ℕ)) (goes : status_in c ≡ None) (looked : has_looked c ≡ true) (taken : IsTakenUp c) (asked : IsAskedWhereDue c)
       (rest : r'.rest ≡ r.rest) (token : r'.token ≡ r.token) (started : r'.started ≡ r.started) (moment : r'.moment ≡ r.moment) (first : r'.first ≡ r.first) where
     abbrev Due : Option ℕ → Type 0
     Due next = LeadsOn plan start (seen now.given now.written now.answers now.moments now.out e) r' (IsFinished (turns_in c)) next
@@ -472,7 +494,7 @@ module _ (plan : ClientPlan) (start now : Seen) (r : Run) (c : Course) (stands :
         let here = same_stands r' e goes rest started moment first cancelled client tokens_same err in
         record {
           course = Rests c;
-          stands = rests_stand here (record { goes_on = goes; in_time = early; looked = looked; asked = asked; cancelled = cancels });
+          stands = rests_stand here (record { goes_on = goes; in_time = early; looked = looked; taken = taken; asked = asked; cancelled = cancels });
           ends = goes;
           holds = record { turns = refl; rests = λ still. tt };
         }
@@ -523,6 +545,14 @@ module _ (plan : ClientPlan) (start now : Seen) (r : Run) (c : Course) (stands :
           };
         }
 
+    -- behind that all is taken that may be, as before it
+    cancelled_taken : (held : List ℕ) → Stands plan start (seen now.given now.written now.answers now.moments now.out e) r' (Calls c (Cancelled held plan.target (planned_extras plan)))
+        → token_of r ≡ Some held → r'.client ≡ client_cancelled r.client held plan.target (planned_extras plan) → IsTakenUp c → IsTakenUp (Calls c (Cancelled held plan.target (planned_extras plan)))
+    cancelled_taken held here has client (inl none) = inl none
+    cancelled_taken held here has client (inr (inl asks)) = absurd (no_more_asking (phase_in c) held (subst (λ (t : Option (List ℕ)). is_to_ask (phase_in c) t ≡ true) (sym stands.token ∙ has) asks))
+    cancelled_taken held here has client (inr (inr shut)) =
+        inr (inr (ap client_takes (sym (client_stands here) ∙ client) ∙ cancelled_takes r.client held plan.target (planned_extras plan) (ap client_takes client_same ∙ shut)))
+
     ends_refused : (fault : RequestFault) → IsRefused plan c fault → ended_by (Some fault) ≡ Some 3 → r'.client ≡ r.client → r'.cancelled ≡ r.cancelled → AddsBytes now.err e (refusal_text (Some fault)) → Due (ended_by (Some fault))
     ends_refused fault why three client cancelled err = record {
       course = Refuses c fault;
@@ -535,7 +565,7 @@ module _ (plan : ClientPlan) (start now : Seen) (r : Run) (c : Course) (stands :
     refused_by : (fault : RequestFault) → IsRefused plan c fault → is_overdue plan c ≡ false → r'.client ≡ r.client → r'.cancelled ≡ r.cancelled → AddsBytes now.err e (refusal_text (Some fault)) → Due (ended_by (Some fault))
     refused_by NoRoom why early client cancelled err = record {
       course = Rests (Refuses c NoRoom);
-      stands = rests_stand (refused_stands r' e goes rest started moment first cancelled NoRoom why client tokens_same err) (record { goes_on = refl; in_time = early; looked = looked; asked = λ still. refl; cancelled = λ held has due. refl });
+      stands = rests_stand (refused_stands r' e goes rest started moment first cancelled NoRoom why client tokens_same err) (record { goes_on = refl; in_time = early; looked = looked; taken = taken; asked = λ still. refl; cancelled = λ held has due. refl });
       ends = refl;
       holds = record { turns = refl; rests = λ still. tt };
     }
@@ -555,6 +585,7 @@ module _ (plan : ClientPlan) (start now : Seen) (r : Run) (c : Course) (stands :
         goes_on = ap status_told (cancelled_told (calls_in c) held plan.target (planned_extras plan) own_limits);
         in_time = and_first (nat_lt (moment_in c) (moment_in c)) (has_passed (moment_in c) (moment_in c) plan.wait) (not_below (moment_in c));
         looked = looked;
+        taken = cancelled_taken held (cancelled_stands held due has is client when err) has client taken;
         asked = λ still. absurd (no_more_asking (phase_in (Calls c (Cancelled held plan.target (planned_extras plan)))) held (subst (λ (t : Option (List ℕ)). is_to_ask (phase_in (Calls c (Cancelled held plan.target (planned_extras plan)))) t ≡ true) (sym stands.token ∙ has) still));
         cancelled = λ other has again. absurd (never again);
       });
@@ -637,8 +668,27 @@ asked_then {plan} {start} {now} {r} n m next status same is led = ended_asked (a
 pub heard_then : {plan : ClientPlan} {start now : Seen} {r : Run} (n : ℕ) (next : Option ℕ) (status : ℕ) → next ≡ Some status → LeadsOn plan start now r (IsHeard n) next → LeadsOn plan start now r (IsFlushed n) (Some status)
 heard_then {plan} {start} {now} {r} n next status is led = ended_heard (subst (LeadsOn plan start now r (IsHeard n)) is led)
 
+pub taken_then : {plan : ClientPlan} {start now : Seen} {r : Run} (n m : ℕ) (next : Option ℕ) (status : ℕ) → n ≡ m → next ≡ Some status → LeadsOn plan start now r (IsTaken n) next → LeadsOn plan start now r (IsFinished m) (Some status)
+taken_then {plan} {start} {now} {r} n m next status same is led =
+    as_many IsFinished n m same (record { course = led.course; stands = led.stands; ends = led.ends ∙ is; holds = record { turns = led.holds.turns; rests = λ still. absurd (some_is_none (sym is ∙ sym led.ends ∙ still)) } })
+
+-- a run that ended as it asked
+pub ended_taken : {plan : ClientPlan} {start now : Seen} {r : Run} {n status : ℕ} → LeadsOn plan start now r (IsAsked n) (Some status) → LeadsOn plan start now r (IsTaken n) (Some status)
+ended_taken led = record { course = led.course; stands = led.stands; ends = led.ends; holds = record { turns = led.holds.turns; looked = led.holds.looked; asked = led.holds.asked; taken = λ still. absurd (some_is_none (sym led.ends ∙ still)) } }
+
+-- a run of which all is taken that may be
+pub all_taken : (plan : ClientPlan) (start now : Seen) (r : Run) (n : ℕ) (led : LeadsOn plan start now r (IsAsked n) None) → may_take r.client r.rest r.token ≡ false → LeadsOn plan start now r (IsTaken n) None
+all_taken plan start now r n led shut = record { course = led.course; stands = led.stands; ends = led.ends; holds = record { turns = led.holds.turns; looked = led.holds.looked; asked = led.holds.asked; taken = λ still. taken_up plan start now r led.course led.stands shut } }
+
+pub all_gone : (plan : ClientPlan) (start now : Seen) (r : Run) (n : ℕ) (led : LeadsOn plan start now r (IsAsked n) None) → length r.rest ≡ 0 → LeadsOn plan start now r (IsTaken n) None
+all_gone plan start now r n led none = record { course = led.course; stands = led.stands; ends = led.ends; holds = record { turns = led.holds.turns; looked = led.holds.looked; asked = led.holds.asked; taken = λ still. inl (sym led.stands.rest ∙ nil_from_length r.rest none) } }
+
+-- less is left behind each take
+pub fewer_left : (counted initial count : ℕ) (rest taken asked : List ℕ) → counted + length rest ≤ initial → 1 ≤ count → count ≤ length rest → taken ≡ drop count rest → asked ≡ taken → (counted + 1) + length asked ≤ initial
+fewer_left counted initial count rest taken asked few some within is same = omega (arith, length-drop count rest, ap (λ (xs : List ℕ). length xs) (same ∙ is))
+
 -- what is due by the moment, behind all that was asked and taken
-module _ (plan : ClientPlan) (start now : Seen) (r : Run) (n : ℕ) (next : Option ℕ) (led : LeadsOn plan start now r (IsAsked n) next) (r' : Run) (e : Option (List ℕ)) (goes : next ≡ None)
+module _ (plan : ClientPlan) (start now : Seen) (r : Run) (n : ℕ) (next : Option ℕ) (led : LeadsOn plan start now r (IsTaken n) next) (r' : Run) (e : Option (List ℕ)) (goes : next ≡ None)
     (rest : r'.rest ≡ r.rest) (token : r'.token ≡ r.token) (started : r'.started ≡ r.started) (moment : r'.moment ≡ r.moment) (first : r'.first ≡ r.first) where
   pub watched_so : r'.client ≡ cond (is_to_cancel r.cancelled r.first r.moment plan.observe) (client_cancelling r.client (token_of r) plan) r.client
       → r'.cancelled ≡ cond (is_to_cancel r.cancelled r.first r.moment plan.observe) (cancelled_at r.token (cancelling_refusal r.client (token_of r) plan) r.moment r.cancelled) r.cancelled
@@ -646,7 +696,7 @@ module _ (plan : ClientPlan) (start now : Seen) (r : Run) (n : ℕ) (next : Opti
       → LeadsOn plan start (seen now.given now.written now.answers now.moments now.out e) r' (IsFinished n) (watched r.cancelled r.first r.started r.moment plan (ended_by (cancelling_refusal r.client (token_of r) plan)))
   watched_so client when err =
       as_many IsFinished (turns_in led.course) n led.holds.turns
-      (watched_on plan start now r led.course led.stands r' e (led.ends ∙ goes) led.holds.looked (led.holds.asked (led.ends ∙ goes)) rest token started moment first client when err)
+      (watched_on plan start now r led.course led.stands r' e (led.ends ∙ goes) led.holds.looked (led.holds.taken (led.ends ∙ goes)) (led.holds.asked (led.ends ∙ goes)) rest token started moment first client when err)
 
 -- a take behind what was asked and taken, and what is asked behind that
 module _ (plan : ClientPlan) (start now : Seen) (r : Run) (n : ℕ) (led : LeadsOn plan start now r (IsAsked n) None) (r' : Run) (o e : Option (List ℕ))

@@ -7,7 +7,7 @@ use Rattle.coap_serve.specs.declared.output.WriteFailed.{WriteFailed}
 use Rattle.coap_serve.specs.streams.Device.{AddsBytes}
 use Rattle.coap_serve.specs.streams.Telling.{TellsMore}
 use Rattle.coap_client.specs.ClientWorld.{AreAccepted, ClientShows}
-use Rattle.coap_client.specs.RunCourse.{Course, own_limits, calls_in, history_in, token_in, moments_in, turns_in, moment_in, started_in, first_in, cancelled_in, answers_in, taken_in, given_in, rest_in, waiting_in, written_in, status_in, output_in, errors_in, has_looked, IsAskedWhereDue, IsResting, IsBetween, IsCourse}
+use Rattle.coap_client.specs.RunCourse.{Course, own_limits, calls_in, history_in, token_in, moments_in, turns_in, moment_in, started_in, first_in, cancelled_in, answers_in, taken_in, given_in, rest_in, waiting_in, written_in, status_in, output_in, errors_in, has_looked, IsAskedWhereDue, IsTakenUp, IsResting, IsBetween, IsCourse}
 use Rattle.coap_client.specs.declared.plan.ClientPlan.{ClientPlan}
 use Rattle.coap_client.specs.declared.run.Run.{Run}
 
@@ -108,6 +108,13 @@ pub record IsAsked (began : ℕ) (course : Course) : Type 0 where
   pub turns : turns_in course ≡ began
   pub looked : HasLooked course
   pub asked : status_in course ≡ None → IsAskedWhereDue course
+
+-- behind what was taken
+pub record IsTaken (began : ℕ) (course : Course) : Type 0 where
+  pub turns : turns_in course ≡ began
+  pub looked : HasLooked course
+  pub asked : status_in course ≡ None → IsAskedWhereDue course
+  pub taken : status_in course ≡ None → IsTakenUp course
 
 -- behind all but the write
 pub record IsFinished (began : ℕ) (course : Course) : Type 0 where

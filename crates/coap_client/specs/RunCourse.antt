@@ -9,7 +9,7 @@ use Rattle.coap_conn.specs.declared.phase.RequestFault.{RequestFault}
 use Rattle.coap_conn.specs.declared.reason.Reason.{Reason}
 use Rattle.coap_serve.specs.declared.wire.Got.{Got}
 use Rattle.coap_serve.specs.streams.Wires.{bytes_passed, count_passed}
-use Rattle.coap_client.specs.ClientValues.{ClientValue, EventValue}
+use Rattle.coap_client.specs.ClientValues.{ClientValue, client_takes, EventValue}
 use Rattle.coap_client.specs.ClientWorld.{ClientCall, Took, Sent, Cancelled, Pinged, Wrote, Ended, taken_by, client_after, client_of, takes, event_of}
 use Rattle.coap_client.specs.RunTexts.{stop_line}
 use Rattle.coap_client.specs.RunSteps.{has_passed, is_to_ask, is_to_cancel, planned_extras, asking_refusal, cancelling_refusal, ended_by, refusal_text, status_told, first_told, output_told, errors_told, stop_behind, stop_written, calls_read, calls_written}
@@ -355,12 +355,18 @@ abbrev pub IsCancelledWhereDue : ClientPlan → Course → Type 0
 IsCancelledWhereDue plan before =
     (token : List ℕ) → token_in before ≡ Some token → is_cancel_due plan before ≡ true → has_refused before ≡ true
 
+-- all was taken that may be: nothing is left, or the request is to be sent first, or the client takes nothing
+abbrev pub IsTakenUp : Course → Type 0
+IsTakenUp before =
+    (rest_in before ≡ []) ⊎ ((is_to_ask (phase_in before) (token_in before) ≡ true) ⊎ (client_takes (client_in before) ≡ false))
+
 -- Nothing more is to be done in a turn: the run does not end, and has not waited for too long; the wire was read, where nothing was left
--- to take; the request was sent, where it may be, and its observation cancelled, where that is due, or there was no room for that.
+-- to take, and all was taken that may be; the request was sent, where it may be, and its observation cancelled, where that is due, or there was no room for that.
 pub record IsDone (plan : ClientPlan) (before : Course) : Type 0 where
   pub goes_on : status_in before ≡ None
   pub in_time : is_overdue plan before ≡ false
   pub looked : has_looked before ≡ true
+  pub taken : IsTakenUp before
   pub asked : IsAskedWhereDue before
   pub cancelled : IsCancelledWhereDue plan before
 

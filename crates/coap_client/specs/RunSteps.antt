@@ -1,5 +1,5 @@
 -- What the steps of a client's run come to.
-use Rattle.std.specs.Prelude.{ℕ, ◌-◌, ◌==◌, nat_le, Bool, true, false, List, [], ◌∷◌, Vec, Option, Some, None, is_some, unwrap_or, option_map, if◌then◌else◌}
+use Rattle.std.specs.Prelude.{ℕ, ◌-◌, ◌==◌, nat_le, Bool, true, false, List, [], ◌∷◌, length, Vec, Option, Some, None, is_some, unwrap_or, option_map, if◌then◌else◌}
 use Rattle.coap_wire.specs.Codes.{class_of}
 use Rattle.coap_wire.specs.Message.{CoapOption}
 use Rattle.coap_conn.specs.Phases.{stop_of}
@@ -10,7 +10,7 @@ use Rattle.coap_conn.specs.declared.phase.Phase.TheVariants.{Waiting, Open, Rele
 use Rattle.coap_conn.specs.declared.phase.Phase.TheVariants as phase
 use Rattle.coap_conn.specs.declared.phase.RequestFault.{RequestFault}
 use Rattle.coap_conn.specs.declared.phase.RequestFault.TheVariants.{NotOpen, TooMany, TooBig, NoRoom, TokensSpent, NoSuchToken}
-use Rattle.coap_client.specs.ClientValues.{ClientValue, send_refusal, client_sent, EventValue, Ready, Response, Notification, Rejected, Pong, Stranger, Stopped}
+use Rattle.coap_client.specs.ClientValues.{ClientValue, client_takes, send_refusal, client_sent, EventValue, Ready, Response, Notification, Rejected, Pong, Stranger, Stopped}
 use Rattle.coap_client.specs.ClientValues as value
 use Rattle.coap_client.specs.ClientWorld.{ClientCall, Wrote, Ended}
 use Rattle.coap_serve.specs.declared.wire.Got.{Got}
@@ -37,6 +37,11 @@ is_to_ask Open None = true
 is_to_ask Open (Some token) = false
 is_to_ask (Releasing reason) token = false
 is_to_ask (phase.Stopped reason) token = false
+
+-- more of what was read may be taken: the client takes bytes, and the request is not to be sent first
+abbrev pub may_take : {T : Type 0} → ClientValue → List ℕ → Option T → Bool
+may_take client rest token =
+    if length rest == 0 then false else (if is_to_ask client.link.phase token then false else client_takes client)
 
 -- an option as the plan has it
 abbrev pub planned_option : {A : Type 0} → ℕ × Vec ℕ A → CoapOption

@@ -283,7 +283,7 @@ impl Client {
     }
 
     /// Whether it takes bytes: there is room for the greatest message sent, and nothing has ended the connection.
-    fn takes(&self) -> bool
+    pub(crate) fn takes(&self) -> bool
         ensures { result ≡ client_takes self.now }
     {
         self.link.phase().stop().is_none() && self.link.ready()

@@ -10,7 +10,7 @@ ghost use Rattle.coap_client.specs.RunFaults.{is_output_fault, IsStatus, EndsWit
 ghost use Rattle.coap_client.specs.ClientValues as value;
 ghost use Rattle.coap_client.specs.ClientWorld.{ClientCall, ClientShows};
 ghost use Rattle.coap_client.specs.RunCourse.{own_limits};
-ghost use Rattle.coap_client.specs.ClientRun.{IsClientRun, seen, with_outlets, with_wire, with_all, HasLooked, IsFresh, IsReady, IsHeard, IsAsked, IsFinished, IsFlushed, Leads, LeadsAll, Flushes};
+ghost use Rattle.coap_client.specs.ClientRun.{IsClientRun, seen, with_outlets, with_wire, with_all, HasLooked, IsFresh, IsReady, IsHeard, IsTaken, IsFinished, IsFlushed, Leads, LeadsAll, Flushes};
 ghost use Rattle.coap_client.specs.RunSteps as spec;
 ghost use Rattle.coap_client.specs.RunTexts as text;
 
@@ -277,6 +277,19 @@ impl Run {
         }
     }
 
+    /// Whether more of what was read may be taken: the client takes bytes, and the request is not to be sent first.
+    fn may_take(&self) -> bool
+        ensures { result ≡ spec.may_take self.now.client self.now.rest self.now.token }
+    {
+        if self.rest.is_empty() {
+            return false;
+        }
+        if self.is_to_ask() {
+            return false;
+        }
+        self.client.takes()
+    }
+
     /// Sends the request, where it is to be sent. Where the queue has no room, the next turn tries again.
     fn ask<E: Outlet>(&mut self, err: &mut E, plan: &ClientPlan) -> Next
         requires { E.is_failed err.old ≡ false }
@@ -313,12 +326,12 @@ impl Run {
     ) -> Next
         requires out_works { O.is_failed out.old ≡ false }
         requires err_works { E.is_failed err.old ≡ false }
-        ensures runs { Leads (with_outlets (O.written out.old) (E.written err.old)) (with_outlets (O.written out.new) (E.written err.new)) IsReady IsAsked plan.now self.old self.new result }
+        ensures runs { Leads (with_outlets (O.written out.old) (E.written err.old)) (with_outlets (O.written out.new) (E.written err.new)) IsReady IsTaken plan.now self.old self.new result }
         ensures status { IfOk result (λ next. IfSome next IsStatus) }
         ensures output { (O.is_failed out.new || E.is_failed err.new) ≡ is_err result }
     {
         for _ in 0..self.rest.bytes().len() {
-            if self.rest.is_empty() || self.is_to_ask() {
+            if !self.may_take() {
                 return Ok(None);
             }
             if let Some(status) = self.take(out, err, plan.newline)? {

@@ -1,14 +1,14 @@
-use Rattle.std.proofs.Common.{◌≡◌, None, false}
+use Rattle.std.proofs.Common.{◌≡◌, ◌+◌, ◌≤◌, None, false, length}
 use Rattle.coap_client.specs.RunCourse.{Course, status_in, turns_in}
 use Rattle.coap_client.specs.ClientRun.{Seen, with_outlets, Stands, LeadsOn, IsReady, IsAsked}
 use Rattle.coap_client.proofs.run.Run.take_all.Given as goal
 
--- no outlet has failed, and the run goes on
+-- no outlet has failed, the run goes on, and as much was taken as was counted
 abbrev pub invariant-loop : goal.invariant-loop
 invariant-loop g l = record {
   out : g.O.Outlet.is_failed l.out ≡ false;
   err : g.E.Outlet.is_failed l.err ≡ false;
   runs : (start now : Seen) (course : Course)
       → Stands l.plan start (with_outlets (g.O.Outlet.written l.fn.out) (g.E.Outlet.written l.fn.err) now) l.fn.self course → status_in course ≡ None → IsReady course
-      → LeadsOn l.plan start (with_outlets (g.O.Outlet.written l.out) (g.E.Outlet.written l.err) now) l.self (IsAsked (turns_in course)) None;
+      → LeadsOn l.plan start (with_outlets (g.O.Outlet.written l.out) (g.E.Outlet.written l.err) now) l.self (IsAsked (turns_in course)) None × (l.counter + length l.self.rest ≤ length l.fn.self.rest);
 }

@@ -1,0 +1,93 @@
+-- What a client's run takes of what it read: something, as long as it may, until nothing is left.
+use Rattle.std.proofs.Common.{◌≡◌, ◌+◌, ◌-◌, ◌≤◌, ◌<◌, ◌⊎◌, ℕ, zero, suc, Bool, true, false, cond, List, [], ◌++◌, length, take, refl, sym, ap, subst, ◌∙◌, inl, inr, arith}
+use Rattle.std.specs.Prelude.{nat_le, ◌&&◌}
+use Rattle.std.proofs.lemmas.Bool.{leb-false, lt-leb, and_parts}
+use Rattle.std.proofs.lemmas.List.{append-nil, length-append}
+use Rattle.coap_wire.specs.Beginning.{Beginning, Unfinished, Whole, Faulty, beginning}
+use Rattle.coap_frame.specs.Framing.{Framing, Nothing, framing_at, framing}
+use Rattle.coap_conn.specs.History.{History}
+use Rattle.coap_conn.specs.LinkValue.{LinkValue, link_of, free_in}
+use Rattle.coap_conn.specs.Outstanding.{OutstandingValue}
+use Rattle.coap_conn.specs.Phases.{takes_messages}
+use Rattle.coap_client.specs.ClientValues.{ClientValue, client_takes, client_cancelled}
+use Rattle.coap_client.specs.ClientWorld.{ClientCall, stream_in, handles, takes, client_after, client_of, AreAccepted}
+use Rattle.coap_client.specs.Requests.{ExtrasValue}
+use Rattle.coap_client.specs.Targets.{TargetValue}
+use Rattle.coap_client.specs.RunCourse.{own_limits}
+use Rattle.coap_client.proofs.ClientSteps.{rest_unfinished}
+use Rattle.coap_client.proofs.ClientReached.{accepted_is}
+use Rattle.coap_client.proofs.FrontLaws.{front_framing}
+
+-- ---- something is taken of what is not empty
+
+none_framing : (M : ℕ) (kept : List ℕ) → beginning M kept ≡ Unfinished → framing M kept [] ≡ framing_at kept [] Unfinished
+unfolding framing
+none_framing M kept unfinished = ap (framing_at kept []) (ap (beginning M) (append-nil kept) ∙ unfinished)
+
+nothing_at : (kept piece : List ℕ) (b : Beginning) → (framing_at kept piece b).finding ≡ Nothing → (framing_at kept piece b).taken ≡ length piece
+nothing_at kept piece Unfinished e = refl
+nothing_at kept piece (Whole frame rest) e = absurd cc
+nothing_at kept piece (Faulty fault) e = absurd cc
+
+-- where nothing is found, all is taken
+nothing_taken : (M : ℕ) (kept piece : List ℕ) → (framing M kept piece).finding ≡ Nothing → (framing M kept piece).taken ≡ length piece
+unfolding framing
+nothing_taken M kept piece e = nothing_at kept piece (beginning M (kept ++ piece)) e
+
+some_fronted : (M : ℕ) (kept piece : List ℕ) (n : ℕ) → beginning M kept ≡ Unfinished → (framing M kept piece).taken ≡ n → 0 < length piece → 1 ≤ n
+some_fronted M kept piece zero unfinished none some =
+    let same : framing M kept piece ≡ framing_at kept [] Unfinished = sym (front_framing M kept piece unfinished) ∙ ap (λ (k : ℕ). framing M kept (take k piece)) none ∙ none_framing M kept unfinished in
+    let all : (framing M kept piece).taken ≡ length piece = nothing_taken M kept piece (ap (λ (f : Framing). f.finding) same) in
+    absurd (omega (arith, some, none, all))
+some_fronted M kept piece (suc n) unfinished none some = omega arith
+
+module _ (calls : List ClientCall) where
+  abbrev reached : History
+  reached = client_after own_limits 0 calls
+
+  takes_same : client_takes (client_of own_limits 0 calls) ≡ handles reached
+  unfolding client_of
+  takes_same = refl
+
+  takes_where : (piece : List ℕ) → handles reached ≡ true → takes own_limits 0 calls piece ≡ (framing own_limits.max_message (stream_in own_limits.max_message calls).rest piece).taken
+  unfolding takes
+  takes_where piece does = ap (λ (b : Bool). cond b (framing own_limits.max_message (stream_in own_limits.max_message calls).rest piece).taken 0) does
+
+  -- a client that takes bytes takes one at least
+  pub takes_some : (piece : List ℕ) → AreAccepted own_limits 0 calls → client_takes (client_of own_limits 0 calls) ≡ true → 0 < length piece → 1 ≤ takes own_limits 0 calls piece
+  takes_some piece accepted does some =
+      let handling : handles reached ≡ true = sym takes_same ∙ does in
+      let live = (accepted_is own_limits 0 calls accepted).live (and_parts (takes_messages reached.phase) (nat_le reached.limits.max_sent (free_in (link_of reached))) handling).0 in
+      let unfinished = rest_unfinished own_limits.max_message calls live in
+      subst (λ (n : ℕ). 1 ≤ n) (sym (takes_where piece handling))
+      (some_fronted own_limits.max_message (stream_in own_limits.max_message calls).rest piece _ unfinished refl some)
+
+-- ---- a client that takes nothing takes nothing behind a cancellation
+
+less_room : (takes : Bool) (most queue waiting more : ℕ) → (takes && nat_le most (queue - waiting)) ≡ false → (takes && nat_le most (queue - (waiting + more))) ≡ false
+less_room false most queue waiting more is = refl
+less_room true most queue waiting more is =
+    let low : queue - waiting < most = leb-false most (queue - waiting) is in
+    lt-leb most (queue - (waiting + more)) (omega arith)
+
+cancelled_if : (does : Bool) (frame bytes : List ℕ) (l : LinkValue) (outstanding : List OutstandingValue) → client_takes (record { frame = frame; link = l }) ≡ false
+    → client_takes (record { frame = frame; link = cond does (record l { waiting = l.waiting ++ bytes; outstanding = outstanding }) l }) ≡ false
+cancelled_if true frame bytes l outstanding is =
+    ap (λ (n : ℕ). takes_messages l.phase && nat_le l.limits.max_sent (l.limits.queue - n)) (length-append l.waiting bytes)
+    ∙ less_room (takes_messages l.phase) l.limits.max_sent l.limits.queue (length l.waiting) (length bytes) is
+cancelled_if false frame bytes l outstanding is = is
+
+pub cancelled_takes : (v : ClientValue) (token : List ℕ) (target : TargetValue) (extras : ExtrasValue) → client_takes v ≡ false → client_takes (client_cancelled v token target extras) ≡ false
+cancelled_takes v token target extras is = cancelled_if _ v.frame _ v.link _ is
+
+-- ---- whether more may be taken
+
+pub may_parts : (empty asks takes : Bool) → cond empty false (cond asks false takes) ≡ true → (empty ≡ false) × (asks ≡ false) × (takes ≡ true)
+may_parts true asks takes is = absurd cc
+may_parts false true takes is = absurd cc
+may_parts false false takes is = (refl, refl, is)
+
+pub may_not : (empty asks takes : Bool) → cond empty false (cond asks false takes) ≡ false → (empty ≡ true) ⊎ ((asks ≡ true) ⊎ (takes ≡ false))
+may_not true asks takes is = inl refl
+may_not false true takes is = inr (inl refl)
+may_not false false takes is = inr (inr is)
