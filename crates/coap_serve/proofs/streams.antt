@@ -17,3 +17,4 @@ pub mod AgendaLemmas
 pub mod PassedLemmas
 pub mod NoteLemmas
 pub mod NotedLemmas
+pub mod ServiceLemmas

@@ -24,7 +24,7 @@ mod wire;
 pub use coap_conn::{LimitFault, Limits, Phase, Reason};
 pub use config::{Config, ConfigFault, Starts};
 pub use device::{Outlet, ReadSource, Source, WriteOutlet};
-pub use door::serve_door;
+pub use door::{Service, serve_door};
 pub use event::Event;
 pub use output::{WriteFailed, write_all};
 pub use replay::ReplayFault;

@@ -12,7 +12,7 @@ use crate::scripts::lines::{
     ShortLine, fault_line, in_line, open_line, out_line, put_line, remove_line, status_line,
     tick_line, word_line,
 };
-use crate::server::{ConnId, OpenFault, ReleaseFault, Server, TakeFault};
+use crate::server::{ConnId, OpenFault, ReleaseFault, Server};
 use coap_store::{PathKey, StoreFault};
 use std::alloc::AllocError;
 use thiserror::Error;
@@ -112,14 +112,13 @@ fn store_number(fault: StoreFault) -> u8
 }
 
 impl Server {
-    ghost use Rattle.std.specs.Prelude.{◌≡◌, ◌≤◌, true, false, List, length, map, IfOk, OnOk, OnErr};
+    ghost use Rattle.std.specs.Prelude.{◌≡◌, true, false, List, map, IfOk, OnErr};
     ghost use Rattle.coap_serve.specs.script.EventViews.{event_value};
     ghost use Rattle.coap_serve.specs.script.Events as event;
     ghost use Rattle.coap_serve.specs.script.Lines as lines;
-    ghost use Rattle.coap_serve.specs.script.Replay.{event_ran, fed, stop_number, drained};
-    ghost use Rattle.coap_serve.specs.script.PartlyFed.{IsPartlyFed};
-    ghost use Rattle.coap_serve.specs.script.Replayed.{IsUnrun, IsReplayed, fails_write};
-    ghost use Rattle.coap_serve.specs.script.Shown.{took, events_made, ShowsMore, ShowsPart, ShowsRun, IsShownReplay};
+    ghost use Rattle.coap_serve.specs.script.Replay.{event_ran, stop_number, drained};
+    ghost use Rattle.coap_serve.specs.script.Replayed.{IsReplayed, fails_write};
+    ghost use Rattle.coap_serve.specs.script.Shown.{events_made, ShowsMore, ShowsRun, IsShownReplay};
     ghost use Rattle.coap_serve.specs.streams.Device.{AddsBytes};
     ghost use Rattle.coap_serve.specs.values.Servers.{session_of, is_there};
     ghost use Rattle.coap_serve.specs.views.LineViews.{line_bytes, IsRun, IsDrainable};

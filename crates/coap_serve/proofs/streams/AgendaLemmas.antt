@@ -4,10 +4,10 @@ use Rattle.std.specs.List.{AllByRecursion, remove}
 use Rattle.std.specs.Map.{keys_of, values_of}
 use Rattle.std.proofs.lemmas.List.{map-append, length-map}
 use Rattle.std.proofs.lemmas.Bool.{or_parts, and_parts, eqb-true, ltb-false}
-use Rattle.coap_serve.specs.declared.door.Agenda.{Agenda}
-use Rattle.coap_serve.specs.declared.door.Course.{Course}
-use Rattle.coap_serve.specs.declared.door.Course.TheVariants.{Open}
-use Rattle.coap_serve.specs.declared.door.Wants.{Wants}
+use Rattle.coap_serve.specs.declared.door.agenda.Agenda.{Agenda}
+use Rattle.coap_serve.specs.declared.door.peer.Course.{Course}
+use Rattle.coap_serve.specs.declared.door.peer.Course.TheVariants.{Open}
+use Rattle.coap_serve.specs.declared.door.wants.Wants.{Wants}
 use Rattle.coap_serve.specs.declared.host.Host.{Host}
 use Rattle.coap_serve.specs.declared.serve.IoFault.{IoFault}
 use Rattle.coap_serve.specs.declared.server.Outlook.{Outlook}

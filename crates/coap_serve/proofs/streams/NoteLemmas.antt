@@ -7,9 +7,9 @@ use Rattle.coap_store.specs.Answer.{Change, Nothing, Put, Delete}
 use Rattle.coap_serve.specs.declared.host.Host.{Host}
 use Rattle.coap_serve.specs.declared.server.Stamp.{Stamp}
 use Rattle.coap_serve.specs.declared.server.Outlook.{Outlook}
-use Rattle.coap_serve.specs.declared.door.Course.{Course}
-use Rattle.coap_serve.specs.declared.door.Course.TheVariants.{Open}
-use Rattle.coap_serve.specs.declared.door.Wants.{Wants}
+use Rattle.coap_serve.specs.declared.door.peer.Course.{Course}
+use Rattle.coap_serve.specs.declared.door.peer.Course.TheVariants.{Open}
+use Rattle.coap_serve.specs.declared.door.wants.Wants.{Wants}
 use Rattle.coap_serve.specs.declared.wire.Got.{Got}
 use Rattle.coap_serve.specs.declared.wire.Got.TheVariants.{Bytes, Later, End, Failed}
 use Rattle.coap_serve.specs.values.Sessions.{SessionValue, Taking, taking, host_changed, session_written, session_ended, session_settled, new_session}
@@ -53,9 +53,9 @@ never_back one other third first later back = no_earlier_either_way other one (s
 -- ---- the host
 
 -- another host follows: its stamp is no earlier, and where that is the same, the host is
-record Follows (host later : Host) : Type 0 where
-  no_earlier : IsNoEarlier (stamp_of host) (stamp_of later)
-  same : stamp_of later ≡ stamp_of host → later ≡ host
+pub record Follows (host later : Host) : Type 0 where
+  pub no_earlier : IsNoEarlier (stamp_of host) (stamp_of later)
+  pub same : stamp_of later ≡ stamp_of host → later ≡ host
 
 follows_itself : (host : Host) → Follows host host
 follows_itself host = record { no_earlier = no_earlier_itself (stamp_of host); same = λ e. refl }
@@ -74,7 +74,7 @@ removed_or_none (r ∷ rs) path =
     ]
 
 -- a change of the store either moves the stamp on or is none
-change_follows : (host : Host) (c : Change) → Follows host (host_changed host c)
+pub change_follows : (host : Host) (c : Change) → Follows host (host_changed host c)
 change_follows host Nothing = follows_itself host
 change_follows host (Put path format bytes) = record {
   no_earlier = record { moment = omega arith; versions = λ e. omega arith; resources = λ e more. absurd (let none : ⊥ = omega (arith, more) in none) };

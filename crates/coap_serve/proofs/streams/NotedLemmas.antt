@@ -4,9 +4,9 @@ use Rattle.std.specs.List.{AllByRecursion, IsDistinct}
 use Rattle.std.specs.Map.{keys_of, lookup}
 use Rattle.std.proofs.lemmas.Bool.{eqb-true, eqb-false, leb-true}
 use Rattle.indexmap.specs.IndexMap.{set_value_at, insert_entry}
-use Rattle.coap_serve.specs.declared.door.Course.{Course}
-use Rattle.coap_serve.specs.declared.door.Course.TheVariants.{Open}
-use Rattle.coap_serve.specs.declared.door.Peer.{Peer}
+use Rattle.coap_serve.specs.declared.door.peer.Course.{Course}
+use Rattle.coap_serve.specs.declared.door.peer.Course.TheVariants.{Open}
+use Rattle.coap_serve.specs.declared.door.peer.Peer.{Peer}
 use Rattle.coap_serve.specs.declared.serve.IoFault.{IoFault}
 use Rattle.coap_serve.specs.declared.server.Stamp.{Stamp}
 use Rattle.coap_serve.specs.declared.wire.Wait.{Wait}
@@ -15,7 +15,6 @@ use Rattle.coap_serve.specs.values.Servers.{ServerValue, AreSettled, session_of,
 use Rattle.coap_serve.specs.values.Dues.{stamp_of, outlook_of}
 use Rattle.coap_serve.specs.streams.Turns.{IsServedOnce, IsAtRest, MayWait, end_of, wants_of}
 use Rattle.coap_serve.specs.streams.Notes.{IsNoEarlier, KeepsNotes, IsNoted, AreNoted, true_end}
-use Rattle.coap_serve.proofs.values.ServerLemmas.{all_are_settled}
 use Rattle.coap_serve.proofs.streams.AgendaLemmas.{stamp_in}
 use Rattle.coap_serve.proofs.streams.NoteLemmas.{no_earlier_itself, no_earlier_on, never_back, noted_where_served, noted_where_dropped, noted_where_opened, ticked_no_earlier, ticked_to_the_same}
 
@@ -180,11 +179,6 @@ pub noted_where_ticked : {W T E : Type 0} (r : Result T E) (v after : ServerValu
     → is_ok r ≡ nat_le v.host.now later → OnOk r (after ≡ server_ticked v later) → OnErr r (after ≡ v) → AreNoted after es
 noted_where_ticked (Ok x) v after later es settled noted answer ok err = subst (λ w. AreNoted w es) (sym ok) (ticked_all v later es settled (leb-true v.host.now later (sym answer)) noted)
 noted_where_ticked (Err e) v after later es settled noted answer ok err = subst (λ w. AreNoted w es) (sym err) noted
-
--- and every connection is settled
-pub settled_where_ticked : {T E : Type 0} (r : Result T E) (v after : ServerValue) (later : ℕ) → AreSettled v.host v.sessions → OnOk r (after ≡ server_ticked v later) → OnErr r (after ≡ v) → AreSettled after.host after.sessions
-settled_where_ticked (Ok x) v after later settled ok err = subst (λ (w : ServerValue). AreSettled w.host w.sessions) (sym ok) (all_are_settled (record v.host { now = later }) v.sessions)
-settled_where_ticked (Err e) v after later settled ok err = subst (λ (w : ServerValue). AreSettled w.host w.sessions) (sym err) settled
 
 -- ---- how long the door may wait
 

@@ -5,7 +5,7 @@ use Rattle.std.proofs.lemmas.Bool.{or_parts, eqb-true, ne_eqb}
 use Rattle.coap_conn.specs.Phases.{stop_of, is_over}
 use Rattle.coap_conn.specs.declared.phase.Phase.{Phase}
 use Rattle.coap_conn.specs.declared.reason.Reason.{Reason}
-use Rattle.coap_serve.specs.declared.door.Course.TheVariants.{Open, Over}
+use Rattle.coap_serve.specs.declared.door.peer.Course.TheVariants.{Open, Over}
 use Rattle.coap_serve.specs.declared.wire.Got.TheVariants.{Later}
 use Rattle.coap_serve.specs.values.Sessions.{SessionValue, session_takes}
 use Rattle.coap_serve.specs.values.Servers.{ServerValue, LiesAt, AreSettled, session_of, settled_entry, changed_at, server_taken, server_taken_on, server_taken_so, count_taken, count_on}

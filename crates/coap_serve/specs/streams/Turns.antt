@@ -8,11 +8,11 @@ use Rattle.coap_serve.specs.script.Replay.{fed}
 use Rattle.coap_serve.specs.values.Dues.{outlook_of, stamp_of, same_stamp, sooner}
 use Rattle.coap_serve.specs.values.Flushes.{waiting_at}
 use Rattle.coap_serve.specs.streams.Wires.{IsWithin, IsTold, count_passed}
-use Rattle.coap_serve.specs.declared.door.Course.{Course}
-use Rattle.coap_serve.specs.declared.door.Course.TheVariants.{Open, Over}
-use Rattle.coap_serve.specs.declared.door.Wants.{Wants}
-use Rattle.coap_serve.specs.declared.door.Peer.{Peer}
-use Rattle.coap_serve.specs.declared.door.Agenda.{Agenda}
+use Rattle.coap_serve.specs.declared.door.peer.Course.{Course}
+use Rattle.coap_serve.specs.declared.door.peer.Course.TheVariants.{Open, Over}
+use Rattle.coap_serve.specs.declared.door.wants.Wants.{Wants}
+use Rattle.coap_serve.specs.declared.door.peer.Peer.{Peer}
+use Rattle.coap_serve.specs.declared.door.agenda.Agenda.{Agenda}
 use Rattle.coap_serve.specs.declared.wire.Wait.{Wait}
 use Rattle.coap_serve.specs.declared.wire.Wait.TheVariants.{No, Until, Forever}
 use Rattle.coap_serve.specs.declared.server.Outlook.{Outlook}

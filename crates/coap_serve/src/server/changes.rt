@@ -22,6 +22,7 @@ impl Server {
     ///
     /// Where it is before the moment of the server. Nothing has changed then.
     pub fn tick(&mut self, now: u64) -> Result<(), Backwards>
+        ensures settled { AreSettled self.old.host self.old.sessions }
         ensures answer { is_ok result ≡ nat_le self.old.host.now now }
         ensures ok { OnOk result (self.new ≡ server_ticked self.old now) }
         ensures shows { OnOk result ((events : List Event) → Shows self.old events → Shows self.new (events ++ Ticked now ∷ [])) }
@@ -49,6 +50,7 @@ impl Server {
         format: Option<u16>,
         bytes: &[u8],
     ) -> Result<u64, StoreFault>
+        ensures settled { AreSettled self.old.host self.old.sessions }
         ensures answer { RefusedOrMemory result (put_refusal self.old.host.store path.now bytes.now) }
         ensures version { IfOk result (λ version. version ≡ self.old.host.store.versions + 1) }
         ensures ok { OnOk result (self.new ≡ server_put self.old path.now format bytes.now) }
@@ -66,6 +68,7 @@ impl Server {
     ///
     /// As `Store::remove`. Nothing has changed then.
     pub fn remove(&mut self, path: &PathKey) -> Result<(), StoreFault>
+        ensures settled { AreSettled self.old.host self.old.sessions }
         ensures answer { RefusedBy result (remove_refusal self.old.host.store path.now) }
         ensures ok { OnOk result (self.new ≡ server_removed self.old path.now) }
         ensures shows { OnOk result ((events : List Event) → Shows self.old events → Shows self.new (events ++ Removed path.now ∷ [])) }

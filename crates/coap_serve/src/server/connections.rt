@@ -8,7 +8,7 @@ impl Server {
     ghost use Rattle.std.specs.Prelude.{◌≡◌, ◌+◌, ◌++◌, ◌∷◌, List, [], is_ok, is_none, IfOk, OnOk, OnErr};
     ghost use Rattle.coap_wire.specs.Refusal.{RefusedBy};
     ghost use Rattle.coap_conn.specs.Limits.{AreInRange};
-    ghost use Rattle.coap_serve.specs.values.Servers.{session_of, is_there, server_opened, server_ended, server_released, server_dropped};
+    ghost use Rattle.coap_serve.specs.values.Servers.{AreSettled, session_of, is_there, server_opened, server_ended, server_released, server_dropped};
     ghost use Rattle.coap_serve.specs.values.ServerAnswers.{OpenedOrMemory, open_refusal, released_refusal, status_of};
     ghost use Rattle.coap_serve.specs.values.Dues.{outlook_of};
     ghost use Rattle.coap_serve.specs.world.Events.{Event, Opened, Ended, Released, Dropped};
@@ -16,7 +16,8 @@ impl Server {
 
     /// Whether `open` would be refused for want of memory alone.
     pub(crate) fn can_open(&self) -> bool
-        ensures { result ≡ is_none (open_refusal self.now) }
+        ensures answer { result ≡ is_none (open_refusal self.now) }
+        ensures settled { AreSettled self.now.host self.now.sessions }
     {
         self.sessions.len() < self.config.connections() && self.ids < u64::MAX
     }

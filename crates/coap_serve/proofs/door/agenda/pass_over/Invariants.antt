@@ -1,0 +1,11 @@
+use Rattle.std.proofs.Common.{◌-◌, ◌≤◌, length}
+use Rattle.coap_serve.specs.streams.Turns.{end_of}
+use Rattle.coap_serve.proofs.streams.AgendaLemmas.{ArePassed}
+use Rattle.coap_serve.proofs.door.agenda.pass_over.Given as goal
+
+-- those that were passed over are at rest
+abbrev pub invariant-loop-at : goal.invariant-loop-at
+invariant-loop-at g l = (l.seen.at ≤ l.at) × (l.at ≤ length l.peers.entries) × ArePassed (end_of g.W.Ready.readable g.W.Ready.writable) l.peers.entries l.seen.at l.at l.stamp l.seen.agenda.due l.due
+
+abbrev pub decreases-loop-at : goal.decreases-loop-at
+decreases-loop-at g l = length l.peers.entries - l.at

@@ -1,0 +1,39 @@
+use Rattle.std.proofs.Common.{◌≡◌, length, map, take, remove, sym, ap, subst, arith}
+use Rattle.coap_serve.specs.declared.door.peer.Peer.{Peer}
+use Rattle.coap_serve.specs.values.Dues.{stamp_of}
+use Rattle.coap_serve.specs.streams.Turns.{end_of, IsAgendaOf}
+use Rattle.coap_serve.proofs.streams.AgendaLemmas.{served_later, dropped_step, open_step, stamp_noted, same_length, length_without}
+use Rattle.coap_serve.proofs.door.turn.serve_next.Goals as goal
+
+pub overflow_add-result : goal.overflow_add-result
+overflow_add-result g c = omega (arith, c.requires.there, c.requires.fits)
+
+pub returns-in-Over-clause-agenda : goal.returns-in-Over-clause-agenda
+returns-in-Over-clause-agenda g c seen =
+    subst (λ host. IsAgendaOf c.with-agenda.result (stamp_of host) (map (λ e. end_of g.W.Ready.readable g.W.Ready.writable e.1) (take c.args.seen.at c.drop_at.new.peers.entries))) (sym c.drop_at.ensures.host)
+    (dropped_step (end_of g.W.Ready.readable g.W.Ready.writable) c.serve_at.new.peers.entries c.drop_at.new.peers.entries c.args.seen.at c.with-agenda.result (stamp_of c.serve_at.new.server.host)
+    (served_later (end_of g.W.Ready.readable g.W.Ready.writable) c.args.peers.now.entries c.serve_at.new.peers.entries c.args.seen.at c.args.seen.agenda c.with-agenda.result c.args.server.now.host c.serve_at.new.server.host c.stamp-before.result c.stamp.result c.concerns_others-concerned.result
+    seen c.serve_at.ensures.before c.stamp-before.ensures.stamp c.stamp.ensures.stamp c.concerns_others-concerned.ensures c.with-agenda.ensures)
+    c.drop_at.ensures.peers)
+
+pub returns-in-Over-clause-fewer : goal.returns-in-Over-clause-fewer
+returns-in-Over-clause-fewer g c =
+    let as_many = same_length c.serve_at.new.peers.entries c.args.peers.now.entries c.serve_at.ensures.same in
+    let less = length_without c.serve_at.new.peers.entries c.args.seen.at (omega (arith, as_many, c.requires.there)) in
+    let left : length c.drop_at.new.peers.entries ≡ length (remove c.serve_at.new.peers.entries c.args.seen.at) = ap (λ es. length es) c.drop_at.ensures.peers in
+    omega (arith, as_many, less, left, c.requires.there)
+
+pub returns-in-Open-clause-agenda : goal.returns-in-Open-clause-agenda
+returns-in-Open-clause-agenda g c seen =
+    open_step (end_of g.W.Ready.readable g.W.Ready.writable) c.serve_at.new.peers.entries c.args.seen.at c.index-peer.result.now c.index-peer.result.now c.with-agenda.result c.with.result (stamp_of c.serve_at.new.server.host) c.is_ready.result
+    c.index-peer.ensures c.index-peer.ensures
+    (served_later (end_of g.W.Ready.readable g.W.Ready.writable) c.args.peers.now.entries c.serve_at.new.peers.entries c.args.seen.at c.args.seen.agenda c.with-agenda.result c.args.server.now.host c.serve_at.new.server.host c.stamp-before.result c.stamp.result c.concerns_others-concerned.result
+    seen c.serve_at.ensures.before c.stamp-before.ensures.stamp c.stamp.ensures.stamp c.concerns_others-concerned.ensures c.with-agenda.ensures)
+    c.is_ready.ensures
+    (stamp_noted (λ (p : Peer g.row.W.Denot). p.wants) (λ (p : Peer g.row.W.Denot). p.rest) c.serve_at.new.peers.entries c.args.seen.at c.index-peer.result.now c.serve_at.new.server c.in_ok-course.course c.index-peer.ensures c.in_ok-course.ensures.wants c.in-Open.is)
+    c.with.ensures
+
+pub returns-in-Open-clause-fewer : goal.returns-in-Open-clause-fewer
+returns-in-Open-clause-fewer g c =
+    let as_many = same_length c.serve_at.new.peers.entries c.args.peers.now.entries c.serve_at.ensures.same in
+    omega (arith, as_many, c.requires.there)

@@ -1,0 +1,221 @@
+//! The far end of a connection, and its part of a turn.
+
+ghost use Rattle.std.specs.Prelude.{◌≡◌, ◌≢◌, false, true, [], length, is_some, OnOk, OnErr, IfOk, IfErr};
+ghost use Rattle.coap_serve.specs.declared.door.peer.Course.TheVariants.{Open};
+ghost use Rattle.coap_serve.specs.declared.wire.Got.TheVariants.{Later, End};
+ghost use Rattle.coap_serve.specs.script.PartlyFed.{IsPartlyFed};
+ghost use Rattle.coap_serve.specs.script.Replay.{fed};
+ghost use Rattle.coap_serve.specs.streams.Device.{AddsBytes};
+ghost use Rattle.coap_serve.specs.streams.Turns.{IsServedOnce, IsLaidOut, is_heard, server_heard, server_wrote, waiting_once, rest_left, is_over_in, has_failed, course_of, wants_of};
+ghost use Rattle.coap_serve.specs.streams.Wires.{IsWithin, IsMemory, bytes_passed};
+ghost use Rattle.coap_serve.specs.values.ServerAnswers.{stop_on};
+ghost use Rattle.coap_serve.specs.values.Servers.{session_of};
+
+use super::wants::{Wants, wants_by};
+use crate::rest::Rest;
+use crate::serve::IoFault;
+use crate::server::{ConnId, Outlook, Server, Stamp};
+use crate::wire::{Got, Ready, Wire};
+use indexmap::IndexMap;
+
+/// The far end of a connection.
+#[derive(Drop)]
+pub(super) struct Peer<W> {
+    /// The wire to it.
+    pub(super) wire: W,
+    /// What was read from the wire and is not taken yet.
+    pub(super) rest: Rest,
+    /// What it is to be served for.
+    pub(super) wants: Wants,
+}
+
+impl<W: Ready> Peer<W> {
+    ghost use Rattle.coap_serve.specs.streams.Turns.{IsAsked, CanGoOn, IsRestAnswer, end_of};
+
+    /// Whether its wire is to be read, and may be. (The wire is asked first: of most connections it may not be read.)
+    pub(super) fn can_read(&self) -> bool
+        ensures { IsAsked self.now.wants.read (W.readable self.now.wire) result }
+    {
+        self.wire.may_read() && self.wants.read
+    }
+
+    /// Whether its wire is to be written, and may be.
+    pub(super) fn can_write(&self) -> bool
+        ensures { IsAsked self.now.wants.write (W.writable self.now.wire) result }
+    {
+        self.wants.write && self.wire.may_write()
+    }
+
+    /// Whether something that it is to be served for can be done at once.
+    pub(super) fn is_ready(&self) -> bool
+        ensures { CanGoOn (end_of W.readable W.writable self.now) result }
+    {
+        self.wants.take || self.can_read() || self.can_write()
+    }
+
+    /// Whether it was served on a server with this stamp, and nothing can be done now.
+    pub(super) fn is_at_rest(&self, stamp: Stamp) -> bool
+        ensures { IsRestAnswer stamp (end_of W.readable W.writable self.now) result }
+    {
+        self.wants.stamp == stamp && !self.is_ready()
+    }
+}
+
+/// The far ends by the numbers of their connections, in order.
+pub(super) type Peers<W> = IndexMap<u64, Peer<W>>;
+
+/// How a connection came out of its part of a turn.
+#[derive(Clone, Copy, PartialEq, Eq)]
+pub(super) enum Course {
+    /// It goes on.
+    Open,
+    /// Its wire has failed, or nothing more is to be written.
+    Over,
+}
+
+/// Serves a connection whose wire may be read or not, and written or not: reads once, where it may, all that was read before is taken
+/// and the connection takes bytes; lets it take what was read; and writes once what waits, where it may. Notes what it is to be served
+/// for next.
+///
+/// # Errors
+///
+/// `Memory` where memory was refused.
+pub(super) fn serve_peer<W: Wire>(
+    server: &mut Server,
+    id: ConnId,
+    peer: &mut Peer<W>,
+    may_read: bool,
+    may_write: bool,
+) -> Result<Course, IoFault>
+    ensures part { IfOk result (λ course. IsServedOnce may_read may_write server.old id peer.old.rest server.new peer.new.rest course) }
+    ensures wants { IfOk result (λ course. course ≡ Open → peer.new.wants ≡ wants_of server.new id peer.new.rest) }
+    ensures fault { IfErr result IsMemory }
+{
+    let heard = hear(server, id, peer, may_read);
+    if failed(heard) {
+        return Ok(Course::Over);
+    }
+    take_rest(server, id, &mut peer.rest)?;
+    let wrote = write_once(server, id, &mut peer.wire, may_write);
+    let outlook = server.outlook(id);
+    peer.wants = wants_by(outlook, peer.rest.is_empty(), server.stamp());
+    Ok(outcome(wrote, is_over(outlook)))
+}
+
+/// Whether a wire has failed.
+fn failed(got: Got) -> bool
+    ensures { result ≡ has_failed got }
+{
+    match got {
+        Got::Failed => true,
+        Got::Bytes(_) => false,
+        Got::Later => false,
+        Got::End => false,
+    }
+}
+
+/// How a connection comes out whose write came to this, and on which nothing more is to be written, or something is.
+fn outcome(wrote: Got, is_over: bool) -> Course
+    ensures { result ≡ course_of wrote is_over }
+{
+    if is_over || failed(wrote) {
+        return Course::Over;
+    }
+    Course::Open
+}
+
+/// Reads once, where all that was read before is taken, the wire may be read and the connection takes bytes, and answers what came
+/// of it: `Later` too where nothing was read. The end of what the peer sends is told to the connection.
+fn hear<W: Wire>(server: &mut Server, id: ConnId, peer: &mut Peer<W>, may_read: bool) -> Got
+    ensures server { server.new ≡ server_heard server.old id result }
+    ensures laid { IsLaidOut (is_heard may_read server.old id peer.old.rest) peer.old.rest result peer.new.rest }
+    // The wire is not touched where it is not to be read.
+    ensures passed { is_heard may_read server.old id peer.old.rest ≡ false → peer.new ≡ peer.old }
+    ensures read { is_heard may_read server.old id peer.old.rest ≡ true → AddsBytes (W.given peer.old.wire) (W.given peer.new.wire) peer.new.rest }
+    ensures wrote { is_heard may_read server.old id peer.old.rest ≡ true → AddsBytes (W.written peer.old.wire) (W.written peer.new.wire) [] }
+{
+    if !may_read || !peer.rest.is_empty() || !server.can_take(id) {
+        return Got::Later;
+    }
+    let got = peer.rest.read(&mut peer.wire);
+    if got == Got::End {
+        let Ok(()) = server.ended(id) else {
+            unreachable!()
+        };
+    }
+    got
+}
+
+/// Lets a connection take what was read, message by message, until all is taken or it takes none. Where it takes no message any
+/// more, what is left is given up.
+///
+/// # Errors
+///
+/// `Memory` where memory was refused for a representation that a message stores.
+fn take_rest(server: &mut Server, id: ConnId, rest: &mut Rest) -> Result<(), IoFault>
+    ensures server { OnOk result (server.new ≡ (fed server.old id rest.old).server) }
+    ensures rest { OnOk result (rest.new ≡ rest_left server.old id rest.old) }
+    ensures fault { IfErr result IsMemory }
+    ensures err { OnErr result (IsPartlyFed server.old id rest.old server.new) }
+{
+    let Ok(count) = server.take_all(id, rest.bytes()) else {
+        return Err(IoFault::Memory);
+    };
+    rest.advance(count);
+    if has_stopped(server, id) {
+        rest.clear();
+    }
+    Ok(())
+}
+
+/// Writes once what waits on a connection, where anything does and the wire may be written, and answers what came of it: `Later` too
+/// where nothing was written, and `Failed` for each answer that a write fails with.
+fn write_once<W: Wire>(server: &mut Server, id: ConnId, wire: &mut W, may_write: bool) -> Got
+    ensures server { server.new ≡ server_wrote server.old id result }
+    ensures within { IsWithin (length (waiting_once may_write id server.old)) result }
+    ensures idle { waiting_once may_write id server.old ≡ [] → (wire.new ≡ wire.old) × (result ≡ Later) }
+    ensures wrote { waiting_once may_write id server.old ≢ [] → AddsBytes (W.written wire.old) (W.written wire.new) (bytes_passed (waiting_once may_write id server.old) result) }
+    ensures gave { waiting_once may_write id server.old ≢ [] → AddsBytes (W.given wire.old) (W.given wire.new) [] }
+    ensures no_end { result ≢ End }
+{
+    if !may_write {
+        return Got::Later;
+    }
+    let Some(waiting) = server.front(id) else {
+        return Got::Later;
+    };
+    if waiting.is_empty() {
+        return Got::Later;
+    }
+    match wire.write(waiting) {
+        Got::Bytes(count) => {
+            let Ok(()) = server.written(id, count) else {
+                unreachable!()
+            };
+            Got::Bytes(count)
+        }
+        Got::Later => Got::Later,
+        Got::End => Got::Failed,
+        Got::Failed => Got::Failed,
+    }
+}
+
+/// Whether a connection takes no message any more.
+fn has_stopped(server: &Server, id: ConnId) -> bool
+    ensures { result ≡ is_some (stop_on (session_of id server.now.sessions)) }
+{
+    let Some(status) = server.status(id) else {
+        return false;
+    };
+    status.phase.stop().is_some()
+}
+
+/// Whether nothing more is to be written on a connection on which this is to be done, or none has the number.
+fn is_over(outlook: Option<Outlook>) -> bool
+    ensures { result ≡ is_over_in outlook }
+{
+    match outlook {
+        Some(outlook) => outlook.finished,
+        None => true,
+    }
+}

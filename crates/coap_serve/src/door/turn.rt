@@ -1,0 +1,187 @@
+//! A turn of a door.
+
+ghost use Rattle.std.specs.Prelude.{◌≡◌, ◌<◌, ◌≤◌, ◌+◌, ◌-◌, ◌^◌, false, true, Ok, length, is_none, map, remove, slice_get, take, if◌then◌else◌, IfSome, IfOk, IfErr, OnOk};
+ghost use Rattle.std.specs.Map.{keys_of};
+ghost use Rattle.coap_serve.specs.declared.door.peer.Course.TheVariants.{Open};
+ghost use Rattle.coap_serve.specs.streams.Notes.{AreNoted, true_end};
+ghost use Rattle.coap_serve.specs.streams.Turns.{IsServed, IsAgendaOf, MayWait, end_of, wait_of, wants_of};
+ghost use Rattle.coap_serve.specs.streams.Wires.{IsMemory};
+ghost use Rattle.coap_serve.specs.values.Dues.{stamp_of};
+ghost use Rattle.coap_serve.specs.values.ServerAnswers.{open_refusal};
+ghost use Rattle.coap_serve.specs.values.Servers.{AreSettled, session_of, is_there, server_opened, server_dropped};
+
+use super::agenda::{Agenda, Seen, concerns_others, pass_over};
+use super::peer::{Course, Peer, Peers, serve_peer};
+use super::wants::wants_on;
+use crate::rest::Rest;
+use crate::serve::IoFault;
+use crate::server::Server;
+use crate::wire::{Door, Ready, Wait, Wire};
+
+/// One turn at a moment: opens one connection, where one more may be and the door hands out a wire, and serves each. Answers
+/// how long the door may wait then.
+///
+/// # Errors
+///
+/// `Memory` where memory was refused.
+pub(super) fn take_turn<D: Door>(
+    server: &mut Server,
+    peers: &mut Peers<D::Wire>,
+    door: &mut D,
+) -> Result<Wait, IoFault>
+    requires { AreNoted server.old peers.old.entries }
+    ensures noted { OnOk result (AreNoted server.new peers.new.entries) }
+    ensures settled { OnOk result (AreSettled server.new.host server.new.sessions) }
+    // The door waits only where nothing can be done that a connection is to be served for now, whatever was noted of it.
+    ensures waits { IfOk result (λ wait. MayWait wait (stamp_of server.new.host) (map (λ e. true_end D.Wire.readable D.Wire.writable server.new e) peers.new.entries)) }
+    ensures fault { IfErr result IsMemory }
+{
+    accept(server, peers, door)?;
+    let agenda = serve_each(server, peers)?;
+    Ok(agenda.wait())
+}
+
+/// Opens one connection, where one more may be and the door hands out a wire, and answers whether it did.
+///
+/// # Errors
+///
+/// `Memory` where memory was refused.
+fn accept<D: Door>(
+    server: &mut Server,
+    peers: &mut Peers<D::Wire>,
+    door: &mut D,
+) -> Result<bool, IoFault>
+    requires { AreNoted server.old peers.old.entries }
+    ensures noted { OnOk result (AreNoted server.new peers.new.entries) }
+    ensures fault { IfErr result IsMemory }
+    // The door is not asked for a wire that no connection could be opened for.
+    ensures asks { is_none (open_refusal server.old) ≡ false → (door.new ≡ door.old) × (result ≡ Ok false) }
+    ensures server { IfOk result (λ opened. server.new ≡ (if opened then server_opened server.old else server.old)) }
+{
+    if !server.can_open() {
+        return Ok(false);
+    }
+    let Some(wire) = door.next() else {
+        return Ok(false);
+    };
+    let Ok(rest) = Rest::new(server.alloc()) else {
+        return Err(IoFault::Memory);
+    };
+    let Ok(id) = server.open() else {
+        return Err(IoFault::Memory);
+    };
+    let wants = wants_on(server, id, &rest);
+    let Ok(_) = peers.insert(id, Peer { wire, rest, wants }) else {
+        return Err(IoFault::Memory);
+    };
+    Ok(true)
+}
+
+/// Serves each connection in order of its number but those that are at rest, and drops those that are over. Answers what they
+/// leave to be done.
+///
+/// # Errors
+///
+/// `Memory` where memory was refused.
+fn serve_each<W: Wire + Ready + Drop>(
+    server: &mut Server,
+    peers: &mut Peers<W>,
+) -> Result<Agenda, IoFault>
+    requires { AreNoted server.old peers.old.entries }
+    ensures noted { OnOk result (AreNoted server.new peers.new.entries) }
+    ensures settled { OnOk result (AreSettled server.new.host server.new.sessions) }
+    // What is left to be done at once, and when: the door waits only where all were served after the last change.
+    ensures waits { IfOk result (λ agenda. MayWait (wait_of agenda) (stamp_of server.new.host) (map (λ e. end_of W.readable W.writable e.1) peers.new.entries)) }
+    ensures fault { IfErr result IsMemory }
+{
+    let mut seen = pass_over(peers, Seen::none(), server.stamp());
+    while seen.at < peers.len() {
+        let served = serve_next(server, peers, seen)?;
+        seen = pass_over(peers, served, server.stamp());
+    }
+    Ok(seen.agenda)
+}
+
+/// Serves the connection that comes next, and drops it where it is over.
+///
+/// # Errors
+///
+/// `Memory` where memory was refused.
+fn serve_next<W: Wire + Ready + Drop>(
+    server: &mut Server,
+    peers: &mut Peers<W>,
+    seen: Seen,
+) -> Result<Seen, IoFault>
+    requires there { seen.at < length peers.old.entries }
+    requires fits { length peers.old.entries < 2 ^ 64 }
+    requires noted { AreNoted server.old peers.old.entries }
+    ensures noted { OnOk result (AreNoted server.new peers.new.entries) }
+    ensures agenda { IfOk result (λ later. IsAgendaOf seen.agenda (stamp_of server.old.host) (map (λ e. end_of W.readable W.writable e.1) (take seen.at peers.old.entries)) → IsAgendaOf later.agenda (stamp_of server.new.host) (map (λ e. end_of W.readable W.writable e.1) (take later.at peers.new.entries))) }
+    ensures within { IfOk result (λ later. later.at ≤ length peers.new.entries) }
+    // One fewer is left.
+    ensures fewer { IfOk result (λ later. length peers.new.entries - later.at + 1 ≡ length peers.old.entries - seen.at) }
+    ensures fault { IfErr result IsMemory }
+{
+    let before = server.stamp();
+    let course = serve_at(server, peers, seen.at)?;
+    let concerned = concerns_others(seen.at, before, server.stamp());
+    let agenda = seen.agenda.with(concerned, None);
+    match course {
+        Course::Over => {
+            drop_at(server, peers, seen.at);
+            Ok(Seen { agenda, ..seen })
+        }
+        Course::Open => {
+            let peer = &peers[seen.at];
+            Ok(Seen {
+                at: seen.at + 1,
+                agenda: agenda.with(peer.is_ready(), peer.wants.due),
+            })
+        }
+    }
+}
+
+/// Serves the connection at an index.
+///
+/// # Errors
+///
+/// `Memory` where memory was refused.
+fn serve_at<W: Wire + Ready>(
+    server: &mut Server,
+    peers: &mut Peers<W>,
+    at: usize,
+) -> Result<Course, IoFault>
+    requires there { at < length peers.old.entries }
+    requires settled { AreSettled server.old.host server.old.sessions }
+    requires noted { AreNoted server.old peers.old.entries }
+    ensures part { IfSome (slice_get peers.old.entries at) (λ was. IfSome (slice_get peers.new.entries at) (λ is. IfOk result (λ course. IsServed (W.readable was.1.wire) (W.writable was.1.wire) server.old was.0 was.1.rest server.new is.1.rest course))) }
+    ensures wants { IfSome (slice_get peers.new.entries at) (λ is. IfOk result (λ course. course ≡ Open → is.1.wants ≡ wants_of server.new is.0 is.1.rest)) }
+    // What was noted of the others still holds, and what was noted of it does where it goes on.
+    ensures others { OnOk result (AreNoted server.new (remove peers.new.entries at)) }
+    ensures noted { IfOk result (λ course. course ≡ Open → AreNoted server.new peers.new.entries) }
+    // No other one is touched.
+    ensures beside { remove peers.new.entries at ≡ remove peers.old.entries at }
+    ensures before { take at peers.new.entries ≡ take at peers.old.entries }
+    ensures same { keys_of peers.new.entries ≡ keys_of peers.old.entries }
+    ensures fault { IfErr result IsMemory }
+{
+    let (id, peer) = peers.pair_mut(at);
+    let may_read = peer.wire.may_read();
+    let may_write = peer.wire.may_write();
+    serve_peer(server, *id, peer, may_read, may_write)
+}
+
+/// Drops the connection at an index.
+fn drop_at<W: Wire + Drop>(server: &mut Server, peers: &mut Peers<W>, at: usize)
+    requires there { at < length peers.old.entries }
+    requires settled { AreSettled server.old.host server.old.sessions }
+    requires noted { AreNoted server.old (remove peers.old.entries at) }
+    ensures noted { AreNoted server.new peers.new.entries }
+    ensures peers { peers.new.entries ≡ remove peers.old.entries at }
+    ensures host { server.new.host ≡ server.old.host }
+    ensures server { IfSome (slice_get (keys_of peers.old.entries) at) (λ id. is_there (session_of id server.old.sessions) ≡ true → server.new ≡ server_dropped server.old id) }
+{
+    if let Some((id, _)) = peers.shift_remove_index(at) {
+        let _ = server.drop_conn(id);
+    }
+}
