@@ -103,16 +103,6 @@ or_some : (next : Option ℕ) (got : Got) (why : Reason) → Some why ≡ stop_w
 or_some None got why is = refl
 or_some (Some status) got why is = absurd (some_is_none is)
 
-rest_between : (c : Course) → IsResting c → waiting_in c ≡ [] → IsBetween c
-rest_between (Begins moment) rests none = absurd rests
-rest_between (Turns before moment) rests none = absurd rests
-rest_between (Reads before got bytes) rests none = absurd rests
-rest_between (Calls before call) rests none = absurd rests
-rest_between (Refuses before fault) rests none = absurd rests
-rest_between (GivesUp before) rests none = absurd rests
-rest_between (Rests before) rests none = none
-rest_between (Writes before got) rests none = absurd rests
-
 -- it may rest where all is done, and give up where it is late
 rests_stand : {plan : ClientPlan} {start now : Seen} {r : Run} {c : Course} → Stands plan start now r c → IsDone plan c → Stands plan start now r (Rests c)
 rests_stand stands done = record {
@@ -412,15 +402,6 @@ module _ (plan : ClientPlan) (start now : Seen) (r : Run) (c : Course) (stands :
       holds = record { turns = refl; looked = λ goes. refl };
     }
 
-  -- something is left to take
-  pub left_heard : status_in c ≡ None → IsFresh c → (length r.rest == 0) ≡ false → LeadsOn plan start now r (IsHeard (turns_in c)) None
-  left_heard goes fresh some = record {
-    course = c;
-    stands = stands;
-    ends = goes;
-    holds = record { turns = refl; looked = λ still. fresh ∙ ap (λ (xs : List ℕ). nat_lt 0 (length xs)) (sym stands.rest) ∙ some_left r.rest some };
-  }
-
   -- ---- a write
 
   module _ (r' : Run) (got : Got) (given written e : Option (List ℕ)) (answers : Option (List Got))
@@ -468,15 +449,6 @@ module _ (plan : ClientPlan) (start now : Seen) (r : Run) (c : Course) (stands :
     -- the wire ended it
     pub wrote_last : (next : Option ℕ) → status_in c ≡ next → (why : Reason) → Some why ≡ stop_written next got → AddsBytes now.err e (stop_text (Some why)) → LeadsOn plan start (seen given written answers now.moments now.out e) r' (IsFlushed (turns_in c)) (Some 3)
     wrote_last next ends why is err = subst (LeadsOn plan start (seen given written answers now.moments now.out e) r' (IsFlushed (turns_in c))) (or_some next got why is) (wrote_leads next ends (Some why) is err)
-
-  -- nothing waits
-  pub idle_flushed : (next : Option ℕ) → status_in c ≡ next → (status_in c ≡ None → IsResting c) → length r.client.link.waiting ≡ 0 → LeadsOn plan start now r (IsFlushed (turns_in c)) next
-  idle_flushed next ends rests none = record {
-    course = c;
-    stands = stands;
-    ends = ends;
-    holds = record { turns = refl; between = λ still. rest_between c (rests still) (ap (λ (v : ClientValue). v.link.waiting) (sym client_same) ∙ nil_from_length r.client.link.waiting none) };
-  }
 
   -- ---- what is due by the moment
 

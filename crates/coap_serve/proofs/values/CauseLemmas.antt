@@ -25,11 +25,6 @@ use Rattle.coap_serve.proofs.values.DueLemmas.{at_moment, none_found, stays_sett
 
 -- ---- the hash of a change
 
-pub no_hash : (c : Change) → changes c ≡ false → None ≡ change_hash c
-no_hash Nothing none = refl
-no_hash (Put path format bytes) none = absurd cc
-no_hash (Delete path) none = absurd cc
-
 pub hash_where_changed : (c : Change) → is_some (change_hash c) ≡ changes c
 hash_where_changed Nothing = refl
 hash_where_changed (Put path format bytes) = refl

@@ -13,12 +13,6 @@ use Rattle.coap_serve.specs.values.Causes.{ObservesNone}
 use Rattle.coap_serve.specs.views.PathSetViews.{Covers}
 use Rattle.coap_serve.specs.views.ObserverViews.{observer_value, AreCovered}
 
--- no path in the set has the hash, and so no observer's
-pub none_observed : (paths : PathSet) (hash : ℕ) (os : List ObserverValue) → AreCovered paths os → get_or paths.hashes hash false ≡ false → ObservesNone hash os
-none_observed paths hash [] all none = tt
-none_observed paths hash (o ∷ os) all none =
-    (λ same. (let there = all.0.hashed in let bad : true ≡ false = sym there ∙ ap (λ h. get_or paths.hashes h false) same ∙ none in cc), none_observed paths hash os all.1 none)
-
 -- nothing built in is in the set, and so nobody observes the moment
 pub none_tells_time : (paths : PathSet) (os : List ObserverValue) → AreCovered paths os → paths.built_in ≡ false → false ≡ list_any tells_time os
 none_tells_time paths [] all none = refl

@@ -103,9 +103,6 @@ message_goes_on h m = if_between GoesOn (takes_messages h.phase) h _ (as_before 
 pub reply_goes_on : (h : History) (m : Message) → GoesOn h (after h (call.Reply m))
 reply_goes_on h m = if_between GoesOn (answers h.phase) h _ (as_before h) (λ does. sent_goes_so h m (bare_response m))
 
-pub reject_goes_on : (h : History) (fault : Reject) → GoesOn h (after h (call.Reject fault))
-reject_goes_on h fault = if_between GoesOn (takes_messages h.phase) h _ (as_before h) (λ takes. effect_goes_on h _ (λ none. refl))
-
 pub end_goes_on : (h : History) (cut : Bool) → GoesOn h (after h (call.End cut))
 end_goes_on h cut = if_between GoesOn (takes_messages h.phase) h _ (as_before h) (λ takes. effect_goes_on h _ (λ none. refl))
 

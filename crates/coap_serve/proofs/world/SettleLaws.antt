@@ -141,9 +141,6 @@ module _ (store : StoreValue) (now : ℕ) (small : now ≤ 18446744073709551615)
 
 -- ---- nothing is left that is due
 
-next_none : (store : StoreValue) (now : ℕ) (s : Side) → find (is_due store now) s.observers ≡ None → next_due store now s ≡ None
-next_none store now s none = elim (has_room s) as (λ b. (if b then find (is_due store now) s.observers else None) ≡ None) [ true ↦ none | false ↦ refl ]
-
 pub next_found : (store : StoreValue) (now : ℕ) (s : Side) (o : Observer) → next_due store now s ≡ Some o → find (is_due store now) s.observers ≡ Some o
 next_found store now s o e =
     elim (has_room s) as (λ b. (if b then find (is_due store now) s.observers else None) ≡ Some o → find (is_due store now) s.observers ≡ Some o) [ true ↦ λ is. is | false ↦ λ is. absurd cc ] e
@@ -187,14 +184,6 @@ pub at_rest : (turns : ℕ) (store : StoreValue) (now : ℕ) (s : Side) → IsAt
 unfolding settled_within
 at_rest zero store now s rests = refl
 at_rest (suc turns) store now s rests = ap (settled_within turns store now) (once_at_rest store now s rests) ∙ at_rest turns store now s rests
-
--- where nothing is held, nothing is sent
-none_held : (now : ℕ) (s : Side) → length s.history.held ≡ 0 → next_held now s ≡ None
-none_held now s none =
-    elim (next_held now s) as (λ found. next_held now s ≡ found → found ≡ None) [
-      | None ↦ λ is. refl
-      | Some e ↦ λ is. absurd (omega (arith, due_fewer now s.history.held e (held_room now s e is).1))
-    ] refl
 
 -- an observer that is told leaves one fewer that is due, and no more that is held
 told_less : (store : StoreValue) (now : ℕ) (s : Side) (o : Observer) → next_due store now s ≡ Some o
