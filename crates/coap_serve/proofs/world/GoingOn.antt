@@ -12,7 +12,7 @@ use Rattle.coap_conn.specs.Reaction.{Standing, send_as, pong_with, due_effect}
 use Rattle.coap_conn.specs.History.{History, IsHistory, standing_now, after, may_hold, link_of, LinkShows}
 use Rattle.coap_conn.specs.Calls.{standing_due, link_after}
 use Rattle.coap_conn.specs.Calls as call
-use Rattle.coap_conn.proofs.LinkLemmas.{shows}
+use Rattle.coap_conn.proofs.LinkLemmas.{shown_after, after_link}
 use Rattle.coap_serve.specs.values.Sessions.{link_sent}
 use Rattle.coap_serve.specs.world.Sides.{held_message, after_sent}
 
@@ -36,10 +36,6 @@ further g h k one two = record {
   over = λ e. two.over (one.over e);
 }
 
--- each link shows its history
-abbrev itself : (h : History) → IsHistory h → LinkShows (link_of h) h
-itself h is = record { is_history = is; same = refl }
-
 after_if : (does : Bool) (h k : History) → k.role ≡ h.role → k.limits ≡ h.limits → (does ≡ true → takes_messages h.phase ≡ false → takes_messages k.phase ≡ false) → (IsHistory h → IsHistory (cond does k h)) → GoesOn h (cond does k h)
 after_if true h k role limits over history = record { role = role; limits = limits; history = history; over = over refl }
 after_if false h k role limits over history = as_before h
@@ -48,7 +44,7 @@ after_if false h k role limits over history = as_before h
 
 pub message_goes_on : (h : History) (m : Message) → GoesOn h (after h (call.Handle m))
 message_goes_on h m =
-    after_if (takes_messages h.phase) h _ refl refl (λ takes none. absurd cc) (λ is. (shows (link_of h) (link_after (link_of h) (call.Handle m)) (call.Handle m) tt refl h (itself h is)).is_history)
+    after_if (takes_messages h.phase) h _ refl refl (λ takes none. absurd cc) (λ is. (shown_after h (call.Handle m) tt is).is_history)
 
 sent_over : (s : Standing) (m less : Message) (r : Reply) → takes_messages s.phase ≡ false → takes_messages (send_as s m less r).phase ≡ false
 sent_over s m less reply.Whole e = e
@@ -58,25 +54,25 @@ sent_over s m less reply.Stopped e = refl
 pub reply_goes_on : (h : History) (m : Message) → GoesOn h (after h (call.Reply m))
 reply_goes_on h m =
     after_if (answers h.phase) h _ refl refl (λ answers none. sent_over (standing_now h) m (bare_response m) (fit (standing_now h).limit m (bare_response m)) none)
-    (λ is. (shows (link_of h) (link_after (link_of h) (call.Reply m)) (call.Reply m) tt refl h (itself h is)).is_history)
+    (λ is. (shown_after h (call.Reply m) tt is).is_history)
 
 pub reject_goes_on : (h : History) (fault : Reject) → GoesOn h (after h (call.Reject fault))
 reject_goes_on h fault =
-    after_if (takes_messages h.phase) h _ refl refl (λ takes none. refl) (λ is. (shows (link_of h) (link_after (link_of h) (call.Reject fault)) (call.Reject fault) tt refl h (itself h is)).is_history)
+    after_if (takes_messages h.phase) h _ refl refl (λ takes none. refl) (λ is. (shown_after h (call.Reject fault) tt is).is_history)
 
 pub end_goes_on : (h : History) (cut : Bool) → GoesOn h (after h (call.End cut))
 end_goes_on h cut =
-    after_if (takes_messages h.phase) h _ refl refl (λ takes none. refl) (λ is. (shows (link_of h) (link_after (link_of h) (call.End cut)) (call.End cut) tt refl h (itself h is)).is_history)
+    after_if (takes_messages h.phase) h _ refl refl (λ takes none. refl) (λ is. (shown_after h (call.End cut) tt is).is_history)
 
 pub release_goes_on : (h : History) → GoesOn h (after h call.Release)
 release_goes_on h =
-    after_if (is_open h.phase) h _ refl refl (λ was none. refl) (λ is. (shows (link_of h) (link_after (link_of h) call.Release) call.Release tt refl h (itself h is)).is_history)
+    after_if (is_open h.phase) h _ refl refl (λ was none. refl) (λ is. (shown_after h call.Release tt is).is_history)
 
 pub written_goes_on : (h : History) (n : ℕ) → n ≤ length (link_of h).waiting → GoesOn h (after h (call.Written n))
 written_goes_on h n within = record {
   role = refl;
   limits = refl;
-  history = λ is. (shows (link_of h) (link_after (link_of h) (call.Written n)) (call.Written n) within refl h (itself h is)).is_history;
+  history = λ is. (shown_after h (call.Written n) within is).is_history;
   over = λ e. e;
 }
 
@@ -84,7 +80,7 @@ written_goes_on h n within = record {
 pub hold_goes_on : (h : History) (token : List ℕ) (moment : ℕ) → GoesOn h (after h (call.Hold token moment))
 hold_goes_on h token moment =
     after_if (is_open h.phase && may_hold h) h (record h { held = h.held ++ held.Answer token moment ∷ [] }) refl refl (λ holds none. none)
-    (λ is. (shows (link_of h) (link_after (link_of h) (call.Hold token moment)) (call.Hold token moment) tt refl h (itself h is)).is_history)
+    (λ is. (shown_after h (call.Hold token moment) tt is).is_history)
 
 due_over : (s : Standing) (first : Option HeldValue) → takes_messages s.phase ≡ false → takes_messages (due_effect s first).phase ≡ false
 due_over s None e = e
@@ -97,7 +93,7 @@ pub due_goes_on : (h : History) (now : ℕ) → GoesOn h (after h (call.Due now)
 due_goes_on h now = record {
   role = refl;
   limits = refl;
-  history = λ is. (shows (link_of h) (link_after (link_of h) (call.Due now)) (call.Due now) tt refl h (itself h is)).is_history;
+  history = λ is. (shown_after h (call.Due now) tt is).is_history;
   over = due_over (standing_due now (standing_now h)) (first_due now h.held);
 }
 
@@ -107,34 +103,10 @@ sent_goes_on h now (held.Pong token) = due_goes_on h now
 
 -- ---- the link after it
 
-pub message_link : (h : History) (m : Message) → IsHistory h → link_of (after h (call.Handle m)) ≡ link_after (link_of h) (call.Handle m)
-message_link h m is = sym (shows (link_of h) (link_after (link_of h) (call.Handle m)) (call.Handle m) tt refl h (itself h is)).same
-
-pub reply_link : (h : History) (m : Message) → IsHistory h → link_of (after h (call.Reply m)) ≡ link_after (link_of h) (call.Reply m)
-reply_link h m is = sym (shows (link_of h) (link_after (link_of h) (call.Reply m)) (call.Reply m) tt refl h (itself h is)).same
-
-pub reject_link : (h : History) (fault : Reject) → IsHistory h → link_of (after h (call.Reject fault)) ≡ link_after (link_of h) (call.Reject fault)
-reject_link h fault is = sym (shows (link_of h) (link_after (link_of h) (call.Reject fault)) (call.Reject fault) tt refl h (itself h is)).same
-
-pub end_link : (h : History) (cut : Bool) → IsHistory h → link_of (after h (call.End cut)) ≡ link_after (link_of h) (call.End cut)
-end_link h cut is = sym (shows (link_of h) (link_after (link_of h) (call.End cut)) (call.End cut) tt refl h (itself h is)).same
-
-pub release_link : (h : History) → IsHistory h → link_of (after h call.Release) ≡ link_after (link_of h) call.Release
-release_link h is = sym (shows (link_of h) (link_after (link_of h) call.Release) call.Release tt refl h (itself h is)).same
-
-pub written_link : (h : History) (n : ℕ) → n ≤ length (link_of h).waiting → IsHistory h → link_of (after h (call.Written n)) ≡ link_after (link_of h) (call.Written n)
-written_link h n within is = sym (shows (link_of h) (link_after (link_of h) (call.Written n)) (call.Written n) within refl h (itself h is)).same
-
-pub hold_link : (h : History) (token : List ℕ) (moment : ℕ) → IsHistory h → link_of (after h (call.Hold token moment)) ≡ link_after (link_of h) (call.Hold token moment)
-hold_link h token moment is = sym (shows (link_of h) (link_after (link_of h) (call.Hold token moment)) (call.Hold token moment) tt refl h (itself h is)).same
-
-pub due_link : (h : History) (now : ℕ) → IsHistory h → link_of (after h (call.Due now)) ≡ link_after (link_of h) (call.Due now)
-due_link h now is = sym (shows (link_of h) (link_after (link_of h) (call.Due now)) (call.Due now) tt refl h (itself h is)).same
-
 pub sent_link : (h : History) (now : ℕ) (e : HeldValue) → IsHistory h → link_of (after_sent h now e) ≡ link_sent (link_of h) now e
 sent_link h now (held.Answer token moment) is =
-    reply_link (after h (call.Due now)) (held_message token) ((due_goes_on h now).history is) ∙ ap (λ l. link_after l (call.Reply (held_message token))) (due_link h now is)
-sent_link h now (held.Pong token) is = due_link h now is
+    after_link (after h (call.Due now)) (call.Reply (held_message token)) tt ((due_goes_on h now).history is) ∙ ap (λ l. link_after l (call.Reply (held_message token))) (after_link h (call.Due now) tt is)
+sent_link h now (held.Pong token) is = after_link h (call.Due now) tt is
 
 -- ---- what stops
 
