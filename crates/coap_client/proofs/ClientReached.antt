@@ -20,7 +20,7 @@ use Rattle.coap_conn.specs.History.{History, IsHistory, new_history, after, afte
 use Rattle.coap_conn.specs.LinkValue.{LinkValue, free_in}
 use Rattle.coap_conn.specs.Calls.{link_after}
 use Rattle.coap_conn.specs.Calls as call
-use Rattle.coap_conn.proofs.LinkLemmas.{new_shown, shows}
+use Rattle.coap_conn.proofs.LinkLemmas.{new_shown, shows, shown_after}
 use Rattle.coap_client.specs.declared.request.Method.{Method}
 use Rattle.coap_client.specs.Targets.{TargetValue}
 use Rattle.coap_client.specs.Requests.{ExtrasValue, request_of, cancel_of}
@@ -31,10 +31,6 @@ use Rattle.coap_client.proofs.FrontLaws.{front, front_whole, added_by, added_fro
 use Rattle.coap_client.proofs.ClientSteps.{stream_same, stream_first, rest_unfinished, client_first, client_same, client_step, client_more, by_calls, Adds, adds, no_bytes_stream, no_bytes_steps}
 
 -- ---- steps
-
--- the link of a history shows it
-abbrev itself : (h : History) → IsHistory h → LinkShows (link_of h) h
-itself h is = record { is_history = is; same = refl }
 
 limits_if : (does : Bool) (h k : History) → k.limits ≡ h.limits → (cond does k h).limits ≡ h.limits
 limits_if true h k e = e
@@ -144,7 +140,7 @@ module _ (h : History) (is : IsHistory h) (live : takes_messages h.phase ≡ tru
   taken_fault count fault rest =
       let r : Reject = reject_of fault in
       let over = reject_over h r in
-      let now = shows (link_of h) (link_after (link_of h) (call.Reject r)) (call.Reject r) tt refl h (itself h is) in
+      let now = shown_after h (call.Reject r) tt is in
       record {
         count = refl;
         event = refl;
@@ -156,7 +152,7 @@ module _ (h : History) (is : IsHistory h) (live : takes_messages h.phase ≡ tru
   taken_message : (count : ℕ) (m : Message) → IsTaken h (taking_read (shown h kept) count (Ok m)) count (Handles m ∷ []) (record { messages = m ∷ []; rest = []; fault = None })
   unfolding after_steps client.step
   taken_message count m =
-      let now = shows (link_of h) (link_after (link_of h) (call.Handle m)) (call.Handle m) tt refl h (itself h is) in
+      let now = shown_after h (call.Handle m) tt is in
       record {
         count = refl;
         event = refl;
@@ -368,21 +364,21 @@ module _ (limits : LimitValues) (tokens : ℕ) (calls : List ClientCall) where
   call_reached (Took bytes) before all = took_reached bytes (handles h) refl before all
   call_reached (Sent method target extras) before none =
       let m : Message = request_of method target extras in
-      let now = shows (link_of h) (link_after (link_of h) (call.Request m extras.observe)) (call.Request m extras.observe) tt refl h (itself h before.is_history) in
+      let now = shown_after h (call.Request m extras.observe) tt before.is_history in
       same_reached (Sent method target extras) (Requests m extras.observe) _ refl refl refl before now.is_history (asking_phase h _ _)
   call_reached (Cancelled token target extras) before none =
       let m : Message = cancel_of target extras in
-      let now = shows (link_of h) (link_after (link_of h) (call.Cancel token m)) (call.Cancel token m) tt refl h (itself h before.is_history) in
+      let now = shown_after h (call.Cancel token m) tt before.is_history in
       same_reached (Cancelled token target extras) (Cancels token m) _ refl refl refl before now.is_history (cancel_phase h token m)
   call_reached (Pinged custody) before none =
-      let now = shows (link_of h) (link_after (link_of h) (call.Ping custody)) (call.Ping custody) tt refl h (itself h before.is_history) in
+      let now = shown_after h (call.Ping custody) tt before.is_history in
       same_reached (Pinged custody) (Pings custody) _ refl refl refl before now.is_history (asking_phase h _ _)
   call_reached (Wrote n) before few =
-      let now = shows (link_of h) (link_after (link_of h) (call.Written n)) (call.Written n) few refl h (itself h before.is_history) in
+      let now = shown_after h (call.Written n) few before.is_history in
       same_reached (Wrote n) (Writes n) _ refl refl refl before now.is_history refl
   call_reached Ended before none =
       let cut : Bool = is_cut so_far.rest in
-      let now = shows (link_of h) (link_after (link_of h) (call.End cut)) (call.End cut) tt refl h (itself h before.is_history) in
+      let now = shown_after h (call.End cut) tt before.is_history in
       step_reached Ended (Ends cut) _ refl refl refl before now.is_history (λ takes. absurd (true_false _ (end_over h cut) takes))
 
 first_reached : (limits : LimitValues) (tokens : ℕ) → IsReached limits tokens []
@@ -458,6 +454,6 @@ module _ (limits : LimitValues) (tokens : ℕ) (calls : List ClientCall) (before
       let k : History = after now (call.End cut) in
       ap client_ended (after_of limits tokens calls)
       ∙ ap (λ (l : LinkValue). record { frame = []; link = l })
-      (ended_if (takes_messages now.phase) refl ∙ (shows (link_of now) _ (call.End cut) tt refl now (itself now before.is_history)).same)
+      (ended_if (takes_messages now.phase) refl ∙ (shown_after now (call.End cut) tt before.is_history).same)
       ∙ ap (λ (f : List ℕ). record { frame = f; link = link_of k }) (sym (kept_none k rest (end_over now cut)))
       ∙ sym (step_left limits tokens calls Ended (Ends cut) refl refl)

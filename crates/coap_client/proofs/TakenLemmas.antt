@@ -5,8 +5,8 @@ use Rattle.std.proofs.lemmas.Bool.{leb-false, lt-leb, and_parts}
 use Rattle.std.proofs.lemmas.List.{append-nil, length-append}
 use Rattle.coap_wire.specs.Beginning.{Beginning, Unfinished, Whole, Faulty, beginning}
 use Rattle.coap_frame.specs.Framing.{Framing, Nothing, framing_at, framing}
-use Rattle.coap_conn.specs.History.{History}
-use Rattle.coap_conn.specs.LinkValue.{LinkValue, link_of, free_in}
+use Rattle.coap_conn.specs.History.{History, link_of}
+use Rattle.coap_conn.specs.LinkValue.{LinkValue, free_in}
 use Rattle.coap_conn.specs.Outstanding.{OutstandingValue}
 use Rattle.coap_conn.specs.Phases.{takes_messages}
 use Rattle.coap_client.specs.ClientValues.{ClientValue, client_takes, client_cancelled}

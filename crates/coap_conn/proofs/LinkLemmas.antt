@@ -109,3 +109,10 @@ pub shows : (v new : LinkValue) (c : Call) → IsWithin v (doing v c).deed → n
 shows v new c within is h shown =
     done_shown new h (doing (link_of h) c).so (doing (link_of h) c).deed (is ∙ ap (λ (w : LinkValue). link_after w c) shown.same) shown.is_history
     (subst (λ (w : LinkValue). IsWithin w (doing w c).deed) shown.same within)
+
+-- the link that a history leaves does so too, and what it is then is the link that the history leaves after the call
+pub shown_after : (h : History) (c : Call) → IsWithin (link_of h) (doing (link_of h) c).deed → IsHistory h → LinkShows (link_after (link_of h) c) (after h c)
+shown_after h c within is = shows (link_of h) (link_after (link_of h) c) c within refl h (record { is_history = is; same = refl })
+
+pub after_link : (h : History) (c : Call) → IsWithin (link_of h) (doing (link_of h) c).deed → IsHistory h → link_of (after h c) ≡ link_after (link_of h) c
+after_link h c within is = sym (shown_after h c within is).same

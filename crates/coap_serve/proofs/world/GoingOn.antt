@@ -20,7 +20,7 @@ use Rattle.coap_conn.specs.History.{History, IsHistory, standing_now, with_effec
 use Rattle.coap_conn.specs.LinkValue.{bytes_of}
 use Rattle.coap_conn.specs.Calls.{standing_due, link_after}
 use Rattle.coap_conn.specs.Calls as call
-use Rattle.coap_conn.proofs.LinkLemmas.{bytes_more, new_shown, shows}
+use Rattle.coap_conn.proofs.LinkLemmas.{bytes_more, new_shown, after_link}
 use Rattle.coap_store.specs.Store.{StoreValue}
 use Rattle.coap_serve.specs.Configs.{ConfigValues}
 use Rattle.coap_serve.specs.values.Sessions.{link_sent}
@@ -131,38 +131,10 @@ settled_goes_on = settled_between GoesOn all_go_on.composes all_go_on.replies al
 
 -- ---- the link after it
 
--- each link shows its history
-abbrev itself : (h : History) → IsHistory h → LinkShows (link_of h) h
-itself h is = record { is_history = is; same = refl }
-
-pub message_link : (h : History) (m : Message) → IsHistory h → link_of (after h (call.Handle m)) ≡ link_after (link_of h) (call.Handle m)
-message_link h m is = sym (shows (link_of h) (link_after (link_of h) (call.Handle m)) (call.Handle m) tt refl h (itself h is)).same
-
-pub reply_link : (h : History) (m : Message) → IsHistory h → link_of (after h (call.Reply m)) ≡ link_after (link_of h) (call.Reply m)
-reply_link h m is = sym (shows (link_of h) (link_after (link_of h) (call.Reply m)) (call.Reply m) tt refl h (itself h is)).same
-
-pub reject_link : (h : History) (fault : Reject) → IsHistory h → link_of (after h (call.Reject fault)) ≡ link_after (link_of h) (call.Reject fault)
-reject_link h fault is = sym (shows (link_of h) (link_after (link_of h) (call.Reject fault)) (call.Reject fault) tt refl h (itself h is)).same
-
-pub end_link : (h : History) (cut : Bool) → IsHistory h → link_of (after h (call.End cut)) ≡ link_after (link_of h) (call.End cut)
-end_link h cut is = sym (shows (link_of h) (link_after (link_of h) (call.End cut)) (call.End cut) tt refl h (itself h is)).same
-
-pub release_link : (h : History) → IsHistory h → link_of (after h call.Release) ≡ link_after (link_of h) call.Release
-release_link h is = sym (shows (link_of h) (link_after (link_of h) call.Release) call.Release tt refl h (itself h is)).same
-
-pub written_link : (h : History) (n : ℕ) → n ≤ length (link_of h).waiting → IsHistory h → link_of (after h (call.Written n)) ≡ link_after (link_of h) (call.Written n)
-written_link h n within is = sym (shows (link_of h) (link_after (link_of h) (call.Written n)) (call.Written n) within refl h (itself h is)).same
-
-pub hold_link : (h : History) (token : List ℕ) (moment : ℕ) → IsHistory h → link_of (after h (call.Hold token moment)) ≡ link_after (link_of h) (call.Hold token moment)
-hold_link h token moment is = sym (shows (link_of h) (link_after (link_of h) (call.Hold token moment)) (call.Hold token moment) tt refl h (itself h is)).same
-
-pub due_link : (h : History) (now : ℕ) → IsHistory h → link_of (after h (call.Due now)) ≡ link_after (link_of h) (call.Due now)
-due_link h now is = sym (shows (link_of h) (link_after (link_of h) (call.Due now)) (call.Due now) tt refl h (itself h is)).same
-
 pub sent_link : (h : History) (now : ℕ) (e : HeldValue) → IsHistory h → link_of (after_sent h now e) ≡ link_sent (link_of h) now e
 sent_link h now (held.Answer token moment) is =
-    reply_link (after h (call.Due now)) (held_message token) ((due_goes_on h now).history is) ∙ ap (λ l. link_after l (call.Reply (held_message token))) (due_link h now is)
-sent_link h now (held.Pong token) is = due_link h now is
+    after_link (after h (call.Due now)) (call.Reply (held_message token)) tt ((due_goes_on h now).history is) ∙ ap (λ l. link_after l (call.Reply (held_message token))) (after_link h (call.Due now) tt is)
+sent_link h now (held.Pong token) is = after_link h (call.Due now) tt is
 
 -- ---- what stops
 

@@ -19,7 +19,8 @@ use Rattle.coap_serve.specs.world.Sides.{Side, has_room, next_due, notified_so, 
 use Rattle.coap_serve.specs.world.Shows.{observer_shown, kept_on, session_shown}
 use Rattle.coap_serve.proofs.world.KnownLaws.{IsKnown, IsVersioned, due_is_stale, told_now, not_due, mark_now, left_watchable, left_known, left_format}
 use Rattle.coap_serve.proofs.world.EntryLemmas.{all_to, all_if, all_become, found_all, none_due, TellTheSame, found_shown, become_shown, count_due, count_within, count_less}
-use Rattle.coap_serve.proofs.world.GoingOn.{reply_goes_on, sent_goes_on, reply_link, sent_link}
+use Rattle.coap_serve.proofs.world.GoingOn.{reply_goes_on, sent_goes_on, sent_link}
+use Rattle.coap_conn.proofs.LinkLemmas.{after_link}
 use Rattle.coap_serve.proofs.world.SideLaws.{host_of, AreKnown, IsKnownSide, known_with, shown_with, kept_frame, settled_cases, held_room, reply_leaves, sent_held}
 
 -- nothing is left to settle: nothing that is held is due and no observer is, or there is no room
@@ -69,7 +70,7 @@ module _ (store : StoreValue) (now : ℕ) (small : now ≤ 18446744073709551615)
       let os = first_becomes due left s.observers in
       shown_with rest h os
       ∙ kept_frame s rest (link_of h) (map observer_shown os) (reply_goes_on s.history m).over
-      ∙ ap (λ l. session_with (kept_on s rest) l (map observer_shown os)) (reply_link s.history m known.is_history)
+      ∙ ap (λ l. session_with (kept_on s rest) l (map observer_shown os)) (after_link s.history (call.Reply m) tt known.is_history)
       ∙ ap (session_with (kept_on s rest) (link_after (link_of s.history) (call.Reply m))) (become_shown due stale left s.observers (same_tests s.observers known.told))
       ∙ ap (λ after. session_with (kept_on s rest) (link_after (link_of s.history) (call.Reply m)) (first_becomes stale after (map observer_shown s.observers))) (left_shown o (on && whole) told (λ e. stays (and_parts on whole e).0))
 

@@ -33,7 +33,8 @@ use Rattle.coap_serve.specs.world.Shows.{observer_shown, kept_on, session_shown}
 use Rattle.coap_serve.proofs.values.SettleLemmas.{send_held, due_held}
 use Rattle.coap_serve.proofs.world.KnownLaws.{IsKnown, IsVersioned, IsWatchable, mark_now, entry_watchable}
 use Rattle.coap_serve.proofs.world.EntryLemmas.{all_if, without_shown, entered_shown}
-use Rattle.coap_serve.proofs.world.GoingOn.{GoesOn, end_goes_on, release_goes_on, message_goes_on, message_link, reply_link, reject_link, end_link, release_link, written_link, hold_link, rejected_over}
+use Rattle.coap_serve.proofs.world.GoingOn.{GoesOn, end_goes_on, release_goes_on, message_goes_on, rejected_over}
+use Rattle.coap_conn.proofs.LinkLemmas.{after_link}
 
 -- what a host holds
 abbrev pub host_of : StoreValue → ℕ → Host
@@ -88,25 +89,25 @@ faulted_shown rest left s fault is e =
     ap (session_shown left) (cond-true (handles s) (with_history s h) s e)
     ∙ shown_with left h s.observers
     ∙ any_frame left [] (link_of h) vs (rejected_over s.history (reject_of fault) (handles_parts s e).0)
-    ∙ ap (λ l. session_with [] l vs) (reject_link s.history (reject_of fault) is)
+    ∙ ap (λ l. session_with [] l vs) (after_link s.history (call.Reject (reject_of fault)) tt is)
 
 pub written_shown : (rest : List ℕ) (s : Side) (n : ℕ) → IsHistory s.history → n ≤ length (waiting_on s) → session_shown rest (side_written s n) ≡ session_written (session_shown rest s) n
 unfolding side_written
 written_shown rest s n is within =
     ap (session_shown rest) (cond-true (nat_le n (length (waiting_on s))) (record s { history = after s.history (call.Written n) }) s (le-leb n (length (waiting_on s)) within))
-    ∙ ap (λ l. record (session_shown rest s) { link = l }) (written_link s.history n within is)
+    ∙ ap (λ l. record (session_shown rest s) { link = l }) (after_link s.history (call.Written n) within is)
 
 ended_by : (rest : List ℕ) (s : Side) (takes : Bool) → IsHistory s.history → takes_messages s.history.phase ≡ takes
     → session_shown rest (with_history s (after s.history (call.End (is_cut rest)))) ≡ session_with (cond takes rest []) (link_after (link_of s.history) (call.End (is_cut (cond takes rest [])))) (map observer_shown s.observers)
 ended_by rest s true is e =
-    shown_with rest (after s.history (call.End (is_cut rest))) s.observers ∙ ap (λ l. session_with rest l (map observer_shown s.observers)) (end_link s.history (is_cut rest) is)
+    shown_with rest (after s.history (call.End (is_cut rest))) s.observers ∙ ap (λ l. session_with rest l (map observer_shown s.observers)) (after_link s.history (call.End (is_cut rest)) tt is)
 ended_by rest s false is e =
     let l = link_of s.history in
     let vs = map observer_shown s.observers in
     let h = after s.history (call.End (is_cut rest)) in
     shown_with rest h s.observers
     ∙ any_frame rest [] (link_of h) vs ((end_goes_on s.history (is_cut rest)).over e)
-    ∙ ap (λ k. session_with [] k vs) (end_link s.history (is_cut rest) is)
+    ∙ ap (λ k. session_with [] k vs) (after_link s.history (call.End (is_cut rest)) tt is)
     ∙ ap (λ k. session_with [] k vs) (stays (is_cut rest) ∙ sym (stays (is_cut [])))
   where
     stays : (cut : Bool) → link_after (link_of s.history) (call.End cut) ≡ link_of s.history
@@ -125,7 +126,7 @@ released_shown rest s is none =
     ap (session_shown rest) (cond-true (is_none (release_refusal (link_of s.history))) (with_history s h) s (ap (λ (o : Option SendFault). is_none o) none))
     ∙ shown_with rest h s.observers
     ∙ kept_frame s rest (link_of h) vs (release_goes_on s.history).over
-    ∙ ap (λ l. session_with (kept_on s rest) l vs) (release_link s.history is)
+    ∙ ap (λ l. session_with (kept_on s rest) l vs) (after_link s.history call.Release tt is)
 
 -- ---- a message
 
@@ -145,7 +146,7 @@ module _ (store : StoreValue) (now : ℕ) (small : now ≤ 18446744073709551615)
       let enters = observes && is_whole (fit (limit_now h) response (bare_response response)) in
       let entry = entry_for store now m in
       shown_with [] (after h (call.Reply response)) (with_entry enters os entry)
-      ∙ ap (λ l. session_with [] l (map observer_shown (with_entry enters os entry))) (reply_link h response history)
+      ∙ ap (λ l. session_with [] l (map observer_shown (with_entry enters os entry))) (after_link h (call.Reply response) tt history)
       ∙ ap (session_with [] (link_after (link_of h) (call.Reply response)))
       (entered_shown enters os entry (new_entry (host_of store now) m) (λ e. entry_shown m (can (and_parts observes (is_whole (fit (limit_now h) response (bare_response response))) e).0)))
 
@@ -166,7 +167,7 @@ module _ (store : StoreValue) (now : ℕ) (small : now ≤ 18446744073709551615)
   replied_shown h os m None history = answered_shown h os m (prompt_answer store now m) history (entry_watchable store now m)
   replied_shown h os m (Some seconds) history =
       shown_with [] (after h (call.Hold m.token (moment_after now seconds))) os
-      ∙ ap (λ l. session_with [] l (map observer_shown os)) (hold_link h m.token (moment_after now seconds) history)
+      ∙ ap (λ l. session_with [] l (map observer_shown os)) (after_link h (call.Hold m.token (moment_after now seconds)) tt history)
 
   handled_by : (rest : List ℕ) (s : Side) (m : Message) (asks : Bool) → IsHistory s.history
       → session_shown [] (cond asks (side_replied store now (after s.history (call.Handle m)) (without_token m.token s.observers) m (held_for (after s.history (call.Handle m)) (answer_of store now m).hold)) (with_history s (after s.history (call.Handle m))))
@@ -178,9 +179,9 @@ module _ (store : StoreValue) (now : ℕ) (small : now ≤ 18446744073709551615)
       replied_shown h (without_token m.token s.observers) m (held_for h hold) ((message_goes_on s.history m).history history)
       ∙ ap (λ others. session_replied (host_of store now) (link_of h) others m (held_for h hold)) (without_shown m.token s.observers)
       ∙ ap (session_replied (host_of store now) (link_of h) vs m) (held_shown h hold)
-      ∙ ap (λ l. session_replied (host_of store now) l vs m (held_in l hold)) (message_link s.history m history)
+      ∙ ap (λ l. session_replied (host_of store now) l vs m (held_in l hold)) (after_link s.history (call.Handle m) tt history)
   handled_by rest s m false history =
-      shown_with [] (after s.history (call.Handle m)) s.observers ∙ ap (λ l. session_with [] l (map observer_shown s.observers)) (message_link s.history m history)
+      shown_with [] (after s.history (call.Handle m)) s.observers ∙ ap (λ l. session_with [] l (map observer_shown s.observers)) (after_link s.history (call.Handle m) tt history)
 
   -- a message that is handled
   pub handled_shown : (rest : List ℕ) (s : Side) (m : Message) → IsHistory s.history → handles s ≡ true → session_shown [] (side_after store now s m) ≡ session_handled (host_of store now) (session_shown rest s) m
