@@ -1,3 +1,4 @@
 pub mod FillLemmas
 pub mod FramingLemmas
 pub mod GivenLaws
+pub mod FrontLaws
