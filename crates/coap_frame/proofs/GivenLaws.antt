@@ -200,13 +200,13 @@ allowed_at v bytes frame (b ∷ kept) whole e =
     inl (λ (none : frame ≡ []). let some = (frame_is_small v.max frame whole).0 in absurd (omega (arith, some, ap (λ (f : List ℕ). length f) none)))
 
 -- all but the last of two lists, where the second has something
-last_of_second : (front bytes : List ℕ) → 1 ≤ length bytes → without_last (front ++ bytes) ≡ front ++ without_last bytes
+pub last_of_second : (front bytes : List ℕ) → 1 ≤ length bytes → without_last (front ++ bytes) ≡ front ++ without_last bytes
 last_of_second front bytes some =
     let count : length (front ++ bytes) - 1 ≡ length front + (length bytes - 1) = omega (arith, length-append front bytes) in
     ap (λ (n : ℕ). take n (front ++ bytes)) count ∙ take-append-add front bytes (length bytes - 1)
 
 -- where the kept bytes are unfinished, a frame takes a byte
-takes_a_byte : (max : ℕ) (kept bytes frame : List ℕ) → beginning max kept ≡ Unfinished → beginning max frame ≡ Whole frame [] → frame ≡ kept ++ bytes → 1 ≤ length bytes
+pub takes_a_byte : (max : ℕ) (kept bytes frame : List ℕ) → beginning max kept ≡ Unfinished → beginning max frame ≡ Whole frame [] → frame ≡ kept ++ bytes → 1 ≤ length bytes
 takes_a_byte max kept [] frame u whole e =
     let bad : ◌≡◌ {A = Beginning} Unfinished (Whole frame []) = sym u ∙ ap (beginning max) (sym (append-nil kept) ∙ sym e) ∙ whole in
     absurd cc

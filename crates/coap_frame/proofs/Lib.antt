@@ -4,3 +4,4 @@ pub mod GivenLaws
 pub mod FoundLemmas
 pub mod CopyingLaws
 mod Worked
+pub mod FrontLaws

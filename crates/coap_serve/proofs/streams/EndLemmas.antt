@@ -1,7 +1,6 @@
 -- The end of input, and the beginning of a run.
-use Rattle.std.proofs.Common.{◌≡◌, ℕ, Bool, true, false, cond, List, [], ◌∷◌, ◌++◌, Option, Some, None, refl, sym, ap, subst, ◌∙◌, is_none}
+use Rattle.std.proofs.Common.{◌≡◌, ℕ, Bool, true, false, cond, List, [], ◌∷◌, ◌++◌, Option, Some, None, refl, sym, ap, subst, ◌∙◌}
 use Rattle.coap_wire.specs.Stream.{split}
-use Rattle.coap_conn.specs.declared.reason.Reason.{Reason}
 use Rattle.coap_conn.specs.Phases.{stop_of, takes_messages}
 use Rattle.coap_conn.specs.History.{History, with_effect, standing_now}
 use Rattle.coap_conn.specs.Calls.{end_reason}
@@ -22,7 +21,7 @@ use Rattle.coap_serve.proofs.world.StepLaws.{world_step}
 use Rattle.coap_serve.proofs.world.ShowLaws.{side_there}
 use Rattle.coap_serve.proofs.world.HandlingLaws.{HasStopped, settled_still}
 use Rattle.coap_serve.proofs.streams.OutputLaws.{world_for_written, stop_there}
-use Rattle.coap_serve.proofs.streams.TakeLemmas.{is_not_missing}
+use Rattle.coap_serve.proofs.streams.TakeLemmas.{takes_where_going, is_not_missing}
 
 -- ---- the end of input
 
@@ -39,9 +38,6 @@ ended_one : (M : ℕ) (es : List Event) (id : ℕ) → steps_by M es (Ended id) 
 unfolding steps_by
 ended_one M es id = refl
 
-takes_where_none : (stop : Option Reason) → stop ≡ None → is_none stop ≡ true
-takes_where_none stop none = ap (λ (o : Option Reason). is_none o) none
-
 module _ (c : ConfigValues) (v v1 : ServerValue) (bytes : List ℕ) (stands : Stands c v bytes) (going : (outcome c bytes).stop ≡ None) (config : v1.config ≡ c) (shows : (events : List Event) → Shows v events → Shows v1 (events ++ Ended (only_id c) ∷ [])) where
   abbrev id : ℕ
   id = only_id c
@@ -56,7 +52,7 @@ module _ (c : ConfigValues) (v v1 : ServerValue) (bytes : List ℕ) (stands : St
   there =
       let all = world_for_written c bytes in
       let is : side_of id w.sides ≡ Some all.0 = ap (λ (u : World). side_of id u.sides) stands.world ∙ all.1 in
-      (all.0, is, takes_where_none (stop_of all.0.history.phase) (sym (stop_there c bytes all.0 all.1) ∙ going))
+      (all.0, is, takes_where_going (stop_of all.0.history.phase) (sym (stop_there c bytes all.0 all.1) ∙ going))
 
   abbrev cut : Bool
   cut = is_cut (stream_on c.limits.max_message id es).rest

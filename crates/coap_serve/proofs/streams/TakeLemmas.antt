@@ -33,7 +33,8 @@ use Rattle.coap_serve.specs.declared.server.Handled.{Handled}
 use Rattle.coap_serve.specs.declared.server.Handled.TheVariants as handled
 use Rattle.coap_serve.proofs.values.FlushLemmas.{turn_more}
 use Rattle.coap_serve.proofs.world.StepLaws.{taken_then, taken_here, world_same, world_step}
-use Rattle.coap_serve.proofs.world.TookLaws.{nothing_kept, front_framing, rest_unfinished}
+use Rattle.coap_frame.proofs.FrontLaws.{nothing_kept, front_framing}
+use Rattle.coap_serve.proofs.world.TookLaws.{rest_unfinished}
 use Rattle.coap_serve.proofs.world.GoingOn.{side_is}
 use Rattle.coap_serve.proofs.world.ReachedLaws.{IsReached, accepted_is, takes_there, handling_goes_on}
 use Rattle.coap_serve.proofs.world.ShowLaws.{side_there}
@@ -137,7 +138,7 @@ module _ (c : ConfigValues) (es : List Event) (s : Side) (turns : ℕ) (after : 
   stands_behind taken = record { config = f.config; events = f.events; shows = f.shows; world = ends; taken = λ still. f.taken ∙ taken }
 
 -- where nothing stops a connection it takes messages
-takes_where_going : (stop : Option Reason) → stop ≡ None → is_none stop ≡ true
+pub takes_where_going : (stop : Option Reason) → stop ≡ None → is_none stop ≡ true
 takes_where_going stop none = ap (λ (o : Option Reason). is_none o) none
 
 module _ (v : ServerValue) (bytes piece : List ℕ) (stands : Stands v.config v bytes) (ranges : AreInRange v.config.limits) (going : (outcome v.config bytes).stop ≡ None) where

@@ -33,13 +33,12 @@ use Rattle.coap_serve.proofs.values.EntryLemmas.{is_first}
 
 -- ---- a request
 
-adds : (w : Watch) → asks_entry w ≡ true → w ≡ watch.Add
-adds watch.Nothing e = absurd cc
-adds watch.Add e = refl
-adds watch.Drop e = absurd cc
+pub asks_to_enter : (asked : Watch) → asks_entry asked ≡ true → asked ≡ watch.Add
+asks_to_enter watch.Add e = refl
+asks_to_enter other e = absurd cc
 
 pub may_watch : (host : Host) (m : Message) → asks_entry (answer_on host m).watch ≡ true → MayWatch host.store host.now (path_of m) (answer_on host m)
-may_watch host m asks = promptly_watched_is_there host.store host.now m (adds (answer_on host m).watch asks)
+may_watch host m asks = promptly_watched_is_there host.store host.now m (asks_to_enter (answer_on host m).watch asks)
 
 -- a request that changes something is not one of an observer
 pub unobserved : (host : Host) (m : Message) (room : ℕ) (others : List ObserverValue) → changes (answer_on host m).change ≡ true → is_observed host room others m ≡ false
@@ -89,7 +88,7 @@ late_unobserved : (host : Host) (m : Message) (seconds room : ℕ) (others : Lis
 late_unobserved host m seconds room others e =
     let w = (answer_on host m).watch in
     elim (asks_entry w) as (λ b. asks_entry w ≡ b → (b && nat_lt (length others) room) ≡ false) [
-      | true ↦ λ asks. absurd (held_unwatched host.store host.now m seconds e (sym (prompt_watch host m) ∙ adds w asks))
+      | true ↦ λ asks. absurd (held_unwatched host.store host.now m seconds e (sym (prompt_watch host m) ∙ asks_to_enter w asks))
       | false ↦ λ silent. refl
     ] refl
 

@@ -1,5 +1,5 @@
 -- What settling leaves: nothing that is held is due and no observer is stale, or there is no room.
-use Rattle.std.proofs.Common.{◌≡◌, ℕ, zero, suc, ◌+◌, ◌-◌, ◌≤◌, Bool, true, false, ◌&&◌, List, [], ◌∷◌, ◌++◌, length, Option, Some, None, refl, sym, ap, subst, ◌∙◌, arith, ◌||◌, find, is_some, not, if◌then◌else◌}
+use Rattle.std.proofs.Common.{◌≡◌, ℕ, zero, suc, ◌+◌, ◌≤◌, Bool, true, false, ◌&&◌, List, [], length, Option, Some, None, refl, sym, ap, subst, ◌∙◌, arith, ◌||◌, find, is_some, not, if◌then◌else◌}
 use Rattle.std.proofs.lemmas.Bool.{eq-eqb, eqb-true, cond-false}
 use Rattle.coap_wire.specs.Message.{Message}
 use Rattle.coap_wire.specs.Codes as code
@@ -21,55 +21,7 @@ use Rattle.coap_serve.specs.declared.host.Host.{Host}
 use Rattle.coap_serve.specs.world.Sides.{held_message}
 use Rattle.coap_serve.specs.world.Observers.{goes_on, is_whole, first_becomes}
 use Rattle.coap_serve.specs.values.Sessions.{ObserverValue, SessionValue, mark_at, mark_of, is_marked, state_on, is_stale, session_ready, session_with, observers_on, entry_left, notification_on, session_notified, next_held_in, next_stale, link_sent, session_settled_so, session_settled_once, session_settled_within, session_settled, IsSettled}
-
--- ---- how many observers are stale
-
-abbrev pub how_many : {O : Type 0} → (O → Bool) → List O → ℕ
-how_many due [] = 0
-how_many due (o ∷ os) = if due o then suc (how_many due os) else how_many due os
-
-how_many_within : {O : Type 0} (due : O → Bool) (os : List O) → how_many due os ≤ length os
-how_many_within due [] = omega arith
-how_many_within due (o ∷ os) =
-    let within = how_many_within due os in
-    elim (due o) as (λ b. (if b then suc (how_many due os) else how_many due os) ≤ length (o ∷ os)) [ true ↦ omega arith | false ↦ omega arith ]
-
--- where none is due, none is the first
-none_due : {O : Type 0} (due : O → Bool) (os : List O) → how_many due os ≤ 0 → find due os ≡ None
-none_due due [] e = refl
-none_due due (o ∷ os) e =
-    elim (due o) as (λ b. (if b then suc (how_many due os) else how_many due os) ≤ 0 → (if b then Some o else find due os) ≡ None) [
-      | true ↦ λ many. absurd (omega arith)
-      | false ↦ λ few. none_due due os few
-    ] e
-
--- where one is the first, some are due
-some_due : {O : Type 0} (due : O → Bool) (os : List O) (o : O) → find due os ≡ Some o → 1 ≤ how_many due os
-some_due due [] o e = absurd cc
-some_due due (p ∷ os) o e =
-    elim (due p) as (λ b. (if b then Some p else find due os) ≡ Some o → 1 ≤ (if b then suc (how_many due os) else how_many due os)) [
-      | true ↦ λ first. omega arith
-      | false ↦ λ first. some_due due os o first
-    ] e
-
-many-append : {O : Type 0} (due : O → Bool) (os ps : List O) → how_many due (os ++ ps) ≡ how_many due os + how_many due ps
-many-append due [] ps = omega arith
-many-append due (o ∷ os) ps =
-    let rest = many-append due os ps in
-    elim (due o) as (λ b. (if b then suc (how_many due (os ++ ps)) else how_many due (os ++ ps)) ≡ (if b then suc (how_many due os) else how_many due os) + how_many due ps) [ true ↦ omega arith | false ↦ rest ]
-
--- where the first one that is due becomes some that are not, fewer are
-fewer_due : {O : Type 0} (due : O → Bool) (after os : List O) (o : O) → how_many due after ≡ 0 → find due os ≡ Some o → suc (how_many due (first_becomes due after os)) ≤ how_many due os
-unfolding first_becomes
-fewer_due due after [] o none first = absurd cc
-fewer_due due after (p ∷ os) o none first =
-    elim (due p) as (λ b. due p ≡ b → (if b then Some p else find due os) ≡ Some o → suc (how_many due (if b then after ++ os else p ∷ first_becomes due after os)) ≤ (if b then suc (how_many due os) else how_many due os)) [
-      | true ↦ λ is e. omega (arith, many-append due after os, none)
-      | false ↦ λ is e. (
-          let rest = fewer_due due after os o none e in
-          let skipped : how_many due (p ∷ first_becomes due after os) ≡ how_many due (first_becomes due after os) = cond-false (due p) _ _ is in
-          omega (arith, rest, skipped))
-    ] refl first
+use Rattle.coap_serve.proofs.world.EntryLemmas.{count_due, count_within, none_counted, count_less}
 
 -- ---- how much is held
 
@@ -109,13 +61,14 @@ told_now host o r there =
     ∙ ap not (eq-eqb (mark_at host.now r) (mark_at host.now r) refl)
 
 -- what stays of an observer is not stale: a notification that goes on tells a state that is there
-left_is_told : (host : Host) (o : ObserverValue) (whole : Bool) → how_many (is_stale host) (entry_left host o (goes_on (notification_of host.store host.now o.path o.format) && whole)) ≡ 0
+left_is_told : (host : Host) (o : ObserverValue) (whole : Bool) → count_due (is_stale host) (entry_left host o (goes_on (notification_of host.store host.now o.path o.format) && whole)) ≡ 0
+unfolding count_due
 left_is_told host o whole =
     let told : Response = notification_of host.store host.now o.path o.format in
-    elim (goes_on told) as (λ b. goes_on told ≡ b → how_many (is_stale host) (entry_left host o (b && whole)) ≡ 0) [
+    elim (goes_on told) as (λ b. goes_on told ≡ b → count_due (is_stale host) (entry_left host o (b && whole)) ≡ 0) [
       | true ↦ λ goes. (
           let tells = notification_tells host.store host.now o.path o.format (eqb-true told.code code.content goes) in
-          elim whole as (λ w. how_many (is_stale host) (entry_left host o w) ≡ 0) [
+          elim whole as (λ w. count_due (is_stale host) (entry_left host o w) ≡ 0) [
             | true ↦ cond-false (is_stale host (record o { mark = mark_of host.now (state_on host o.path) })) _ _ (told_now host o tells.representation tells.there)
             | false ↦ refl
           ])
@@ -123,17 +76,17 @@ left_is_told host o whole =
     ] refl
 
 -- the observers of a connection that is open, or none
-fewer_open : (host : Host) (l : LinkValue) (os : List ObserverValue) (n : ℕ) → how_many (is_stale host) os ≤ n → how_many (is_stale host) (observers_on l os) ≤ n
-fewer_open host l os n few = elim (is_open l.phase) as (λ b. how_many (is_stale host) (if b then os else []) ≤ n) [ true ↦ few | false ↦ omega arith ]
+fewer_open : (host : Host) (l : LinkValue) (os : List ObserverValue) → count_due (is_stale host) (observers_on l os) ≤ count_due (is_stale host) os
+unfolding count_due
+fewer_open host l os = elim (is_open l.phase) as (λ b. count_due (is_stale host) (if b then os else []) ≤ count_due (is_stale host) os) [ true ↦ omega arith | false ↦ omega arith ]
 
 -- a turn that finds a stale observer leaves fewer
-fewer_stale : (host : Host) (v : SessionValue) (o : ObserverValue) (n : ℕ) → find (is_stale host) v.observers ≡ Some o → how_many (is_stale host) v.observers ≤ suc n → how_many (is_stale host) (session_notified host v (Some o)).observers ≤ n
-fewer_stale host v o n first many =
+fewer_stale : (host : Host) (v : SessionValue) (o : ObserverValue) → find (is_stale host) v.observers ≡ Some o → count_due (is_stale host) (session_notified host v (Some o)).observers + 1 ≤ count_due (is_stale host) v.observers
+fewer_stale host v o first =
     let m : Message = notification_on host o in
     let whole : Bool = is_whole (fit (limit_in v.link) m (bare_response m)) in
     let left = entry_left host o (goes_on (notification_of host.store host.now o.path o.format) && whole) in
-    let fewer = fewer_due (is_stale host) left v.observers o (left_is_told host o whole) first in
-    fewer_open host (link_after v.link (call.Reply m)) (first_becomes (is_stale host) left v.observers) n (omega (arith, fewer, many))
+    omega (arith, count_less (is_stale host) v.observers o left (left_is_told host o whole) first, fewer_open host (link_after v.link (call.Reply m)) (first_becomes (is_stale host) left v.observers))
 
 -- ---- all turns
 
@@ -186,28 +139,24 @@ unfolding next_held_in
 no_held_due now v few =
     elim (session_ready v) as (λ b. (if b then first_due now v.link.held else None) ≡ None) [ true ↦ none_held now v.link.held few | false ↦ refl ]
 
-no_stale_due : (host : Host) (v : SessionValue) → how_many (is_stale host) v.observers ≤ 0 → next_stale host v ≡ None
+no_stale_due : (host : Host) (v : SessionValue) → count_due (is_stale host) v.observers ≤ 0 → next_stale host v ≡ None
 unfolding next_stale
 no_stale_due host v none =
-    elim (session_ready v) as (λ b. (if b then find (is_stale host) v.observers else None) ≡ None) [ true ↦ none_due (is_stale host) v.observers none | false ↦ refl ]
+    elim (session_ready v) as (λ b. (if b then find (is_stale host) v.observers else None) ≡ None) [ true ↦ none_counted (is_stale host) v.observers (omega (arith, none)) | false ↦ refl ]
 
 -- what is left to settle: what is held, and the observers that are stale
 abbrev left_of : Host → SessionValue → ℕ
-left_of host v = length v.link.held + how_many (is_stale host) v.observers
+left_of host v = length v.link.held + count_due (is_stale host) v.observers
 
 -- each turn that finds any leaves less
 less_held : (host : Host) (v : SessionValue) (e : HeldValue) (n : ℕ) → next_held_in host.now v ≡ Some e → left_of host v ≤ suc n → left_of host (session_with v.frame (link_sent v.link host.now e) v.observers) ≤ n
 less_held host v e n found many =
     let fewer = fewer_held v.link host.now e (found_held host.now v e found).1 in
-    let told = fewer_open host (link_sent v.link host.now e) v.observers (how_many (is_stale host) v.observers) (omega arith) in
+    let told = fewer_open host (link_sent v.link host.now e) v.observers in
     omega (arith, fewer, told, many)
 
 less_stale : (host : Host) (v : SessionValue) (o : ObserverValue) (n : ℕ) → next_stale host v ≡ Some o → left_of host v ≤ suc n → left_of host (session_notified host v (Some o)) ≤ n
-less_stale host v o n found many =
-    let first = found_stale host v o found in
-    let some = some_due (is_stale host) v.observers o first in
-    let fewer = fewer_stale host v o (how_many (is_stale host) v.observers - 1) first (omega (arith, some)) in
-    omega (arith, fewer, some, reply_held v.link (notification_on host o), many)
+less_stale host v o n found many = omega (arith, fewer_stale host v o (found_stale host v o found), reply_held v.link (notification_on host o), many)
 
 -- as many turns as there are of both leave nothing to settle
 enough_turns : (host : Host) (turns : ℕ) (v : SessionValue) → left_of host v ≤ turns → IsSettled host (session_settled_within turns host v)
@@ -224,7 +173,7 @@ enough_turns host (suc turns) v many =
 -- settling leaves nothing to settle
 pub settled_is_settled : (host : Host) (v : SessionValue) → IsSettled host (session_settled host v)
 unfolding session_settled
-settled_is_settled host v = enough_turns host (length v.link.held + length v.observers) v (omega (arith, how_many_within (is_stale host) v.observers))
+settled_is_settled host v = enough_turns host (length v.link.held + length v.observers) v (omega (arith, count_within (is_stale host) v.observers))
 
 -- ---- a loop of turns
 

@@ -26,7 +26,6 @@ use Rattle.coap_store.specs.Store.{Representation}
 use Rattle.coap_store.specs.Answer.{Answer, Change}
 use Rattle.coap_store.specs.Answer as answer
 use Rattle.coap_store.specs.Changes.{changes, IsPut}
-use Rattle.coap_store.specs.declared.plan.Watch.{Watch}
 use Rattle.coap_store.specs.declared.plan.Watch.TheVariants as watch
 use Rattle.coap_store.proofs.WatchLaws.{promptly_watched_is_there}
 use Rattle.coap_serve.specs.declared.host.Host.{Host}
@@ -37,6 +36,7 @@ use Rattle.coap_serve.specs.values.Entries.{settled_held}
 use Rattle.coap_serve.specs.values.Servers.{ServerValue, LiesAt, session_of, changed_at, session_becomes, settled_entry, AreSettled, server_taken_so, server_taken_on, server_taken, count_on, count_taken}
 use Rattle.coap_serve.specs.values.ServerAnswers.{stop_on, handled_so, handled_on, handled_by, RefusesPieceOn}
 use Rattle.coap_serve.specs.views.ServerViews.{IsServer}
+use Rattle.coap_serve.proofs.values.AnsweringLemmas.{asks_to_enter}
 use Rattle.coap_serve.proofs.values.SettleLemmas.{no_held_due, settled_stays}
 use Rattle.coap_serve.proofs.values.ServerLemmas.{Entries, written_at_index, changed_one, changed_twice, settling, one_settles, all_settled_stay, settled_at, taken_server_with, lies_where_taken}
 
@@ -95,11 +95,6 @@ entry_is_told host m adds =
     let may = promptly_watched_is_there host.store host.now m adds in
     ap (λ (s : Option Representation). not (is_marked host.now (mark_of host.now s) s)) may.there ∙ ap not (eq-eqb (mark_at host.now may.representation) (mark_at host.now may.representation) refl)
 
-adds_where_asked : (w : Watch) → asks_entry w ≡ true → w ≡ watch.Add
-adds_where_asked watch.Nothing asks = absurd cc
-adds_where_asked watch.Add asks = refl
-adds_where_asked watch.Drop asks = absurd cc
-
 none_with_entry : (host : Host) (others : List ObserverValue) (entry : ObserverValue) (enters : Bool) → NoneStale host others → (enters ≡ true → is_stale host entry ≡ false) → NoneStale host (with_entry enters others entry)
 none_with_entry host others entry true none told = none_with_last (is_stale host) others entry none (told refl)
 none_with_entry host others entry false none told = none
@@ -115,7 +110,7 @@ answered_none host l others m none =
     let a : Answer = answer_on host m in
     let observes : Bool = has_place l.limits.observers others a.watch in
     responded_none host l others (new_entry host m) observes (response_with_observe m.token observes a.response) none
-    (λ e. entry_is_told host m (adds_where_asked a.watch (and_parts (asks_entry a.watch) (nat_lt (length others) l.limits.observers) e).0))
+    (λ e. entry_is_told host m (asks_to_enter a.watch (and_parts (asks_entry a.watch) (nat_lt (length others) l.limits.observers) e).0))
 
 -- nor is any where the answer is held
 replied_none : (host : Host) (l : LinkValue) (others : List ObserverValue) (m : Message) (hold : Option ℕ) → NoneStale host others → NoneStale host (session_replied host l others m hold).observers

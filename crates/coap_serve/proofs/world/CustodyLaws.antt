@@ -280,7 +280,7 @@ message_held ms s m stand =
       stands = λ now outstanding stands. still;
       stops = λ why farewell plain one may. stand_none (ms ++ m ∷ []);
       queues = λ n is. still;
-      keeps = λ ping custody. stand_last m (Pong m.token) ms s.held (rw (ping, custody, (bytes_decides m.token m.token).1 refl) refl) stand;
+      keeps = λ ping custody some. stand_last m (Pong m.token) ms s.held (rw (ping, custody, (bytes_decides m.token m.token).1 refl) refl) stand;
     })
 
 heard_stands : (h : History) (m : Message) (e : Effect) (takes : Bool) → StandFor (h.handled ++ m ∷ []) e.held → Stands h → Stands (cond takes (record (with_effect h e) { handled = h.handled ++ m ∷ [] }) h)

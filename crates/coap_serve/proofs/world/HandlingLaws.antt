@@ -59,7 +59,7 @@ message_stops s m is = react_so s m (λ e. StopsAtMost e.phase) (record {
   stands = λ now outstanding stands. stands is;
   stops = λ why farewell plain one may. may;
   queues = λ n no. is;
-  keeps = λ ping custody. is;
+  keeps = λ ping custody some. is;
 })
 
 sent_stops : (s : Standing) (m less : Message) (r : Reply) → StopsAtMost s.phase → StopsAtMost (send_as s m less r).phase

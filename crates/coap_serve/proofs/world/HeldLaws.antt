@@ -14,7 +14,7 @@ use Rattle.coap_conn.specs.Phases.{takes_messages, answers, is_open}
 use Rattle.coap_conn.specs.Fit.{fit, bare_response}
 use Rattle.coap_conn.specs.Rejects.{reject_reason}
 use Rattle.coap_conn.specs.Held.{HeldValue, Answer, Pong, first_due, without_due}
-use Rattle.coap_conn.specs.Reaction.{Standing, Effect, stay, send_as, send, react, due_effect, pong_with}
+use Rattle.coap_conn.specs.Reaction.{Standing, Effect, stay, send_as, send, react, pong_with}
 use Rattle.coap_conn.specs.History.{History, limit_now, standing_now, with_effect, after, may_hold}
 use Rattle.coap_conn.specs.Calls.{end_reason, standing_due}
 use Rattle.coap_conn.specs.Calls as call
@@ -27,7 +27,7 @@ use Rattle.coap_serve.specs.world.Custody.{asks_held, KeepsHeld, AddsAsked, Keep
 use Rattle.coap_serve.proofs.world.SideLaws.{held_room}
 use Rattle.coap_serve.proofs.world.CustodyLaws.{asked_at_all, asked_same, sent_when_due}
 use Rattle.coap_serve.proofs.world.ToldMessages.{react_so}
-use Rattle.coap_serve.proofs.world.WalkLaws.{faulted_between, written_between, ended_between, released_between}
+use Rattle.coap_serve.proofs.world.WalkLaws.{due_is, faulted_between, written_between, ended_between, released_between}
 
 -- ---- what leaves what is held as it is
 
@@ -87,7 +87,7 @@ react_over s m =
       stands = λ now outstanding stands. inl still;
       stops = λ why farewell plain one may. inr (why, refl);
       queues = λ n is. inl still;
-      keeps = λ ping custody. inl (adds_one m s.held (Pong m.token) (rw (ping, custody, (bytes_decides m.token m.token).1 refl) refl));
+      keeps = λ ping custody some. inl (adds_one m s.held (Pong m.token) (rw (ping, custody, (bytes_decides m.token m.token).1 refl) refl));
     })
 
 heard_over : (h : History) (m : Message) (e : Effect) (takes : Bool) → Adds m h.held e.held ⊎ ((why : Reason) × (e.phase ≡ Stopped why)) → Over m h (cond takes (record (with_effect h e) { handled = h.handled ++ m ∷ [] }) h)
@@ -152,10 +152,6 @@ unfolding settled_once
 told_keeps store now s is = subst (λ (o : Option HeldValue). KeepsHeld s (settled_so store now s o)) (sym is) (notified_kept store now s (next_due store now s))
 
 -- ---- what is due first is held no more
-
--- the effect of what was found to be due first
-due_is : (h : History) (now : ℕ) (found : Option HeldValue) → first_due now h.held ≡ found → after h (call.Due now) ≡ with_effect h (due_effect (standing_due now (standing_now h)) found)
-due_is h now found is = ap (λ (o : Option HeldValue). with_effect h (due_effect (standing_due now (standing_now h)) o)) is
 
 -- what is sent leaves what is held, where the phase stays one that answers
 sent_same : (s : Standing) (m less : Message) (r : Reply) → answers s.phase ≡ true → (send_as s m less r).phase ≡ s.phase → (send_as s m less r).held ≡ s.held

@@ -20,7 +20,8 @@ use Rattle.coap_serve.proofs.world.EntryLemmas.{all_to, all_filter, all_if, all_
 use Rattle.coap_serve.proofs.world.WalkLaws.{written_between, ended_between, released_between, observers_faulted, observers_written, observers_ended, observers_released}
 use Rattle.coap_serve.proofs.world.AcrossLaws.{faulted_all}
 use Rattle.coap_serve.proofs.world.GoingOn.{GoesOn, as_before, all_go_on, message_goes_on, reply_goes_on, written_goes_on, hold_goes_on}
-use Rattle.coap_serve.proofs.world.SideLaws.{asks_to_enter, AreKnown, IsKnownSide, known_with}
+use Rattle.coap_serve.proofs.values.AnsweringLemmas.{asks_to_enter}
+use Rattle.coap_serve.proofs.world.SideLaws.{AreKnown, IsKnownSide, known_with}
 
 -- ---- what is known stays known
 

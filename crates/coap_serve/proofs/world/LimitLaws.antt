@@ -184,11 +184,11 @@ held_within c es id s there =
 abbrev wait : History → ℕ
 wait h = length (link_of h).waiting
 
-abbrev size : List Message → ℕ
+abbrev pub size : List Message → ℕ
 size ms = length (bytes_of ms)
 
 -- one message at most has the bytes that its limit allows
-one_small : (limit : ℕ) (ms : List Message) → length ms ≤ 1 → AllFit limit ms → size ms ≤ limit
+pub one_small : (limit : ℕ) (ms : List Message) → length ms ≤ 1 → AllFit limit ms → size ms ≤ limit
 one_small limit [] one each = omega arith
 one_small limit (m ∷ []) one each = omega (arith, each.0, length-append (spelling m) [])
 one_small limit (m ∷ n ∷ ms) one each = absurd (omega (arith, one))
@@ -204,13 +204,13 @@ message_one s m = react_so s m (λ e. length e.queued ≤ 1) (record {
   stands = λ now outstanding stands. omega arith;
   stops = λ why farewell plain one may. one;
   queues = λ n no. omega arith;
-  keeps = λ ping custody. omega arith;
+  keeps = λ ping custody some. omega arith;
 })
 
-limit_within : (h : History) → limit_now h ≤ h.limits.max_sent
+pub limit_within : (h : History) → limit_now h ≤ h.limits.max_sent
 limit_within h = min-le_left h.limits.max_sent (announced h.handled)
 
-queued_waits : (h : History) (ms : List Message) → IsHistory h → length (drop h.written (bytes_of (h.queued ++ ms))) ≡ wait h + size ms
+pub queued_waits : (h : History) (ms : List Message) → IsHistory h → length (drop h.written (bytes_of (h.queued ++ ms))) ≡ wait h + size ms
 queued_waits h ms is = ap (λ (bs : List ℕ). length bs) (waiting_more h ms is) ∙ length-append (drop h.written (bytes_of h.queued)) (bytes_of ms)
 
 written_waits : (h : History) (n : ℕ) → wait (after h (call.Written n)) ≤ wait h

@@ -27,7 +27,8 @@ use Rattle.coap_serve.specs.world.World as world
 use Rattle.coap_serve.specs.world.Events.{Event, Took, taken_in, stream_on, steps_by, world_after, front_of}
 use Rattle.coap_serve.specs.world.Shows.{session_shown, place_shown, server_shown, server_of}
 use Rattle.coap_serve.proofs.world.StepLaws.{world_same, world_step, streams_same, stream_elsewhere}
-use Rattle.coap_serve.proofs.world.TookLaws.{rest_unfinished, Adds, nothing_kept, front_framing, no_bytes_stream, no_bytes_steps, piece_adds_nothing, piece_adds_message, piece_adds_bad, piece_adds_fault, but_last_whole}
+use Rattle.coap_frame.proofs.FrontLaws.{nothing_kept, front_framing}
+use Rattle.coap_serve.proofs.world.TookLaws.{rest_unfinished, Adds, no_bytes_stream, no_bytes_steps, piece_adds_nothing, piece_adds_message, piece_adds_bad, piece_adds_fault, but_last_whole}
 use Rattle.coap_serve.proofs.world.PlaceLaws.{but, AreDistinct, of_number, of_each}
 use Rattle.coap_serve.proofs.world.AcrossLaws.{some_same}
 use Rattle.coap_serve.proofs.world.GoingOn.{side_is}

@@ -22,7 +22,6 @@ use Rattle.coap_store.specs.Store.{StoreValue}
 use Rattle.coap_store.specs.Requests.{path_of}
 use Rattle.coap_store.specs.Answer.{Answer, Nothing, answer_of, prompt_answer}
 use Rattle.coap_store.specs.Messages.{response_with_observe}
-use Rattle.coap_store.specs.declared.plan.Watch.{Watch}
 use Rattle.coap_store.specs.declared.plan.Watch.TheVariants as watch
 use Rattle.coap_serve.specs.declared.host.Host.{Host}
 use Rattle.coap_serve.specs.world.Sides.{is_cut}
@@ -30,6 +29,7 @@ use Rattle.coap_serve.specs.values.Sessions.{ObserverValue, session_with, new_en
 use Rattle.coap_serve.specs.world.Observers.{Observer, without_token, asks_entry, has_place, entry_for, is_whole, with_entry}
 use Rattle.coap_serve.specs.world.Sides.{Side, handles, waiting_on, has_room, side_with, with_history, answered_among, side_answered, moment_after, held_for, side_replied, asks_answer, side_handled, side_after, change_after, side_faulted, side_written, side_ended, side_released, next_due, notified, next_held, held_message, after_sent, settled_so, settled_once}
 use Rattle.coap_serve.specs.world.Shows.{observer_shown, kept_on, session_shown}
+use Rattle.coap_serve.proofs.values.AnsweringLemmas.{asks_to_enter}
 use Rattle.coap_serve.proofs.values.SettleLemmas.{send_held, due_held}
 use Rattle.coap_serve.proofs.world.KnownLaws.{IsKnown, IsVersioned, IsWatchable, mark_now, entry_watchable}
 use Rattle.coap_serve.proofs.world.EntryLemmas.{all_if, without_shown, entered_shown}
@@ -129,11 +129,6 @@ released_shown rest s is none =
     ∙ ap (λ l. session_with (kept_on s rest) l vs) (after_link s.history call.Release tt is)
 
 -- ---- a message
-
-pub asks_to_enter : (asked : Watch) → asks_entry asked ≡ true → asked ≡ watch.Add
-asks_to_enter watch.Nothing e = absurd cc
-asks_to_enter watch.Add e = refl
-asks_to_enter watch.Drop e = absurd cc
 
 module _ (store : StoreValue) (now : ℕ) (small : now ≤ 18446744073709551615) (is : IsVersioned store) where
   entry_shown : (m : Message) → IsWatchable store now (path_of m) → observer_shown (entry_for store now m) ≡ new_entry (host_of store now) m

@@ -31,7 +31,8 @@ use Rattle.coap_serve.specs.world.Events.{Event, world_after}
 use Rattle.coap_serve.specs.world.Told.{responds, is_response, TellsState, asked_late, WasToldLast, HaveOwnTokens}
 use Rattle.coap_serve.specs.world.Custody.{StandFor}
 use Rattle.coap_serve.proofs.world.EntryLemmas.{all_to, all_append, all_filter, all_become, found_all}
-use Rattle.coap_serve.proofs.world.SideLaws.{asks_to_enter, replied_cases, settled_cases, held_room}
+use Rattle.coap_serve.proofs.values.AnsweringLemmas.{asks_to_enter}
+use Rattle.coap_serve.proofs.world.SideLaws.{replied_cases, settled_cases, held_room}
 use Rattle.coap_serve.proofs.world.WalkLaws.{if_between, ended_between}
 use Rattle.coap_serve.proofs.world.GoingOn.{IsSide, Keeps, kept_after}
 use Rattle.coap_serve.proofs.world.ToldMessages.{other_bytes, last_is, last_stays, Queues, queues_none, queues_to, IsNoResponse, IsPlain, message_queues, reject_queues, end_queues, release_queues, holding_queues, due_queues, reply_queues, whole_last}

@@ -2,7 +2,7 @@
 -- thing that happens to a connection queues.
 use Rattle.std.proofs.Common.{◌≡◌, ◌≢◌, ℕ, Bool, true, false, cond, List, [], ◌∷◌, ◌++◌, Option, Some, None, refl, sym, ap, ◌∙◌, ◌≤◌, arith, length, nat_lt, reverse, find, ◌&&◌, ◌==◌}
 use Rattle.std.specs.List.{AllByRecursion, list_any}
-use Rattle.std.proofs.lemmas.Bool.{cond_both, cond-true, cond-false, false_from_ne_true, and_parts}
+use Rattle.std.proofs.lemmas.Bool.{cond_both, cond-true, cond-false, false_from_ne_true, and_parts, ltb-true}
 use Rattle.std.proofs.lemmas.List.{append-nil, append_assoc, reverse-append}
 use lib.Pointwise.{bytes_decides}
 use Rattle.coap_wire.specs.Message.{Message}
@@ -137,7 +137,7 @@ pub record ReactionCases (s : Standing) (m : Message) (P : Effect → Type 0) : 
   pub stands : (now : Phase) (outstanding : List OutstandingValue) → (StopsAtMost s.phase → StopsAtMost now) → P (record (stay s) { phase = now; outstanding = outstanding })
   pub stops : (why : Reason) (farewell : List Message) → AllByRecursion IsPlain farewell → length farewell ≤ 1 → message_reason why ≡ 1 → P (stop s why farewell)
   pub queues : (n : Message) → (s.role ≡ Server → IsNoResponse n) → P (record (stay s) { queued = n ∷ [] })
-  pub keeps : (m.code == code.ping) ≡ true → asks_custody m ≡ true → P (holds s (Pong m.token)).effect
+  pub keeps : (m.code == code.ping) ≡ true → asks_custody m ≡ true → 1 ≤ length s.held → P (holds s (Pong m.token)).effect
 
 module _ (s : Standing) (m : Message) (P : Effect → Type 0) (cases : ReactionCases s m P) where
   abbrev Does : Reaction → Type 0
@@ -170,7 +170,7 @@ module _ (s : Standing) (m : Message) (P : Effect → Type 0) (cases : ReactionC
       let now : Message = pong_of m in
       cond_both (asks_custody m && nat_lt 0 (length s.held)) _ _ Does
       (λ e. cond_both (nat_lt (length s.held) s.most) _ _ Does
-      (λ f. cases.keeps ping (and_parts (asks_custody m) (nat_lt 0 (length s.held)) e).0)
+      (λ f. (let both = and_parts (asks_custody m) (nat_lt 0 (length s.held)) e in cases.keeps ping both.0 (ltb-true 0 (length s.held) both.1)))
       (λ f. sends_so late late (fit s.limit late late) (λ server. refl) (λ server. refl)))
       (λ e. sends_so now (without_options now) (fit s.limit now (without_options now)) (λ server. refl) (λ server. refl))
 
@@ -219,7 +219,7 @@ react_signals s m server = react_so s m (λ e. AreNoResponses e.queued) (record 
   stands = λ now outstanding stands. tt;
   stops = λ why farewell plain one may. all_to IsPlain IsNoResponse (λ n is. is.0) farewell plain;
   queues = λ n is. (is server, tt);
-  keeps = λ ping custody. tt;
+  keeps = λ ping custody some. tt;
 })
 
 -- ---- what happens to a history

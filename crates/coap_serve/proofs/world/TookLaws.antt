@@ -1,56 +1,20 @@
 -- What a take adds to the stream of its connection, and which steps it makes.
-use Rattle.std.proofs.Common.{◌≡◌, ℕ, ◌+◌, ◌-◌, ◌≤◌, List, [], ◌∷◌, ◌++◌, length, map, take, drop, Option, Some, None, Ok, Err, refl, sym, ap, ◌∙◌, append_assoc, arith}
-use Rattle.std.proofs.lemmas.List.{append-nil, length-append, length-take-le, take-append-drop, take_all}
-use Rattle.std.proofs.Math.Seq.{drop-length, drop-append_seam, take-append-add}
+use Rattle.std.proofs.Common.{◌≡◌, ℕ, ◌≤◌, List, [], ◌∷◌, ◌++◌, length, map, take, drop, Option, Some, None, Ok, Err, refl, sym, ap, ◌∙◌}
+use Rattle.std.proofs.Math.Seq.{drop-length, drop-append_seam}
 use Rattle.coap_wire.specs.Message.{Message}
 use Rattle.coap_wire.specs.Reading.{message_of}
 use Rattle.coap_wire.specs.declared.fault.FormatFault.{FormatFault}
 use Rattle.coap_wire.specs.declared.fault.FrameFault.{FrameFault}
-use Rattle.coap_wire.specs.Beginning.{Beginning, Unfinished, Whole, Faulty, beginning, fault_bytes}
+use Rattle.coap_wire.specs.Beginning.{Unfinished, Whole, beginning, fault_bytes}
 use Rattle.coap_wire.specs.Stream.{StreamFault, OfFrame, Format, Stream, with_message, split, behind, gone_on}
-use Rattle.coap_wire.proofs.StreamSteps.{unfinished_empty, whole_itself, whole_more, faulty_more, fault_at_last, fault_bytes_more, split_rest, split_unfinished, split_faulty, split_message, split_bad}
-use Rattle.coap_frame.specs.Framing.{Finding, Nothing, AFrame, AFault, Framing, split_frame, framing_at, framing, without_last}
+use Rattle.coap_wire.proofs.StreamSteps.{unfinished_empty, whole_itself, split_rest, split_unfinished, split_faulty, split_message, split_bad}
+use Rattle.coap_frame.specs.Framing.{Finding, Nothing, AFrame, AFault, Framing, framing_at, framing, without_last}
 use Rattle.coap_frame.proofs.FramingLemmas.{front_unfinished}
-use Rattle.coap_frame.proofs.GivenLaws.{taken_within, frame_taken, fault_taken}
+use Rattle.coap_frame.proofs.GivenLaws.{frame_taken, fault_taken, last_of_second, takes_a_byte}
+use Rattle.coap_frame.proofs.FrontLaws.{nothing_finished, frame_first, frame_alone, front_framing, front_whole}
 use Rattle.coap_serve.specs.world.World as step
 use Rattle.coap_serve.specs.world.Events.{Event, Took, taken_on, stream_on, new_fault, beyond, steps_by, front_of}
 use Rattle.coap_serve.proofs.world.StepLaws.{stream_same, taken_here, stream_more}
-
--- ---- what was found of bytes
-
--- where nothing was found, nothing is finished
-finding_nothing : (kept piece : List ℕ) (b : Beginning) → (framing_at kept piece b).finding ≡ Nothing → b ≡ Unfinished
-finding_nothing kept piece Unfinished e = refl
-finding_nothing kept piece (Whole frame rest) e = absurd cc
-finding_nothing kept piece (Faulty fault) e = absurd cc
-
-pub nothing_finished : (M : ℕ) (kept piece : List ℕ) → (framing M kept piece).finding ≡ Nothing → beginning M (kept ++ piece) ≡ Unfinished
-unfolding framing
-nothing_finished M kept piece e = finding_nothing kept piece (beginning M (kept ++ piece)) e
-
--- where a frame was found, it stands at the front
-finding_frame : (kept piece frame : List ℕ) (b : Beginning) → (framing_at kept piece b).finding ≡ AFrame frame → (rest : List ℕ) × (b ≡ Whole frame rest)
-finding_frame kept piece frame Unfinished e = absurd cc
-finding_frame kept piece frame (Whole found rest) e =
-    let same : found ≡ frame = cc in
-    (rest, ap (λ (f : List ℕ). Whole f rest) same)
-finding_frame kept piece frame (Faulty fault) e = absurd cc
-
-pub frame_first : (M : ℕ) (kept piece frame : List ℕ) → (framing M kept piece).finding ≡ AFrame frame → (rest : List ℕ) × (beginning M (kept ++ piece) ≡ Whole frame rest)
-unfolding framing
-frame_first M kept piece frame e = finding_frame kept piece frame (beginning M (kept ++ piece)) e
-
--- it stands alone, where all of the piece is taken
-pub frame_alone : (M : ℕ) (kept piece frame : List ℕ) → beginning M kept ≡ Unfinished → (framing M kept piece).finding ≡ AFrame frame → (framing M kept piece).taken ≡ length piece → beginning M (kept ++ piece) ≡ Whole frame []
-frame_alone M kept piece frame u e all =
-    let first = frame_first M kept piece frame e in
-    let bytes : frame ≡ kept ++ piece = frame_taken M kept piece frame u e ∙ ap (λ (n : ℕ). kept ++ take n piece) all ∙ ap (λ (p : List ℕ). kept ++ p) (take_all (length piece) piece (omega arith)) in
-    ap (beginning M) (sym bytes) ∙ whole_itself M (kept ++ piece) frame first.0 first.1
-
--- which bytes are kept then: all of them, or none
-pub nothing_kept : (M : ℕ) (kept piece : List ℕ) → (framing M kept piece).finding ≡ Nothing → (framing M kept piece).kept ≡ kept ++ piece
-unfolding framing
-nothing_kept M kept piece e = ap (λ (b : Beginning). (framing_at kept piece b).kept) (nothing_finished M kept piece e)
 
 -- ---- what a take adds
 
@@ -116,77 +80,7 @@ no_bytes_steps M id es =
     ap (beyond id (stream_on M id es)) (no_bytes_stream M id es)
     ∙ same_beyond id (stream_on M id es) (stream_on M id es).fault refl
 
--- ---- what is taken of a piece
-
--- behind what is unfinished, the bytes of a fault have that fault
-fault_bytes_step : (M : ℕ) (kept : List ℕ) (b : ℕ) (piece : List ℕ) (fault : FrameFault) (at : Beginning) → beginning M kept ≡ Unfinished → beginning M ((kept ++ b ∷ []) ++ piece) ≡ Faulty fault → beginning M (kept ++ b ∷ []) ≡ at
-    → (beginning M (kept ++ b ∷ []) ≡ Unfinished → beginning M (fault_bytes fault ((kept ++ b ∷ []) ++ piece)) ≡ Faulty fault) → beginning M (fault_bytes fault ((kept ++ b ∷ []) ++ piece)) ≡ Faulty fault
-fault_bytes_step M kept b piece fault Unfinished u e is again = again is
-fault_bytes_step M kept b piece fault (Whole frame rest) u e is again =
-    let bad : ◌≡◌ {A = Beginning} (Whole frame (rest ++ piece)) (Faulty fault) = sym (whole_more M (kept ++ b ∷ []) piece frame rest is) ∙ e in
-    absurd cc
-fault_bytes_step M kept b piece fault (Faulty first) u e is again =
-    let now : beginning M (kept ++ b ∷ []) ≡ Faulty fault = is ∙ sym (faulty_more M (kept ++ b ∷ []) piece first is) ∙ e in
-    ap (beginning M) (fault_bytes_more M (kept ++ b ∷ []) piece fault now ∙ fault_at_last M kept b fault u now) ∙ now
-
-fault_bytes_faulty : (M : ℕ) (kept piece : List ℕ) (fault : FrameFault) → beginning M kept ≡ Unfinished → beginning M (kept ++ piece) ≡ Faulty fault → beginning M (fault_bytes fault (kept ++ piece)) ≡ Faulty fault
-fault_bytes_faulty M kept [] fault u e =
-    let bad : ◌≡◌ {A = Beginning} Unfinished (Faulty fault) = sym u ∙ ap (beginning M) (sym (append-nil kept)) ∙ e in
-    absurd cc
-fault_bytes_faulty M kept (b ∷ piece) fault u e =
-    let same : (kept ++ b ∷ []) ++ piece ≡ kept ++ b ∷ piece = append_assoc kept (b ∷ []) piece in
-    let cut : beginning M ((kept ++ b ∷ []) ++ piece) ≡ Faulty fault = ap (beginning M) same ∙ e in
-    ap (λ (s : List ℕ). beginning M (fault_bytes fault s)) (sym same)
-    ∙ fault_bytes_step M kept b piece fault (beginning M (kept ++ b ∷ [])) u cut refl (λ is. fault_bytes_faulty M (kept ++ b ∷ []) piece fault is cut)
-
--- the framing of a front of a piece, where this stands at the front of what was kept and the piece
-abbrev FrontIs : ℕ → List ℕ → List ℕ → Framing → Type 0
-FrontIs M kept piece f = framing M kept (take f.taken piece) ≡ f
-
-front_at : (M : ℕ) (kept piece : List ℕ) (b : Beginning) → beginning M kept ≡ Unfinished → beginning M (kept ++ piece) ≡ b → framing M kept piece ≡ framing_at kept piece b → FrontIs M kept piece (framing_at kept piece b)
-unfolding framing
-front_at M kept piece Unfinished u e is = ap (framing M kept) (take_all (length piece) piece (omega arith)) ∙ is
-front_at M kept piece (Whole frame rest) u e is =
-    let n : ℕ = length piece - length rest in
-    let finding : (framing M kept piece).finding ≡ AFrame frame = ap (λ (f : Framing). f.finding) is in
-    let taken : (framing M kept piece).taken ≡ n = ap (λ (f : Framing). f.taken) is in
-    let bytes : frame ≡ kept ++ take n piece = frame_taken M kept piece frame u finding ∙ ap (λ (k : ℕ). kept ++ take k piece) taken in
-    let count : length (take n piece) - 0 ≡ n = omega (arith, length-take-le n piece (omega arith)) in
-    ap (framing_at kept (take n piece)) (ap (beginning M) (sym bytes) ∙ whole_itself M (kept ++ piece) frame rest e)
-    ∙ ap (λ (k : ℕ). record { taken = k; finding = AFrame frame; kept = []; spent = split_frame kept frame }) count
-front_at M kept piece (Faulty fault) u e is =
-    let n : ℕ = length (fault_bytes fault (kept ++ piece)) - length kept in
-    let finding : (framing M kept piece).finding ≡ AFault fault = ap (λ (f : Framing). f.finding) is in
-    let taken : (framing M kept piece).taken ≡ n = ap (λ (f : Framing). f.taken) is in
-    let bytes : kept ++ take n piece ≡ fault_bytes fault (kept ++ piece) = ap (λ (k : ℕ). kept ++ take k piece) (sym taken) ∙ (fault_taken M kept piece fault u finding).1 in
-    let faulty : beginning M (kept ++ take n piece) ≡ Faulty fault = ap (beginning M) bytes ∙ fault_bytes_faulty M kept piece fault u e in
-    let whole : (kept ++ take n piece) ++ drop n piece ≡ kept ++ piece = append_assoc kept (take n piece) (drop n piece) ∙ ap (λ (p : List ℕ). kept ++ p) (take-append-drop n piece) in
-    let same : fault_bytes fault (kept ++ take n piece) ≡ fault_bytes fault (kept ++ piece) = sym (fault_bytes_more M (kept ++ take n piece) (drop n piece) fault faulty) ∙ ap (fault_bytes fault) whole in
-    ap (framing_at kept (take n piece)) faulty
-    ∙ ap (λ (s : List ℕ). record { taken = length s - length kept; finding = AFault fault; kept = []; spent = [] }) same
-
--- what is taken of a piece is taken whole, and the same is found of it
-pub front_framing : (M : ℕ) (kept piece : List ℕ) → beginning M kept ≡ Unfinished → framing M kept (take (front_of M kept piece) piece) ≡ framing M kept piece
-unfolding framing
-front_framing M kept piece u = front_at M kept piece (beginning M (kept ++ piece)) u refl refl
-
-pub front_whole : (M : ℕ) (kept piece : List ℕ) → beginning M kept ≡ Unfinished → front_of M kept (take (front_of M kept piece) piece) ≡ length (take (front_of M kept piece) piece)
-front_whole M kept piece u =
-    ap (λ (f : Framing). f.taken) (front_framing M kept piece u)
-    ∙ sym (length-take-le (front_of M kept piece) piece (taken_within M kept piece u))
-
 -- ---- a frame but its last byte
-
-last_of_second : (front bytes : List ℕ) → 1 ≤ length bytes → without_last (front ++ bytes) ≡ front ++ without_last bytes
-last_of_second front bytes some =
-    let count : length (front ++ bytes) - 1 ≡ length front + (length bytes - 1) = omega (arith, length-append front bytes) in
-    ap (λ (n : ℕ). take n (front ++ bytes)) count ∙ take-append-add front bytes (length bytes - 1)
-
-takes_a_byte : (M : ℕ) (kept bytes frame : List ℕ) → beginning M kept ≡ Unfinished → beginning M frame ≡ Whole frame [] → frame ≡ kept ++ bytes → 1 ≤ length bytes
-takes_a_byte M kept [] frame u whole e =
-    let bad : ◌≡◌ {A = Beginning} Unfinished (Whole frame []) = sym u ∙ ap (beginning M) (sym (append-nil kept) ∙ sym e) ∙ whole in
-    absurd cc
-takes_a_byte M kept (b ∷ bytes) frame u whole e = omega arith
 
 module _ (M : ℕ) (kept piece frame : List ℕ) (u : beginning M kept ≡ Unfinished) (is : (framing M kept piece).finding ≡ AFrame frame) where
   -- the bytes taken of the piece

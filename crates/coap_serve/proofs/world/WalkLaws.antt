@@ -99,13 +99,14 @@ asked_room h m asks =
     ap (λ (ms : List Message). room_in (record h { queued = ms }))
     (ap (λ (ms : List Message). h.queued ++ ms) (react_asks (standing_now h) m (said_request (react (standing_now h) m).verdict asks)).nothing ∙ append-nil h.queued)
 
--- what is due first is not held any more, where it is no Pong
-due_is : (h : History) (now : ℕ) (found : Option HeldValue) → first_due now h.held ≡ found → after h (call.Due now) ≡ with_effect h (due_effect (standing_due now (standing_now h)) found)
+-- the effect of what was found to be due first
+pub due_is : (h : History) (now : ℕ) (found : Option HeldValue) → first_due now h.held ≡ found → after h (call.Due now) ≡ with_effect h (due_effect (standing_due now (standing_now h)) found)
 due_is h now found is = ap (λ (o : Option HeldValue). with_effect h (due_effect (standing_due now (standing_now h)) o)) is
 
 no_more : (h k : History) → record k { queued = h.queued ++ [] } ≡ record k { queued = h.queued }
 no_more h k = ap (λ (ms : List Message). record k { queued = ms }) (append-nil h.queued)
 
+-- what is due first is not held any more, where it is no Pong
 due_answer : (h : History) (now : ℕ) (token : List ℕ) (moment : ℕ) → first_due now h.held ≡ Some (Answer token moment) → after h (call.Due now) ≡ without_first h now
 due_answer h now token moment is = due_is h now (Some (Answer token moment)) is ∙ no_more h (without_first h now)
 

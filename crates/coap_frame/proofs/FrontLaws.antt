@@ -1,0 +1,147 @@
+-- What is found of a piece is found of the bytes that are taken of it, and what those add to a stream.
+use Rattle.std.proofs.Common.{◌≡◌, ℕ, ◌-◌, List, [], ◌∷◌, ◌++◌, length, take, drop, Some, None, refl, sym, ap, ◌∙◌, append_assoc, arith}
+use Rattle.std.proofs.lemmas.List.{append-nil, length-take-le, take-append-drop, take_all}
+use Rattle.coap_wire.specs.Reading.{message_of}
+use Rattle.coap_wire.specs.declared.fault.FrameFault.{FrameFault}
+use Rattle.coap_wire.specs.Beginning.{Beginning, Unfinished, Whole, Faulty, beginning, fault_bytes}
+use Rattle.coap_wire.specs.Stream.{OfFrame, Stream, frame_then, split}
+use Rattle.coap_wire.proofs.StreamSteps.{unfinished_empty, whole_itself, whole_more, faulty_more, fault_at_last, fault_bytes_more, split_step, split_unfinished, split_faulty}
+use Rattle.coap_frame.specs.Framing.{Framing, Finding, Nothing, AFrame, AFault, split_frame, framing_at, framing}
+use Rattle.coap_frame.proofs.GivenLaws.{taken_within, frame_taken, fault_taken}
+
+-- ---- what was found of bytes
+
+-- where nothing was found, nothing is finished
+finding_nothing : (kept piece : List ℕ) (b : Beginning) → (framing_at kept piece b).finding ≡ Nothing → b ≡ Unfinished
+finding_nothing kept piece Unfinished e = refl
+finding_nothing kept piece (Whole frame rest) e = absurd cc
+finding_nothing kept piece (Faulty fault) e = absurd cc
+
+pub nothing_finished : (M : ℕ) (kept piece : List ℕ) → (framing M kept piece).finding ≡ Nothing → beginning M (kept ++ piece) ≡ Unfinished
+unfolding framing
+nothing_finished M kept piece e = finding_nothing kept piece (beginning M (kept ++ piece)) e
+
+-- where a frame was found, it stands at the front
+finding_frame : (kept piece frame : List ℕ) (b : Beginning) → (framing_at kept piece b).finding ≡ AFrame frame → (rest : List ℕ) × (b ≡ Whole frame rest)
+finding_frame kept piece frame Unfinished e = absurd cc
+finding_frame kept piece frame (Whole found rest) e =
+    let same : found ≡ frame = cc in
+    (rest, ap (λ (f : List ℕ). Whole f rest) same)
+finding_frame kept piece frame (Faulty fault) e = absurd cc
+
+pub frame_first : (M : ℕ) (kept piece frame : List ℕ) → (framing M kept piece).finding ≡ AFrame frame → (rest : List ℕ) × (beginning M (kept ++ piece) ≡ Whole frame rest)
+unfolding framing
+frame_first M kept piece frame e = finding_frame kept piece frame (beginning M (kept ++ piece)) e
+
+-- it stands alone, where all of the piece is taken
+pub frame_alone : (M : ℕ) (kept piece frame : List ℕ) → beginning M kept ≡ Unfinished → (framing M kept piece).finding ≡ AFrame frame → (framing M kept piece).taken ≡ length piece → beginning M (kept ++ piece) ≡ Whole frame []
+frame_alone M kept piece frame u e all =
+    let first = frame_first M kept piece frame e in
+    let bytes : frame ≡ kept ++ piece = frame_taken M kept piece frame u e ∙ ap (λ (n : ℕ). kept ++ take n piece) all ∙ ap (λ (p : List ℕ). kept ++ p) (take_all (length piece) piece (omega arith)) in
+    ap (beginning M) (sym bytes) ∙ whole_itself M (kept ++ piece) frame first.0 first.1
+
+-- which bytes are kept then: all of them, or none
+pub nothing_kept : (M : ℕ) (kept piece : List ℕ) → (framing M kept piece).finding ≡ Nothing → (framing M kept piece).kept ≡ kept ++ piece
+unfolding framing
+nothing_kept M kept piece e = ap (λ (b : Beginning). (framing_at kept piece b).kept) (nothing_finished M kept piece e)
+
+-- ---- the front of a piece
+
+-- behind what is unfinished, the bytes of a fault have that fault
+fault_bytes_step : (M : ℕ) (kept : List ℕ) (b : ℕ) (piece : List ℕ) (fault : FrameFault) (at : Beginning) → beginning M kept ≡ Unfinished → beginning M ((kept ++ b ∷ []) ++ piece) ≡ Faulty fault → beginning M (kept ++ b ∷ []) ≡ at
+    → (beginning M (kept ++ b ∷ []) ≡ Unfinished → beginning M (fault_bytes fault ((kept ++ b ∷ []) ++ piece)) ≡ Faulty fault) → beginning M (fault_bytes fault ((kept ++ b ∷ []) ++ piece)) ≡ Faulty fault
+fault_bytes_step M kept b piece fault Unfinished u e is again = again is
+fault_bytes_step M kept b piece fault (Whole frame rest) u e is again =
+    let bad : ◌≡◌ {A = Beginning} (Whole frame (rest ++ piece)) (Faulty fault) = sym (whole_more M (kept ++ b ∷ []) piece frame rest is) ∙ e in
+    absurd cc
+fault_bytes_step M kept b piece fault (Faulty first) u e is again =
+    let now : beginning M (kept ++ b ∷ []) ≡ Faulty fault = is ∙ sym (faulty_more M (kept ++ b ∷ []) piece first is) ∙ e in
+    ap (beginning M) (fault_bytes_more M (kept ++ b ∷ []) piece fault now ∙ fault_at_last M kept b fault u now) ∙ now
+
+fault_bytes_faulty : (M : ℕ) (kept piece : List ℕ) (fault : FrameFault) → beginning M kept ≡ Unfinished → beginning M (kept ++ piece) ≡ Faulty fault → beginning M (fault_bytes fault (kept ++ piece)) ≡ Faulty fault
+fault_bytes_faulty M kept [] fault u e =
+    let bad : ◌≡◌ {A = Beginning} Unfinished (Faulty fault) = sym u ∙ ap (beginning M) (sym (append-nil kept)) ∙ e in
+    absurd cc
+fault_bytes_faulty M kept (b ∷ piece) fault u e =
+    let same : (kept ++ b ∷ []) ++ piece ≡ kept ++ b ∷ piece = append_assoc kept (b ∷ []) piece in
+    let cut : beginning M ((kept ++ b ∷ []) ++ piece) ≡ Faulty fault = ap (beginning M) same ∙ e in
+    ap (λ (s : List ℕ). beginning M (fault_bytes fault s)) (sym same)
+    ∙ fault_bytes_step M kept b piece fault (beginning M (kept ++ b ∷ [])) u cut refl (λ is. fault_bytes_faulty M (kept ++ b ∷ []) piece fault is cut)
+
+-- the framing of a front of a piece, where this stands at the front of what was kept and the piece
+front_at : (M : ℕ) (kept piece : List ℕ) (b : Beginning) → beginning M kept ≡ Unfinished → beginning M (kept ++ piece) ≡ b → framing M kept piece ≡ framing_at kept piece b → framing M kept (take (framing_at kept piece b).taken piece) ≡ framing_at kept piece b
+unfolding framing
+front_at M kept piece Unfinished u e is = ap (framing M kept) (take_all (length piece) piece (omega arith)) ∙ is
+front_at M kept piece (Whole frame rest) u e is =
+    let n : ℕ = length piece - length rest in
+    let finding : (framing M kept piece).finding ≡ AFrame frame = ap (λ (f : Framing). f.finding) is in
+    let taken : (framing M kept piece).taken ≡ n = ap (λ (f : Framing). f.taken) is in
+    let bytes : frame ≡ kept ++ take n piece = frame_taken M kept piece frame u finding ∙ ap (λ (k : ℕ). kept ++ take k piece) taken in
+    let count : length (take n piece) - 0 ≡ n = omega (arith, length-take-le n piece (omega arith)) in
+    ap (framing_at kept (take n piece)) (ap (beginning M) (sym bytes) ∙ whole_itself M (kept ++ piece) frame rest e)
+    ∙ ap (λ (k : ℕ). record { taken = k; finding = AFrame frame; kept = []; spent = split_frame kept frame }) count
+front_at M kept piece (Faulty fault) u e is =
+    let n : ℕ = length (fault_bytes fault (kept ++ piece)) - length kept in
+    let finding : (framing M kept piece).finding ≡ AFault fault = ap (λ (f : Framing). f.finding) is in
+    let taken : (framing M kept piece).taken ≡ n = ap (λ (f : Framing). f.taken) is in
+    let bytes : kept ++ take n piece ≡ fault_bytes fault (kept ++ piece) = ap (λ (k : ℕ). kept ++ take k piece) (sym taken) ∙ (fault_taken M kept piece fault u finding).1 in
+    let faulty : beginning M (kept ++ take n piece) ≡ Faulty fault = ap (beginning M) bytes ∙ fault_bytes_faulty M kept piece fault u e in
+    let whole : (kept ++ take n piece) ++ drop n piece ≡ kept ++ piece = append_assoc kept (take n piece) (drop n piece) ∙ ap (λ (p : List ℕ). kept ++ p) (take-append-drop n piece) in
+    let same : fault_bytes fault (kept ++ take n piece) ≡ fault_bytes fault (kept ++ piece) = sym (fault_bytes_more M (kept ++ take n piece) (drop n piece) fault faulty) ∙ ap (fault_bytes fault) whole in
+    ap (framing_at kept (take n piece)) faulty
+    ∙ ap (λ (s : List ℕ). record { taken = length s - length kept; finding = AFault fault; kept = []; spent = [] }) same
+
+-- the bytes taken of a piece
+abbrev pub front : ℕ → List ℕ → List ℕ → List ℕ
+front M kept piece = take (framing M kept piece).taken piece
+
+-- what is taken of a piece is taken whole, and the same is found of it
+pub front_framing : (M : ℕ) (kept piece : List ℕ) → beginning M kept ≡ Unfinished → framing M kept (front M kept piece) ≡ framing M kept piece
+unfolding framing
+front_framing M kept piece u = front_at M kept piece (beginning M (kept ++ piece)) u refl refl
+
+pub front_whole : (M : ℕ) (kept piece : List ℕ) → beginning M kept ≡ Unfinished → (framing M kept (front M kept piece)).taken ≡ length (front M kept piece)
+front_whole M kept piece u =
+    ap (λ (f : Framing). f.taken) (front_framing M kept piece u)
+    ∙ sym (length-take-le (framing M kept piece).taken piece (taken_within M kept piece u))
+
+-- ---- what bytes add to a stream
+
+-- what bytes that are taken whole spell behind kept ones, where this is found of them
+abbrev pub added_by : List ℕ → List ℕ → Finding → Stream
+added_by kept bytes Nothing = record { messages = []; rest = kept ++ bytes; fault = None }
+added_by kept bytes (AFrame frame) = frame_then frame (message_of frame) (record { messages = []; rest = []; fault = None })
+added_by kept bytes (AFault fault) = record { messages = []; rest = fault_bytes fault (kept ++ bytes); fault = Some (OfFrame fault) }
+
+added_at : (M : ℕ) (kept bytes : List ℕ) (b : Beginning) → beginning M kept ≡ Unfinished → beginning M (kept ++ bytes) ≡ b → framing M kept bytes ≡ framing_at kept bytes b → (framing M kept bytes).taken ≡ length bytes
+    → split M (kept ++ bytes) ≡ added_by kept bytes (framing_at kept bytes b).finding
+added_at M kept bytes Unfinished u e is all = split_unfinished M (kept ++ bytes) e
+added_at M kept bytes (Whole frame rest) u e is all =
+    let alone : beginning M (kept ++ bytes) ≡ Whole frame [] = frame_alone M kept bytes frame u (ap (λ (f : Framing). f.finding) is) all in
+    split_step M (kept ++ bytes) ∙ rw alone (ap (frame_then frame (message_of frame)) (split_unfinished M [] (unfinished_empty M)))
+added_at M kept bytes (Faulty fault) u e is all = split_faulty M (kept ++ bytes) fault e
+
+-- bytes that are taken whole add what is found of them
+pub added_whole : (M : ℕ) (kept bytes : List ℕ) → beginning M kept ≡ Unfinished → (framing M kept bytes).taken ≡ length bytes → split M (kept ++ bytes) ≡ added_by kept bytes (framing M kept bytes).finding
+unfolding framing
+added_whole M kept bytes u all = added_at M kept bytes (beginning M (kept ++ bytes)) u refl refl all
+
+-- the front of a piece adds what is found of the piece
+pub added_front : (M : ℕ) (kept piece : List ℕ) → beginning M kept ≡ Unfinished → split M (kept ++ front M kept piece) ≡ added_by kept (front M kept piece) (framing M kept piece).finding
+added_front M kept piece u =
+    added_whole M kept (front M kept piece) u (front_whole M kept piece u)
+    ∙ ap (λ (f : Framing). added_by kept (front M kept piece) f.finding) (front_framing M kept piece u)
+
+-- ---- what is kept
+
+kept_at : (kept piece : List ℕ) (b : Beginning) → (framing_at kept piece b).finding ≡ Nothing → ((framing_at kept piece b).taken ≡ length piece) × ((framing_at kept piece b).kept ≡ kept ++ piece)
+kept_at kept piece Unfinished e = (refl, refl)
+kept_at kept piece (Whole frame rest) e = absurd cc
+kept_at kept piece (Faulty fault) e = absurd cc
+
+-- where nothing is found, all of the piece is taken and kept
+pub front_kept : (M : ℕ) (kept piece : List ℕ) → (framing M kept piece).finding ≡ Nothing → (framing M kept piece).kept ≡ kept ++ front M kept piece
+unfolding framing
+front_kept M kept piece e =
+    let at = kept_at kept piece (beginning M (kept ++ piece)) e in
+    at.1 ∙ ap (λ (p : List ℕ). kept ++ p) (sym (ap (λ (n : ℕ). take n piece) at.0 ∙ take_all (length piece) piece (omega arith)))
