@@ -27,7 +27,7 @@ use Rattle.coap_client.specs.Requests.{ExtrasValue, request_of, cancel_of}
 use Rattle.coap_client.specs.ClientValues.{ClientValue, Taking, taking_rejected, taking_read, taking_found, taking, is_cut, client_written, client_ended, client_sent, client_cancelled, client_pinged}
 use Rattle.coap_client.specs.ClientWorld.{ClientCall, Took, Sent, Cancelled, Pinged, Wrote, Ended, ClientStep, Handles, Faults, Requests, Cancels, Pings, Writes, Ends, taken_by, stream_in, new_fault, steps_by, after_steps, client_after, handles, takes, event_by, event_of, IsAccepted, AreAccepted, kept_after, client_of}
 use Rattle.coap_client.specs.ClientWorld as client
-use Rattle.coap_client.proofs.FrontLaws.{front, front_whole, added_by, added_front, nothing_kept}
+use Rattle.coap_frame.proofs.FrontLaws.{front, front_whole, added_by, added_front, front_kept}
 use Rattle.coap_client.proofs.ClientSteps.{stream_same, stream_first, rest_unfinished, client_first, client_same, client_step, client_more, by_calls, Adds, adds, no_bytes_stream, no_bytes_steps}
 
 -- ---- steps
@@ -261,7 +261,7 @@ module _ (limits : LimitValues) (tokens : ℕ) (calls : List ClientCall) where
       found_adds = adds M calls taken added no_fault (added_front M so_far.rest piece (rest_unfinished M calls no_fault))
 
       found_taken : IsTaken h (taking_found (shown h so_far.rest) found found.finding) found.taken (steps_found found.finding) added
-      found_taken = taken_found h before.is_history takes_now so_far.rest taken found found.finding (nothing_kept M so_far.rest piece)
+      found_taken = taken_found h before.is_history takes_now so_far.rest taken found found.finding (front_kept M so_far.rest piece)
 
       found_steps : steps_by M calls (Took taken) ≡ steps_found found.finding
       found_steps = found_adds.steps ∙ added_steps so_far.rest taken found.finding

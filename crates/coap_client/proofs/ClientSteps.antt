@@ -14,7 +14,7 @@ use Rattle.coap_conn.specs.History.{History, new_history}
 use Rattle.coap_conn.specs.declared.phase.Role.TheVariants.{Client}
 use Rattle.coap_client.specs.ClientWorld.{ClientCall, Took, ClientStep, Handles, taken_by, stream_in, new_fault, beyond, steps_by, steps_behind, steps_of, after_steps, client_after, IsAccepted, AreAcceptedBehind, AreAccepted}
 use Rattle.coap_client.specs.ClientWorld as client
-use Rattle.coap_client.proofs.FrontLaws.{added_by, added_whole}
+use Rattle.coap_frame.proofs.FrontLaws.{added_by, added_whole}
 
 -- ---- bytes
 

@@ -24,7 +24,7 @@ use Rattle.coap_conn.specs.LinkValue.{free_in}
 use Rattle.coap_client.specs.ClientValues.{is_cut}
 use Rattle.coap_client.specs.ClientWorld.{ClientCall, ClientStep, Took, Sent, Cancelled, Pinged, Wrote, Ended, Handles, Faults, Requests, Cancels, Pings, Writes, Ends, taken_by, stream_in, steps_by, step, client_after, handles, takes, IsAccepted, AreAccepted}
 use Rattle.coap_client.specs.Requests.{request_of, cancel_of}
-use Rattle.coap_client.proofs.FrontLaws.{added_by}
+use Rattle.coap_frame.proofs.FrontLaws.{added_by}
 use Rattle.coap_client.proofs.ClientSteps.{stream_same, stream_first, client_first, client_same, client_step, by_calls, Adds, adds_whole, no_bytes_steps}
 use Rattle.coap_client.proofs.ClientReached.{accepted_is}
 

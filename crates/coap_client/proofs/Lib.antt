@@ -1,7 +1,6 @@
 pub mod TargetLemmas
 pub mod RequestLemmas
 pub mod ClientSteps
-pub mod FrontLaws
 pub mod ClientReached
 pub mod ClientShown
 pub mod TakingLemmas

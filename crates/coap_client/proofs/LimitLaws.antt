@@ -1,134 +1,55 @@
 -- The limits of a client hold: after any calls of what is held and outstanding, and after accepted calls of the bytes that wait
 -- and of those that are kept of an unfinished frame.
-use Rattle.std.proofs.Common.{◌≡◌, ℕ, ◌+◌, ◌<◌, ◌≤◌, Bool, true, false, ◌==◌, cond, List, [], ◌∷◌, ◌++◌, length, drop, Option, Some, None, refl, sym, ap, subst, ◌∙◌, arith}
-use Rattle.std.specs.Prelude.{nat_lt, is_none, find, ◌&&◌}
-use Rattle.std.specs.List.{list_any}
-use Rattle.std.proofs.Math.Nat.{min-le_left}
-use Rattle.std.proofs.lemmas.Bool.{cond_both, ltb-true, and_parts}
+use Rattle.std.proofs.Common.{◌≡◌, ℕ, ◌+◌, ◌<◌, ◌≤◌, Bool, true, false, cond, List, [], ◌∷◌, ◌++◌, length, drop, refl, sym, ap, subst, ◌∙◌, arith}
+use Rattle.std.specs.Prelude.{is_none}
+use Rattle.std.proofs.lemmas.Bool.{cond_both}
 use Rattle.std.proofs.lemmas.List.{length-append, length-drop, length-map}
 use Rattle.coap_wire.specs.Message.{Message}
 use Rattle.coap_wire.specs.Spelling.{spelling}
-use Rattle.coap_wire.specs.Codes as code
 use Rattle.coap_wire.proofs.StreamSteps.{unfinished_below}
-use Rattle.coap_conn.specs.declared.phase.Reply.{Reply}
-use Rattle.coap_conn.specs.declared.phase.Reply.TheVariants.{Whole, Bare, Stopped}
-use Rattle.coap_conn.specs.declared.phase.Role.{Role}
-use Rattle.coap_conn.specs.declared.phase.Role.TheVariants.{Server, Client}
+use Rattle.coap_conn.specs.declared.phase.Role.TheVariants.{Client}
 use Rattle.coap_conn.specs.declared.reason.Reason.{Reason}
-use Rattle.coap_conn.specs.declared.reason.Reason.TheVariants as reason
 use Rattle.coap_conn.specs.Limits.{LimitValues, AreInRange}
-use Rattle.coap_conn.specs.Phases.{stop_of, takes_messages, is_waiting}
+use Rattle.coap_conn.specs.Phases.{takes_messages}
 use Rattle.coap_conn.specs.Reasons.{abort_of}
 use Rattle.coap_conn.specs.Rejects.{reject_of, reject_reason}
-use Rattle.coap_conn.specs.Announced.{announced, has_critical_option, bad_csm_option}
-use Rattle.coap_conn.specs.Fit.{AllFit, fit, fitted, abort_fitted, without_payload, without_options, bare_response}
-use Rattle.coap_conn.specs.Outstanding.{OutstandingValue, Ping, is_asked, is_last, is_pinged, cancelled_by}
+use Rattle.coap_conn.specs.Fit.{AllFit, fit}
+use Rattle.coap_conn.specs.Outstanding.{OutstandingValue, Ping, cancelled_by}
 use Rattle.coap_conn.specs.Asking.{asking_refusal, cancel_refusal, next_token, with_token, entry_of, ping_with}
-use Rattle.coap_conn.specs.Reaction.{Standing, Reaction, stop, abort, send_as, sends, aborts, react, reaction_unless, live_reaction, open_reaction, csm_reaction, request_reaction, answered, pong_reaction, ping_reaction, is_reserved, is_signal, is_method, minds_critical_options, asks_custody, pong_with, pong_of, not_implemented}
+use Rattle.coap_conn.specs.Reaction.{Standing, stop, abort, react, Effect}
 use Rattle.coap_conn.specs.History.{History, IsHistory, new_history, limit_now, standing_now, asking_now, waiting_of, with_effect, after, after_asking}
 use Rattle.coap_conn.specs.LinkValue.{bytes_of}
 use Rattle.coap_conn.specs.Calls.{end_reason}
 use Rattle.coap_conn.specs.Calls as call
-use Rattle.coap_conn.proofs.LinkLemmas.{waiting_more}
 use Rattle.coap_conn.proofs.SmallLemmas.{csm_bytes_small}
 use Rattle.coap_conn.proofs.AskingLaws.{none_where, asked_size, cancel_size}
 use Rattle.coap_conn.proofs.AskedLaws.{asked_no_more, asked_few}
 use Rattle.coap_conn.proofs.HistoryLaws.{reaction_fits, stopped_fits}
+use Rattle.coap_conn.specs.Held.{HeldValue}
 use Rattle.coap_client.specs.Requests.{request_of, cancel_of}
 use Rattle.coap_client.specs.ClientValues.{is_cut}
 use Rattle.coap_client.specs.ClientWorld.{ClientCall, ClientStep, Took, Sent, Cancelled, Pinged, Wrote, Ended, Handles, Faults, Requests, Cancels, Pings, Writes, Ends, stream_in, steps_by, steps_of, step, after_steps, client_after, handles, IsAccepted, AreAccepted, client_of}
 use Rattle.coap_client.proofs.ClientSteps.{rest_unfinished, client_first, client_same, client_step, by_calls}
 use Rattle.coap_client.proofs.ClientReached.{limits_same, accepted_is}
 use Rattle.coap_client.proofs.HandledLaws.{TakesSo, NoStep, OneMessage, OneFault, handles_parts, bytes_taken}
+use Rattle.coap_serve.proofs.world.ToldMessages.{abort_one, react_so}
+use Rattle.coap_serve.proofs.world.LimitLaws.{one_small, limit_within, queued_waits}
 
 -- ---- what a message does
 
 -- it queues one message at most, and where nothing is held, nothing is held after it
-record IsSparing (s : Standing) (r : Reaction) : Type 0 where
-  one : length r.effect.queued ≤ 1
-  none : s.held ≡ [] → r.effect.held ≡ []
+record IsSparing (s : Standing) (e : Effect) : Type 0 where
+  one : length e.queued ≤ 1
+  none : s.held ≡ [] → e.held ≡ []
 
-fitted_one : (m less : Message) (r : Reply) → length (fitted m less r) ≤ 1
-fitted_one m less Whole = omega arith
-fitted_one m less Bare = omega arith
-fitted_one m less Stopped = omega arith
-
-abort_one : (limit : ℕ) (o : Option Message) → length (abort_fitted limit o) ≤ 1
-abort_one limit None = omega arith
-abort_one limit (Some m) = fitted_one m (without_payload m) (fit limit m (without_payload m))
-
-aborts_sparing : (s : Standing) (why : Reason) → IsSparing s (aborts s why)
-aborts_sparing s why = record { one = abort_one s.limit (abort_of why); none = λ e. refl }
-
-sent_one : (s : Standing) (m less : Message) (r : Reply) → length (send_as s m less r).queued ≤ 1
-sent_one s m less Whole = omega arith
-sent_one s m less Bare = omega arith
-sent_one s m less Stopped = omega arith
-
-sent_none : (s : Standing) (m less : Message) (r : Reply) → s.held ≡ [] → (send_as s m less r).held ≡ []
-sent_none s m less Whole e = e
-sent_none s m less Bare e = e
-sent_none s m less Stopped e = refl
-
-sends_sparing : (s : Standing) (m less : Message) → IsSparing s (sends s m less)
-sends_sparing s m less = record { one = sent_one s m less (fit s.limit m less); none = sent_none s m less (fit s.limit m less) }
-
-csm_sparing : (s : Standing) (bad : Option ℕ) → IsSparing s (csm_reaction s bad)
-csm_sparing s None = record { one = omega arith; none = λ e. e }
-csm_sparing s (Some number) = aborts_sparing s (reason.BadCsm number)
-
--- a Pong waits only for what is held
-ping_sparing : (s : Standing) (m : Message) → IsSparing s (ping_reaction s m)
-ping_sparing s m =
-    cond_both (asks_custody m && nat_lt 0 (length s.held)) _ _ (IsSparing s)
-    (λ e. cond_both (nat_lt (length s.held) s.most) _ _ (IsSparing s)
-    (λ f. record {
-      one = omega arith;
-      none =
-          λ none. absurd (omega (arith, ltb-true 0 (length s.held) (and_parts (asks_custody m) (nat_lt 0 (length s.held)) e).1, ap (λ held. length held) none));
-    })
-    (λ f. sends_sparing s (pong_with false m.token) (pong_with false m.token)))
-    (λ e. sends_sparing s (pong_of m) (without_options (pong_of m)))
-
-request_sparing : (s : Standing) (m : Message) (role : Role) → IsSparing s (request_reaction s m role)
-request_sparing s m Server = record { one = omega arith; none = λ e. e }
-request_sparing s m Client = sends_sparing s (not_implemented m) (bare_response (not_implemented m))
-
-pong_sparing : (s : Standing) (m : Message) → IsSparing s (pong_reaction s m)
-pong_sparing s m =
-    cond_both (list_any (is_pinged m.token) s.outstanding) _ _ (IsSparing s) (λ e. record { one = omega arith; none = λ e. e })
-    (λ e. record { one = omega arith; none = λ e. e })
-
-answered_sparing : (s : Standing) (m : Message) (found : Option OutstandingValue) → IsSparing s (answered s m found)
-answered_sparing s m None = record { one = omega arith; none = λ e. e }
-answered_sparing s m (Some e) =
-    cond_both (is_last m e) _ _ (IsSparing s) (λ f. record { one = omega arith; none = λ e. e }) (λ f. record { one = omega arith; none = λ e. e })
-
-open_sparing : (s : Standing) (m : Message) → IsSparing s (open_reaction s m)
-open_sparing s m =
-    cond_both (minds_critical_options m.code && has_critical_option m) _ _ (IsSparing s) (λ e. aborts_sparing s reason.BadSignalOption)
-    (λ e. cond_both (m.code == code.ping) _ _ (IsSparing s) (λ e. ping_sparing s m)
-    (λ e. cond_both (m.code == code.release) _ _ (IsSparing s) (λ e. record { one = omega arith; none = λ e. e })
-    (λ e. cond_both (m.code == code.pong) _ _ (IsSparing s) (λ e. pong_sparing s m)
-    (λ e. cond_both (is_signal m.code) _ _ (IsSparing s) (λ e. record { one = omega arith; none = λ e. e })
-    (λ e. cond_both (is_method m.code) _ _ (IsSparing s) (λ e. request_sparing s m s.role) (λ e. answered_sparing s m (find (is_asked m.token) s.outstanding)))))))
-
-live_sparing : (s : Standing) (m : Message) → IsSparing s (live_reaction s m)
-unfolding live_reaction
-live_sparing s m =
-    cond_both (is_reserved m.code) _ _ (IsSparing s) (λ e. aborts_sparing s reason.ReservedCode)
-    (λ e. cond_both (m.code == code.empty) _ _ (IsSparing s) (λ e. record { one = omega arith; none = λ e. e })
-    (λ e. cond_both (m.code == code.abort) _ _ (IsSparing s) (λ e. aborts_sparing s reason.PeerAbort)
-    (λ e. cond_both (m.code == code.csm) _ _ (IsSparing s) (λ e. csm_sparing s (bad_csm_option m))
-    (λ e. cond_both (is_waiting s.phase) _ _ (IsSparing s) (λ e. aborts_sparing s reason.CsmExpected) (λ e. open_sparing s m)))))
-
-unless_sparing : (s : Standing) (m : Message) (over : Option Reason) → IsSparing s (reaction_unless s m over)
-unless_sparing s m None = live_sparing s m
-unless_sparing s m (Some why) = record { one = omega arith; none = λ e. e }
-
-react_sparing : (s : Standing) (m : Message) → IsSparing s (react s m)
-unfolding react
-react_sparing s m = unless_sparing s m (stop_of s.phase)
+react_sparing : (s : Standing) (m : Message) → IsSparing s (react s m).effect
+react_sparing s m = react_so s m (IsSparing s) (record {
+  stays = record { one = omega arith; none = λ e. e };
+  stands = λ now outstanding stands. record { one = omega arith; none = λ e. e };
+  stops = λ why farewell plain one may. record { one = one; none = λ e. refl };
+  queues = λ n no. record { one = omega arith; none = λ e. e };
+  keeps = λ ping custody some. record { one = omega arith; none = λ e. absurd (omega (arith, some, ap (λ (held : List HeldValue). length held) e)) };
+})
 
 -- ---- what is held and outstanding
 
@@ -196,27 +117,9 @@ few_outstanding limits tokens calls = (after_keeps limits tokens calls).few
 
 -- ---- how many bytes wait
 
--- the bytes that wait, and those of what is queued
+-- the bytes that wait
 abbrev wait : History → ℕ
 wait h = length (waiting_of h)
-
-abbrev size : List Message → ℕ
-size ms = length (bytes_of ms)
-
--- one message at most has the bytes that its limit allows
-one_small : (limit : ℕ) (ms : List Message) → length ms ≤ 1 → AllFit limit ms → size ms ≤ limit
-one_small limit [] one each = omega arith
-one_small limit (m ∷ []) one each = omega (arith, each.0, length-append (spelling m) [])
-one_small limit (m ∷ n ∷ ms) one each = absurd (omega (arith, one))
-
-limit_within : (h : History) → limit_now h ≤ h.limits.max_sent
-limit_within h = min-le_left h.limits.max_sent (announced h.handled)
-
--- messages of so many bytes more
-more_wait : (h : History) (ms : List Message) → IsHistory h
-    → length (drop h.written (bytes_of (h.queued ++ ms))) ≡ wait h + size ms
-more_wait h ms is =
-    ap (λ (bs : List ℕ). length bs) (waiting_more h ms is) ∙ length-append (drop h.written (bytes_of h.queued)) (bytes_of ms)
 
 -- where a test says so
 wait_if : (most : ℕ) (h k : History) (does : Bool) → wait h ≤ most → (does ≡ true → wait k ≤ most) → wait (cond does k h) ≤ most
@@ -229,7 +132,7 @@ module _ (limits : LimitValues) (h : History) (same : h.limits ≡ limits) (is :
   room_for : (m : Message) → length (spelling m) ≤ (asking_now h).free
       → length (drop h.written (bytes_of (h.queued ++ m ∷ []))) ≤ limits.queue
   room_for m room =
-      omega (arith, few, room, more_wait h (m ∷ []) is, length-append (spelling m) [], ap (λ (l : LimitValues). l.queue) same)
+      omega (arith, few, room, queued_waits h (m ∷ []) is, length-append (spelling m) [], ap (λ (l : LimitValues). l.queue) same)
 
   asking_waits : (m : Message) (e : OutstandingValue) → wait (after_asking h m e) ≤ limits.queue
   asking_waits m e =
@@ -248,7 +151,7 @@ module _ (limits : LimitValues) (h : History) (same : h.limits ≡ limits) (is :
   end_waits : (cut : Bool) → wait (after h (call.End cut)) ≤ limits.queue
   end_waits cut =
       wait_if limits.queue h (with_effect h (stop (standing_now h) (end_reason cut) [])) (takes_messages h.phase) few
-      (λ takes. omega (arith, few, more_wait h [] is))
+      (λ takes. omega (arith, few, queued_waits h [] is))
 
   -- where messages are handled, one has room
   module _ (does : handles h ≡ true) where
@@ -258,7 +161,7 @@ module _ (limits : LimitValues) (h : History) (same : h.limits ≡ limits) (is :
         omega (
           arith,
           few,
-          more_wait h ms is,
+          queued_waits h ms is,
           one_small (limit_now h) ms one fit,
           limit_within h,
           (handles_parts h does).1,

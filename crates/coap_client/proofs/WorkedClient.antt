@@ -1,7 +1,6 @@
 -- What a client tells, sends and has outstanding in a short life, worked out from its calls.
 use Rattle.std.proofs.Common.{◌≡◌, ℕ, true, false, List, [], ◌∷◌, ◌++◌, Option, Some, None, refl, arith}
-use Rattle.std.specs.Prelude.{◌+◌, ◌-◌, ◌*◌, nat_lt, codes, if◌then◌else◌}
-use Prim.Native.String.{String}
+use Rattle.std.specs.Prelude.{codes}
 use Rattle.coap_wire.specs.Message.{Message}
 use Rattle.coap_wire.specs.Spelling.{spelling}
 use Rattle.coap_wire.specs.Uint.{bytes_of_uint}
@@ -26,21 +25,7 @@ use Rattle.coap_client.specs.Requests.{ExtrasValue, host_sent, observe_sent, own
 use Rattle.coap_client.specs.ClientValues.{EventValue, send_refusal, cancelling_refusal}
 use Rattle.coap_client.specs.ClientValues as value
 use Rattle.coap_client.specs.ClientWorld.{ClientCall, Took, Sent, Cancelled, Pinged, Wrote, steps_by, steps_behind, steps_of, step, after_steps, client_after, takes, event_of, IsAccepted, AreAcceptedBehind, AreAccepted}
-
--- ---- bytes by their hexadecimal digits
-
--- the value of a digit, 0 to 9 or a to f, in ASCII
-abbrev digit : ℕ → ℕ
-digit c = if nat_lt c 58 then c - 48 else c - 87
-
--- two digits a byte
-abbrev bytes_by : List ℕ → List ℕ
-bytes_by [] = []
-bytes_by (c ∷ []) = []
-bytes_by (c ∷ d ∷ cs) = (16 * digit c + digit d) ∷ bytes_by cs
-
-abbrev hex : String → List ℕ
-hex digits = bytes_by (codes digits)
+use Rattle.coap_serve.proofs.world.Rows.{hex}
 
 -- ---- what is computed with: to unfold one of these is to unfold all that its line names
 
