@@ -70,6 +70,16 @@ count_within due (o ∷ os) =
     let more = count_within due os in
     elim (due o) as (λ b. (if b then count_due due os + 1 else count_due due os) ≤ length (o ∷ os)) [ true ↦ omega arith | false ↦ omega arith ]
 
+-- where none is counted, none is found
+pub none_counted : {O : Type 0} (due : O → Bool) (os : List O) → count_due due os ≡ 0 → find due os ≡ None
+unfolding count_due
+none_counted due [] e = refl
+none_counted due (o ∷ os) e =
+    elim (due o) as (λ b. (if b then count_due due os + 1 else count_due due os) ≡ 0 → (if b then Some o else find due os) ≡ None) [
+      | true ↦ λ is. absurd (omega arith)
+      | false ↦ λ is. none_counted due os is
+    ] e
+
 count_behind : {O : Type 0} (due : O → Bool) (front os : List O) → count_due due front ≡ 0 → count_due due (front ++ os) ≡ count_due due os
 unfolding count_due
 count_behind due [] os none = refl
