@@ -1,0 +1,73 @@
+//! A gateway to a sensor: a program that embeds the server, and serves at the path /measured what a file holds, as the files of a
+//! system's sensors do. The file is read anew before each turn, and at least once a second.
+//!
+//!     example_gateway 127.0.0.1:5683 /sys/class/thermal/thermal_zone0/temp
+#![tactic(auto)]
+
+use anyhow::{Context, Result};
+use coap_serve::{Clock, Config, Door, Limits, Service, Starts, Wait};
+use coap_sockets::{SocketDoor, SystemClock};
+use coap_store::PathKey;
+use std::io::Read;
+use std::net::{Net, SocketAddr};
+use std::rt::{Env, Files};
+use std::{env, fs, time};
+
+/// What is measured: the bytes of a file.
+fn measured(rt: &(impl Files + AllocGlobal), file: &str) -> Result<Vec<u8>> {
+    let mut bytes = Vec::new(rt.alloc());
+    fs::open(rt, file)?.read_to_end(&mut bytes)?;
+    Ok(bytes)
+}
+
+/// As long a wait as this one, but at most until a moment.
+fn at_most(wait: Wait, moment: u64) -> Wait {
+    match wait {
+        Wait::No => Wait::No,
+        Wait::Until(due) => Wait::Until(due.min(moment)),
+        Wait::Forever => Wait::Until(moment),
+    }
+}
+
+/// Serves at an address what a file holds, as long as it can be read.
+fn serve(
+    rt: &(impl Eprint + Files + Net + time::Clock + AllocGlobal),
+    address: SocketAddr,
+    file: &str,
+) -> Result<()> {
+    let mut clock = SystemClock::new(rt);
+    let moment = clock.now();
+    // A version is an ETag: a program that starts again gives none that it gave before.
+    let starts = Starts {
+        moment,
+        versions: moment.saturating_mul(65_536),
+        ids: 0,
+    };
+    let limits = Limits::new(1_152, 1_152, 8_192, 16, 16, 1)?;
+    let config = Config::new(limits, 16, 1, 1_024, 1_000_000_000_000, starts)?;
+    let path = PathKey::from_segments(&[b"measured"]).context("no path")?;
+    let mut door = SocketDoor::listen(rt, rt.alloc(), address, config.connections())?;
+    let mut service = Service::new(rt.alloc(), config)?;
+    eprintln!(rt;
+        "example_gateway: listening on {}",
+        door.address().unwrap_or(address)
+    )?;
+    for _ in 0..config.turns() {
+        let now = clock.now();
+        let _ = service.tick(now);
+        // Refused where a peer deleted it and stored something else in its place: then it waits for that to go.
+        let _ = service.put(&path, Some(0), &measured(rt, file)?);
+        let wait = service.turn(&mut door)?;
+        door.wait(at_most(wait, now.saturating_add(1)), service.can_open());
+    }
+    Ok(())
+}
+
+fn main(rt: HostRuntime) -> Result<()> {
+    let mut words = env::args(&rt)?;
+    let _name = words.next();
+    match (words.next(), words.next()) {
+        (Some(address), Some(file)) => serve(&rt, address.parse::<SocketAddr>()?, file.as_str()),
+        _ => println!(&rt; "usage: example_gateway ADDRESS:PORT FILE").context("cannot write"),
+    }
+}
