@@ -143,7 +143,8 @@ def check_observers(checks, server):
             checks.same("what is resident stays", after - before if after - before > GROWTH else 0, 0)
             code, _, _, payload = good.ask(request(GET, b"\1\2\3", paths[(PUTS - 1) % 16]), b"\1\2\3")
             checks.same("the last PUT is there", (code, payload), (CONTENT, b"%d" % (PUTS - 1)))
-    print(f"beside 256 observers that are never read: {(PUTS - WARM) / seconds:,.0f} PUTs a second, {before // 1024:,} kB resident, then {after // 1024:,} kB")
+    print(f"beside 256 observers that are never read: {(PUTS - WARM) / seconds:,.0f} PUTs a second, "
+          f"{before // 1024:,} kB resident, then {after // 1024:,} kB")
 
 
 def greatest_puts(peer, number):

@@ -5,8 +5,9 @@
 
 tests/refuse.c is preloaded into a program and refuses it one allocation: the first, then the second, until a run makes fewer. A run that
 is refused ends with status 3 and `no memory`, and has written a front of what it writes otherwise, on standard output and over its
-connection; where the refusal was made up for, it is as any other. Besides, the programs run at their greatest inputs with nothing
-refused, and must not tell otherwise. The last line is 'N passed, M failed' over the runs, and the status 0 where M is 0.
+connection; where the refusal was made up for, it is as any other. How many are told the table of docs/TESTING.md must tell. Besides, the
+programs run at their greatest inputs with nothing refused, and must not tell otherwise. The last line is 'N passed, M failed' over the
+runs, and the status 0 where M is 0.
 """
 
 import contextlib
@@ -32,6 +33,9 @@ HOST, SERVER_HOST = "127.0.0.1", "127.0.0.2"
 LIMIT = 20
 
 MEBIBYTE = 1 << 20
+
+# What is left of a program that was refused memory.
+LEFT = "a front of what it writes with memory"
 
 # What a peer sends: Capabilities and Settings, a GET of the root, and a PUT of `x` at `a`; and what it is answered.
 SENT = bytes.fromhex("00e1" "010101" "410302b161ff78")
@@ -192,7 +196,9 @@ def wrong_at_the_greatest_words(client):
     """What is wrong with a client of the longest words, whose response is the greatest, or nothing."""
     got, payload = [], b"y" * 65_000
     target = "coap+tcp://%s:%d" + ("/" + "p" * 255) * 16 + "?" + "&".join(["q" * 255] * 16)
-    sent = encoded(3, b"\1", [(11, b"p" * 255)] * 16 + [(12, b"\xff\xff")] + [(15, b"q" * 255)] * 16 + [(17, b"\xff\xff"), (65_535, b"J" * 1_034)], b"x" * 56_000)
+    paths, queries = [(11, b"p" * 255)] * 16, [(15, b"q" * 255)] * 16
+    options = [*paths, (12, b"\xff\xff"), *queries, (17, b"\xff\xff"), (65_535, b"J" * 1_034)]
+    sent = encoded(3, b"\1", options, b"x" * 56_000)
     words = ["-m", "put", "-e", "x" * 56_000, "-t", "65535", "-A", "65535", "-O", "65535,0x" + "4a" * 1_034, "-B", "4294967295"]
     with socket.create_server((HOST, 0)) as listener:
         response = encoded(0x44, b"\1", [], payload)
@@ -235,7 +241,7 @@ def main(server, client, *named):
         "serve_door": (listening(server), (b"", ANSWERED)),
         "run_client": (asking(client), (b"hi\n", ASKED)),
     }
-    passed = failed = 0
+    passed, failed, calls = 0, 0, {}
     with tempfile.TemporaryDirectory(prefix="refused-") as room, ThreadPoolExecutor(len(runs)) as pool:
         shim = rows.compiled_shim(room)
         chosen = {name: run for name, run in runs.items() if not named or name in named}
@@ -243,12 +249,15 @@ def main(server, client, *named):
         for name, it in running.items():
             count, told, wrong = it.result()
             passed, failed = passed + count - min(count, len(wrong)), failed + len(wrong)
+            calls[f"`{name}`, in `{'coap-client' if name == 'run_client' else 'coap-server'}`", LEFT] = told
             print(f"{name}: {count} allocations refused, of which {told} end the program")
             for text in wrong[:3]:
                 print(text)
-    greatest = {"script": (wrong_at_the_greatest_script, server), "door": (wrong_at_the_greatest_door, server), "words": (wrong_at_the_greatest_words, client)}
-    for name, (judge, program) in greatest.items():
-        wrong = judge(program)
+    wrong = [] if named else rows.untold(calls, is_program=True)
+    failed += len(wrong)
+    print("".join(f"{text}\n" for text in wrong), end="")
+    for name, wrong in (("script", wrong_at_the_greatest_script(server)), ("door", wrong_at_the_greatest_door(server)),
+                        ("words", wrong_at_the_greatest_words(client))):
         passed, failed = passed + (not wrong), failed + bool(wrong)
         print(f"the greatest {name}: {wrong or 'no memory is told'}")
     print(f"{passed} passed, {failed} failed")

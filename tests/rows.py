@@ -125,7 +125,7 @@ def again_of(file):
 
 
 def struck_again(file, probe, steps, found, index, shim, number):
-    """What is wrong once the event that was refused memory was made again."""
+    """What is made again of the event that was refused memory, and what is wrong once it was."""
     events = [step.event for step in steps]
     opening = max(at for at, event in enumerate(events[: index + 1]) if event.startswith("= "))
     asking = dict.fromkeys(it for it in events[opening:] if it.split(" ")[0] in looks_of(file))
@@ -145,7 +145,7 @@ def struck_again(file, probe, steps, found, index, shim, number):
     wrong += differences(lines[index + 1 + len(looks) : behind], step.meanwhile)
     judge = getattr(file.layer(), "struck", lambda step, line, again, line_again: [])
     wrong += judge(step, lines[index], again, lines[behind])
-    return wrong + differences(rest, steps)
+    return again, wrong + differences(rest, steps)
 
 
 def refuse_each(file, shim):
@@ -160,10 +160,11 @@ def refuse_each(file, shim):
         if not ran.refused:
             return count, wrong, calls
         index = next((at for at, (line, before) in enumerate(zip(ran.lines, usual)) if line != before), None)
-        # where every row tells what it tells with memory, the refusal was made up for
-        calls[MADE_UP_FOR if index is None else file.layer().refused(events[index], ran.lines[index])] += 1
-        if index is not None:
-            found = struck_again(file, probe, steps, ran.lines, index, shim, first + count)
+        if index is None:
+            calls[MADE_UP_FOR] += 1
+        else:
+            again, found = struck_again(file, probe, steps, ran.lines, index, shim, first + count)
+            calls[file.layer().refused(events[index], ran.lines[index], again)] += 1
             told = [] if MEMORY.search(ran.lines[index]) else [f"{events[index][:120]}: no memory is told: {ran.lines[index][:120]}"]
             wrong += [f"allocation {count + 1}: {text}" for text in told + found]
         count += 1
@@ -179,12 +180,13 @@ def refuse(file, shim):
     return count, wrong, calls
 
 
-def untold(calls):
-    """What the table does not tell of the refusals of each call, or tells besides."""
+def untold(calls, is_program=False):
+    """What the table does not tell of the refusals of each call, or tells besides: of those in the programs, or of all others."""
     _, _, behind = TABLE.read_text(encoding="utf-8").partition(BEGINS + "\n")
-    told = behind.split("\n\n")[0].splitlines()[1:]
+    told = [it for it in behind.split("\n\n")[0].splitlines()[1:] if (", in `coap-" in it) == is_program]
     wanted = [f"| {call} | {count} | {left} |" for (call, left), count in sorted(calls.items())]
-    return [f"there is no line {it}" for it in wanted if it not in told] + [f"nobody tells {it}" for it in told if it not in wanted]
+    lines = [f"there is no line {it}" for it in wanted if it not in told] + [f"nobody tells {it}" for it in told if it not in wanted]
+    return [f"{TABLE.name}: {it}" for it in lines]
 
 
 def compiled_shim(room):
@@ -210,7 +212,7 @@ def main(words):
     if shim and not named:
         wrong = untold(calls)
         failed += len(wrong)
-        print(*(f"{TABLE.name}: {text}" for text in wrong), sep="\n")
+        print("".join(f"{text}\n" for text in wrong), end="")
     print(f"{max(count - failed, 0)} passed, {failed} failed")
     return 1 if failed else 0
 

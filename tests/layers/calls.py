@@ -28,6 +28,6 @@ def struck(step, line, again, line_again):
     return [] if f"{int(before) + int(count)} {handled}" == step.wanted else [f"{again}: {line_again}"]
 
 
-def refused(event, line):
-    """The call that was refused memory, and what is left."""
-    return serve.CALLS["in"] if event.startswith("take ") else serve.refused(event, line)
+def refused(event, line, again):
+    """The call that was refused memory, and what is left, of which this is made again."""
+    return ("`Server::take`", serve.BUT_THE_LAST) if event.startswith("take ") else serve.refused(event, line, again)

@@ -3,9 +3,9 @@ first row, and written.
 
 The events: `take BYTES`, `send METHOD TARGET` and `cancel TOKEN TARGET` with words of what is asked for (`observe`, `plain`, `format:N`,
 `accept:N`, `option:N:BYTES`, `payload:BYTES`), `ping custody` or `ping plain`, `written COUNT`, `end` and `look`. `times N EVENT` makes an
-event so often, and each must give a token; `{9*a}` in a target stands for 9 times `a`. What is told is the event's answer, or `-`, and then the phase, how much is outstanding, and
-the bytes that wait; these are then written, but not where `keep` stands before the event. Numbers and texts of faults are compared
-where a row has them.
+event so often, and each must give a token; `{9*a}` in a target stands for 9 times `a`. What is told is the event's answer, or `-`, and
+then the phase, how much is outstanding, and the bytes that wait; these are then written, but not where `keep` stands before the event.
+Numbers and texts of faults are compared where a row has them.
 """
 
 import re
@@ -92,6 +92,6 @@ def steps(opening, rows):
             yield step(row)
 
 
-def refused(event, line):
-    """The call that was refused memory, and what is left."""
+def refused(event, line, again):
+    """The call that was refused memory, and what is left, of which this is made again."""
     return ("`Client::open`", "nothing") if event.startswith("= ") else ("`Target::read`", "nothing, and the client as before")

@@ -53,6 +53,6 @@ def steps(opening, rows):
             yield Step(spelled(event).removesuffix(" -"), spelled(wanted))
 
 
-def refused(event, line):
-    """The call that was refused memory, and what is left."""
+def refused(event, line, again):
+    """The call that was refused memory, and what is left, of which this is made again."""
     return "`Framer::new`", "nothing"

@@ -81,6 +81,6 @@ def steps(opening, rows):
         yield Step(event_of(event), wanted_of(wanted))
 
 
-def refused(event, line):
-    """The call that was refused memory, and what is left."""
+def refused(event, line, again):
+    """The call that was refused memory, and what is left, of which this is made again."""
     return "`Link::open`", "nothing"

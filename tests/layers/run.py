@@ -58,6 +58,6 @@ def steps(opening, rows):
         yield Step(event_of(event), wanted_of(wanted), told_as(wanted))
 
 
-def refused(event, line):
-    """The call that was refused memory, and what is left."""
+def refused(event, line, again):
+    """The call that was refused memory, and what is left, of which this is made again."""
     return ("`run_client`", "nothing written") if "Memory" in line else ("`client_words`", "nothing")

@@ -30,6 +30,6 @@ def steps(opening, rows):
         yield Step(event_of(event), re.sub(r"'([^']*)'", lambda text: text[1].encode().hex(), repeated(wanted)), told)
 
 
-def refused(event, line):
-    """The call that was refused memory, and what is left."""
+def refused(event, line, again):
+    """The call that was refused memory, and what is left, of which this is made again."""
     return "`script`", "nothing"

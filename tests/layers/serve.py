@@ -112,19 +112,19 @@ def struck(step, line, again, line_again):
     return [] if line_again.strip() == step.wanted else [f"{again}: {line_again}"]
 
 
-# The calls of events that may be refused memory, and what is left of each: of all others the line alone asks for memory.
-CALLS = {"open": ("`Server::open`", "the server as before"), "in": ("`Server::take`", "the bytes before the message's last, and nothing of it handled"),
-         "put": ("`Server::put`", "the server as before")}
+AS_BEFORE = "the server as before"
+BUT_THE_LAST = "the bytes before the message's last, and nothing of it handled"
 
 
-def refused(event, line):
-    """The call that was refused memory, and what is left."""
+def refused(event, line, again):
+    """The call that was refused memory, and what is left, of which this is made again."""
     if event.startswith("= "):
         return "`Server::new`", "nothing"
-    number = line.rpartition("memory ")[2].strip()
-    if not number.isdigit():
+    if not line.rpartition("memory ")[2].strip().isdigit():
         return "`script`", "nothing"
-    parts = event.split("|")
-    if len(parts) > 1:
+    word = event.split(" ")[0]
+    if "|" in event:
         return "`Server::replay` of several events", "what the events before it did, and their lines"
-    return CALLS.get(event.split(" ")[0], ("`Server::replay`, for a line", "the server as before"))
+    if word == "in" and again != event:
+        return "`Server::replay` of an `in` that stores", BUT_THE_LAST
+    return f"`Server::replay` of {f'`{word}`' if word in ('open', 'put') else 'another event, for its line'}", AS_BEFORE

@@ -244,6 +244,6 @@ def struck(step, line, again, line_again):
     return []
 
 
-def refused(event, line):
-    """The call that was refused memory, and what is left."""
+def refused(event, line, again):
+    """The call that was refused memory, and what is left, of which this is made again."""
     return "`serve_one`", "a front of what it reads and writes with memory"

@@ -200,8 +200,8 @@ def steps(opening, rows):
 CALLS = {"make": "`Store::apply`", "put": "`Store::put`"}
 
 
-def refused(event, line):
-    """The call that was refused memory, and what is left."""
+def refused(event, line, again):
+    """The call that was refused memory, and what is left, of which this is made again."""
     if event.startswith("= "):
         return "`Store::new`", "nothing"
     return CALLS[event.split(" ")[0]], "the store as before"

@@ -54,6 +54,6 @@ def steps(opening, rows):
         yield Step(repeated(text), repeated(wanted), told_as(wanted))
 
 
-def refused(event, line):
-    """The call that was refused memory, and what is left."""
+def refused(event, line, again):
+    """The call that was refused memory, and what is left, of which this is made again."""
     return "`Target::read`", "nothing"

@@ -52,6 +52,6 @@ def steps(opening, rows):
             yield Step(repeated(event).strip(), repeated(wanted), told_as(wanted))
 
 
-def refused(event, line):
-    """The call that was refused memory, and what is left."""
+def refused(event, line, again):
+    """The call that was refused memory, and what is left, of which this is made again."""
     return f"`{event.partition(' ')[0].removesuffix('-text')}_words`", "nothing"
