@@ -32,9 +32,11 @@ test:
 edits:
 	tests/edits.py --all $(CRATES)
 
-# All 16,777,216 streams of three bytes, of which the gate plays a quarter: some minutes of all processors.
+# What takes too long for the gate: all 16,777,216 streams of three bytes, of which it plays a quarter, in some minutes of all processors;
+# and the proved tests that must pass with each allocation refused, in about an hour.
 faults: bin/coap-server
 	tests/bytes.py bin/coap-server --all
+	tests/fail_alloc.py
 
 # Measures the server beside libcoap's, then through HAProxy and beside observers that nobody reads, and then counts instructions, copies
 # and memory; draws what it measured anew in docs/pictures. It fails where a target is missed.
