@@ -380,6 +380,42 @@ fn serves_each_wire(rt: HostRuntime) -> Result<(), Fail> {
     play_all(&rt, SERVES_EACH_WIRE)
 }
 
+/// A wire that gives a byte at a time fails, or comes to its end, at each of its reads in turn, and one that takes a byte at a time at each
+/// of its writes; the other one is served.
+const FAILS_AT_EACH_CALL: &str = "= turns 4; 0; all failed | all 00e1010101
++1 1<failed +2 2<5 2>19 +- 2<later +- 2<later
+1 -
+2 40e123010000a14501c0ff'coap+tcp'
+= turns 4; 0; all 00 failed | all 00e1010101
++1 1<1 1>6 +2 1<failed 2<5 2>19 +- 2<later +- 2<later
+1 40e123010000
+2 40e123010000a14501c0ff'coap+tcp'
+= turns 4; 0; all 00 e1 failed | all 00e1010101
++1 1<1 1>6 +2 1<1 2<5 2>19 +- 1<failed 2<later +- 2<later
+1 40e123010000
+2 40e123010000a14501c0ff'coap+tcp'
+= turns 5; 0; all 00 e1 01 end | all 00e1010101
++1 1<1 1>6 +2 1<1 2<5 2>19 +- 1<1 2<later +- 1<end 2<later +- 2<later
+1 40e123010000
+2 40e123010000a14501c0ff'coap+tcp'
+= turns 7; 0; all 00 e1 01 01 01 failed | all 00e1010101
++1 1<1 1>6 +2 1<1 2<5 2>19 +- 1<1 2<later +- 1<1 2<later +- 1<1 1>13 2<later +- 1<failed 2<later +- 2<later
+1 40e123010000a14501c0ff'coap+tcp'
+2 40e123010000a14501c0ff'coap+tcp'
+= turns 3; 0; one,failed 00e1010101 | all 00e1010101
++1 1<5 1>19:1 +2 1<later 1>failed 2<5 2>19 +- 2<later
+1 40
+2 40e123010000a14501c0ff'coap+tcp'
+= turns 4; 0; one,one,end 00e1010101 | all 00e1010101
++1 1<5 1>19:1 +2 1<later 1>18:1 2<5 2>19 +- 1<later 1>end 2<later +- 2<later
+1 40e1
+2 40e123010000a14501c0ff'coap+tcp'";
+
+#[test]
+fn fails_at_each_call(rt: HostRuntime) -> Result<(), Fail> {
+    play_all(&rt, FAILS_AT_EACH_CALL)
+}
+
 /// The end comes within a message, behind a request, and at once; the peer releases, with nothing pending and with an answer
 /// held for 1 s; a message stops the connection, and the one behind it is not looked at. Nothing is read then.
 const DROPS_WHAT_IS_FINISHED: &str = "= turns 4; 0; all 00e13101 end 00
