@@ -16,7 +16,7 @@ use Rattle.coap_client.specs.Targets.{TargetValue}
 use Rattle.coap_client.specs.RunCourse.{own_limits}
 use Rattle.coap_client.proofs.ClientSteps.{rest_unfinished}
 use Rattle.coap_client.proofs.ClientReached.{accepted_is}
-use Rattle.coap_client.proofs.FrontLaws.{front_framing}
+use Rattle.coap_frame.proofs.FrontLaws.{front_framing}
 
 -- ---- something is taken of what is not empty
 
