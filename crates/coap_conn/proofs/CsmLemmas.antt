@@ -21,14 +21,6 @@ no_number : (r : Option CoapOption) → option_map (λ (o : CoapOption). o.numbe
 no_number None e = refl
 no_number (Some o) e = let bad : ◌≡◌ {A = Option ℕ} (Some o.number) None = e in absurd cc
 
--- a value of at most 4 bytes is a number, and a longer one is none
-pub long_is_no_number : (o : CoapOption) (bytes : Option ℕ) → (length o.value ≤ 4 → bytes ≡ Some (uint_of o.value)) → (4 < length o.value → bytes ≡ None) → is_none bytes ≡ is_long (Some o)
-long_is_no_number o bytes within above =
-    elim (cases_lt 4 (length o.value)) [
-      | inl long ↦ rw (above long, lt-ltb 4 (length o.value) long) refl
-      | inr short ↦ rw (within short, le-ltb 4 (length o.value) short) refl
-    ]
-
 -- where no option may not be there, the first Max-Message-Size is a number
 pub announced_is : (m : Message) (o : CoapOption) (bytes : Option ℕ) → first_size m ≡ Some o → (length o.value ≤ 4 → bytes ≡ Some (uint_of o.value)) → (4 < length o.value → bytes ≡ None)
     → option_map (λ (p : CoapOption). p.number) (find (is_bad (is_none bytes)) m.options) ≡ None → bytes ≡ option_map (λ (p : CoapOption). uint_of p.value) (first_size m)
