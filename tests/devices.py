@@ -16,10 +16,9 @@ import tempfile
 import threading
 
 import rows
-from peers import free_port
+from peers import free_port, line_of
 from program import CSM, GREETING, Checks
 from refused import ASKED, ASKING, HOST, LIMIT, LINES, SCRIPT, SERVER_HOST, answer, received
-from sockets import line_of
 
 # What a peer asks, and what it is answered.
 HELLO, ANSWERED = bytes.fromhex("00e1" "010101" "01e202"), bytes.fromhex(CSM + "a14501" + GREETING + "01e302")

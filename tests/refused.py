@@ -21,9 +21,8 @@ from concurrent.futures import ThreadPoolExecutor
 from dataclasses import dataclass
 
 import rows
-from peers import free_port
+from peers import free_port, line_of
 from program import CSM, GREETING
-from sockets import line_of
 from spelling import encoded
 
 # Where the clients' peers listen, and where the servers do, so that no peer takes the port that was free for a server.

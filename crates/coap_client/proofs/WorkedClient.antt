@@ -86,7 +86,7 @@ response code token = record { code = code; token = token; options = []; payload
 
 -- ---- a life
 
--- the own Capabilities and Settings were written
+-- our Capabilities and Settings were written
 abbrev drained : List ClientCall
 drained = Wrote 5 ∷ []
 

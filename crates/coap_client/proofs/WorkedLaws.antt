@@ -69,7 +69,7 @@ third_refused = refl
 abbrev narrow : LimitValues
 narrow = record limits { queue = 1152 }
 
--- nothing is taken while the own Capabilities and Settings wait
+-- nothing is taken while our Capabilities and Settings wait
 none_taken : takes narrow 0 [] (0 ∷ 225 ∷ []) ≡ 0
 unfolding bytes_computed calls_computed
 none_taken = refl

@@ -1,4 +1,4 @@
--- What a run of a client promises: the course that it took, by what its devices tell (own definition).
+-- What a run of a client promises: the course that it took, by what its devices tell (our definition).
 use Rattle.std.specs.Prelude.{◌≡◌, ◌≢◌, ◌≤◌, ℕ, true, ◌⊎◌, List, [], ◌++◌, Option, Some, None, Result, option_map, IfOk}
 use Rattle.coap_conn.specs.History.{History}
 use Rattle.coap_conn.specs.LinkValue.{bytes_of}

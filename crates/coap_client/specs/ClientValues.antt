@@ -35,7 +35,7 @@ pub record ClientValue : Type 0 where
 abbrev pub client_max : ClientValue → ℕ
 client_max v = v.link.limits.max_message
 
--- a new client, whose own Capabilities and Settings wait; the first token is that of the number behind this one
+-- a new client, on which our Capabilities and Settings wait; the first token is that of the number behind this one
 abbrev pub new_client : LimitValues → ℕ → ClientValue
 new_client limits tokens = record { frame = []; link = new_link Client limits tokens }
 

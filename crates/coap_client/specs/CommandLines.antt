@@ -1,4 +1,4 @@
--- What the words of a command line come to, whatever the program (own definition). The crate `clap` finds the options and
+-- What the words of a command line come to, whatever the program (our definition). The crate `clap` finds the options and
 -- their texts; what the texts mean stands here.
 use Rattle.std.specs.Prelude.{◌∷◌, [], ℕ, Bool, true, false, List, drop, Option, Some, None, Result, Ok, Err, slice_get, codes, bytes_eq, if◌then◌else◌}
 use Rattle.std.specs.Borrow.{Bor}

@@ -1,4 +1,4 @@
--- The texts that a run of the client writes, each line ended by a newline, with decimal numbers (own definition).
+-- The texts that a run of the client writes, each line ended by a newline, with decimal numbers (our definition).
 use Rattle.std.specs.Prelude.{ℕ, ◌+◌, ◌/◌, ◌%◌, Bool, List, [], ◌∷◌, ◌++◌, codes, decimal, if◌then◌else◌}
 use Rattle.coap_wire.specs.Codes.{class_of, detail_of}
 use Rattle.coap_conn.specs.Reasons.{reason_number}

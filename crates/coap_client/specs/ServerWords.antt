@@ -1,4 +1,4 @@
--- What the words behind the name of the program `coap-server` ask for (own definition).
+-- What the words behind the name of the program `coap-server` ask for (our definition).
 use Rattle.std.specs.Prelude.{◌∷◌, [], ℕ, Bool, true, false, List, Option, Some, None, Result, Ok, Err, codes}
 use Rattle.std.specs.Net.Reader.{read_ipv4, read_ipv6, whole_value}
 use Rattle.std.specs.declared.net.ip_addr.IpAddr.{IpAddr}

@@ -119,7 +119,7 @@ impl Client {
     ghost use Rattle.coap_client.specs.EventViews.{taken_event};
     ghost use Rattle.coap_client.specs.contracts.client.Client.{the_row};
 
-    /// A new client with these limits, whose own Capabilities and Settings wait. All its room is reserved here. The first token that it
+    /// A new client with these limits, on which our Capabilities and Settings wait. All its room is reserved here. The first token that it
     /// gives is that of the number behind `tokens_from`.
     ///
     /// # Errors

@@ -30,7 +30,7 @@ pub fn tokens_are_given_once()
     ensures { (limits : LimitValues) (tokens : ℕ) (calls : List ClientCall) → AreAccepted limits tokens calls → AreDifferent (tokens_given limits tokens calls) }
 {}
 
-/// What each step queues is at most as great as the peer takes at that moment, and as the own greatest message.
+/// What each step queues is at most as great as the peer takes at that moment, and as our greatest message.
 pub fn what_is_queued_fits()
     ensures { (h : History) (s : ClientStep) → (more : List Message) × ((step h s).queued ≡ h.queued ++ more) × AllFit (limit_now h) more }
 {}

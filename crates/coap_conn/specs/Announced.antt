@@ -57,6 +57,6 @@ base_size = 1152
 unfoldable pub announced : List Message → ℕ
 announced ms = last_or base_size (filter_map announcement ms)
 
--- the greatest message that may be sent: within what the peer takes and the own greatest one
+-- the greatest message that may be sent: within what the peer takes and our greatest one
 abbrev pub size_limit : ℕ → ℕ → ℕ
 size_limit max_sent peer_max = min max_sent peer_max

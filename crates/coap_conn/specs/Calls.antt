@@ -16,7 +16,7 @@ use Rattle.coap_conn.specs.Reaction.{Standing, Effect, stop, abort, send, react,
 use Rattle.coap_conn.specs.LinkValue.{LinkValue, can_hold, standing_in, asking_in, bytes_of, link_with, link_heard}
 
 -- A call, with what it is handed: a message that came is handled; the bytes behind the messages have a fault; the input ends, within a
--- frame where it was cut; a response is sent; an answer is held until its moment; what is due first at a moment is taken out; the own end
+-- frame where it was cut; a response is sent; an answer is held until its moment; what is due first at a moment is taken out; our end
 -- releases the connection; a request is sent, which asks for an observation or not; an observation is cancelled by a message; a Ping is
 -- sent, with Custody or not; so many bytes were written.
 pub data Call : Type 0 where
@@ -64,7 +64,7 @@ release = record { code = code.release; token = []; options = []; payload = [] }
 abbrev pub standing_due : ℕ → Standing → Standing
 standing_due now s = record s { held = without_due now s.held }
 
--- a message of the own is sent as it fits, or less of it, where any is sent
+-- a message of ours is sent as it fits, or less of it, where any is sent
 abbrev pub sends_one : LinkValue → Message → Message → Doing
 sends_one v m less = where_so (answers v.phase) (Does (send (standing_in v) m less))
 

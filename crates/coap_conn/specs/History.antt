@@ -26,12 +26,12 @@ pub record History : Type 0 where
   pub outstanding : List OutstandingValue
   pub tokens : ℕ
 
--- the connection begins with the own Capabilities and Settings
+-- the connection begins with our Capabilities and Settings
 abbrev pub new_history : Role → LimitValues → ℕ → History
 new_history role limits tokens =
     record { role = role; limits = limits; handled = []; queued = own_csm limits.max_message ∷ []; written = 0; phase = Waiting; held = []; outstanding = []; tokens = tokens }
 
--- the own Capabilities and Settings are the first message queued
+-- our Capabilities and Settings are the first message queued
 abbrev pub AnnouncedFirst : History → Type 0
 AnnouncedFirst h = (others : List Message) × (h.queued ≡ own_csm h.limits.max_message ∷ others)
 
@@ -91,7 +91,7 @@ done h d = if d.so then with_deed h d.deed else h
 abbrev pub after : History → Call → History
 after h c = done h (doing (link_of h) c)
 
--- a message of the own was sent as it fits, or less of it, where any is sent
+-- a message of ours was sent as it fits, or less of it, where any is sent
 abbrev pub after_send : History → Message → Message → History
 after_send h m less = done h (sends_one (link_of h) m less)
 

@@ -75,11 +75,11 @@ asking_in v = record { phase = v.phase; outstanding = v.outstanding; most = v.li
 abbrev pub bytes_of : List Message → List ℕ
 bytes_of ms = flat_map spelling ms
 
--- the own Capabilities and Settings: Max-Message-Size, and nothing else (RFC 8323 section 5.3)
+-- our Capabilities and Settings: Max-Message-Size, and nothing else (RFC 8323 section 5.3)
 abbrev pub own_csm : ℕ → Message
 own_csm M = record { code = code.csm; token = []; options = record { number = option.max_message_size; value = bytes_of_uint M } ∷ []; payload = [] }
 
--- a new link: the own Capabilities and Settings wait
+-- a new link: our Capabilities and Settings wait
 abbrev pub new_link : Role → LimitValues → ℕ → LinkValue
 new_link role limits tokens =
     record { role = role; limits = limits; waiting = bytes_of (own_csm limits.max_message ∷ []); phase = Waiting; peer_max = base_size; held = []; outstanding = []; tokens = tokens }

@@ -56,7 +56,7 @@ stop s why farewell = record { queued = farewell; phase = phase.Stopped why; hel
 abbrev pub abort : Standing → Reason → Effect
 abort s why = stop s why (abort_fitted s.limit (abort_of why))
 
--- a message of the own that was made to fit, or that stops the connection
+-- a message of ours that was made to fit, or that stops the connection
 abbrev pub send_as : Standing → Message → Message → Reply → Effect
 send_as s m less reply.Whole = record (stay s) { queued = m ∷ [] }
 send_as s m less reply.Bare = record (stay s) { queued = less ∷ [] }

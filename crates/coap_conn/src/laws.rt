@@ -30,7 +30,7 @@ pub fn last_announcement_counts()
     ensures last { (before after : List Message) (m : Message) (n : ℕ) → announcement m ≡ Some n → AllByRecursion (λ m. announcement m ≡ None) after → announced (before ++ m ∷ after) ≡ n }
 {}
 
-/// Whatever is queued is at most as great as the peer takes at that moment, and as the own greatest message.
+/// Whatever is queued is at most as great as the peer takes at that moment, and as our greatest message.
 pub fn what_is_queued_fits()
     ensures new { (role : Role) (limits : LimitValues) (tokens : ℕ) → AreInRange limits → AllFit (limit_now (new_history role limits tokens)) (new_history role limits tokens).queued }
     ensures message { (h : History) (m : Message) → AllFit (limit_now h) (react (standing_now h) m).effect.queued }
@@ -42,7 +42,7 @@ pub fn what_is_queued_fits()
     ensures cancelled { (h : History) (token : List ℕ) (m : Message) → cancel_refusal (asking_now h) token m ≡ None → AllFit (limit_now h) (m ∷ []) }
 {}
 
-/// The own Capabilities and Settings are the first message queued, and stay so, whatever happens (RFC 8323 section 5.3).
+/// Our Capabilities and Settings are the first message queued, and stay so, whatever happens (RFC 8323 section 5.3).
 pub fn own_announcement_comes_first()
     ensures new { (role : Role) (limits : LimitValues) (tokens : ℕ) → AnnouncedFirst (new_history role limits tokens) }
     ensures call { (h : History) (c : Call) → AnnouncedFirst h → AnnouncedFirst (after h c) }

@@ -102,7 +102,7 @@ impl Limits {
         })
     }
 
-    /// The bytes of the greatest message taken, which is the own Max-Message-Size.
+    /// The bytes of the greatest message taken, which is our Max-Message-Size.
     pub fn max_message(&self) -> usize
         ensures value { result ≡ self.now.max_message }
         ensures ranges { AreInRange self.now }

@@ -54,7 +54,7 @@ impl Link {
     ghost use Rattle.coap_conn.specs.Calls as call;
     ghost use Rattle.coap_conn.specs.contracts.link.Link.{the_row};
 
-    /// A new connection, with the own Capabilities and Settings queued. The room of its queue, of what it holds and of what is
+    /// A new connection, with our Capabilities and Settings queued. The room of its queue, of what it holds and of what is
     /// outstanding is reserved here. The first token that it gives is the number after `tokens_from`.
     ///
     /// # Errors

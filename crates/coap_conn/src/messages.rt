@@ -17,7 +17,7 @@ use coap_wire::{Code, MessageBuilder, Token, uint_bytes};
 /// Bad-CSM-Option, an option of Abort (RFC 8323 section 5.6).
 const BAD_CSM_OPTION: u16 = 2;
 
-/// Queues the own Capabilities and Settings: Max-Message-Size, and nothing else (RFC 8323 section 5.3).
+/// Queues our Capabilities and Settings: Max-Message-Size, and nothing else (RFC 8323 section 5.3).
 pub(crate) fn announce(queue: &mut OutQueue, max_message: usize)
     requires { 24 ≤ free_of queue.old }
     ensures csm { queue.new ≡ record queue.old { waiting = queue.old.waiting ++ bytes_of (own_csm max_message ∷ []) } }

@@ -105,7 +105,7 @@ pub enum Reply {
 pub enum Reject {
     /// A frame that spells no message.
     Format,
-    /// A frame of more bytes than the own Max-Message-Size.
+    /// A frame of more bytes than our Max-Message-Size.
     TooLarge,
     /// A token length above 8.
     TokenLength,
@@ -161,7 +161,7 @@ pub enum RequestFault {
     /// As many are outstanding as may be.
     #[error("as many requests as may be are outstanding")]
     TooMany = 2,
-    /// The message is greater than what the peer takes, or than the own greatest message.
+    /// The message is greater than what the peer takes, or than our greatest message.
     #[error("the message is greater than what may be sent")]
     TooBig = 3,
     /// The queue has no room for the message.

@@ -8,7 +8,7 @@ ghost use Rattle.coap_conn.specs.Reasons.{reason_number};
 pub enum Reason {
     /// 1: a frame that spells no message (RFC 8323 section 3.2).
     Format,
-    /// 2: a frame of more bytes than the own Max-Message-Size (RFC 8323 section 5.3.1).
+    /// 2: a frame of more bytes than our Max-Message-Size (RFC 8323 section 5.3.1).
     TooLarge,
     /// 3: a token length above 8 (RFC 8323 section 3.2).
     TokenLength,

@@ -47,7 +47,7 @@ pub enum Event {
         /// The connection's number.
         connection: u64,
     },
-    /// The own Release is sent on a connection.
+    /// Our Release is sent on a connection.
     Release {
         /// The connection's number.
         connection: u64,

@@ -152,7 +152,7 @@ pub fn custody_comes_last()
 {}
 
 /// What is held is lost by nothing: it stays in its place over each message, which adds at most one entry behind it that it asks for,
-/// over a fault, the end of input, the own Release and what was written, and while observers are told, unless the connection stops; and
+/// over a fault, the end of input, our Release and what was written, and while observers are told, unless the connection stops; and
 /// where something held is due first and there is room, exactly this is held no more: an answer is sent as it fits the peer, a Pong is
 /// queued with Custody as it fits. So, by `custody_comes_last`, an answer that is held before a Pong with Custody is queued before it,
 /// unless the connection stops.

@@ -64,7 +64,7 @@ struct Turn {
     stop: Option<Reason>,
 }
 
-/// Serves one connection: writes the own Capabilities and Settings, then reads pieces of at most 4,096 bytes and writes
+/// Serves one connection: writes our Capabilities and Settings, then reads pieces of at most 4,096 bytes and writes
 /// the answer to each message before it looks at the next one (RFC 8323 sections 3.3, 5.3, 5.4). It runs one `Server`, which has
 /// this connection alone: requests are answered from a store in which nothing is stored at first, at the moment at which the
 /// configuration starts (RFC 7252 section 5.8), and observers are notified (RFC 7641).

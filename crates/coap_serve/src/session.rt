@@ -79,7 +79,7 @@ impl Session {
     ghost use Rattle.coap_serve.specs.values.Entries.{settled_held};
     ghost use Rattle.coap_serve.specs.contracts.session.Session.{the_row};
 
-    /// A new connection with these limits, whose own Capabilities and Settings wait. All its room is reserved here.
+    /// A new connection with these limits, on which our Capabilities and Settings wait. All its room is reserved here.
     ///
     /// # Errors
     ///

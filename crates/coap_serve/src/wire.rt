@@ -19,7 +19,8 @@ pub enum Got {
     Failed,
 }
 
-/// One connection of a transport that gives and takes bytes in order (RFC 8323 section 3), and never waits.
+/// One connection of a transport that gives and takes bytes in order (RFC 8323 section 3). The wires of a door never wait; that of a
+/// client may wait in `read`.
 pub trait Wire {
     /// The bytes that its reads gave so far, in order, where it tells.
     ghost given: { Self → Option (List ℕ) };

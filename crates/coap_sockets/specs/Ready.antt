@@ -26,8 +26,9 @@ woken r e behind_many =
       has_yielded = r.has_yielded;
     }
 
--- After a read with so much room another may give something: not where nothing was there, nor where fewer bytes came than there was room for,
--- which is all that was there, but where the end stands behind them.
+-- Whether another read may give something, after one with so much room. It may not where the system had nothing, or gave fewer bytes
+-- than there was room for: these were all. Where it gave none, the peer has ended, which another read tells again. Where an end or a
+-- failure was told before, it stands behind these bytes. After any other error a read is tried again.
 abbrev pub stays_readable : (at_end : Bool) (room : ℕ) → Result ℕ Error → Bool
 stays_readable at_end room (Ok count) = (count == 0) || not (nat_lt count room) || at_end
 stays_readable at_end room (Err e) = not (is_would_block (error_kind e))

@@ -19,7 +19,7 @@ length_greatest = refl
 option_23 : option_spelling 0 (record { number = 23; value = 6 ∷ [] }) ≡ 0xd1 ∷ 0x0a ∷ 6 ∷ []
 option_23 = refl
 
--- the own CSM with Max-Message-Size 65,536
+-- our CSM with Max-Message-Size 65,536
 own_csm : spelling (record { code = 0xe1; token = []; options = record { number = 2; value = 1 ∷ 0 ∷ 0 ∷ [] } ∷ []; payload = [] }) ≡ 0x40 ∷ 0xe1 ∷ 0x23 ∷ 1 ∷ 0 ∷ 0 ∷ []
 unfolding spelling
 own_csm = refl

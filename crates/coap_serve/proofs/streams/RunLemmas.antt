@@ -49,7 +49,7 @@ pub record RunsOn (c : ConfigValues) (id turns read messages : ℕ) (v : ServerV
   pub messages_are : messages ≡ (outcome c (concat pieces)).messages
   pub text : stdio_output c [] ++ output ≡ stdio_output c (concat pieces)
 
--- what a run that ended did, behind the own Capabilities and Settings
+-- what a run that ended did, behind our Capabilities and Settings
 abbrev pub Ran : ConfigValues → Told → Told → Option (List ℕ) → Option (List ℕ) → Result Report IoFault → Type 0
 Ran c a b x y result = (pieces : List (List ℕ)) × (output : List ℕ) × HasGiven a b pieces × AllByRecursion (λ p. length p ≤ 4096) pieces × AddsBytes x y output × IsStdioRun c pieces (stdio_output c [] ++ output) result
 

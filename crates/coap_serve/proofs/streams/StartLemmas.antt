@@ -96,7 +96,7 @@ module _ (c : ConfigValues) (v : ServerValue) (ranges : AreInRange c.limits) (co
         ),
       )
 
--- a run behind the own Capabilities and Settings
+-- a run behind our Capabilities and Settings
 pub greeted : (c : ConfigValues) (a d : Told) (x y z : Option (List ℕ)) (result : Result Report IoFault) → AddsBytes x y (stdio_output c []) → Ran c a d y z result → (pieces : List (List ℕ)) × (output : List ℕ) × HasGiven a d pieces × AllByRecursion (λ p. length p ≤ 4096) pieces × AddsBytes x z output × IsStdioRun c pieces output result
 greeted c a d x y z result wrote ran = (ran.0, stdio_output c [] ++ ran.1, ran.2, ran.3, bytes_then x y z (stdio_output c []) ran.1 wrote ran.4, ran.5)
 

@@ -247,7 +247,7 @@ cut : Plays usual (opened 1
 unfolding told
 cut = refl
 
--- where the own Capabilities and Settings leave no room for the greatest message, nothing is taken
+-- where our Capabilities and Settings leave no room for the greatest message, nothing is taken
 no_room : Plays (config_with (narrow_limits 65536) 0) (
     Open 1 => Done
     ∷ In 1 (hex "00e1") => Taken 0

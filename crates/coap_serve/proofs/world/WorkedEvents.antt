@@ -34,7 +34,7 @@ takes_part : takes usual (opened ++ Took 1 (hex "00e1") ∷ []) 1 (hex "3101") �
 unfolding told
 takes_part = refl
 
--- Nothing is taken where the own Capabilities and Settings leave no room for the greatest message; drained, there is room.
+-- Nothing is taken where our Capabilities and Settings leave no room for the greatest message; drained, there is room.
 takes_without_room : takes (config_with (narrow_limits 65536) 0) (Opened 1 ∷ []) 1 (hex "00e1") ≡ 0
 unfolding told
 takes_without_room = refl

@@ -1,4 +1,4 @@
--- The events that a script's lines name (own definition).
+-- The events that a script's lines name (our definition).
 use Rattle.std.specs.Prelude.{ℕ, Bool, List, [], ◌∷◌, Option, Some, None, if◌then◌else◌, codes}
 use Rattle.coap_store.specs.Paths.{Path, same_bytes}
 use Rattle.coap_serve.specs.script.Words.{decimal_value, hex_value, payload_value, format_value, path_value}

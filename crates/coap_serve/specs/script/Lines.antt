@@ -1,4 +1,4 @@
--- The lines that are written for events, each ended by a newline, with decimal numbers (own definition).
+-- The lines that are written for events, each ended by a newline, with decimal numbers (our definition).
 use Rattle.std.specs.Prelude.{ℕ, List, [], ◌∷◌, ◌++◌, Option, Some, None, codes, decimal}
 use Rattle.hex.specs.Hex.{encode_lower}
 use Rattle.coap_conn.specs.Reasons.{reason_number}

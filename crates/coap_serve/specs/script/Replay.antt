@@ -1,4 +1,4 @@
--- What the events of a script do to a server, and the lines that they write (own definition).
+-- What the events of a script do to a server, and the lines that they write (our definition).
 use Rattle.std.specs.Prelude.{ℕ, zero, suc, ◌+◌, Bool, false, not, ◌&&◌, List, [], ◌∷◌, ◌++◌, length, take, drop, Option, Some, None, option_map, nat_le, nat_lt, ◌==◌, codes, if◌then◌else◌}
 use Rattle.coap_conn.specs.Phases.{stop_of}
 use Rattle.coap_conn.specs.Reasons.{reason_number}

@@ -1,4 +1,4 @@
--- The words of a script's lines, and the values that they mean (own definition).
+-- The words of a script's lines, and the values that they mean (our definition).
 use Rattle.std.specs.Prelude.{ℕ, Bool, ◌&&◌, ◌==◌, List, [], ◌∷◌, length, map, nat_le, Option, Some, None, if◌then◌else◌, codes}
 use Rattle.std.specs.Char.{is_ascii_digit}
 use Rattle.std.specs.List.{list_all, slice_split}

@@ -78,6 +78,6 @@ outcome_on (Some s) = record { output = bytes_of s.history.queued; messages = le
 unfoldable pub outcome : ConfigValues → List ℕ → Outcome
 outcome c bytes = outcome_on (side_for c bytes)
 
--- all that is written for these bytes: the own Capabilities and Settings, and whatever each message and the fault bring about
+-- all that is written for these bytes: our Capabilities and Settings, and whatever each message and the fault bring about
 abbrev pub stdio_output : ConfigValues → List ℕ → List ℕ
 stdio_output c bytes = (outcome c bytes).output

@@ -99,7 +99,7 @@ frame_on l frame = if takes_messages l.phase then frame else []
 abbrev pub session_with : List ℕ → LinkValue → List ObserverValue → SessionValue
 session_with frame l observers = record { frame = frame_on l frame; link = l; observers = observers_on l observers }
 
--- a new connection, whose own Capabilities and Settings wait
+-- a new connection, on which our Capabilities and Settings wait
 abbrev pub new_session : LimitValues → SessionValue
 new_session limits = record { frame = []; link = new_link Server limits 0; observers = [] }
 

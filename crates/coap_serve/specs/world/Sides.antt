@@ -127,7 +127,7 @@ is_cut rest = nat_lt 0 (length rest)
 unfoldable pub side_ended : Side → Bool → Side
 side_ended s cut = with_history s (after s.history (call.End cut))
 
--- the own end released the connection
+-- our end released the connection
 unfoldable pub side_released : Side → Side
 side_released s = if is_none (release_refusal (link_of s.history)) then with_history s (after s.history call.Release) else s
 

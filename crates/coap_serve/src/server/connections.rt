@@ -22,7 +22,7 @@ impl Server {
         self.sessions.len() < self.config.connections() && self.ids < u64::MAX
     }
 
-    /// Opens a connection, whose own Capabilities and Settings wait, and answers its number: one more than the last one.
+    /// Opens a connection, on which our Capabilities and Settings wait, and answers its number: one more than the last one.
     ///
     /// # Errors
     ///
