@@ -73,8 +73,8 @@ course_taken plan (Begins moment) is = refl
 course_taken plan (Turns before moment) is = course_taken plan before is.0
 course_taken plan (Reads before got bytes) is =
     given_same (calls_in before) (calls_in before ++ calls_read got) (given_in before ++ bytes) bytes
-    (given_read (calls_in before) (given_in before) (rest_in before) bytes (course_taken plan before is.0) is.2) (read_taken (calls_in before) got)
-course_taken plan (Calls before (Took bytes)) is = given_taken (calls_in before) (given_in before) (rest_in before) bytes _ (course_taken plan before is.0) is.2
+    (given_read (calls_in before) (given_in before) (rest_in before) bytes (course_taken plan before is.0) is.3) (read_taken (calls_in before) got)
+course_taken plan (Calls before (Took bytes)) is = given_taken (calls_in before) (given_in before) (rest_in before) bytes _ (course_taken plan before is.0) is.2.1
 course_taken plan (Calls before (Sent method target extras)) is =
     given_same (calls_in before) (calls_in before ++ Sent method target extras ∷ []) (given_in before) (rest_in before) (course_taken plan before is.0) (taken_none (calls_in before) (Sent method target extras) refl)
 course_taken plan (Calls before (Cancelled token target extras)) is =

@@ -21,8 +21,8 @@ use Rattle.coap_client.specs.ClientValues.{ClientValue, EventValue, client_takes
 use Rattle.coap_client.specs.ClientValues as value
 use Rattle.coap_client.specs.ClientWorld.{ClientCall, Took, Sent, Cancelled, client_of, takes, event_of, AreAccepted, ClientShows}
 use Rattle.coap_client.specs.RunSteps.{may_take, is_to_ask, is_to_cancel, has_passed, late, watched, planned_extras, asking_refusal, cancelling_refusal, client_asking, client_cancelling, token_asking, cancelled_at, ended_by, refusal_text, status_told, first_told, output_told, errors_told, calls_read, calls_written, client_read, stop_behind, stop_written, unless_refused}
-use Rattle.coap_client.specs.RunCourse.{Course, Begins, Turns, Reads, Calls, Refuses, GivesUp, Rests, Writes, own_limits, calls_in, client_in, phase_in, waiting_in, event_in, token_in, moments_in, turns_in, moment_in, started_in, first_in, cancelled_in, waits_since, since_in, is_late_since, is_late, is_overdue_since, is_overdue, is_cancel_due, answers_in, given_in, rest_in, written_in, stop_read, status_stopped, stop_text, or_then, status_in, output_in, errors_in, has_looked, has_refused, IsAskedWhereDue, IsCancelledWhereDue, IsTakenUp, IsPlanned, IsRefused, IsDone, IsResting, IsBetween, IsCourse}
-use Rattle.coap_client.specs.ClientRun.{Seen, seen, IsTold, token_of, Stands, LeadsOn, IsFresh, IsAsked, IsTaken, IsHeard, IsFinished, IsFlushed, most_turns, IsOutOfTurns, IsClientRun}
+use Rattle.coap_client.specs.RunCourse.{Course, Begins, Turns, Reads, Calls, Refuses, GivesUp, Rests, Writes, own_limits, calls_in, client_in, phase_in, waiting_in, event_in, token_in, moments_in, turns_in, moment_in, started_in, first_in, cancelled_in, waits_since, since_in, is_late_since, is_late, is_overdue_since, is_overdue, is_cancel_due, answers_in, given_in, rest_in, written_in, stop_read, status_stopped, stop_text, or_then, status_in, output_in, errors_in, has_looked, has_refused, IsAskedWhereDue, IsCancelledWhereDue, IsTakenUp, IsFresh, IsPlanned, IsRefused, HasWaited, IsDone, IsResting, IsBetween, MayWrite, IsCourse}
+use Rattle.coap_client.specs.ClientRun.{Seen, seen, IsTold, token_of, Stands, LeadsOn, IsAsked, IsTaken, IsHeard, IsFinished, IsFlushed, most_turns, IsEnded, IsOutOfTurns, IsClientRun}
 use Rattle.coap_client.specs.declared.plan.ClientPlan.{ClientPlan}
 use Rattle.coap_client.specs.declared.run.Run.{Run}
 use Rattle.coap_client.proofs.CourseLaws.{course_taken, course_queued}
@@ -118,9 +118,9 @@ rests_stand stands done = record {
   told = record { given = stands.told.given; written = stands.told.written; answers = stands.told.answers; moments = stands.told.moments; out = stands.told.out; err = stands.told.err };
 }
 
-given_up_stand : {plan : ClientPlan} {start now : Seen} {r : Run} {c : Course} → Stands plan start now r c → status_in c ≡ None → is_late plan c ≡ true → Stands plan start now r (GivesUp c)
-given_up_stand stands goes late = record {
-  follows = (stands.follows, goes, late);
+given_up_stand : {plan : ClientPlan} {start now : Seen} {r : Run} {c : Course} → Stands plan start now r c → status_in c ≡ None → HasWaited plan c → Stands plan start now r (GivesUp c)
+given_up_stand stands goes waited = record {
+  follows = (stands.follows, goes, waited);
   shows = stands.shows;
   limits = stands.limits;
   rest = stands.rest;
@@ -174,7 +174,7 @@ module _ (plan : ClientPlan) (start now : Seen) (r : Run) (c : Course) (stands :
   -- ---- a take
 
   module _ (r' : Run) (o e : Option (List ℕ))
-      (goes : status_in c ≡ None)
+      (goes : status_in c ≡ None) (may : may_take r.client r.rest r.token ≡ true)
       (within : (taking r.client r.rest).count ≤ length r.rest)
       (client : r'.client ≡ (taking r.client r.rest).client)
       (rest : r'.rest ≡ drop (taking r.client r.rest).count r.rest)
@@ -191,11 +191,13 @@ module _ (plan : ClientPlan) (start now : Seen) (r : Run) (c : Course) (stands :
         took_told r.client r.rest (taking r.client r.rest).count (taking r.client r.rest).event refl refl 0 (calls_in c) stands.shows
         ∙ ap (λ (l : LimitValues). event_of l 0 (calls_in c) (Took bytes)) stands.limits
 
-    planned : bytes ≡ take (takes own_limits 0 (calls_in c) (rest_in c)) (rest_in c)
-    planned =
-        ap (λ (n : ℕ). take n r.rest) (took_takes r.client r.rest (taking r.client r.rest).count refl 0 (calls_in c) stands.shows)
-        ∙ ap (λ (l : LimitValues). take (takes l 0 (calls_in c) r.rest) r.rest) stands.limits
-        ∙ ap (λ (xs : List ℕ). take (takes own_limits 0 (calls_in c) xs) xs) stands.rest
+    planned : IsPlanned plan c (Took bytes)
+    planned = (
+      sym asks_same ∙ (may_parts (length r.rest == 0) (is_to_ask r.client.link.phase r.token) (client_takes r.client) may).1,
+      ap (λ (n : ℕ). take n r.rest) (took_takes r.client r.rest (taking r.client r.rest).count refl 0 (calls_in c) stands.shows)
+          ∙ ap (λ (l : LimitValues). take (takes l 0 (calls_in c) r.rest) r.rest) stands.limits
+          ∙ ap (λ (xs : List ℕ). take (takes own_limits 0 (calls_in c) xs) xs) stands.rest,
+    )
 
     pub took_stands : Stands plan start (seen now.given now.written now.answers now.moments o e) r' (Calls c (Took bytes))
     took_stands = record {
@@ -232,7 +234,7 @@ module _ (plan : ClientPlan) (start now : Seen) (r : Run) (c : Course) (stands :
       course = Calls c (Took bytes);
       stands = took_stands;
       ends = took_status ∙ sym is;
-      holds = record { turns = refl; looked = looked; asked = λ going. absurd (some_is_none (is ∙ sym took_status ∙ going)) };
+      holds = record { turns = refl; looked = looked; asked = λ going. absurd (some_is_none (is ∙ sym took_status ∙ going)); writes = λ ended. tt };
     }
 
   -- ---- a request
@@ -322,13 +324,13 @@ module _ (plan : ClientPlan) (start now : Seen) (r : Run) (c : Course) (stands :
       course = Calls c (Sent plan.method plan.target (planned_extras plan));
       stands = sent_stands asks is client token err;
       ends = ap status_told (sent_told (calls_in c) plan.method plan.target (planned_extras plan) own_limits);
-      holds = record { turns = refl; looked = looked; asked = λ going still. absurd (no_more_asking (phase_in (Calls c (Sent plan.method plan.target (planned_extras plan)))) (next_token (client_in c).link.tokens) still) };
+      holds = record { turns = refl; looked = looked; asked = λ going still. absurd (no_more_asking (phase_in (Calls c (Sent plan.method plan.target (planned_extras plan)))) (next_token (client_in c).link.tokens) still); writes = λ ended. tt };
     }
     asked_to looked asks (Some fault) is client token err = record {
       course = Refuses c fault;
       stands = refused_stands fault (inl (asking_refused (is_to_ask (phase_in c) (token_in c)) fault (sym asks_same ∙ asks) (ap (λ (v : ClientValue). send_refusal v.link plan.method plan.target (planned_extras plan)) (sym client_same) ∙ is))) client token err;
       ends = refl;
-      holds = record { turns = refl; looked = looked; asked = λ going still. refl };
+      holds = record { turns = refl; looked = looked; asked = λ going still. refl; writes = λ ended. tt };
     }
 
     asked_by : has_looked c ≡ true → (asks : Bool) → is_to_ask r.client.link.phase r.token ≡ asks
@@ -341,7 +343,7 @@ module _ (plan : ClientPlan) (start now : Seen) (r : Run) (c : Course) (stands :
       course = c;
       stands = same_stands client token err;
       ends = goes;
-      holds = record { turns = refl; looked = looked; asked = λ going still. absurd (never (sym asks ∙ asks_same ∙ still)) };
+      holds = record { turns = refl; looked = looked; asked = λ going still. absurd (never (sym asks ∙ asks_same ∙ still)); writes = λ ended. absurd (ended goes) };
     }
 
     pub asked_on : has_looked c ≡ true → r'.client ≡ client_asking r.client r.token plan → token_of r' ≡ token_asking r.client (token_of r) plan
@@ -357,7 +359,7 @@ module _ (plan : ClientPlan) (start now : Seen) (r : Run) (c : Course) (stands :
 
   -- ---- a read
 
-  module _ (r' : Run) (got : Got) (given written e : Option (List ℕ)) (answers : Option (List Got)) (goes : status_in c ≡ None)
+  module _ (r' : Run) (got : Got) (given written e : Option (List ℕ)) (answers : Option (List Got)) (goes : status_in c ≡ None) (fresh : IsFresh c)
       (none : r.rest ≡ []) (count : length r'.rest ≡ count_passed got) (client : r'.client ≡ client_read r.client got)
       (token : r'.token ≡ r.token) (started : r'.started ≡ r.started) (moment : r'.moment ≡ r.moment) (first : r'.first ≡ r.first) (cancelled : r'.cancelled ≡ r.cancelled)
       (gave : AddsBytes now.given given r'.rest) (wrote : AddsBytes now.written written []) (answered : TellsMore now.answers answers (got ∷ [])) where
@@ -375,7 +377,7 @@ module _ (plan : ClientPlan) (start now : Seen) (r : Run) (c : Course) (stands :
 
     read_stands : AddsBytes now.err e (stop_text (stop_behind r'.client.link.phase got)) → Stands plan start (seen given written answers now.moments now.out e) r' (Reads c got r'.rest)
     read_stands err = record {
-      follows = (stands.follows, goes, sym stands.rest ∙ none, count);
+      follows = (stands.follows, goes, fresh, sym stands.rest ∙ none, count);
       shows = read_calls;
       limits = read_keeps;
       rest = refl;
@@ -399,13 +401,13 @@ module _ (plan : ClientPlan) (start now : Seen) (r : Run) (c : Course) (stands :
       course = Reads c got r'.rest;
       stands = read_stands (subst (λ (w : Option Reason). AddsBytes now.err e (stop_text w)) is err);
       ends = ap status_stopped (sym read_stops ∙ sym is);
-      holds = record { turns = refl; looked = λ goes. refl };
+      holds = record { turns = refl; looked = λ goes. refl; early = λ may. may };
     }
 
   -- ---- a write
 
   module _ (r' : Run) (got : Got) (given written e : Option (List ℕ)) (answers : Option (List Got))
-      (some : r.client.link.waiting ≢ []) (rests : status_in c ≡ None → IsResting c)
+      (some : r.client.link.waiting ≢ []) (may : MayWrite c) (rests : status_in c ≡ None → IsResting c)
       (client : r'.client ≡ client_written r.client (count_passed got)) (shown : ClientShows r'.client 0 (calls_in c ++ calls_written got))
       (rest : r'.rest ≡ r.rest) (token : r'.token ≡ r.token) (started : r'.started ≡ r.started) (moment : r'.moment ≡ r.moment) (first : r'.first ≡ r.first) (cancelled : r'.cancelled ≡ r.cancelled)
       (wrote : AddsBytes now.written written (bytes_passed r.client.link.waiting got)) (gave : AddsBytes now.given given []) (answered : TellsMore now.answers answers (got ∷ [])) where
@@ -414,7 +416,7 @@ module _ (plan : ClientPlan) (start now : Seen) (r : Run) (c : Course) (stands :
 
     wrote_stands : AddsBytes now.err e (stop_text (stop_written (status_in c) got)) → Stands plan start (seen given written answers now.moments now.out e) r' (Writes c got)
     wrote_stands err = record {
-      follows = (stands.follows, (λ shut. some (waits_same ∙ shut)), rests);
+      follows = (stands.follows, (λ shut. some (waits_same ∙ shut)), may, rests);
       shows = shown;
       limits = ap (λ (v : ClientValue). v.link.limits) client ∙ stands.limits;
       rest = rest ∙ stands.rest;
@@ -439,7 +441,7 @@ module _ (plan : ClientPlan) (start now : Seen) (r : Run) (c : Course) (stands :
       course = Writes c got;
       stands = wrote_stands (subst (λ (w : Option Reason). AddsBytes now.err e (stop_text w)) (is ∙ ap (λ (n : Option ℕ). stop_written n got) (sym ends)) err);
       ends = ap (λ (n : Option ℕ). or_then n (status_stopped (stop_written n got))) ends ∙ ap (λ (w : Option Reason). or_then next (status_stopped w)) (sym is);
-      holds = record { turns = refl; between = λ still. tt };
+      holds = record { turns = refl; between = λ still. tt; written = λ may. absurd may };
     }
 
     -- the run goes on, or ends as it did
@@ -468,7 +470,7 @@ module _ (plan : ClientPlan) (start now : Seen) (r : Run) (c : Course) (stands :
           course = Rests c;
           stands = rests_stand here (record { goes_on = goes; in_time = early; looked = looked; taken = taken; asked = asked; cancelled = cancels });
           ends = goes;
-          holds = record { turns = refl; rests = λ still. tt };
+          holds = record { turns = refl; rests = λ still. tt; writes = tt };
         }
 
     -- it has waited, or not long enough
@@ -478,9 +480,14 @@ module _ (plan : ClientPlan) (start now : Seen) (r : Run) (c : Course) (stands :
         let here = same_stands r' e goes rest started moment first cancelled client tokens_same err in
         record {
           course = GivesUp c;
-          stands = given_up_stand here goes (ap (λ (s : Option ℕ). is_late_since s (moment_in c) plan.wait) is ∙ ap (λ (m : ℕ). has_passed m since plan.wait) (sym stands.moment) ∙ passed);
+          stands = given_up_stand here goes (record {
+            late = ap (λ (s : Option ℕ). is_late_since s (moment_in c) plan.wait) is ∙ ap (λ (m : ℕ). has_passed m since plan.wait) (sym stands.moment) ∙ passed;
+            looked = looked;
+            taken = taken;
+            asked = asked;
+          });
           ends = refl;
-          holds = record { turns = refl; rests = λ still. absurd (some_is_none still) };
+          holds = record { turns = refl; rests = λ still. absurd (some_is_none still); writes = tt };
         }
     waited_by since is not client cancelled err false passed =
         done_nothing (λ held has due. absurd (never (sym not ∙ due)))
@@ -530,7 +537,7 @@ module _ (plan : ClientPlan) (start now : Seen) (r : Run) (c : Course) (stands :
       course = Refuses c fault;
       stands = refused_stands r' e goes rest started moment first cancelled fault why client tokens_same err;
       ends = refl;
-      holds = record { turns = refl; rests = λ still. absurd (some_is_none (sym three ∙ still)) };
+      holds = record { turns = refl; rests = λ still. absurd (some_is_none (sym three ∙ still)); writes = tt };
     }
 
     -- its cancellation was refused
@@ -539,7 +546,7 @@ module _ (plan : ClientPlan) (start now : Seen) (r : Run) (c : Course) (stands :
       course = Rests (Refuses c NoRoom);
       stands = rests_stand (refused_stands r' e goes rest started moment first cancelled NoRoom why client tokens_same err) (record { goes_on = refl; in_time = early; looked = looked; taken = taken; asked = λ still. refl; cancelled = λ held has due. refl });
       ends = refl;
-      holds = record { turns = refl; rests = λ still. tt };
+      holds = record { turns = refl; rests = λ still. tt; writes = tt };
     }
     refused_by NotOpen why early client cancelled err = ends_refused NotOpen why refl client cancelled err
     refused_by TooMany why early client cancelled err = ends_refused TooMany why refl client cancelled err
@@ -562,7 +569,7 @@ module _ (plan : ClientPlan) (start now : Seen) (r : Run) (c : Course) (stands :
         cancelled = λ other has again. absurd (never again);
       });
       ends = ap status_told (cancelled_told (calls_in c) held plan.target (planned_extras plan) own_limits);
-      holds = record { turns = refl; rests = λ still. tt };
+      holds = record { turns = refl; rests = λ still. tt; writes = tt };
     }
     cancels_as held due has early (Some fault) is client when err =
         refused_by fault
@@ -628,10 +635,10 @@ as_many {plan} {start} {now} {r} {next} Q n m same led = subst (λ (k : ℕ). Le
 
 -- a run that has ended stands so behind each part
 pub ended_asked : {plan : ClientPlan} {start now : Seen} {r : Run} {turns : ℕ} {status : ℕ} → LeadsOn plan start now r (IsAsked turns) (Some status) → LeadsOn plan start now r (IsFinished turns) (Some status)
-ended_asked led = record { course = led.course; stands = led.stands; ends = led.ends; holds = record { turns = led.holds.turns; rests = λ still. absurd (some_is_none (sym led.ends ∙ still)) } }
+ended_asked led = record { course = led.course; stands = led.stands; ends = led.ends; holds = record { turns = led.holds.turns; rests = λ still. absurd (some_is_none (sym led.ends ∙ still)); writes = led.holds.writes (λ none. some_is_none (sym led.ends ∙ none)) } }
 
 pub ended_heard : {plan : ClientPlan} {start now : Seen} {r : Run} {turns : ℕ} {status : ℕ} → LeadsOn plan start now r (IsHeard turns) (Some status) → LeadsOn plan start now r (IsFlushed turns) (Some status)
-ended_heard led = record { course = led.course; stands = led.stands; ends = led.ends; holds = record { turns = led.holds.turns; between = λ still. absurd (some_is_none (sym led.ends ∙ still)) } }
+ended_heard led = record { course = led.course; stands = led.stands; ends = led.ends; holds = record { turns = led.holds.turns; between = λ still. absurd (some_is_none (sym led.ends ∙ still)); written = λ may. absurd (led.holds.early may) } }
 
 -- an answer that ends the run, of a part behind which it had not ended
 pub asked_then : {plan : ClientPlan} {start now : Seen} {r : Run} (n m : ℕ) (next : Option ℕ) (status : ℕ) → n ≡ m → next ≡ Some status → LeadsOn plan start now r (IsAsked n) next → LeadsOn plan start now r (IsFinished m) (Some status)
@@ -642,18 +649,18 @@ heard_then {plan} {start} {now} {r} n next status is led = ended_heard (subst (L
 
 pub taken_then : {plan : ClientPlan} {start now : Seen} {r : Run} (n m : ℕ) (next : Option ℕ) (status : ℕ) → n ≡ m → next ≡ Some status → LeadsOn plan start now r (IsTaken n) next → LeadsOn plan start now r (IsFinished m) (Some status)
 taken_then {plan} {start} {now} {r} n m next status same is led =
-    as_many IsFinished n m same (record { course = led.course; stands = led.stands; ends = led.ends ∙ is; holds = record { turns = led.holds.turns; rests = λ still. absurd (some_is_none (sym is ∙ sym led.ends ∙ still)) } })
+    as_many IsFinished n m same (record { course = led.course; stands = led.stands; ends = led.ends ∙ is; holds = record { turns = led.holds.turns; rests = λ still. absurd (some_is_none (sym is ∙ sym led.ends ∙ still)); writes = led.holds.writes (λ none. some_is_none (sym is ∙ sym led.ends ∙ none)) } })
 
 -- a run that ended as it asked
 pub ended_taken : {plan : ClientPlan} {start now : Seen} {r : Run} {n status : ℕ} → LeadsOn plan start now r (IsAsked n) (Some status) → LeadsOn plan start now r (IsTaken n) (Some status)
-ended_taken led = record { course = led.course; stands = led.stands; ends = led.ends; holds = record { turns = led.holds.turns; looked = led.holds.looked; asked = led.holds.asked; taken = λ still. absurd (some_is_none (sym led.ends ∙ still)) } }
+ended_taken led = record { course = led.course; stands = led.stands; ends = led.ends; holds = record { turns = led.holds.turns; looked = led.holds.looked; asked = led.holds.asked; taken = λ still. absurd (some_is_none (sym led.ends ∙ still)); writes = led.holds.writes } }
 
 -- a run of which all is taken that may be
 pub all_taken : (plan : ClientPlan) (start now : Seen) (r : Run) (n : ℕ) (led : LeadsOn plan start now r (IsAsked n) None) → may_take r.client r.rest r.token ≡ false → LeadsOn plan start now r (IsTaken n) None
-all_taken plan start now r n led shut = record { course = led.course; stands = led.stands; ends = led.ends; holds = record { turns = led.holds.turns; looked = led.holds.looked; asked = led.holds.asked; taken = λ still. taken_up plan start now r led.course led.stands shut } }
+all_taken plan start now r n led shut = record { course = led.course; stands = led.stands; ends = led.ends; holds = record { turns = led.holds.turns; looked = led.holds.looked; asked = led.holds.asked; taken = λ still. taken_up plan start now r led.course led.stands shut; writes = led.holds.writes } }
 
 pub all_gone : (plan : ClientPlan) (start now : Seen) (r : Run) (n : ℕ) (led : LeadsOn plan start now r (IsAsked n) None) → length r.rest ≡ 0 → LeadsOn plan start now r (IsTaken n) None
-all_gone plan start now r n led none = record { course = led.course; stands = led.stands; ends = led.ends; holds = record { turns = led.holds.turns; looked = led.holds.looked; asked = led.holds.asked; taken = λ still. inl (sym led.stands.rest ∙ nil_from_length r.rest none) } }
+all_gone plan start now r n led none = record { course = led.course; stands = led.stands; ends = led.ends; holds = record { turns = led.holds.turns; looked = led.holds.looked; asked = led.holds.asked; taken = λ still. inl (sym led.stands.rest ∙ nil_from_length r.rest none); writes = led.holds.writes } }
 
 -- less is left behind each take
 pub fewer_left : (counted initial count : ℕ) (rest taken asked : List ℕ) → counted + length rest ≤ initial → 1 ≤ count → count ≤ length rest → taken ≡ drop count rest → asked ≡ taken → (counted + 1) + length asked ≤ initial
@@ -672,6 +679,7 @@ module _ (plan : ClientPlan) (start now : Seen) (r : Run) (n : ℕ) (next : Opti
 
 -- a take behind what was asked and taken, and what is asked behind that
 module _ (plan : ClientPlan) (start now : Seen) (r : Run) (n : ℕ) (led : LeadsOn plan start now r (IsAsked n) None) (r' : Run) (o e : Option (List ℕ))
+    (may : may_take r.client r.rest r.token ≡ true)
     (within : (taking r.client r.rest).count ≤ length r.rest)
     (client : r'.client ≡ (taking r.client r.rest).client)
     (rest : r'.rest ≡ drop (taking r.client r.rest).count r.rest)
@@ -683,7 +691,7 @@ module _ (plan : ClientPlan) (start now : Seen) (r : Run) (n : ℕ) (led : Leads
   pub took_ends : (status : ℕ) → next ≡ Some status → LeadsOn plan start (seen now.given now.written now.answers now.moments o e) r' (IsAsked n) (Some status)
   took_ends status is =
       as_many IsAsked (turns_in led.course) n led.holds.turns
-      (took_last plan start now r led.course led.stands r' o e led.ends within client rest first token started moment cancelled out err led.holds.looked status (sym is ∙ told))
+      (took_last plan start now r led.course led.stands r' o e led.ends may within client rest first token started moment cancelled out err led.holds.looked status (sym is ∙ told))
 
   abbrev told_then : Seen
   told_then = seen now.given now.written now.answers now.moments o e
@@ -695,8 +703,8 @@ module _ (plan : ClientPlan) (start now : Seen) (r : Run) (n : ℕ) (led : Leads
       → LeadsOn plan start (seen now.given now.written now.answers now.moments o e') r'' (IsAsked n) answer
   took_asked goes r'' e' rest' started' moment' first' cancelled' client' token' err' answer is =
       let c : Course = Calls led.course (Took (take (taking r.client r.rest).count r.rest)) in
-      let stands : Stands plan start told_then r' c = took_stands plan start now r led.course led.stands r' o e led.ends within client rest first token started moment cancelled out err in
-      let on : status_in c ≡ None = took_status plan start now r led.course led.stands r' o e led.ends within client rest first token started moment cancelled out err ∙ sym told ∙ goes in
+      let stands : Stands plan start told_then r' c = took_stands plan start now r led.course led.stands r' o e led.ends may within client rest first token started moment cancelled out err in
+      let on : status_in c ≡ None = took_status plan start now r led.course led.stands r' o e led.ends may within client rest first token started moment cancelled out err ∙ sym told ∙ goes in
       as_many IsAsked (turns_in led.course) n led.holds.turns
       (asked_next plan start told_then r' c stands r'' e' on rest' started' moment' first' cancelled' led.holds.looked client' token' err' answer is)
 
@@ -760,7 +768,7 @@ pub all_turns : (turns counted : ℕ) → turns ≡ counted → most_turns ≤ c
 all_turns turns counted same more few = omega arith
 
 module _ (plan : ClientPlan) (start now : Seen) (r : Run) (c : Course) (stands : Stands plan start now r c) (few : turns_in c ≤ most_turns) where
-  pub run_of : (status : ℕ) → (status_in c ≡ Some status) ⊎ IsOutOfTurns c status → IsClientRun plan start now status
+  pub run_of : (status : ℕ) → IsEnded c status ⊎ IsOutOfTurns c status → IsClientRun plan start now status
   run_of status ends =
       let accepted : AreAccepted own_limits 0 (calls_in c) = accepted_all plan start now r c stands in
       record {

@@ -1,5 +1,5 @@
 -- What a run of a client promises: the course that it took, by what its devices tell (our definition).
-use Rattle.std.specs.Prelude.{◌≡◌, ◌≤◌, ℕ, nat_lt, true, length, ◌⊎◌, List, [], ◌++◌, Option, Some, None, Result, option_map, IfOk}
+use Rattle.std.specs.Prelude.{◌≡◌, ◌≢◌, ◌≤◌, ℕ, true, ◌⊎◌, List, [], ◌++◌, Option, Some, None, Result, option_map, IfOk}
 use Rattle.coap_conn.specs.History.{History}
 use Rattle.coap_conn.specs.LinkValue.{bytes_of}
 use Rattle.coap_serve.specs.declared.wire.Got.{Got}
@@ -7,7 +7,7 @@ use Rattle.coap_serve.specs.declared.output.WriteFailed.{WriteFailed}
 use Rattle.coap_serve.specs.streams.Device.{AddsBytes}
 use Rattle.coap_serve.specs.streams.Telling.{TellsMore}
 use Rattle.coap_client.specs.ClientWorld.{AreAccepted, ClientShows}
-use Rattle.coap_client.specs.RunCourse.{Course, own_limits, calls_in, history_in, token_in, moments_in, turns_in, moment_in, started_in, first_in, cancelled_in, answers_in, taken_in, given_in, rest_in, waiting_in, written_in, status_in, output_in, errors_in, has_looked, IsAskedWhereDue, IsTakenUp, IsResting, IsBetween, IsCourse}
+use Rattle.coap_client.specs.RunCourse.{Course, Begins, own_limits, calls_in, history_in, token_in, moments_in, turns_in, moment_in, started_in, first_in, cancelled_in, answers_in, taken_in, given_in, rest_in, waiting_in, written_in, status_in, output_in, errors_in, has_looked, IsAskedWhereDue, IsTakenUp, IsResting, IsBetween, MayWrite, HasWritten, IsCourse}
 use Rattle.coap_client.specs.declared.plan.ClientPlan.{ClientPlan}
 use Rattle.coap_client.specs.declared.run.Run.{Run}
 
@@ -42,9 +42,13 @@ pub record IsTold (plan : ClientPlan) (start now : Seen) (course : Course) : Typ
 abbrev pub most_turns : ℕ
 most_turns = 1000000000000
 
--- every turn was taken, and none ended the run
+-- it ended with this status, and what waits was written then, as far as one write could, unless a read ended it
+abbrev pub IsEnded : Course → ℕ → Type 0
+IsEnded course status = (status_in course ≡ Some status) × HasWritten course
+
+-- every turn was taken to its end, and none ended the run
 abbrev pub IsOutOfTurns : Course → ℕ → Type 0
-IsOutOfTurns course status = (status_in course ≡ None) × (turns_in course ≡ most_turns) × (status ≡ 4)
+IsOutOfTurns course status = (status_in course ≡ None) × IsBetween course × (turns_in course ≡ most_turns) × (status ≡ 4)
 
 -- A run ends with a status: it took a course, of calls that its client accepts; what was taken is a front of what the wire gave, and
 -- what was written a front of what was queued; the devices tell exactly this; and the status is that with which the course ends, or 4
@@ -57,7 +61,12 @@ pub record IsClientRun (plan : ClientPlan) (start now : Seen) (status : ℕ) : T
   pub queued : bytes_of (history_in course).queued ≡ written_in course ++ waiting_in course
   pub told : IsTold plan start now course
   pub turns : turns_in course ≤ most_turns
-  pub ends : (status_in course ≡ Some status) ⊎ IsOutOfTurns course status
+  pub ends : IsEnded course status ⊎ IsOutOfTurns course status
+
+-- A run that memory is refused to has not begun: its clock told the moment, and the other devices nothing.
+pub record IsUnbegun (plan : ClientPlan) (start now : Seen) : Type 0 where
+  pub moment : ℕ
+  pub told : IsTold plan start now (Begins moment)
 
 -- ---- how far a run has come
 
@@ -85,10 +94,6 @@ pub record LeadsOn (plan : ClientPlan) (start now : Seen) (run : Run) (P : Cours
   pub ends : status_in course ≡ next
   pub holds : P course
 
--- as a turn begins, the wire is still to be read, unless something is left to take
-abbrev pub IsFresh : Course → Type 0
-IsFresh course = has_looked course ≡ nat_lt 0 (length (rest_in course))
-
 -- the wire was looked at
 abbrev pub HasLooked : Course → Type 0
 HasLooked course = has_looked course ≡ true
@@ -98,16 +103,18 @@ pub record IsReady (course : Course) : Type 0 where
   pub looked : HasLooked course
   pub asked : IsAskedWhereDue course
 
--- behind the reading part: so many turns have begun, and the wire was looked at, where the run goes on
+-- behind the reading part: so many turns have begun, and the wire was looked at, where the run goes on; nothing is to be written yet
 pub record IsHeard (began : ℕ) (course : Course) : Type 0 where
   pub turns : turns_in course ≡ began
   pub looked : status_in course ≡ None → HasLooked course
+  pub early : MayWrite course → ⊥
 
 -- behind the request
 pub record IsAsked (began : ℕ) (course : Course) : Type 0 where
   pub turns : turns_in course ≡ began
   pub looked : HasLooked course
   pub asked : status_in course ≡ None → IsAskedWhereDue course
+  pub writes : status_in course ≢ None → MayWrite course
 
 -- behind what was taken
 pub record IsTaken (began : ℕ) (course : Course) : Type 0 where
@@ -115,16 +122,19 @@ pub record IsTaken (began : ℕ) (course : Course) : Type 0 where
   pub looked : HasLooked course
   pub asked : status_in course ≡ None → IsAskedWhereDue course
   pub taken : status_in course ≡ None → IsTakenUp course
+  pub writes : status_in course ≢ None → MayWrite course
 
 -- behind all but the write
 pub record IsFinished (began : ℕ) (course : Course) : Type 0 where
   pub turns : turns_in course ≡ began
   pub rests : status_in course ≡ None → IsResting course
+  pub writes : MayWrite course
 
 -- behind the write
 pub record IsFlushed (began : ℕ) (course : Course) : Type 0 where
   pub turns : turns_in course ≡ began
   pub between : status_in course ≡ None → IsBetween course
+  pub written : HasWritten course
 
 -- ---- what its parts promise
 
@@ -151,5 +161,5 @@ LeadsAll old new P Q before after result = (plan : ClientPlan) → Leads old new
 -- A write leads on a run that stands where a course led it which ends with this status, or where it goes on has done all else.
 abbrev pub Flushes : (old new : Seen → Seen) → (before after : Run) → Option ℕ → Result (Option ℕ) WriteFailed → Type 0
 Flushes old new before after next result =
-    (plan : ClientPlan) (start now : Seen) (course : Course) → Stands plan start (old now) before course → status_in course ≡ next → (status_in course ≡ None → IsResting course)
+    (plan : ClientPlan) (start now : Seen) (course : Course) → Stands plan start (old now) before course → status_in course ≡ next → MayWrite course → (status_in course ≡ None → IsResting course)
     → IfOk result (LeadsOn plan start (new now) after (IsFlushed (turns_in course)))

@@ -317,6 +317,17 @@ has_looked (GivesUp before) = has_looked before
 has_looked (Rests before) = has_looked before
 has_looked (Writes before got) = has_looked before
 
+-- a turn has just begun, and nothing has happened in it
+abbrev pub IsFresh : Course → Type 0
+IsFresh (Begins moment) = ⊥
+IsFresh (Turns before moment) = Unit {0}
+IsFresh (Reads before got bytes) = ⊥
+IsFresh (Calls before call) = ⊥
+IsFresh (Refuses before fault) = ⊥
+IsFresh (GivesUp before) = ⊥
+IsFresh (Rests before) = ⊥
+IsFresh (Writes before got) = ⊥
+
 -- the client refused something in this turn
 abbrev pub has_refused : Course → Bool
 has_refused (Begins moment) = false
@@ -328,10 +339,11 @@ has_refused (GivesUp before) = has_refused before
 has_refused (Rests before) = has_refused before
 has_refused (Writes before got) = has_refused before
 
--- A call that a run makes: it takes what it may of what was read; it sends the request of the plan, where it is to be sent, and cancels
--- it, where that is due.
+-- A call that a run makes: it takes what it may of what was read, though nothing before a request that is to be sent; it sends the
+-- request of the plan, where it is to be sent, and cancels it, where that is due.
 abbrev pub IsPlanned : ClientPlan → Course → ClientCall → Type 0
-IsPlanned plan before (Took bytes) = bytes ≡ take (takes own_limits 0 (calls_in before) (rest_in before)) (rest_in before)
+IsPlanned plan before (Took bytes) =
+    (is_to_ask (phase_in before) (token_in before) ≡ false) × (bytes ≡ take (takes own_limits 0 (calls_in before) (rest_in before)) (rest_in before))
 IsPlanned plan before (Sent method target extras) =
     (is_to_ask (phase_in before) (token_in before) ≡ true) × (method ≡ plan.method) × (target ≡ plan.target) × (extras ≡ planned_extras plan)
 IsPlanned plan before (Cancelled token target extras) =
@@ -359,6 +371,14 @@ IsCancelledWhereDue plan before =
 abbrev pub IsTakenUp : Course → Type 0
 IsTakenUp before =
     (rest_in before ≡ []) ⊎ ((is_to_ask (phase_in before) (token_in before) ≡ true) ⊎ (client_takes (client_in before) ≡ false))
+
+-- The run has waited long enough: it is late, and no answer is there that it might have taken, since the wire was read, where nothing was
+-- left to take, and all was taken that may be; and the request was sent, where it may be.
+pub record HasWaited (plan : ClientPlan) (before : Course) : Type 0 where
+  pub late : is_late plan before ≡ true
+  pub looked : has_looked before ≡ true
+  pub taken : IsTakenUp before
+  pub asked : IsAskedWhereDue before
 
 -- Nothing more is to be done in a turn: the run does not end, and has not waited for too long; the wire was read, where nothing was left
 -- to take, and all was taken that may be; the request was sent, where it may be, and its observation cancelled, where that is due, or there was no room for that.
@@ -392,14 +412,30 @@ IsBetween (GivesUp before) = ⊥
 IsBetween (Rests before) = waiting_in before ≡ []
 IsBetween (Writes before got) = Unit {0}
 
+-- A write may stand behind this: behind what is done in a turn, or ends it, but not behind a read or another write.
+abbrev pub MayWrite : Course → Type 0
+MayWrite (Begins moment) = ⊥
+MayWrite (Turns before moment) = ⊥
+MayWrite (Reads before got bytes) = ⊥
+MayWrite (Calls before call) = Unit {0}
+MayWrite (Refuses before fault) = Unit {0}
+MayWrite (GivesUp before) = Unit {0}
+MayWrite (Rests before) = Unit {0}
+MayWrite (Writes before got) = ⊥
+
+-- what waits was written, as far as one write could: where a write may stand, nothing waits
+abbrev pub HasWritten : Course → Type 0
+HasWritten course = MayWrite course → waiting_in course ≡ []
+
 -- What happens in a run, one behind the other. Behind what ends it there is a write at the most, of what waits.
 abbrev pub IsCourse : ClientPlan → Course → Type 0
 IsCourse plan (Begins moment) = Unit {0}
 IsCourse plan (Turns before moment) = IsCourse plan before × (status_in before ≡ None) × IsBetween before
 IsCourse plan (Reads before got bytes) =
-    IsCourse plan before × (status_in before ≡ None) × (rest_in before ≡ []) × (length bytes ≡ count_passed got)
+    IsCourse plan before × (status_in before ≡ None) × IsFresh before × (rest_in before ≡ []) × (length bytes ≡ count_passed got)
 IsCourse plan (Calls before call) = IsCourse plan before × (status_in before ≡ None) × IsPlanned plan before call
 IsCourse plan (Refuses before fault) = IsCourse plan before × (status_in before ≡ None) × IsRefused plan before fault
-IsCourse plan (GivesUp before) = IsCourse plan before × (status_in before ≡ None) × (is_late plan before ≡ true)
+IsCourse plan (GivesUp before) = IsCourse plan before × (status_in before ≡ None) × HasWaited plan before
 IsCourse plan (Rests before) = IsCourse plan before × IsDone plan before
-IsCourse plan (Writes before got) = IsCourse plan before × (waiting_in before ≢ []) × (status_in before ≡ None → IsResting before)
+IsCourse plan (Writes before got) =
+    IsCourse plan before × (waiting_in before ≢ []) × MayWrite before × (status_in before ≡ None → IsResting before)

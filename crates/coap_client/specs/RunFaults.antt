@@ -15,6 +15,12 @@ is_output_fault (Ok x) = false
 is_output_fault (Err Output) = true
 is_output_fault (Err Memory) = false
 
+-- this, where it ended since memory was refused
+abbrev pub IfMemory : {T : Type 0} → Result T ClientFault → Type 0 → Type 0
+IfMemory (Ok x) P = Unit {0}
+IfMemory (Err Output) P = Unit {0}
+IfMemory (Err Memory) P = P
+
 -- where the run ends with a message, it ends with a status
 abbrev pub EndsWithStatus : Heard → Type 0
 EndsWithStatus Nothing = Unit {0}

@@ -6,11 +6,11 @@ ghost use Rattle.coap_serve.specs.streams.Wires.{bytes_passed, count_passed};
 ghost use Rattle.coap_serve.specs.streams.Device.{AddsBytes};
 ghost use Rattle.coap_client.specs.EventViews.{event_value};
 ghost use Rattle.coap_client.specs.RequestViews.{extras_value};
-ghost use Rattle.coap_client.specs.RunFaults.{is_output_fault, IsStatus, EndsWithStatus};
+ghost use Rattle.coap_client.specs.RunFaults.{is_output_fault, IfMemory, IsStatus, EndsWithStatus};
 ghost use Rattle.coap_client.specs.ClientValues as value;
 ghost use Rattle.coap_client.specs.ClientWorld.{ClientCall, ClientShows};
-ghost use Rattle.coap_client.specs.RunCourse.{own_limits};
-ghost use Rattle.coap_client.specs.ClientRun.{IsClientRun, seen, with_outlets, with_wire, with_all, HasLooked, IsFresh, IsReady, IsHeard, IsTaken, IsFinished, IsFlushed, Leads, LeadsAll, Flushes};
+ghost use Rattle.coap_client.specs.RunCourse.{own_limits, IsFresh};
+ghost use Rattle.coap_client.specs.ClientRun.{IsClientRun, IsUnbegun, seen, with_outlets, with_wire, with_all, HasLooked, IsReady, IsHeard, IsTaken, IsFinished, IsFlushed, Leads, LeadsAll, Flushes};
 ghost use Rattle.coap_client.specs.RunSteps as spec;
 ghost use Rattle.coap_client.specs.RunTexts as text;
 
@@ -114,6 +114,8 @@ pub fn run_client<W: Wire, C: Clock, O: Outlet, E: Outlet>(
     // It took a course that its devices told, and the status is that with which the course ends.
     ensures run { IfOk result (IsClientRun plan.now (seen (W.given wire.old) (W.written wire.old) (W.answers wire.old) (C.moments clock.old) (O.written out.old) (E.written err.old)) (seen (W.given wire.new) (W.written wire.new) (W.answers wire.new) (C.moments clock.new) (O.written out.new) (E.written err.new))) }
     ensures status { IfOk result IsStatus }
+    // Memory is answered before anything is read, written or told.
+    ensures memory { IfMemory result (IsUnbegun plan.now (seen (W.given wire.old) (W.written wire.old) (W.answers wire.old) (C.moments clock.old) (O.written out.old) (E.written err.old)) (seen (W.given wire.new) (W.written wire.new) (W.answers wire.new) (C.moments clock.new) (O.written out.new) (E.written err.new))) }
     // Output is answered exactly where an outlet failed.
     ensures output { (O.is_failed out.new || E.is_failed err.new) ≡ is_output_fault result }
 {

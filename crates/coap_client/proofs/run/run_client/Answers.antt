@@ -14,7 +14,7 @@ loop-init g c = record {
         (g.C.Clock.moments c.args.clock.now) (g.C.Clock.moments c.now.new.self) (g.W.Wire.answers c.args.wire.now) c.now.result
         c.in-Ok.ensures.client c.in-Ok.ensures.shows c.in-Ok.ensures.rest c.in-Ok.ensures.token c.in-Ok.ensures.started.0 c.in-Ok.ensures.started.1 c.in-Ok.ensures.moments.0 c.in-Ok.ensures.moments.1 c.now.ensures;
     ends = refl;
-    holds = record { turns = refl; between = λ still. tt };
+    holds = record { turns = refl; between = λ still. tt; written = λ may. absurd may };
   };
 }
 
@@ -28,7 +28,7 @@ loop-preserved g c =
     let course = Turns led.course c.now-in-loop.result in
     let turning = turned c.args.plan.now start before c.loop.run led.course led.stands led.ends (led.holds.between led.ends)
     (record c.loop.run { moment = c.max.result }) c.now-in-loop.result (g.C.Clock.moments c.now-in-loop.new.self) refl refl refl refl c.max.ensures refl refl c.now-in-loop.ensures in
-    let went = c.in_ok-status.ensures.runs start now course turning led.ends refl in
+    let went = c.in_ok-status.ensures.runs start now course turning led.ends tt in
     record {
       out = neither_first (g.O.Outlet.is_failed c.turn.new.out) (g.E.Outlet.is_failed c.turn.new.err) c.in_ok-status.ensures.output;
       err = neither_second (g.O.Outlet.is_failed c.turn.new.out) (g.E.Outlet.is_failed c.turn.new.err) c.in_ok-status.ensures.output;
@@ -46,10 +46,10 @@ returns-in-Some-clause-run g c =
     let course = Turns led.course c.now-in-loop.result in
     let turning = turned c.args.plan.now start before c.loop.run led.course led.stands led.ends (led.holds.between led.ends)
     (record c.loop.run { moment = c.max.result }) c.now-in-loop.result (g.C.Clock.moments c.now-in-loop.new.self) refl refl refl refl c.max.ensures refl refl c.now-in-loop.ensures in
-    let went = c.in_ok-status.ensures.runs start now course turning led.ends refl in
+    let went = c.in_ok-status.ensures.runs start now course turning led.ends tt in
     run_of c.args.plan.now start after c.turn.new.self went.course went.stands
     (few_turns (turns_in went.course) (turns_in led.course) c.loop.counter went.holds.turns led.holds.turns c.loop-test.true)
-    c.in-Some.status (inl (went.ends ∙ c.in-Some.is))
+    c.in-Some.status (inl (went.ends ∙ c.in-Some.is, went.holds.written))
 
 pub returns-clause-run : goal.returns-clause-run
 returns-clause-run g c =
@@ -57,4 +57,4 @@ returns-clause-run g c =
     let start = seen (g.W.Wire.given c.args.wire.now) (g.W.Wire.written c.args.wire.now) (g.W.Wire.answers c.args.wire.now) (g.C.Clock.moments c.args.clock.now) (g.O.Outlet.written c.args.out.now) (g.E.Outlet.written c.args.err.now) in
     let now = seen (g.W.Wire.given c.loop.wire) (g.W.Wire.written c.loop.wire) (g.W.Wire.answers c.loop.wire) (g.C.Clock.moments c.loop.clock) (g.O.Outlet.written c.loop.out) (g.E.Outlet.written c.loop.err) in
     let all : turns_in led.course ≡ most_turns = all_turns (turns_in led.course) c.loop.counter led.holds.turns (omega arith) (omega arith) in
-    run_of c.args.plan.now start now c.loop.run led.course led.stands (omega (arith, all)) 4 (inr (led.ends, all, refl))
+    run_of c.args.plan.now start now c.loop.run led.course led.stands (omega (arith, all)) 4 (inr (led.ends, led.holds.between led.ends, all, refl))

@@ -6,7 +6,7 @@ use Rattle.coap_client.proofs.RunLemmas.{answers_so, some_waits, wrote_on, wrote
 use Rattle.coap_client.proofs.run.Run.flush.Goals as goal
 
 pub returns-in-Some-clause-runs : goal.returns-in-Some-clause-runs
-returns-in-Some-clause-runs g c = λ plan start now course stands ends rests.
+returns-in-Some-clause-runs g c = λ plan start now course stands ends may rests.
     let write = c.write-got.ensures in
     let got = c.write-got.result in
     answers_so
@@ -15,16 +15,16 @@ returns-in-Some-clause-runs g c = λ plan start now course stands ends rests.
     (λ told.
     wrote_last plan start (with_wire (g.W.Wire.given c.args.wire.now) (g.W.Wire.written c.args.wire.now) (g.W.Wire.answers c.args.wire.now) (g.E.Outlet.written c.args.err.now) now) c.args.self.now course stands
     c.write-got.new.self got (g.W.Wire.given c.write-got.new.wire) (g.W.Wire.written c.write-got.new.wire) (g.E.Outlet.written c.stopped.new.err) (g.W.Wire.answers c.write-got.new.wire)
-    (some_waits c.args.self.now.client c.waiting.result c.waiting.ensures c.if-waiting-eq0.false) rests write.client (write.shows 0 (calls_in course) stands.shows)
+    (some_waits c.args.self.now.client c.waiting.result c.waiting.ensures c.if-waiting-eq0.false) may rests write.client (write.shows 0 (calls_in course) stands.shows)
     write.kept.0 write.kept.1 write.kept.2 write.kept.3 write.kept.4 write.kept.5 write.wrote write.gave write.answered
     c.args.next ends c.in-Some.reason c.in-Some.ensures told)
 
 pub returns-in-None-clause-runs : goal.returns-in-None-clause-runs
-returns-in-None-clause-runs g c = λ plan start now course stands ends rests.
+returns-in-None-clause-runs g c = λ plan start now course stands ends may rests.
     let write = c.write-got.ensures in
     let got = c.write-got.result in
     wrote_on plan start (with_wire (g.W.Wire.given c.args.wire.now) (g.W.Wire.written c.args.wire.now) (g.W.Wire.answers c.args.wire.now) (g.E.Outlet.written c.args.err.now) now) c.args.self.now course stands
     c.write-got.new.self got (g.W.Wire.given c.write-got.new.wire) (g.W.Wire.written c.write-got.new.wire) (g.E.Outlet.written c.args.err.now) (g.W.Wire.answers c.write-got.new.wire)
-    (some_waits c.args.self.now.client c.waiting.result c.waiting.ensures c.if-waiting-eq0.false) rests write.client (write.shows 0 (calls_in course) stands.shows)
+    (some_waits c.args.self.now.client c.waiting.result c.waiting.ensures c.if-waiting-eq0.false) may rests write.client (write.shows 0 (calls_in course) stands.shows)
     write.kept.0 write.kept.1 write.kept.2 write.kept.3 write.kept.4 write.kept.5 write.wrote write.gave write.answered
     c.args.next ends c.in-None.ensures (bytes_none (g.E.Outlet.written c.args.err.now))

@@ -18,7 +18,7 @@ returns-in-Some-clause-runs g c = λ plan start now course stands goes fresh.
     (λ told.
     heard_on plan start (with_wire (g.W.Wire.given c.args.wire.now) (g.W.Wire.written c.args.wire.now) (g.W.Wire.answers c.args.wire.now) (g.E.Outlet.written c.args.err.now) now) c.args.self.now course stands
     c.read-got.new.self got (g.W.Wire.given c.read-got.new.wire) (g.W.Wire.written c.read-got.new.wire) (g.E.Outlet.written c.stopped.new.err) (g.W.Wire.answers c.read-got.new.wire)
-    goes none read.count read.client read.kept.0 read.kept.1 read.kept.2 read.kept.3 read.kept.4 read.gave read.wrote read.answered
+    goes fresh none read.count read.client read.kept.0 read.kept.1 read.kept.2 read.kept.3 read.kept.4 read.gave read.wrote read.answered
     (Some c.in-Some.reason) (c.in-Some.ensures ∙ ap (λ (p : Phase). stop_behind p got) c.phase.ensures) told)
 
 pub returns-in-None-clause-runs : goal.returns-in-None-clause-runs
@@ -28,5 +28,5 @@ returns-in-None-clause-runs g c = λ plan start now course stands goes fresh.
     let none = none_left c.args.self.now.rest (sym c.is_empty.ensures ∙ c.if-not-is_empty.false) in
     heard_on plan start (with_wire (g.W.Wire.given c.args.wire.now) (g.W.Wire.written c.args.wire.now) (g.W.Wire.answers c.args.wire.now) (g.E.Outlet.written c.args.err.now) now) c.args.self.now course stands
     c.read-got.new.self got (g.W.Wire.given c.read-got.new.wire) (g.W.Wire.written c.read-got.new.wire) (g.E.Outlet.written c.args.err.now) (g.W.Wire.answers c.read-got.new.wire)
-    goes none read.count read.client read.kept.0 read.kept.1 read.kept.2 read.kept.3 read.kept.4 read.gave read.wrote read.answered
+    goes fresh none read.count read.client read.kept.0 read.kept.1 read.kept.2 read.kept.3 read.kept.4 read.gave read.wrote read.answered
     None (c.in-None.ensures ∙ ap (λ (p : Phase). stop_behind p got) c.phase.ensures) (bytes_none (g.E.Outlet.written c.args.err.now))

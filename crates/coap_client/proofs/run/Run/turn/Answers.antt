@@ -20,4 +20,4 @@ returns-clause-runs g c = λ start now course stands goes fresh.
     let behind = with_all (g.W.Wire.given c.listen.new.wire) (g.W.Wire.written c.listen.new.wire) (g.W.Wire.answers c.listen.new.wire) (g.O.Outlet.written c.go_on.new.out) (g.E.Outlet.written c.go_on.new.err) now in
     let after = with_all (g.W.Wire.given c.flush.new.wire) (g.W.Wire.written c.flush.new.wire) (g.W.Wire.answers c.flush.new.wire) (g.O.Outlet.written c.go_on.new.out) (g.E.Outlet.written c.flush.new.err) now in
     subst (λ (n : ℕ). IfOk c.flush.result (LeadsOn c.args.plan.now start after c.flush.new.self (IsFlushed n))) (went.holds.turns ∙ heard.holds.turns)
-    (c.flush.ensures.runs c.args.plan.now start behind went.course went.stands went.ends went.holds.rests)
+    (c.flush.ensures.runs c.args.plan.now start behind went.course went.stands went.ends went.holds.writes went.holds.rests)
