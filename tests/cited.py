@@ -5,12 +5,15 @@
     tests/cited.py --list        also each name and line that is counted
     tests/cited.py [--list] CRATE ..  those of these crates
 
-uncited   lemmas and definitions of specs/ and proofs/ that nothing which counts cites: the code (its clauses, `using(..)`,
-          `unfolding(..)`), the answers to the goals of functions, and worked values, or what these cite in turn. So lemmas that cite
-          only each other are counted. A name counts as cited wherever it is in scope and stands, a variable of that name included;
-          a data type is cited by its constructors, a rule set by its name.
-doubled   names of lemmas that stand in more than one file of proofs/ (answers to goals aside): of one crate, and for all in any two
-long      lines of more than 120 columns; those of ghost imports (`use` of .antt files, `ghost use` of .rt files) are counted apart
+uncited   lemmas and definitions of specs/ and proofs/ that nothing which counts cites: the code (its clauses,
+          `using(..)`, `unfolding(..)`), the answers to the goals of functions, and worked values, or what these
+          cite in turn. So lemmas that cite only each other are counted. A name counts as cited wherever it is in
+          scope and stands, a variable of that name included; a data type is cited by its constructors, a rule set
+          by its name.
+doubled   names of lemmas that stand in more than one file of proofs/ (answers to goals aside): in the line of a
+          crate in its files, in the last line in those of any crates
+long      lines of more than 120 columns; those of ghost imports (`use` of .antt files, `ghost use` of .rt files)
+          are counted apart
 imports   lines of ghost imports
 """
 
@@ -145,7 +148,8 @@ def read_rust(path, crate):
 
 
 def files(crate, ending):
-    return sorted(it for part in ("src", "specs", "proofs") for it in glob.glob(f"{ROOT}/crates/{crate}/{part}/**/*.{ending}", recursive=True))
+    folders = (f"{ROOT}/crates/{crate}/{part}" for part in ("src", "specs", "proofs"))
+    return sorted(it for folder in folders for it in glob.glob(f"{folder}/**/*.{ending}", recursive=True))
 
 
 def reached(definitions, cites, roots):
@@ -179,33 +183,51 @@ def doubled(definitions, among):
     return sorted(f"{name}: {', '.join(sorted(modules))}" for name, modules in where.items() if len(modules) > 1)
 
 
+class Sources:
+    """All definitions by their full names, what each cites, what counts by itself, and the imports of each crate."""
+
+    def __init__(self):
+        self.definitions, self.cites, self.roots, self.imports = {}, {}, set(), defaultdict(int)
+        for crate in crates():
+            for path in files(crate, "antt"):
+                self.add_antt(path, crate)
+            for path in files(crate, "rt"):
+                cited, count = read_rust(path, crate)
+                self.roots |= cited
+                self.imports[crate] += count
+
+    def add_antt(self, path, crate):
+        found, scope = read_antt(path, crate)
+        self.imports[crate] += scope.imports
+        for it in found:
+            name = f"{it.module}.{it.name}"
+            self.definitions[name], self.cites[name] = it, set(scope.cited(it.text))
+            if it.is_root():
+                self.roots.add(name)
+            for word in constructors(it.text) if "data" in it.words_before else ():
+                self.definitions.setdefault(f"{it.module}.{word}", None)
+                self.cites.setdefault(f"{it.module}.{word}", {name})
+
+    def uncited(self):
+        """The definitions that nothing which counts cites."""
+        seen = reached(self.definitions, self.cites, self.roots)
+        return {name: it for name, it in self.definitions.items() if it and name not in seen}
+
+
 def main(words):
     wanted = [it for it in words if it != "--list"] or list(crates())
-    definitions, cites, roots, imports = {}, {}, set(), defaultdict(int)
-    for crate in crates():
-        for path in files(crate, "antt"):
-            found, scope = read_antt(path, crate)
-            imports[crate] += scope.imports
-            constructed = {f"{it.module}.{word}": f"{it.module}.{it.name}" for it in found if "data" in it.words_before for word in constructors(it.text)}
-            for it in found:
-                name = f"{it.module}.{it.name}"
-                definitions[name], cites[name] = it, set(scope.cited(it.text))
-                roots |= {name} if it.is_root() else set()
-            for word, name in constructed.items():
-                definitions.setdefault(word, None)
-                cites.setdefault(word, {name})
-        for path in files(crate, "rt"):
-            cited, count = read_rust(path, crate)
-            roots |= cited
-            imports[crate] += count
-    seen = reached(definitions, cites, roots)
-    definitions = {name: it for name, it in definitions.items() if it}
+    sources = Sources()
+    uncited, definitions = sources.uncited(), {name: it for name, it in sources.definitions.items() if it}
     sums = [0] * 5
     for crate in wanted:
-        uncited = [f"{name}, line {it.line}" for name, it in definitions.items() if it.crate == crate and name not in seen]
         by_import, by_text = long_lines(crate)
-        lists = {"uncited": uncited, "doubled": doubled(definitions, [crate]), "long": by_text, "long imports": by_import}
-        counts = [*map(len, lists.values()), imports[crate]]
+        lists = {
+            "uncited": [f"{name}, line {it.line}" for name, it in uncited.items() if it.crate == crate],
+            "doubled": doubled(definitions, [crate]),
+            "long": by_text,
+            "long imports": by_import,
+        }
+        counts = [*map(len, lists.values()), sources.imports[crate]]
         sums = [a + b for a, b in zip(sums, counts)]
         tell(crate, counts)
         for what, items in lists.items() if "--list" in words else ():
@@ -217,7 +239,8 @@ def main(words):
 
 
 def tell(crate, counts):
-    print("{:18} uncited {:3}  doubled {:3}  long {:4}, imports {:4}  imports {:5}".format(crate, *counts), flush=True)
+    form = "{:18} uncited {:3}  doubled {:3}  long {:4}, imports {:4}  imports {:5}"
+    print(form.format(crate, *counts), flush=True)
 
 
 if __name__ == "__main__":

@@ -1,7 +1,7 @@
 -- What Capabilities and Settings announce.
 use Rattle.std.proofs.Common.{◌≡◌, ℕ, ◌<◌, ◌≤◌, Bool, true, false, ◌||◌, ◌&&◌, cond, List, [], ◌∷◌, length, Option, Some, None, refl, sym, ap, ◌∙◌, inl, inr}
 use Rattle.std.specs.Prelude.{option_map, is_none, find}
-use Rattle.std.proofs.lemmas.Bool.{cases_lt, lt-ltb, le-ltb}
+use Rattle.std.proofs.lemmas.Bool.{cases_lt}
 use Rattle.coap_wire.specs.Message.{CoapOption, Message}
 use Rattle.coap_wire.specs.Recognition.{is_critical}
 use Rattle.coap_wire.specs.Uint.{uint_of}
@@ -20,14 +20,6 @@ bad_when_long (x ∷ xs) o e f = bad_step x o (find is_size xs) (find (is_bad tr
 no_number : (r : Option CoapOption) → option_map (λ (o : CoapOption). o.number) r ≡ None → r ≡ None
 no_number None e = refl
 no_number (Some o) e = let bad : ◌≡◌ {A = Option ℕ} (Some o.number) None = e in absurd cc
-
--- a value of at most 4 bytes is a number, and a longer one is none
-pub long_is_no_number : (o : CoapOption) (bytes : Option ℕ) → (length o.value ≤ 4 → bytes ≡ Some (uint_of o.value)) → (4 < length o.value → bytes ≡ None) → is_none bytes ≡ is_long (Some o)
-long_is_no_number o bytes within above =
-    elim (cases_lt 4 (length o.value)) [
-      | inl long ↦ rw (above long, lt-ltb 4 (length o.value) long) refl
-      | inr short ↦ rw (within short, le-ltb 4 (length o.value) short) refl
-    ]
 
 -- where no option may not be there, the first Max-Message-Size is a number
 pub announced_is : (m : Message) (o : CoapOption) (bytes : Option ℕ) → first_size m ≡ Some o → (length o.value ≤ 4 → bytes ≡ Some (uint_of o.value)) → (4 < length o.value → bytes ≡ None)

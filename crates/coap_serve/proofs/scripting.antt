@@ -6,3 +6,6 @@ pub mod LineLemmas
 pub mod ShownLemmas
 pub mod ReplayLemmas
 pub mod ReplayShown
+pub mod CutTakes
+pub mod CutScripts
+mod WorkedCuts

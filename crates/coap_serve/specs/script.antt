@@ -7,3 +7,4 @@ pub mod Replay
 pub mod PartlyFed
 pub mod Shown
 pub mod Replayed
+pub mod Cuts

@@ -1,7 +1,7 @@
 //! What holds of every server, each as the contract of a function that does nothing.
 
-ghost use Rattle.std.specs.Prelude.{◌≡◌, ℕ, Bool, ◌+◌, ◌<◌, ◌^◌, ◌≤◌, List, [], ◌∷◌, ◌++◌, length, true, false, Some, None};
-ghost use Rattle.std.specs.List.{AllByRecursion};
+ghost use Rattle.std.specs.Prelude.{◌≡◌, ℕ, Bool, ◌+◌, ◌<◌, ◌^◌, ◌≤◌, List, [], ◌∷◌, ◌++◌, length, map, true, false, Some, None};
+ghost use Rattle.std.specs.List.{AllByRecursion, concat};
 ghost use Rattle.coap_wire.specs.Message.{Message};
 ghost use Rattle.coap_wire.specs.Stream.{StreamFault};
 ghost use Rattle.coap_conn.specs.declared.phase.Phase.TheVariants.{Stopped};
@@ -31,6 +31,9 @@ ghost use Rattle.coap_serve.specs.world.World.{World, Step, Opened, new_world, s
 ghost use Rattle.coap_serve.specs.world.Events.{Event, Took, stream_on, steps_of, world_after, AreAccepted};
 ghost use Rattle.coap_serve.specs.world.Shows.{Shows, kept_on};
 ghost use Rattle.coap_serve.specs.world.View.{view_of, after_view, AreSeen};
+ghost use Rattle.coap_serve.specs.script.Events.{EventValue};
+ghost use Rattle.coap_serve.specs.script.Replay.{fed, replayed};
+ghost use Rattle.coap_serve.specs.script.Cuts.{DifferInCuts, AreInTime, lines_of, other_lines};
 ghost use Rattle.coap_serve.specs.world.Told.{WasToldLast, HaveOwnTokens, asked_late};
 
 /// No change is lost: after every call, on each connection less than the greatest message sent is free in the queue, or every
@@ -46,6 +49,18 @@ pub fn cuts_do_not_matter()
     ensures steps { (max : ℕ) (before behind : List Event) (id : ℕ) (xs ys : List ℕ) → steps_of max (before ++ Took id (xs ++ ys) ∷ behind) ≡ steps_of max (before ++ Took id xs ∷ Took id ys ∷ behind) }
     ensures worlds { (c : ConfigValues) (before behind : List Event) (id : ℕ) (xs ys : List ℕ) → world_after c (before ++ Took id (xs ++ ys) ∷ behind) ≡ world_after c (before ++ Took id xs ∷ Took id ys ∷ behind) }
     ensures same_steps { (c : ConfigValues) (events others : List Event) → steps_of c.limits.max_message events ≡ steps_of c.limits.max_message others → world_after c events ≡ world_after c others }
+{}
+
+/// Where a script cuts the bytes that it hands to a connection does not matter. Bytes in one `in`, and in two that stand one right
+/// behind the other, leave the same server, so that the last one tells the same stop; and as many of them are taken, be it all or not.
+/// So scripts that differ only in such cuts, however many, leave the same server, and each event but the `in`s writes the same line, in
+/// the same order: so the `out` lines of each connection are the same. All lines, one after the other, are the text that is written.
+pub fn where_a_script_cuts_does_not_matter()
+    ensures taken { (v : ServerValue) (before : List Event) (id : ℕ) (xs ys : List ℕ) → Shows v before → (fed v id (xs ++ ys)).count ≡ (fed v id xs).count + (fed (fed v id xs).server id ys).count }
+    ensures after { (v : ServerValue) (before : List Event) (id : ℕ) (xs ys : List ℕ) → Shows v before → (fed v id (xs ++ ys)).server ≡ (fed (fed v id xs).server id ys).server }
+    ensures servers { (v : ServerValue) (before : List Event) (events others : List EventValue) → Shows v before → v.ids < 2 ^ 64 → AreInTime events → AreInTime others → DifferInCuts events others → (replayed v events).server ≡ (replayed v others).server }
+    ensures text { (v : ServerValue) (events : List EventValue) → concat (map (λ l. l.1) (lines_of v events)) ≡ (replayed v events).text }
+    ensures lines { (v : ServerValue) (before : List Event) (events others : List EventValue) → Shows v before → v.ids < 2 ^ 64 → AreInTime events → AreInTime others → DifferInCuts events others → other_lines v events ≡ other_lines v others }
 {}
 
 /// What is taken is handled: after events that were accepted, the messages that a connection has handled are those that the bytes
