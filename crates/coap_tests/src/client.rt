@@ -1,0 +1,135 @@
+//! A run of `run_client` over devices that tell all, where its clause is one of what they tell.
+
+ghost use Rattle.std.specs.Prelude.{◌≡◌, ◌++◌, ◌∷◌, false, [], Some, IfOk};
+ghost use Rattle.coap_client.specs.ClientRun.{IsClientRun, seen};
+
+use crate::devices::Ledger;
+use coap_client::{ClientFault, ClientPlan, client_words, run_client};
+use coap_serve::{Clock, Got, Wire};
+use std::alloc::Global;
+use std::process::Abort;
+
+/// A wire that tells what it gave, what it took, and what its calls came to. A read gives so many bytes at most, and `Later` where none
+/// is left; a write takes all.
+#[derive(Drop)]
+struct Talk<'a, A: Abort> {
+    rt: &'a A,
+    rest: &'a [u8],
+    most: usize,
+    given: Vec<u8>,
+    written: Vec<u8>,
+    answers: Vec<Got>,
+}
+
+impl<A: Abort> Talk<'_, A> {
+    /// Notes what a call comes to.
+    fn answer(&mut self, got: Got) -> Got
+        ensures got { result ≡ got }
+        ensures answers { self.new.answers.items ≡ self.old.answers.items ++ got ∷ [] }
+        ensures kept { (self.new.given ≡ self.old.given) × (self.new.written ≡ self.old.written) }
+    {
+        self.answers.push(got).expect(self.rt, "room for an answer");
+        got
+    }
+}
+
+impl<A: Abort> Wire for Talk<'_, A> {
+    ghost given = { λ wire. Some wire.given.items };
+
+    ghost written = { λ wire. Some wire.written.items };
+
+    ghost answers = { λ wire. Some wire.answers.items };
+
+    fn read(&mut self, buffer: &mut [u8]) -> Got {
+        let count = self.rest.len().min(buffer.len()).min(self.most);
+        if count == 0 {
+            return self.answer(Got::Later);
+        }
+        let front = &self.rest[..count];
+        self.given
+            .extend_from_slice(front)
+            .expect(self.rt, "room for what is read");
+        buffer[..count].copy_from_slice(front);
+        self.rest = &self.rest[count..];
+        self.answer(Got::Bytes(count))
+    }
+
+    fn write(&mut self, bytes: &[u8]) -> Got {
+        if bytes.is_empty() {
+            return self.answer(Got::Later);
+        }
+        self.written
+            .extend_from_slice(bytes)
+            .expect(self.rt, "room for what is written");
+        self.answer(Got::Bytes(bytes.len()))
+    }
+}
+
+/// A clock that tells its moments: each is a second behind the one before.
+#[derive(Drop)]
+struct Seconds<'a, A: Abort> {
+    rt: &'a A,
+    next: u64,
+    moments: Vec<u64>,
+}
+
+impl<A: Abort> Clock for Seconds<'_, A> {
+    ghost moments = { λ clock. Some clock.moments.items };
+
+    fn now(&mut self) -> u64 {
+        let moment = self.next;
+        self.moments
+            .push(moment)
+            .expect(self.rt, "room for a moment");
+        self.next = moment.saturating_add(1);
+        moment
+    }
+}
+
+/// Runs a client over devices that tell all.
+fn run_told<A: Abort>(
+    alloc: Global,
+    wire: &mut Talk<A>,
+    clock: &mut Seconds<A>,
+    out: &mut Ledger,
+    err: &mut Ledger,
+    plan: &ClientPlan,
+) -> Result<u8, ClientFault>
+    requires out_works { out.old.failed ≡ false }
+    requires err_works { err.old.failed ≡ false }
+    requires nothing_passed { (wire.old.given.items ≡ []) × (wire.old.written.items ≡ []) × (wire.old.answers.items ≡ []) }
+    requires no_moment { clock.old.moments.items ≡ [] }
+    requires nothing_told { (out.old.bytes.items ≡ []) × (err.old.bytes.items ≡ []) }
+    ensures { IfOk result (IsClientRun plan.now (seen (Some []) (Some []) (Some []) (Some []) (Some []) (Some [])) (seen (Some wire.new.given.items) (Some wire.new.written.items) (Some wire.new.answers.items) (Some clock.new.moments.items) (Some out.new.bytes.items) (Some err.new.bytes.items))) }
+{
+    run_client(alloc, wire, clock, out, err, plan)
+}
+
+#[test]
+fn runs_a_client_over_devices_that_tell_all(rt: HostRuntime) {
+    let plan = client_words(rt.alloc(), &["coap+tcp://127.0.0.1/"]).expect(&rt, "a plan");
+    let mut wire = Talk {
+        rt: &rt,
+        rest: b"\x00\xe1\x31\x45\x01\xffhi",
+        most: 2,
+        given: Vec::new(rt.alloc()),
+        written: Vec::new(rt.alloc()),
+        answers: Vec::new(rt.alloc()),
+    };
+    let mut clock = Seconds {
+        rt: &rt,
+        next: 7,
+        moments: Vec::new(rt.alloc()),
+    };
+    let mut out = Ledger::new(rt.alloc(), usize::MAX, usize::MAX, None);
+    let mut err = Ledger::new(rt.alloc(), usize::MAX, usize::MAX, None);
+    let result = run_told(rt.alloc(), &mut wire, &mut clock, &mut out, &mut err, &plan);
+    assert!(&rt; result == Ok(0));
+    assert!(&rt; wire.given.as_slice() == b"\x00\xe1\x31\x45\x01\xffhi".as_slice());
+    assert!(&rt; wire.written.as_slice() == b"\x40\xe1\x23\x01\x00\x00\x01\x01\x01".as_slice());
+    let two = Got::Bytes(2);
+    assert!(&rt; wire.answers.as_slice() == [two, Got::Bytes(9), two, two, two].as_slice());
+    assert!(&rt; clock.moments.as_slice() == [7, 8, 9, 10, 11].as_slice());
+    assert!(&rt; out.bytes.as_slice() == b"hi".as_slice());
+    assert!(&rt; err.bytes.is_empty());
+}
