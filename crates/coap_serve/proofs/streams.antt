@@ -17,4 +17,6 @@ pub mod AgendaLemmas
 pub mod PassedLemmas
 pub mod NoteLemmas
 pub mod NotedLemmas
+pub mod ServingLemmas
+pub mod PartLemmas
 pub mod ServiceLemmas

@@ -6,4 +6,5 @@ pub mod Faults
 pub mod Wires
 pub mod Turns
 pub mod Notes
+pub mod Serving
 pub mod Telling

@@ -1,5 +1,5 @@
 -- What was noted of the far ends of connections is true, and stays so over each step of a turn.
-use Rattle.std.proofs.Common.{◌≡◌, ◌≢◌, ℕ, zero, suc, ◌+◌, ◌≤◌, Bool, true, false, List, [], ◌∷◌, map, Option, Some, None, Result, Ok, Err, refl, sym, ap, subst, ◌∙◌, nat_eq, nat_le, is_ok, slice_get, remove, if◌then◌else◌, IfOk, OnOk, OnErr, IfSome}
+use Rattle.std.proofs.Common.{◌≡◌, ◌≢◌, ℕ, zero, suc, ◌+◌, ◌≤◌, Bool, true, false, List, [], ◌∷◌, map, filter, not, ◌==◌, Option, Some, None, Result, Ok, Err, refl, sym, ap, subst, ◌∙◌, nat_eq, nat_le, is_ok, slice_get, remove, if◌then◌else◌, IfOk, OnOk, OnErr, IfSome}
 use Rattle.std.specs.List.{AllByRecursion, IsDistinct}
 use Rattle.std.specs.Map.{keys_of, lookup}
 use Rattle.std.proofs.lemmas.Bool.{eqb-true, eqb-false, leb-true}
@@ -11,10 +11,11 @@ use Rattle.coap_serve.specs.declared.serve.IoFault.{IoFault}
 use Rattle.coap_serve.specs.declared.server.Stamp.{Stamp}
 use Rattle.coap_serve.specs.declared.wire.Wait.{Wait}
 use Rattle.coap_serve.specs.declared.wire.Wait.TheVariants.{No, Until, Forever}
-use Rattle.coap_serve.specs.values.Servers.{ServerValue, AreSettled, session_of, is_there, server_ticked, server_dropped, server_opened}
+use Rattle.coap_serve.specs.values.Servers.{ServerValue, AreSettled, session_of, settled_entry, is_there, server_ticked, server_dropped, server_opened}
 use Rattle.coap_serve.specs.values.Dues.{stamp_of, outlook_of}
 use Rattle.coap_serve.specs.streams.Turns.{IsServedOnce, IsAtRest, MayWait, end_of, wants_of}
 use Rattle.coap_serve.specs.streams.Notes.{IsNoEarlier, KeepsNotes, IsNoted, AreNoted, true_end}
+use Rattle.coap_serve.proofs.values.ServerLemmas.{Entries, is_other, all_settled_stay}
 use Rattle.coap_serve.proofs.streams.AgendaLemmas.{stamp_in}
 use Rattle.coap_serve.proofs.streams.NoteLemmas.{no_earlier_itself, no_earlier_on, never_back, noted_where_served, noted_where_dropped, noted_where_opened, ticked_no_earlier, ticked_to_the_same}
 
@@ -124,18 +125,33 @@ noted_without (Ok x) v after id es settled none noted ok err =
     subst (λ w. AreNoted w es) (sym ok) (others_stay_noted id v (server_dropped v id) es (noted_where_dropped v id settled) (others_where_none id es none) noted)
 noted_without (Err e) v after id es settled none noted ok err = subst (λ w. AreNoted w es) (sym err) noted
 
-is_so : {T E X : Type 0} (r : Result T E) → is_ok r ≡ true → OnOk r X → X
-is_so (Ok t) is x = x
-is_so (Err e) is x = absurd cc
+others_only : (id : ℕ) (es : Entries) → is_there (session_of id es) ≡ false → filter (is_other id) es ≡ es
+unfolding session_of
+others_only id [] none = refl
+others_only id (e ∷ es) none =
+    elim (e.0 == id) as (λ b. is_there (if b then Some e.1 else session_of id es) ≡ false → (if not b then (e ∷ filter (is_other id) es) else filter (is_other id) es) ≡ e ∷ es) [
+      | true ↦ λ found. absurd cc
+      | false ↦ λ found. ap (λ rest. e ∷ rest) (others_only id es found)
+    ] none
 
--- it was dropped, where it was there
-pub dropped_there : {W T E : Type 0} (r : Result T E) (v after : ServerValue) (es : List (ℕ × Peer W)) (i id : ℕ) (p : Peer W) → Some (id, p) ≡ slice_get es i → is_ok r ≡ is_there (session_of id v.sessions)
-    → OnOk r (after ≡ server_dropped v id) → IfSome (slice_get (keys_of es) i) (λ k. is_there (session_of k v.sessions) ≡ true → after ≡ server_dropped v k)
-dropped_there r v after [] i id p at answer ok = tt
-dropped_there r v after (e ∷ es) zero id p at answer ok =
+-- where it is not there, nothing is dropped
+none_dropped : (v : ServerValue) (id : ℕ) → AreSettled v.host v.sessions → is_there (session_of id v.sessions) ≡ false → server_dropped v id ≡ v
+none_dropped v id settled none =
+    ap (λ (es : Entries). record v { sessions = map (settled_entry v.host) es }) (others_only id v.sessions none)
+    ∙ ap (λ (es : Entries). record v { sessions = es }) (all_settled_stay v.host v.sessions settled)
+
+dropped_so : {T E : Type 0} (r : Result T E) (v after : ServerValue) (id : ℕ) → AreSettled v.host v.sessions → is_ok r ≡ is_there (session_of id v.sessions) → OnOk r (after ≡ server_dropped v id) → OnErr r (after ≡ v) → after ≡ server_dropped v id
+dropped_so (Ok x) v after id settled answer ok err = ok
+dropped_so (Err e) v after id settled answer ok err = err ∙ sym (none_dropped v id settled (sym answer))
+
+-- it was dropped, and it alone
+pub dropped_there : {W T E : Type 0} (r : Result T E) (v after : ServerValue) (es : List (ℕ × Peer W)) (i id : ℕ) (p : Peer W) → Some (id, p) ≡ slice_get es i → AreSettled v.host v.sessions → is_ok r ≡ is_there (session_of id v.sessions)
+    → OnOk r (after ≡ server_dropped v id) → OnErr r (after ≡ v) → IfSome (slice_get (keys_of es) i) (λ k. after ≡ server_dropped v k)
+dropped_there r v after [] i id p at settled answer ok err = tt
+dropped_there r v after (e ∷ es) zero id p at settled answer ok err =
     let same : id ≡ e.0 = cc in
-    subst (λ k. is_there (session_of k v.sessions) ≡ true → after ≡ server_dropped v k) same (λ there. is_so r (answer ∙ there) ok)
-dropped_there r v after (e ∷ es) (suc i) id p at answer ok = dropped_there r v after es i id p at answer ok
+    subst (λ k. after ≡ server_dropped v k) same (dropped_so r v after id settled answer ok err)
+dropped_there r v after (e ∷ es) (suc i) id p at settled answer ok err = dropped_there r v after es i id p at settled answer ok err
 
 -- what holds of all once one more is there, or in the place of the one with its number
 with_one_more : {W : Type 0} (P Q : ℕ × Peer W → Type 0) (id : ℕ) (p : Peer W) (es : List (ℕ × Peer W)) → ((e : ℕ × Peer W) → e.0 ≢ id → P e → Q e) → Q (id, p)

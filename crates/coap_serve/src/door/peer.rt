@@ -6,6 +6,7 @@ ghost use Rattle.coap_serve.specs.declared.wire.Got.TheVariants.{Later, End};
 ghost use Rattle.coap_serve.specs.script.PartlyFed.{IsPartlyFed};
 ghost use Rattle.coap_serve.specs.script.Replay.{fed};
 ghost use Rattle.coap_serve.specs.streams.Device.{AddsBytes};
+ghost use Rattle.coap_serve.specs.streams.Serving.{HasServed};
 ghost use Rattle.coap_serve.specs.streams.Turns.{IsServedOnce, IsLaidOut, is_heard, server_heard, server_wrote, waiting_once, rest_left, is_over_in, has_failed, course_of, wants_of};
 ghost use Rattle.coap_serve.specs.streams.Wires.{IsWithin, IsMemory, bytes_passed};
 ghost use Rattle.coap_serve.specs.values.ServerAnswers.{stop_on};
@@ -88,6 +89,7 @@ pub(super) fn serve_peer<W: Wire>(
     may_write: bool,
 ) -> Result<Course, IoFault>
     ensures part { IfOk result (λ course. IsServedOnce may_read may_write server.old id peer.old.rest server.new peer.new.rest course) }
+    ensures shows { HasServed server.old server.new }
     ensures wants { IfOk result (λ course. course ≡ Open → peer.new.wants ≡ wants_of server.new id peer.new.rest) }
     ensures fault { IfErr result IsMemory }
 {
@@ -126,8 +128,10 @@ fn outcome(wrote: Got, is_over: bool) -> Course
 
 /// Reads once, where all that was read before is taken, the wire may be read and the connection takes bytes, and answers what came
 /// of it: `Later` too where nothing was read. The end of what the peer sends is told to the connection.
+#[tactic(auto, using(crate::proofs::streams::ServingLemmas::none_served))]
 fn hear<W: Wire>(server: &mut Server, id: ConnId, peer: &mut Peer<W>, may_read: bool) -> Got
     ensures server { server.new ≡ server_heard server.old id result }
+    ensures shows { HasServed server.old server.new }
     ensures laid { IsLaidOut (is_heard may_read server.old id peer.old.rest) peer.old.rest result peer.new.rest }
     // The wire is not touched where it is not to be read.
     ensures passed { is_heard may_read server.old id peer.old.rest ≡ false → peer.new ≡ peer.old }
@@ -152,8 +156,10 @@ fn hear<W: Wire>(server: &mut Server, id: ConnId, peer: &mut Peer<W>, may_read: 
 /// # Errors
 ///
 /// `Memory` where memory was refused for a representation that a message stores.
+#[tactic(auto, using(crate::proofs::streams::ServingLemmas::part_served))]
 fn take_rest(server: &mut Server, id: ConnId, rest: &mut Rest) -> Result<(), IoFault>
     ensures server { OnOk result (server.new ≡ (fed server.old id rest.old).server) }
+    ensures shows { HasServed server.old server.new }
     ensures rest { OnOk result (rest.new ≡ rest_left server.old id rest.old) }
     ensures fault { IfErr result IsMemory }
     ensures err { OnErr result (IsPartlyFed server.old id rest.old server.new) }
@@ -170,8 +176,10 @@ fn take_rest(server: &mut Server, id: ConnId, rest: &mut Rest) -> Result<(), IoF
 
 /// Writes once what waits on a connection, where anything does and the wire may be written, and answers what came of it: `Later` too
 /// where nothing was written, and `Failed` for each answer that a write fails with.
+#[tactic(auto, using(crate::proofs::streams::ServingLemmas::none_served))]
 fn write_once<W: Wire>(server: &mut Server, id: ConnId, wire: &mut W, may_write: bool) -> Got
     ensures server { server.new ≡ server_wrote server.old id result }
+    ensures shows { HasServed server.old server.new }
     ensures within { IsWithin (length (waiting_once may_write id server.old)) result }
     ensures idle { waiting_once may_write id server.old ≡ [] → (wire.new ≡ wire.old) × (result ≡ Later) }
     ensures wrote { waiting_once may_write id server.old ≢ [] → AddsBytes (W.written wire.old) (W.written wire.new) (bytes_passed (waiting_once may_write id server.old) result) }

@@ -30,6 +30,7 @@ impl<W: Wire + Ready + Drop> Service<W> {
     ghost use Rattle.coap_store.specs.Refusals.{RefusedOrMemory, put_refusal, remove_refusal};
     ghost use Rattle.coap_serve.specs.declared.serve.IoFault.TheVariants as fault;
     ghost use Rattle.coap_serve.specs.streams.Notes.{true_end};
+    ghost use Rattle.coap_serve.specs.streams.Serving.{HasTurned, IsTurnOf};
     ghost use Rattle.coap_serve.specs.streams.Turns.{MayWait};
     ghost use Rattle.coap_serve.specs.streams.Wires.{IsMemory};
     ghost use Rattle.coap_serve.specs.values.Dues.{stamp_of};
@@ -123,7 +124,12 @@ impl<W: Wire + Ready + Drop> Service<W> {
     /// # Errors
     ///
     /// `Memory` where memory was refused, in this turn or in one before it.
+    #[tactic(auto, using(crate::proofs::streams::ServingLemmas::turned_as_before))]
     pub fn turn<D: Door<Wire = W>>(&mut self, door: &mut D) -> Result<Wait, IoFault>
+        // Nothing happens to the server but that one connection is opened or none, and that connections are served.
+        ensures shows { HasTurned self.old.server self.new.server }
+        // One connection is opened or none; then each in order has its part of the turn, but those at rest.
+        ensures turn { OnOk result (IsTurnOf W.readable W.writable self.old.server self.old.peers.entries self.new.server self.new.peers.entries) }
         // The door waits only where nothing can be done that a connection is to be served for now, whatever was noted of it.
         ensures waits { IfOk result (λ wait. MayWait wait (stamp_of self.new.server.host) (map (λ e. true_end W.readable W.writable self.new.server e) self.new.peers.entries)) }
         ensures fault { IfErr result IsMemory }

@@ -1,14 +1,15 @@
 //! A turn of a door.
 
-ghost use Rattle.std.specs.Prelude.{◌≡◌, ◌<◌, ◌≤◌, ◌+◌, ◌-◌, ◌^◌, false, true, Ok, length, is_none, map, remove, slice_get, take, if◌then◌else◌, IfSome, IfOk, IfErr, OnOk};
+ghost use Rattle.std.specs.Prelude.{◌≡◌, ◌<◌, ◌≤◌, ◌+◌, ◌-◌, ◌^◌, false, true, Ok, length, is_none, map, remove, slice_get, take, IfSome, IfOk, IfErr, OnOk};
 ghost use Rattle.std.specs.Map.{keys_of};
 ghost use Rattle.coap_serve.specs.declared.door.peer.Course.TheVariants.{Open};
 ghost use Rattle.coap_serve.specs.streams.Notes.{AreNoted, true_end};
+ghost use Rattle.coap_serve.specs.streams.Serving.{HasServed, HasTurned, HasGoneOn, AreServed, AreOpened, IsTurnOf};
 ghost use Rattle.coap_serve.specs.streams.Turns.{IsServed, IsAgendaOf, MayWait, end_of, wait_of, wants_of};
 ghost use Rattle.coap_serve.specs.streams.Wires.{IsMemory};
 ghost use Rattle.coap_serve.specs.values.Dues.{stamp_of};
 ghost use Rattle.coap_serve.specs.values.ServerAnswers.{open_refusal};
-ghost use Rattle.coap_serve.specs.values.Servers.{AreSettled, session_of, is_there, server_opened, server_dropped};
+ghost use Rattle.coap_serve.specs.values.Servers.{AreSettled, server_dropped};
 
 use super::agenda::{Agenda, Seen, concerns_others, pass_over};
 use super::peer::{Course, Peer, Peers, serve_peer};
@@ -30,6 +31,8 @@ pub(super) fn take_turn<D: Door>(
     door: &mut D,
 ) -> Result<Wait, IoFault>
     requires { AreNoted server.old peers.old.entries }
+    ensures shows { HasTurned server.old server.new }
+    ensures turn { OnOk result (IsTurnOf D.Wire.readable D.Wire.writable server.old peers.old.entries server.new peers.new.entries) }
     ensures noted { OnOk result (AreNoted server.new peers.new.entries) }
     ensures settled { OnOk result (AreSettled server.new.host server.new.sessions) }
     // The door waits only where nothing can be done that a connection is to be served for now, whatever was noted of it.
@@ -46,17 +49,19 @@ pub(super) fn take_turn<D: Door>(
 /// # Errors
 ///
 /// `Memory` where memory was refused.
+#[tactic(auto, using(crate::proofs::streams::ServingLemmas::turned_as_before, crate::proofs::streams::ServingLemmas::turned_open))]
 fn accept<D: Door>(
     server: &mut Server,
     peers: &mut Peers<D::Wire>,
     door: &mut D,
 ) -> Result<bool, IoFault>
     requires { AreNoted server.old peers.old.entries }
+    ensures shows { HasTurned server.old server.new }
     ensures noted { OnOk result (AreNoted server.new peers.new.entries) }
     ensures fault { IfErr result IsMemory }
     // The door is not asked for a wire that no connection could be opened for.
     ensures asks { is_none (open_refusal server.old) ≡ false → (door.new ≡ door.old) × (result ≡ Ok false) }
-    ensures server { IfOk result (λ opened. server.new ≡ (if opened then server_opened server.old else server.old)) }
+    ensures opened { IfOk result (λ opened. AreOpened opened server.old peers.old.entries server.new peers.new.entries) }
 {
     if !server.can_open() {
         return Ok(false);
@@ -88,6 +93,9 @@ fn serve_each<W: Wire + Ready + Drop>(
     peers: &mut Peers<W>,
 ) -> Result<Agenda, IoFault>
     requires { AreNoted server.old peers.old.entries }
+    ensures shows { HasServed server.old server.new }
+    // Each connection in order has its part, but those at rest.
+    ensures parts { OnOk result (AreServed W.readable W.writable server.old peers.old.entries server.new peers.new.entries) }
     ensures noted { OnOk result (AreNoted server.new peers.new.entries) }
     ensures settled { OnOk result (AreSettled server.new.host server.new.sessions) }
     // What is left to be done at once, and when: the door waits only where all were served after the last change.
@@ -115,6 +123,9 @@ fn serve_next<W: Wire + Ready + Drop>(
     requires there { seen.at < length peers.old.entries }
     requires fits { length peers.old.entries < 2 ^ 64 }
     requires noted { AreNoted server.old peers.old.entries }
+    ensures shows { HasServed server.old server.new }
+    // The connection has its part of the turn, and the others stand as before.
+    ensures part { IfOk result (λ later. HasGoneOn W.readable W.writable server.old peers.old.entries seen.at server.new peers.new.entries later.at) }
     ensures noted { OnOk result (AreNoted server.new peers.new.entries) }
     ensures agenda { IfOk result (λ later. IsAgendaOf seen.agenda (stamp_of server.old.host) (map (λ e. end_of W.readable W.writable e.1) (take seen.at peers.old.entries)) → IsAgendaOf later.agenda (stamp_of server.new.host) (map (λ e. end_of W.readable W.writable e.1) (take later.at peers.new.entries))) }
     ensures within { IfOk result (λ later. later.at ≤ length peers.new.entries) }
@@ -154,6 +165,7 @@ fn serve_at<W: Wire + Ready>(
     requires there { at < length peers.old.entries }
     requires settled { AreSettled server.old.host server.old.sessions }
     requires noted { AreNoted server.old peers.old.entries }
+    ensures shows { HasServed server.old server.new }
     ensures part { IfSome (slice_get peers.old.entries at) (λ was. IfSome (slice_get peers.new.entries at) (λ is. IfOk result (λ course. IsServed (W.readable was.1.wire) (W.writable was.1.wire) server.old was.0 was.1.rest server.new is.1.rest course))) }
     ensures wants { IfSome (slice_get peers.new.entries at) (λ is. IfOk result (λ course. course ≡ Open → is.1.wants ≡ wants_of server.new is.0 is.1.rest)) }
     // What was noted of the others still holds, and what was noted of it does where it goes on.
@@ -172,14 +184,16 @@ fn serve_at<W: Wire + Ready>(
 }
 
 /// Drops the connection at an index.
+#[tactic(auto, using(crate::proofs::streams::ServingLemmas::none_served, crate::proofs::streams::ServingLemmas::dropped_served))]
 fn drop_at<W: Wire + Drop>(server: &mut Server, peers: &mut Peers<W>, at: usize)
     requires there { at < length peers.old.entries }
     requires settled { AreSettled server.old.host server.old.sessions }
     requires noted { AreNoted server.old (remove peers.old.entries at) }
+    ensures shows { HasServed server.old server.new }
     ensures noted { AreNoted server.new peers.new.entries }
     ensures peers { peers.new.entries ≡ remove peers.old.entries at }
     ensures host { server.new.host ≡ server.old.host }
-    ensures server { IfSome (slice_get (keys_of peers.old.entries) at) (λ id. is_there (session_of id server.old.sessions) ≡ true → server.new ≡ server_dropped server.old id) }
+    ensures server { IfSome (slice_get (keys_of peers.old.entries) at) (λ id. server.new ≡ server_dropped server.old id) }
 {
     if let Some((id, _)) = peers.shift_remove_index(at) {
         let _ = server.drop_conn(id);

@@ -1,8 +1,12 @@
-use Rattle.std.proofs.Common.{◌≡◌, length, map, take, remove, sym, ap, subst, arith}
+use Rattle.std.proofs.Common.{◌≡◌, length, map, take, remove, slice_get, IfSome, sym, ap, subst, arith}
 use Rattle.coap_serve.specs.declared.door.peer.Peer.{Peer}
 use Rattle.coap_serve.specs.values.Dues.{stamp_of}
 use Rattle.coap_serve.specs.streams.Turns.{end_of, IsAgendaOf}
 use Rattle.coap_serve.proofs.streams.AgendaLemmas.{served_later, dropped_step, open_step, stamp_noted, same_length, length_without}
+use Rattle.coap_serve.specs.declared.door.peer.Course.{Course}
+use Rattle.coap_serve.specs.streams.Turns.{IsServed}
+use Rattle.coap_serve.proofs.streams.PartLemmas.{one_open, one_over}
+use Rattle.coap_serve.proofs.streams.ServingLemmas.{served_further}
 use Rattle.coap_serve.proofs.door.turn.serve_next.Goals as goal
 
 pub overflow_add-result : goal.overflow_add-result
@@ -37,3 +41,20 @@ pub returns-in-Open-clause-fewer : goal.returns-in-Open-clause-fewer
 returns-in-Open-clause-fewer g c =
     let as_many = same_length c.serve_at.new.peers.entries c.args.peers.now.entries c.serve_at.ensures.same in
     omega (arith, as_many, c.requires.there)
+
+pub returns-in-Over-clause-part : goal.returns-in-Over-clause-part
+returns-in-Over-clause-part g c =
+    one_over g.W.Ready.readable g.W.Ready.writable c.args.server.now c.serve_at.new.server c.args.peers.now.entries c.serve_at.new.peers.entries c.args.seen.at
+    c.requires.there (same_length c.serve_at.new.peers.entries c.args.peers.now.entries c.serve_at.ensures.same) c.serve_at.ensures.same c.serve_at.ensures.before c.serve_at.ensures.beside
+    c.drop_at.new.server c.drop_at.new.peers.entries
+    (subst (λ (course : Course). IfSome (slice_get c.args.peers.now.entries c.args.seen.at) (λ was. IfSome (slice_get c.serve_at.new.peers.entries c.args.seen.at) (λ is. IsServed (g.W.Ready.readable was.1.wire) (g.W.Ready.writable was.1.wire) c.args.server.now was.0 was.1.rest c.serve_at.new.server is.1.rest course))) c.in-Over.is c.in_ok-course.ensures.part)
+    c.drop_at.ensures.peers c.drop_at.ensures.server
+
+pub returns-in-Open-clause-part : goal.returns-in-Open-clause-part
+returns-in-Open-clause-part g c =
+    one_open g.W.Ready.readable g.W.Ready.writable c.args.server.now c.serve_at.new.server c.args.peers.now.entries c.serve_at.new.peers.entries c.args.seen.at
+    c.requires.there (same_length c.serve_at.new.peers.entries c.args.peers.now.entries c.serve_at.ensures.same) c.serve_at.ensures.same c.serve_at.ensures.before c.serve_at.ensures.beside
+    (subst (λ (course : Course). IfSome (slice_get c.args.peers.now.entries c.args.seen.at) (λ was. IfSome (slice_get c.serve_at.new.peers.entries c.args.seen.at) (λ is. IsServed (g.W.Ready.readable was.1.wire) (g.W.Ready.writable was.1.wire) c.args.server.now was.0 was.1.rest c.serve_at.new.server is.1.rest course))) c.in-Open.is c.in_ok-course.ensures.part)
+
+pub returns-in-Over-clause-shows : goal.returns-in-Over-clause-shows
+returns-in-Over-clause-shows g c = served_further c.args.server.now c.serve_at.new.server c.drop_at.new.server c.serve_at.ensures.shows c.drop_at.ensures.shows

@@ -1,0 +1,8 @@
+use Rattle.coap_serve.proofs.streams.ServingLemmas.{takes_served}
+use Rattle.coap_serve.proofs.door.peer.take_rest.Goals as goal
+
+pub returns-then-has_stopped-clause-shows : goal.returns-then-has_stopped-clause-shows
+returns-then-has_stopped-clause-shows c = takes_served c.args.server.now c.take_all.new.self c.args.id c.bytes.result.now c.in-Ok.ensures.shows
+
+pub returns-else-has_stopped-clause-shows : goal.returns-else-has_stopped-clause-shows
+returns-else-has_stopped-clause-shows c = takes_served c.args.server.now c.take_all.new.self c.args.id c.bytes.result.now c.in-Ok.ensures.shows
