@@ -183,7 +183,10 @@ module _ {W : Type 0} (readable writable : W → Option Bool) where
           its = [];
           there = was.1;
           part = record {
-            served = between; peer = is.0.1; course = Over; part = served;
+            served = between;
+            peer = is.0.1;
+            course = Over;
+            part = served;
             server = if_there (slice_get (keys_of mid) i) (λ id. after ≡ server_dropped between id) was.0.0 (ap (λ ks. slice_get ks i) keys ∙ key_at es i was.0 was.1) dropped;
             far_end = refl;
           };

@@ -1,5 +1,5 @@
 -- Writing what waits, one write after the other.
-use Rattle.std.proofs.Common.{◌≡◌, ℕ, List, [], ◌++◌, take, drop, Option, sym, ap, ◌∙◌, append_assoc}
+use Rattle.std.proofs.Common.{◌≡◌, ℕ, List, ◌++◌, take, drop, Option, sym, ap, ◌∙◌, append_assoc}
 use Rattle.std.proofs.lemmas.List.{take-append-drop}
 use Rattle.coap_serve.specs.streams.Device.{AddsBytes}
 use Rattle.coap_serve.proofs.streams.DeviceLemmas.{bytes_then}

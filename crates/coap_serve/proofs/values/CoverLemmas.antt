@@ -9,7 +9,6 @@ use Rattle.coap_serve.specs.declared.observers.Observer.{Observer}
 use Rattle.coap_serve.specs.declared.path_set.PathSet.{PathSet}
 use Rattle.coap_serve.specs.values.Sessions.{ObserverValue}
 use Rattle.coap_serve.specs.values.Dues.{tells_time}
-use Rattle.coap_serve.specs.values.Causes.{ObservesNone}
 use Rattle.coap_serve.specs.views.PathSetViews.{Covers}
 use Rattle.coap_serve.specs.views.ObserverViews.{observer_value, AreCovered}
 

@@ -16,7 +16,6 @@ use Rattle.coap_conn.specs.declared.phase.Reply.{Reply}
 use Rattle.coap_conn.specs.declared.phase.Reply.TheVariants.{Whole, Bare, Stopped}
 use Rattle.coap_conn.specs.Limits.{LimitValues}
 use Rattle.coap_conn.specs.Phases.{takes_messages, answers, is_open, is_waiting}
-use Rattle.coap_conn.specs.Verdicts as verdict
 use Rattle.coap_conn.specs.Fit.{fit, bare_response}
 use Rattle.coap_conn.specs.Held.{HeldValue, Answer, Pong, without_at, due_index, without_due}
 use Rattle.coap_conn.specs.Reaction.{Standing, Effect, send_as, send, react, asks_custody, is_custody_pong, pong_with}

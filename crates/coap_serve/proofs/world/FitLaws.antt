@@ -6,7 +6,6 @@ use Rattle.std.proofs.lemmas.List.{append-nil}
 use Rattle.coap_wire.specs.Message.{Message}
 use Rattle.coap_wire.specs.Codes as code
 use Rattle.coap_conn.specs.declared.phase.Role.TheVariants.{Server}
-use Rattle.coap_conn.specs.declared.phase.SendFault.TheVariants as fault
 use Rattle.coap_conn.specs.declared.reason.Reason.{Reason}
 use Rattle.coap_conn.specs.declared.reason.Reason.TheVariants as reason
 use Rattle.coap_conn.specs.Limits.{LimitValues, AreInRange}

@@ -1,6 +1,6 @@
 -- A history that another one goes on to: one of the same connection, which takes no message any more once it does not. What each call
 -- keeps of a history, and the link that shows the history after it.
-use Rattle.std.proofs.Common.{◌≡◌, ℕ, ◌≤◌, Bool, true, false, cond, ◌&&◌, List, [], ◌++◌, length, Option, Some, None, refl, sym, ap, ◌∙◌, arith}
+use Rattle.std.proofs.Common.{◌≡◌, ℕ, ◌≤◌, Bool, true, false, cond, ◌&&◌, List, ◌++◌, length, Option, Some, None, refl, ap, ◌∙◌, arith}
 use Rattle.std.proofs.lemmas.Bool.{both_ways, and_parts}
 use Rattle.std.proofs.lemmas.List.{length-append, length-drop}
 use Rattle.coap_wire.specs.Message.{Message}
@@ -16,7 +16,7 @@ use Rattle.coap_conn.specs.Held.{HeldValue, first_due}
 use Rattle.coap_conn.specs.Held as held
 use Rattle.coap_conn.specs.Reaction.{Standing, Effect, send_as, pong_with, due_effect}
 use Rattle.coap_conn.specs.Rejects.{reject_of}
-use Rattle.coap_conn.specs.History.{History, IsHistory, standing_now, with_effect, after, may_hold, link_of, LinkShows}
+use Rattle.coap_conn.specs.History.{History, IsHistory, standing_now, with_effect, after, may_hold, link_of}
 use Rattle.coap_conn.specs.LinkValue.{bytes_of}
 use Rattle.coap_conn.specs.Calls.{standing_due, link_after}
 use Rattle.coap_conn.specs.Calls as call

@@ -9,7 +9,6 @@ use Rattle.coap_wire.specs.Spelling.{spelling}
 use Rattle.coap_wire.proofs.StreamSteps.{unfinished_below}
 use Rattle.coap_conn.specs.declared.phase.Reply.{Reply}
 use Rattle.coap_conn.specs.declared.phase.Reply.TheVariants.{Whole, Bare, Stopped}
-use Rattle.coap_conn.specs.declared.phase.SendFault.TheVariants as fault
 use Rattle.coap_conn.specs.Limits.{LimitValues, AreInRange}
 use Rattle.coap_conn.specs.Phases.{takes_messages, is_open}
 use Rattle.coap_conn.specs.Reasons.{abort_of}

@@ -10,7 +10,7 @@ use Rattle.coap_conn.specs.Held.{HeldValue, come, answer_index, pong_index, else
 use Rattle.coap_conn.specs.History.{limit_now, after, link_of}
 use Rattle.coap_conn.specs.Calls.{link_after}
 use Rattle.coap_conn.specs.Calls as call
-use Rattle.coap_conn.proofs.HeldLaws.{due_nothing, due_fewer}
+use Rattle.coap_conn.proofs.HeldLaws.{due_nothing}
 use Rattle.coap_store.specs.Store.{StoreValue}
 use Rattle.coap_store.specs.State.{state_of}
 use Rattle.coap_serve.specs.values.Sessions.{session_with, is_stale, next_stale, entry_left, session_notified_so, session_notified, next_held_in, session_settled_so, session_settled_once, session_settled_within, session_settled}
@@ -21,7 +21,7 @@ use Rattle.coap_serve.proofs.world.KnownLaws.{IsKnown, IsVersioned, due_is_stale
 use Rattle.coap_serve.proofs.world.EntryLemmas.{all_to, all_if, all_become, found_all, none_due, TellTheSame, found_shown, become_shown, count_due, count_within, count_less}
 use Rattle.coap_serve.proofs.world.GoingOn.{reply_goes_on, sent_goes_on, sent_link}
 use Rattle.coap_conn.proofs.LinkLemmas.{after_link}
-use Rattle.coap_serve.proofs.world.SideLaws.{host_of, AreKnown, IsKnownSide, known_with, shown_with, kept_frame, settled_cases, held_room, reply_leaves, sent_held}
+use Rattle.coap_serve.proofs.world.SideLaws.{host_of, AreKnown, IsKnownSide, known_with, shown_with, kept_frame, settled_cases, reply_leaves, sent_held}
 
 -- nothing is left to settle: nothing that is held is due and no observer is, or there is no room
 abbrev pub IsAtRest : StoreValue → ℕ → Side → Type 0

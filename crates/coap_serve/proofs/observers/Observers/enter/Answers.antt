@@ -9,8 +9,15 @@ use Rattle.coap_serve.proofs.observers.Observers.enter.Goals as goal
 pub invariant_of-self : goal.invariant_of-self
 invariant_of-self c = record {
   few =
-      omega (arith, ap length c.push_reserved.ensures.items, length-append c.self.inside.entries.items (c.args.observer ∷ []), length-map c.self.inside.entries.items observer_value,
-      ap (λ (v : ObserversValue). length v.entries) c.self.view_is, ap (λ (v : ObserversValue). v.room) c.self.view_is, c.requires);
+      omega (
+        arith,
+        ap length c.push_reserved.ensures.items,
+        length-append c.self.inside.entries.items (c.args.observer ∷ []),
+        length-map c.self.inside.entries.items observer_value,
+        ap (λ (v : ObserversValue). length v.entries) c.self.view_is,
+        ap (λ (v : ObserversValue). v.room) c.self.view_is,
+        c.requires,
+      );
   reserved = omega (arith, c.push_reserved.ensures.capacity, c.self.invariant.reserved);
   covered =
       subst (λ (xs : List Observer). AreCovered c.insert.new.self (map observer_value xs)) (sym c.push_reserved.ensures.items)

@@ -17,7 +17,7 @@ settle_touched-requires c =
     let sessions = c.self.inside.sessions.entries in
     let store = subst (λ (v : ServerValue). IsStore v.host.store) (sym c.self.view_is) c.stamp-before.ensures.store in
     let before : c.stamp-before.result.moment ≡ host.now =
-        ap (λ (s : Stamp). s.moment) c.stamp-before.ensures.stamp ∙ ap (λ (v : ServerValue). v.host.now) (sym c.self.view_is) in
+    ap (λ (s : Stamp). s.moment) c.stamp-before.ensures.stamp ∙ ap (λ (v : ServerValue). v.host.now) (sym c.self.view_is) in
     subst (λ (n : ℕ). AreSettledUntouched (cause.Moment n) (at_moment host c.args.now) sessions) (sym before)
     (untouched_by_moment host c.args.now sessions store (omega (arith, before)) c.ranges.now.fits c.self.invariant.settled)
 
@@ -28,7 +28,7 @@ invariant_of-self c =
 pub returns-else-now-before-clause-ok : goal.returns-else-now-before-clause-ok
 returns-else-now-before-clause-ok c =
     let before : c.stamp-before.result.moment ≡ c.self.inside.host.now =
-        ap (λ (s : Stamp). s.moment) c.stamp-before.ensures.stamp ∙ ap (λ (v : ServerValue). v.host.now) (sym c.self.view_is) in
+    ap (λ (s : Stamp). s.moment) c.stamp-before.ensures.stamp ∙ ap (λ (v : ServerValue). v.host.now) (sym c.self.view_is) in
     subst (λ v. v ≡ server_ticked v c.args.now) c.self.view_is (same_moment (server_value c.self.inside) c.args.now c.self.invariant (omega (arith, before)))
 
 pub returns-else-now-before-clause-answer : goal.returns-else-now-before-clause-answer
