@@ -16,7 +16,7 @@ use Rattle.coap_conn.specs.Limits.{LimitValues}
 use Rattle.coap_conn.specs.Phases.{takes_messages}
 use Rattle.coap_conn.specs.Rejects.{reject_of}
 use Rattle.coap_conn.specs.Outstanding.{OutstandingValue}
-use Rattle.coap_conn.specs.History.{History, IsHistory, new_history, after, after_asking, LinkShows, link_of}
+use Rattle.coap_conn.specs.History.{History, IsHistory, new_history, after, after_asking, link_of}
 use Rattle.coap_conn.specs.LinkValue.{LinkValue, free_in}
 use Rattle.coap_conn.specs.Calls.{link_after}
 use Rattle.coap_conn.specs.Calls as call

@@ -1,8 +1,8 @@
 -- What holds of every course of a client's run: what was taken is a front of what the wire gave, and what was written a front of what
 -- was queued.
-use Rattle.std.proofs.Common.{◌≡◌, ◌+◌, ◌≤◌, ℕ, Bool, true, false, cond, List, [], ◌∷◌, ◌++◌, length, map, take, drop, Option, Some, None, refl, sym, ap, subst, ◌∙◌, append_assoc, arith}
+use Rattle.std.proofs.Common.{◌≡◌, ◌+◌, ◌≤◌, ℕ, Bool, true, false, cond, List, [], ◌∷◌, ◌++◌, length, map, take, drop, Option, Some, None, refl, sym, ap, subst, ◌∙◌, append_assoc}
 use Rattle.std.specs.List.{flat_map}
-use Rattle.std.proofs.lemmas.List.{append-nil, take-append-drop, take-append-le, drop-append-le}
+use Rattle.std.proofs.lemmas.List.{append-nil, take-append-drop, take-append-le}
 use Rattle.std.proofs.Math.Seq.{drop-append_seam, take-append-add}
 use Rattle.std.proofs.lemmas.List.Concat.{flat_map-append}
 use Rattle.coap_wire.specs.Message.{Message}
@@ -14,7 +14,7 @@ use Rattle.coap_conn.specs.History.{History, IsHistory}
 use Rattle.coap_conn.specs.LinkValue.{bytes_of}
 use Rattle.coap_serve.specs.declared.wire.Got.{Got}
 use Rattle.coap_serve.specs.declared.wire.Got.TheVariants.{Bytes, Later, End, Failed}
-use Rattle.coap_serve.specs.streams.Wires.{bytes_passed, count_passed}
+use Rattle.coap_serve.specs.streams.Wires.{bytes_passed}
 use Rattle.coap_client.specs.declared.plan.ClientPlan.{ClientPlan}
 use Rattle.coap_client.specs.ClientWorld.{ClientCall, Took, Sent, Cancelled, Pinged, Wrote, Ended, ClientStep, Handles, Faults, Requests, Cancels, Pings, Writes, Ends, taken_by, stream_in, new_fault, steps_by, step, after_steps, client_after, client_of, AreAcceptedBehind, AreAccepted}
 use Rattle.coap_client.specs.RunSteps.{calls_read, calls_written}

@@ -1,8 +1,8 @@
 -- What each step of a client's run adds to its course.
 use Rattle.std.proofs.Common.{◌≡◌, ◌≢◌, ◌+◌, ◌<◌, ◌≤◌, ◌⊎◌, ℕ, max, Bool, true, false, cond, List, [], ◌∷◌, ◌++◌, length, take, drop, Option, Some, None, Result, Ok, Err, refl, sym, ap, subst, ◌∙◌, inl, inr, arith}
-use Rattle.std.specs.Prelude.{◌==◌, IfOk, OnOk, IfSome, option_map, nat_lt, ◌&&◌, ◌||◌}
+use Rattle.std.specs.Prelude.{◌==◌, IfOk, OnOk, option_map, nat_lt, ◌&&◌, ◌||◌}
 use Rattle.std.proofs.lemmas.Bool.{eqb-true, ltb-true, lt-ltb}
-use Rattle.std.proofs.lemmas.List.{append-nil, length-drop, nil_from_length}
+use Rattle.std.proofs.lemmas.List.{length-drop, nil_from_length}
 use Rattle.coap_conn.specs.Asking.{next_token}
 use Rattle.coap_conn.specs.Limits.{LimitValues}
 use Rattle.coap_conn.specs.declared.phase.Phase.{Phase}
@@ -19,10 +19,10 @@ use Rattle.coap_serve.specs.streams.Wires.{bytes_passed, count_passed}
 use Rattle.coap_serve.proofs.streams.DeviceLemmas.{bytes_none, bytes_then}
 use Rattle.coap_client.specs.ClientValues.{ClientValue, EventValue, client_takes, taking, client_written, client_sent, client_cancelled, send_refusal}
 use Rattle.coap_client.specs.ClientValues as value
-use Rattle.coap_client.specs.ClientWorld.{ClientCall, Took, Sent, Cancelled, client_of, takes, event_of, AreAccepted, ClientShows}
+use Rattle.coap_client.specs.ClientWorld.{Took, Sent, Cancelled, client_of, takes, event_of, AreAccepted, ClientShows}
 use Rattle.coap_client.specs.RunSteps.{may_take, is_to_ask, is_to_cancel, has_passed, late, watched, planned_extras, asking_refusal, cancelling_refusal, client_asking, client_cancelling, token_asking, cancelled_at, ended_by, refusal_text, status_told, first_told, output_told, errors_told, calls_read, calls_written, client_read, stop_behind, stop_written, unless_refused}
-use Rattle.coap_client.specs.RunCourse.{Course, Begins, Turns, Reads, Calls, Refuses, GivesUp, Rests, Writes, own_limits, calls_in, client_in, phase_in, waiting_in, event_in, token_in, moments_in, turns_in, moment_in, started_in, first_in, cancelled_in, waits_since, since_in, is_late_since, is_late, is_overdue_since, is_overdue, is_cancel_due, answers_in, given_in, rest_in, written_in, stop_read, status_stopped, stop_text, or_then, status_in, output_in, errors_in, has_looked, has_refused, IsAskedWhereDue, IsCancelledWhereDue, IsTakenUp, IsFresh, IsPlanned, IsRefused, HasWaited, IsDone, IsResting, IsBetween, MayWrite, IsCourse}
-use Rattle.coap_client.specs.ClientRun.{Seen, seen, IsTold, token_of, Stands, LeadsOn, IsAsked, IsTaken, IsHeard, IsFinished, IsFlushed, most_turns, IsEnded, IsOutOfTurns, IsClientRun}
+use Rattle.coap_client.specs.RunCourse.{Course, Begins, Turns, Reads, Calls, Refuses, GivesUp, Rests, Writes, own_limits, calls_in, client_in, phase_in, waiting_in, event_in, token_in, moments_in, turns_in, moment_in, started_in, first_in, cancelled_in, waits_since, since_in, is_late_since, is_overdue_since, is_overdue, is_cancel_due, answers_in, given_in, written_in, stop_read, status_stopped, stop_text, or_then, status_in, output_in, errors_in, has_looked, IsAskedWhereDue, IsCancelledWhereDue, IsTakenUp, IsFresh, IsPlanned, IsRefused, HasWaited, IsDone, IsResting, IsBetween, MayWrite}
+use Rattle.coap_client.specs.ClientRun.{Seen, seen, token_of, Stands, LeadsOn, IsAsked, IsTaken, IsHeard, IsFinished, IsFlushed, most_turns, IsEnded, IsOutOfTurns, IsClientRun}
 use Rattle.coap_client.specs.declared.plan.ClientPlan.{ClientPlan}
 use Rattle.coap_client.specs.declared.run.Run.{Run}
 use Rattle.coap_client.proofs.CourseLaws.{course_taken, course_queued}

@@ -1,5 +1,5 @@
 -- What devices tell of a run, and what calls leave of its client.
-use Rattle.std.proofs.Common.{◌≡◌, ℕ, ◌≤◌, Bool, true, false, cond, List, [], ◌∷◌, ◌++◌, length, take, drop, Option, Some, None, Result, Ok, Err, refl, sym, ap, subst, ◌∙◌, append_assoc, arith}
+use Rattle.std.proofs.Common.{◌≡◌, ℕ, ◌≤◌, Bool, true, false, cond, List, [], ◌∷◌, ◌++◌, length, take, Option, Some, None, Result, Ok, Err, refl, sym, ap, subst, ◌∙◌, append_assoc, arith}
 use Rattle.std.proofs.lemmas.List.{append-nil, length-take}
 use Rattle.coap_wire.specs.Message.{Message}
 use Rattle.coap_wire.specs.Reading.{message_of}
@@ -8,23 +8,20 @@ use Rattle.coap_frame.specs.Framing.{Framing, Finding, Nothing, AFrame, AFault, 
 use Rattle.coap_conn.specs.Limits.{LimitValues}
 use Rattle.coap_conn.specs.Phases.{takes_messages}
 use Rattle.coap_conn.specs.LinkValue.{LinkValue}
-use Rattle.coap_conn.specs.Calls.{link_after}
-use Rattle.coap_conn.specs.Calls as call
 use Rattle.coap_conn.specs.declared.phase.RequestFault.{RequestFault}
 use Rattle.coap_serve.specs.declared.wire.Got.{Got}
 use Rattle.coap_serve.specs.declared.wire.Got.TheVariants.{Bytes, Later, End, Failed}
 use Rattle.coap_serve.specs.streams.Device.{AddsBytes}
 use Rattle.coap_serve.specs.streams.Telling.{TellsMore}
-use Rattle.coap_serve.specs.streams.Wires.{count_passed}
 use Rattle.coap_serve.proofs.streams.DeviceLemmas.{bytes_then}
 use Rattle.coap_client.specs.declared.request.Method.{Method}
 use Rattle.coap_client.specs.Targets.{TargetValue}
-use Rattle.coap_client.specs.Requests.{ExtrasValue, request_of, cancel_of}
-use Rattle.coap_client.specs.ClientValues.{ClientValue, EventValue, Taking, taking_read, taking_found, taking, client_written, client_sent, client_cancelled, send_refusal, cancelling_refusal}
-use Rattle.coap_client.specs.ClientWorld.{ClientCall, Took, Sent, Cancelled, Wrote, Ended, steps_by, event_of, ClientShows}
-use Rattle.coap_client.specs.RunSteps.{calls_read, calls_written, client_read}
+use Rattle.coap_client.specs.Requests.{ExtrasValue}
+use Rattle.coap_client.specs.ClientValues.{ClientValue, Taking, taking_read, taking_found, taking, client_sent, client_cancelled, send_refusal, cancelling_refusal}
+use Rattle.coap_client.specs.ClientWorld.{ClientCall, Sent, Cancelled, steps_by, event_of, ClientShows}
+use Rattle.coap_client.specs.RunSteps.{calls_read, client_read}
 use Rattle.coap_client.proofs.TakingLemmas.{limits_end}
-use Rattle.coap_client.proofs.ClientShown.{sent_shown, cancelled_shown, wrote_shown, ended_shown}
+use Rattle.coap_client.proofs.ClientShown.{sent_shown, cancelled_shown, ended_shown}
 
 -- ---- what is told
 

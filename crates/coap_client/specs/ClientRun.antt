@@ -1,6 +1,5 @@
 -- What a run of a client promises: the course that it took, by what its devices tell (our definition).
-use Rattle.std.specs.Prelude.{◌≡◌, ◌≢◌, ◌≤◌, ℕ, true, ◌⊎◌, List, [], ◌++◌, Option, Some, None, Result, option_map, IfOk}
-use Rattle.coap_conn.specs.History.{History}
+use Rattle.std.specs.Prelude.{◌≡◌, ◌≢◌, ◌≤◌, ℕ, true, ◌⊎◌, List, ◌++◌, Option, Some, None, Result, option_map, IfOk}
 use Rattle.coap_conn.specs.LinkValue.{bytes_of}
 use Rattle.coap_serve.specs.declared.wire.Got.{Got}
 use Rattle.coap_serve.specs.declared.output.WriteFailed.{WriteFailed}

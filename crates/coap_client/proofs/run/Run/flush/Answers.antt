@@ -1,4 +1,4 @@
-use Rattle.std.proofs.Common.{Some, None}
+use Rattle.std.proofs.Common.{Some}
 use Rattle.coap_serve.proofs.streams.DeviceLemmas.{bytes_none}
 use Rattle.coap_client.specs.RunCourse.{calls_in, turns_in}
 use Rattle.coap_client.specs.ClientRun.{with_wire, IsFlushed, LeadsOn}
