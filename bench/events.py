@@ -2,6 +2,9 @@
 
 They are events of a script. From what 1,000 of them cost is taken what 1,000 lines cost that do nothing: the same bytes for a
 connection that is not there, and ticks that leave the moment. So neither reading a line nor starting the program counts.
+
+Last it counts what a notification costs together with the drain that takes it away: 255 connections observe what is changed, against
+the same changes and drains where they observe something else.
 """
 
 import collections
@@ -29,6 +32,9 @@ ROWS = [
 # with nobody observing, and a tick so many instructions for each of these connections.
 PUT_TIMES, TICK_EACH = 1.5, 20
 
+# what a notification may cost with its drain, how many connections are told one, and how often
+NOTIFIED_EACH, TOLD, CHANGES = 1_500, 255, 20
+
 # the resource that observers observe, and the one that is asked for and changed
 SEEN, ASKED = b"seen", b"0000"
 
@@ -45,9 +51,9 @@ GET = request(0x01, b"\x01", b"\xb4" + ASKED)
 PUT = request(0x03, b"\x02", b"\xb4" + ASKED, b"yz")
 
 
-def observation(number):
-    """A GET that registers an observer, with this number as token."""
-    return request(0x01, number.to_bytes(2, "big"), b"\x60\x54" + SEEN)
+def observation(number, path=SEEN):
+    """A GET that registers an observer of a path of four letters, with this number as token."""
+    return request(0x01, number.to_bytes(2, "big"), b"\x60\x54" + path)
 
 
 def before(setting):
@@ -85,6 +91,20 @@ def judged(rows):
     return all(met)
 
 
+def notified():
+    """Tells what a notification costs with its drain, and whether that is what it may."""
+    totals = []
+    for path in (ASKED, SEEN):
+        observers = [f"in {it} {observation(it, path)}" for it in range(1, TOLD + 1)]
+        drains = [f"drain {it}" for it in range(1, TOLD + 2)]
+        changes = [f"in {TOLD + 1} {PUT}", *drains] * CHANGES
+        totals.append(counted_alone(COMMAND, "\n".join([*before(Setting(TOLD, 0, 1)), *observers, *drains, *changes, ""]).encode()))
+    each = round((totals[0] - totals[1]) / (TOLD * CHANGES))
+    met = each <= NOTIFIED_EACH
+    print(f"\n{'met' if met else 'MISSED'}: a notification with its drain, {each:,} instructions, at most {NOTIFIED_EACH:,}", flush=True)
+    return met
+
+
 def over_settings():
     """Tells the tables, keeps them and draws them, and tells whether they are drawn and the targets met."""
     tables, met = [], True
@@ -96,5 +116,6 @@ def over_settings():
             print("| %s |" % " | ".join(f"{it:,}" for it in rows[-1]), flush=True)
         met = judged(rows) and met if changed == "observers" else met
         tables.append(pictures.table(title, [changed, "GET", "PUT", "tick"], rows))
+    met = notified() and met
     pictures.keep("instructions", tables)
     return pictures.draw("instructions") and met

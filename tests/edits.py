@@ -5,30 +5,37 @@
     tests/edits.py --all         all edits, and the control
     tests/edits.py [--all] CRATE ..  those of these crates
     tests/edits.py --control     the control alone
+    tests/edits.py --rows [CRATE ..]  those alone that rows tell
     tests/edits.py --list [CRATE ..]  tries nothing: a line for each edit, with the function and the clause that refuse it, and its name
 
 An edit is a file tests/edits/CRATE/NAME.edit. Its first line says which clause refuses it and whether the gate tries it. Each of
 its parts has four lines:
 
-    gate: refused by 'after' of Link::on      or `all: refused by ..`, where the gate does not try it
+    gate: refused by 'after' of Link::on      or `all: refused by ..`, where the gate does not try it; or
+    rows: told by tests/rows/script/a_mebibyte.rows     where no clause refuses it, since it only tells refused memory
     file: src/limits.rt          a file of the crate
     in: Limits::queue            a function of that file, as a check names it without crate and module (the impl of a trait
                                  for a type is both names in one, as SliceSinkSink::push), or `const NAME`
     old: self.queue              a text that stands once in the function's body, or in the constant
     new: self.max_sent           what stands there in the wrong body
 
+An edit of the layer `rows` is told where a row of the file that it names comes to something else, once the probe that plays it is built with
+the wrong body, unproved (`rt try`). --all tries these too, each in a build of its own; --rows tries them alone.
+
 Edits of different functions go into one copy of the crate, a round, which is checked once over what earlier checks proved: what
 the crate's own check keeps in out/incremental, or, where there is none, a folder of this run, in which the crate's first round
 is proved from nothing, and the second one behind it. So a crate is proved once here, with the wrong bodies in it.
 An edit is refused where a goal of a function that it edits stays open. That the function calls one that is not proved does not
-count, and where a function that nobody edited has an open goal of its own, the round is cut in two. An edit that no round
-refused is tried alone, and so is one of a constant, for which any function's goal counts. Rounds run side by side, one for each
+count; nor does it count where nothing is open but what a file of its proof says with a name that the edit takes away, since that tells
+nothing of the contract: such an edit is told as NOT REFUSED. Where a function that nobody edited has an open goal of its own, the round is
+cut in two. An edit that no round refused is tried alone, and so is one of a constant, for which any function's goal counts. Rounds run side by side, one for each
 processor, those of the largest crates first.
 The libraries below a crate are taken from out/rlib, and proved where they are not there or older than their files.
 The last line is 'N passed, M failed', and the status 0 where M is 0.
 """
 
 import os
+import pathlib
 import re
 import resource
 import shutil
@@ -38,14 +45,17 @@ import tempfile
 from concurrent.futures import FIRST_COMPLETED, ThreadPoolExecutor, wait
 from dataclasses import dataclass, field
 
-from rooms import PARTS, ROOT, crates, is_program, listed
+import rows
+from rooms import PARTS, ROOT, crates, furnish, is_program, listed
 
 KIT = os.path.dirname(os.path.dirname(os.path.realpath(shutil.which("rt") or "/opt/rattle/bin/rt")))
 # How many rounds of a crate without kept work run in turn over its folder: behind two, nearly every function was once proved.
 IN_TURN = 2
 FUNCTION = re.compile(r"( *)(?:pub(?:\([a-z ]+\))? )?(?:const )?fn (\w+)")
-BLOCK = re.compile(r"(?:pub(?:\([a-z]+\))? )?(?:impl(<.*?>)? (?:(.+?) for )?(.+?)|trait (\w+).*?) ?\{?$")
+BLOCK = re.compile(r"(?:pub(?:\([a-z]+\))? )?(?:impl\b *(.*?)|trait (\w+).*?) ?\{?$")
 VERDICT = re.compile(r"fn (\w+)::(.*?): (no proof|not proved)(.*)")
+# What is said of a file of a proof where it names something that is not there, and where it cites what was refused for that.
+GONE = re.compile(r"has no field|is not in scope|has no `|was not admitted")
 
 
 class BadEdit(Exception):
@@ -58,15 +68,35 @@ def words_of(text, parameters):
     return "".join(it[0].upper() + it[1:] for it in words if it not in parameters)
 
 
+def split_parameters(text):
+    """The parameters that stand in brackets at the beginning of a text, and what is behind them."""
+    if not text.startswith("<"):
+        return "", text
+    depth = 0
+    for at, letter in enumerate(text):
+        depth += (letter == "<") - (letter == ">" and text[at - 1] not in "-=")
+        if not depth:
+            return text[1:at], text[at + 1 :].strip()
+    raise BadEdit(f"not understood: {text}")
+
+
+def names_of(parameters):
+    """The names of parameters, without their bounds."""
+    while (bare := re.sub(r"<[^<>]*>|\([^()]*\)", "", parameters)) != parameters:
+        parameters = bare
+    return [re.sub(r"^const ", "", it.partition(":")[0].strip()) for it in parameters.split(",")]
+
+
 def block_name(line):
     """The name under which a check names the functions of this impl or trait."""
     head = BLOCK.match(line)
     if not head:
         raise BadEdit(f"not understood: {line}")
-    if head[4]:
-        return head[4]
-    parameters = re.findall(r"(\w+)(?=[:,>]| *:)", head[1] or "")
-    return words_of(head[3], parameters) + words_of(head[2] or "", parameters)
+    if head[2]:
+        return head[2]
+    parameters, text = split_parameters(head[1])
+    names, (trait, is_for, of) = names_of(parameters), text.partition(" for ")
+    return words_of(of, names) + words_of(trait, names) if is_for else words_of(text, names)
 
 
 def body_of(text, name):
@@ -170,7 +200,7 @@ def read_edit(crate, file):
     with open(file, encoding="utf-8") as lines:
         for number, line in enumerate(lines.read().splitlines()):
             word, colon, text = line.partition(":")
-            if number == 0 and re.fullmatch(r"(gate|all): refused by \S.*|control: \S.*", line):
+            if number == 0 and re.fullmatch(r"(gate|all): refused by \S.*|rows: told by tests/rows/\S+\.rows|control: \S.*", line):
                 edit.layer, edit.refusal = word, text.removeprefix(" refused by ")
                 continue
             if not colon or word not in ("file", "in", "old", "new"):
@@ -238,16 +268,20 @@ def check(name, kept, edits):
 
 
 def open_functions(lines):
-    """The functions that have an open goal of their own. A goal of a closure is its function's."""
-    found = set()
+    """The functions that have an open goal of their own, and those of which only a file of the proof names what is not there. A goal of a
+    closure is its function's."""
+    is_open, cites = set(), set()
     for line in lines:
         at = VERDICT.match(line)
         if not at:
             continue
         answers = "./proofs/" + at[2].replace("::", "/") + "/"
-        if "did not prove" in at[4] or any(it.startswith(answers) and ": error: " in it for it in lines):
-            found.add(told(at[2].split("::")))
-    return found
+        said = [it for it in lines if it.startswith(answers) and ": error: " in it]
+        if "did not prove" in at[4] or any(not GONE.search(it) for it in said):
+            is_open.add(told(at[2].split("::")))
+        elif said:
+            cites.add(told(at[2].split("::")))
+    return is_open, cites - is_open
 
 
 def all_functions(lines):
@@ -258,11 +292,13 @@ def all_functions(lines):
 
 @dataclass
 class Outcome:
-    """What a round showed: the edits that it refused, those that are left to be tried, and why an edit cannot be tried."""
+    """What a round showed: the edits that it refused, those that are left to be tried, why an edit cannot be tried, and the edits of which
+    only a proof's names are gone."""
 
     refused: list
     left: list
     bad: str = ""
+    cited: tuple = ()
 
 
 def try_round(name, kept, is_own, edits):
@@ -279,16 +315,17 @@ def try_round(name, kept, is_own, edits):
     judged = any(it.startswith(("logic=not-proved", "logic=proved")) for it in lines)
     if not judged:
         return Outcome([], edits, next((it for it in lines if "error" in it), f"the check gave no verdict: {lines[-1:]}"))
-    is_open, known = open_functions(lines), all_functions(lines)
+    (is_open, cites), known = open_functions(lines), all_functions(lines)
     strange = [it for edit in edits for it in edit.functions() - known if not edit.is_constant()]
     if strange:
         return Outcome([], edits, f"the check names no function {strange[0]}")
     if edits[0].is_constant():
         return Outcome(edits, []) if is_open else Outcome([], edits)
-    if is_open - {it for edit in edits for it in edit.functions()}:
+    if (is_open | cites) - {it for edit in edits for it in edit.functions()}:
         return Outcome([], edits)
     refused = [it for it in edits if it.functions() & is_open]
-    return Outcome(refused, [it for it in edits if it not in refused])
+    cited = [it for it in edits if it not in refused and it.functions() & cites]
+    return Outcome(refused, [it for it in edits if it not in refused and it not in cited], cited=tuple(cited))
 
 
 def tell(edit, refused, how):
@@ -329,7 +366,7 @@ def left_of(one, outcome):
     """The rounds in which what this one left is tried."""
     if len(one) == 1 or not outcome.left:
         return []
-    if outcome.refused:
+    if outcome.refused or outcome.cited:
         return [[it] for it in outcome.left]
     half = len(outcome.left) // 2
     return [outcome.left[:half], outcome.left[half:]]
@@ -353,10 +390,34 @@ def judge(edits):
                     work.is_busy, work.in_turn = False, work.in_turn - (not outcome.bad)
                 for edit in outcome.refused:
                     verdicts[edit.crate, edit.name] = tell(edit, True, f"one of {len(one)} in a check")
+                for edit in outcome.cited:
+                    verdicts[edit.crate, edit.name] = tell(edit, False, "only a name that its proof cites is gone")
                 if len(one) == 1 and outcome.left:
                     verdicts[one[0].crate, one[0].name] = tell(one[0], False, outcome.bad or "alone")
                 work.rounds += left_of(one, outcome)
     return verdicts
+
+
+def is_told(edit):
+    """Whether the rows that an edit names tell its wrong body: what is built with it, unproved, plays them otherwise."""
+    file = rows.read(pathlib.Path(ROOT, edit.refusal.removeprefix(" told by ")))
+    steps, probe = file.steps(), file.layer().PROBE
+    sent = "".join(step.event + "\n" for step in steps)
+    with tempfile.TemporaryDirectory(prefix="edits-", ignore_cleanup_errors=True) as room:
+        furnish(room, probe, [], kept=False)
+        for name, text in edit.applied({}).items():
+            with open(f"{room}/crates/{edit.crate}/{name}", "w", encoding="utf-8") as it:
+                it.write(text)
+        how = {"cwd": f"{room}/crates/{probe}", "input": sent, "capture_output": True, "text": True, "errors": "replace"}
+        ran = subprocess.run(["rt", "try"], **how)
+    # a line that is not there tells nothing: the build may have failed
+    lines = ran.stdout.splitlines()[: len(steps)]
+    return bool(rows.differences(lines, steps[: len(lines)]))
+
+
+def judge_by_rows(edits):
+    """Tries the edits that rows tell, and returns for each whether they did."""
+    return {(it.crate, it.name): tell(it, is_told(it), "by rows") for it in edits}
 
 
 def rlib(library):
@@ -403,21 +464,25 @@ def wrong_in(control, verdicts):
 def main(words):
     below, is_all = crates(), "--all" in words
     names = [it for it in words if not it.startswith("--")]
-    unknown = [it for it in words if it not in below and it not in ("--all", "--control", "--list")]
+    unknown = [it for it in words if it not in below and it not in ("--all", "--control", "--list", "--rows")]
     if unknown:
         raise SystemExit(f"no crate {unknown[0]}\n0 passed, 1 failed")
     if "--list" in words:
-        rows = sorted(it.row() for it in edits_of(f"{ROOT}/tests/edits", names or below, ["gate", "all"]))
-        print("\n".join("  ".join(it) for it in rows))
+        found = sorted(it.row() for it in edits_of(f"{ROOT}/tests/edits", names or below, ["gate", "all", "rows"]))
+        print("\n".join("  ".join(it) for it in found))
         return 0
     control = [] if names else edits_of(f"{ROOT}/tests/edits/control", below, ["control"])
     edits = edits_of(f"{ROOT}/tests/edits", names or below, ["gate", "all"] if is_all else ["gate"])
+    by_rows = edits_of(f"{ROOT}/tests/edits", names or below, ["rows"] if is_all or "--rows" in words else [])
     if "--control" in words:
         edits = []
+    if "--rows" in words:
+        control, edits = [], []
     make_libraries(dict.fromkeys(it.crate for it in control + edits), below)
     if control:
         print("The edits named harmless_ are a control, and must be told as NOT REFUSED.", flush=True)
-    verdicts = judge(control + edits)
+    verdicts = {**judge(control + edits), **judge_by_rows(by_rows)}
+    edits += by_rows
     wrong = wrong_in(control, verdicts) + sum(not verdicts[it.crate, it.name] for it in edits)
     used = resource.getrusage(resource.RUSAGE_CHILDREN)
     print(f"{used.ru_utime + used.ru_stime:.0f} s of processor time, and at most {used.ru_maxrss // 1000} MB in a process")

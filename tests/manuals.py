@@ -245,6 +245,13 @@ def check_lines(checks, manual, source):
     checks.same("%s: lines that the manual has not" % manual.name, sorted({front_of(it) for it in told} - UNREACHED - listed), [])
 
 
+def check_hindrances(checks, manual):
+    """That the second lines of a client that cannot connect are those of the source."""
+    text = "\n".join(next(lines for words, lines in manual.items("DIAGNOSTICS") if words == ["cannot", "connect"]))
+    wanted = re.findall(r'#\[error\("([^"]+)"\)\]', source_of(["coap_sockets/src/answers.rt"]))
+    checks.same("%s: what hinders a connection" % manual.name, re.findall(r"(?m)^\.It (.*)", text), wanted)
+
+
 def check_faults(checks, manual, program, faults):
     """That what goes wrong is told by the line and the status of the manual."""
     statuses = manual.lines_told()
@@ -328,6 +335,7 @@ def check(server, client):
             check_faults(checks, manual, program, faults)
             check_examples(checks, manual, programs)
         check_formats(checks, Manual("coap-client"), client, [URI % port])
+        check_hindrances(checks, Manual("coap-client"))
         check_answered(checks, Manual("coap-client"), server, programs)
     print("manuals: %d passed, %d failed" % (checks.passed, checks.failed))
     return 1 if checks.failed else 0

@@ -3,8 +3,10 @@
     tests/program.py bin/coap-server bin/coap-client
 """
 
+import errno
 import os
 import re
+import socket
 import subprocess
 import sys
 import tempfile
@@ -145,6 +147,24 @@ SERVER_WORDS = [
     (["-A", "192.0.2.1", "-p", "1", "--turns", "1"], 3, "cannot listen"),
 ]
 
+
+
+def hindrance_v6():
+    """What hinders a connection to port 1 of this machine over IPv6, which a system may not have."""
+    unreachable = dict.fromkeys((errno.EADDRNOTAVAIL, errno.ENETUNREACH, errno.EHOSTUNREACH), "host unreachable")
+    try:
+        with socket.socket(socket.AF_INET6) as it:
+            code = it.connect_ex(("::1", 1))
+    except OSError as trouble:
+        code = trouble.errno
+    return {errno.ECONNREFUSED: "connection refused", **unreachable}.get(code, "system fault")
+
+
+# what is told behind the program's name where nobody listens, and of a name that is not known
+REFUSED, REFUSED_V6, UNKNOWN = (
+    "cannot connect\ncoap-client: %s" % why for why in ("connection refused", hindrance_v6(), "unknown name")
+)
+
 CLIENT_WORDS = [
     (["x"], 1, "bad target 1"), (["coap://h/"], 1, "bad target 2"), (["coap+tcp:///"], 1, "bad target 3"), (["coap+tcp://u@h/"], 1, "bad target 4"),
     (["coap+tcp://h/#f"], 1, "bad target 5"), (["coap+tcp://h/" + "a" * 256], 1, "bad target 6"), (["coap+tcp://h" + "/a" * 17], 1, "bad target 7"),
@@ -158,10 +178,10 @@ CLIENT_WORDS = [
     (["-s", "1", "-m", "put", "coap+tcp://h/"], 1, "options exclude each other"), (["-e", "x", "-f", "y", "coap+tcp://h/"], 1, "options exclude each other"),
     (["-e", "x", "-f", "y", "-B", "0", "coap+tcp://h/"], 1, "bad value for -B"), (["-B", "0", "coap://h/"], 1, "bad target 2"),
     (["-f", "/nothing/here", "-m", "put", "coap+tcp://h/"], 3, "cannot open /nothing/here"), (["-f", "/", "coap+tcp://h/"], 3, "cannot read"),
-    (["-f", "/dev/zero", "coap+tcp://h/"], 1, "bad value for -f"), (["-o", "/nothing/here", "coap+tcp://127.0.0.1:1/"], 3, "cannot connect"),
-    (["coap+tcp://127.0.0.1:1/"], 3, "cannot connect"), (["-f", "-", "-m", "put", "-t", "application/cbor", "coap+tcp://[::1]:1/a"], 3, "cannot connect"),
+    (["-f", "/dev/zero", "coap+tcp://h/"], 1, "bad value for -f"), (["-o", "/nothing/here", "coap+tcp://127.0.0.1:1/"], 3, REFUSED),
+    (["coap+tcp://127.0.0.1:1/"], 3, REFUSED), (["-f", "-", "-m", "put", "-t", "application/cbor", "coap+tcp://[::1]:1/a"], 3, REFUSED_V6),
     # names that no host has
-    (["coap+tcp://%ff/"], 3, "cannot connect"), (["coap+tcp://a%00b/"], 3, "cannot connect"),
+    (["coap+tcp://%ff/"], 3, UNKNOWN), (["coap+tcp://a%00b/"], 3, UNKNOWN),
 ]
 
 # how the help of each program begins, and what it explains, each in one line

@@ -6,7 +6,8 @@
 tests/refuse.c is preloaded into a program and refuses it one allocation: the first, then the second, until a run makes fewer. A run that
 is refused ends with status 3 and `no memory`, and has written a front of what it writes otherwise, on standard output and over its
 connection; where the refusal was made up for, it is as any other. How many are told the table of docs/TESTING.md must tell. Besides, the
-programs run at their greatest inputs with nothing refused, and must not tell otherwise. The last line is 'N passed, M failed' over the
+server is refused every allocation once its connections are open, and must answer as ever: over standard streams one, over sockets two. And
+the programs run at their greatest inputs with nothing refused, and must not tell otherwise. The last line is 'N passed, M failed' over the
 runs, and the status 0 where M is 0.
 """
 
@@ -32,6 +33,9 @@ HOST, SERVER_HOST = "127.0.0.1", "127.0.0.2"
 LIMIT = 20
 
 MEBIBYTE = 1 << 20
+
+# More allocations than a server makes until two connections are open.
+MOST_MADE = 1 << 10
 
 # What is left of a program that was refused memory.
 LEFT = "a front of what it writes with memory"
@@ -102,26 +106,38 @@ def asked_once(port, process):
     return sent
 
 
-def listened(server, port, environment):
-    """A run of a server that listens at a port, until one peer is answered."""
+def asked_two(port, sent, answered):
+    """What a server writes to two peers that send this once both are greeted. A server that is refused memory ends."""
+    told, greeting = [], bytes.fromhex(CSM)
+    with contextlib.suppress(ConnectionError), contextlib.ExitStack() as stack:
+        peers = [stack.enter_context(socket.create_connection((SERVER_HOST, port), LIMIT)) for _ in range(2)]
+        told += [received(peer, greeting) for peer in peers]
+        for peer in peers:
+            peer.sendall(sent)
+            told.append(received(peer, answered) if sent else b"")
+    return b"".join(told)
+
+
+def listened(server, port, environment, ask):
+    """A run of a server that listens at a port, until its peers are answered."""
     command = [server, "-A", SERVER_HOST, "-p", str(port), "-d", "1"]
     with subprocess.Popen(command, stdin=subprocess.DEVNULL, stdout=subprocess.PIPE, stderr=subprocess.PIPE, env=environment) as process:
         said = line_of(process.stderr)
         while said.endswith(b"refused\n"):
             said += line_of(process.stderr)
-        sent = asked_once(port, process) if b"listening" in said else b""
+        sent = ask(port, process) if b"listening" in said else b""
         status = process.wait(LIMIT) if b"listening" not in said else process.poll()
         process.kill()
         written, rest = process.communicate()
     return Ran(status or 0, written, said.replace(b" (and then the end)", b"") + rest, sent)
 
 
-def listening(server):
-    """What runs a server that listens. Where somebody else has its port by then, it runs once more."""
+def listening(server, ask=asked_once):
+    """What runs a server that listens, and asks it so. Where somebody else has its port by then, it runs once more."""
 
     def run(environment):
         for _ in range(3):
-            ran = listened(server, free_port(SERVER_HOST), environment)
+            ran = listened(server, free_port(SERVER_HOST), environment, ask)
             if b"cannot listen" not in ran.said:
                 break
         return ran
@@ -232,6 +248,35 @@ def refuse_each(name, run, wanted, shim):
         wrong += [f"{name}, allocation {count}: {trouble}"] if trouble else []
 
 
+def made(run, shim):
+    """How many allocations a run makes: behind fewer of them one is refused."""
+    least, most = 0, MOST_MADE
+    while least < most:
+        middle = (least + most) // 2
+        is_refused = run(refusing_behind(middle, shim)).is_refused()
+        least, most = (middle + 1, most) if is_refused else (least, middle)
+    return least
+
+
+def refusing_behind(count, shim):
+    return {**os.environ, "LD_PRELOAD": shim, "REFUSE_BEHIND": str(count)}
+
+
+def wrong_without_growth(opens, run, wanted, shim):
+    """What is wrong with a run that is refused every allocation behind those of a run that opens its connections alone, or nothing."""
+    ran = run(refusing_behind(made(opens, shim), shim))
+    return "" if (ran.status, ran.written, ran.sent) == (0, *wanted) else f"{ran}"
+
+
+def without_growth(server, shim):
+    """The same over standard streams and over sockets, by name."""
+    greeting, asked, answered = bytes.fromhex(CSM), bytes.fromhex("00e1" "010101"), bytes.fromhex("a14501" + GREETING)
+    streams = [over_streams(server, "--stdio", stream=it) for it in (b"", asked)]
+    yield "standard streams", wrong_without_growth(*streams, (greeting + answered, b""), shim)
+    peers = [listening(server, lambda port, _, sent=it: asked_two(port, sent, answered)) for it in (b"", asked)]
+    yield "sockets", wrong_without_growth(*peers, (b"", 2 * greeting + 2 * answered), shim)
+
+
 def main(server, client, *named):
     server, client = os.path.abspath(server), os.path.abspath(client)
     runs = {
@@ -252,6 +297,9 @@ def main(server, client, *named):
             print(f"{name}: {count} allocations refused, of which {told} end the program")
             for text in wrong[:3]:
                 print(text)
+        for name, trouble in without_growth(server, shim):
+            passed, failed = passed + (not trouble), failed + bool(trouble)
+            print(f"no growth behind the opens, over {name}: {trouble or 'the same bytes'}")
     wrong = [] if named else rows.untold(calls, is_program=True)
     failed += len(wrong)
     print("".join(f"{text}\n" for text in wrong), end="")

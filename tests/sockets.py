@@ -8,8 +8,10 @@ waited for. libcoap's programs are asked by tests/interop.py, and hostile peers 
 """
 
 import contextlib
+import itertools
 import os
 import select
+import signal
 import socket
 import subprocess
 import sys
@@ -18,6 +20,7 @@ import time
 
 from peers import LIMIT, LOCAL, Server, authority, free_port, is_silent, line_of, processor_time, read_bytes, read_to_end, reset
 from program import ABORTS, CSM, GREETING, Checks
+from rows import TESTS
 
 # GET of the root with token 1 behind the peer's Capabilities and Settings, and all that the server says to it
 HELLO = bytes.fromhex("00e1" "010101")
@@ -32,10 +35,10 @@ def flood(peer, piece):
         peer.send(piece)
 
 
-def client(program, words, stream=b"", seconds=LIMIT):
+def client(program, words, stream=b"", seconds=LIMIT, environment=None):
     """What a client comes to: its status, standard output and standard error."""
     try:
-        done = subprocess.run([program, *words], input=stream, capture_output=True, timeout=seconds)
+        done = subprocess.run([program, *words], input=stream, capture_output=True, timeout=seconds, env=environment)
         return done.returncode, done.stdout, done.stderr
     except subprocess.TimeoutExpired:
         return "no end within %d s" % seconds
@@ -102,6 +105,11 @@ def check_bodies(checks, programs):
             checks.same("writing fails", (done.returncode, done.stderr), (3, b"coap-client: cannot write\n"))
 
 
+def cannot_connect(why):
+    """What a client says of a host that it cannot connect to, whose last address came to this."""
+    return b"coap-client: cannot connect\ncoap-client: %s\n" % why.encode()
+
+
 def check_connecting(checks, programs):
     """What becomes of a client that finds nobody, and that its file is left alone then."""
     port = free_port()
@@ -110,7 +118,7 @@ def check_connecting(checks, programs):
         file.flush()
         done = client(programs.client, ["-o", file.name, "coap+tcp://%s:%d/" % (LOCAL, port)])
         with open(file.name, "rb") as it:
-            checks.same("nobody listens", (done, it.read()), ((3, b"", b"coap-client: cannot connect\n"), b"kept"))
+            checks.same("nobody listens", (done, it.read()), ((3, b"", cannot_connect("connection refused")), b"kept"))
     with Server(programs.server) as server:
         done = client(programs.client, ["-o", "/nothing/here", server.uri()])
         checks.same("no such file", done, (3, b"", b"coap-client: cannot open /nothing/here\n"))
@@ -190,6 +198,136 @@ def check_close(checks, programs):
             checks.same("too much", read_to_end(peer), (bytes.fromhex(CSM + ABORTS["message too large"]), "the end"))
 
 
+def silent_port(stack, hosts):
+    """A port at which these addresses listen and answer no more connections, since one waits there already."""
+    port = 0
+    for host in hosts:
+        listener = stack.enter_context(socket.socket())
+        listener.bind((host, port))
+        listener.listen(0)
+        port = listener.getsockname()[1]
+        while True:
+            waiting = stack.enter_context(socket.socket())
+            waiting.settimeout(0.3)
+            try:
+                waiting.connect((host, port))
+            except TimeoutError:
+                break
+    return port
+
+
+def check_addresses(checks, programs):
+    """A name with several addresses: how long each is tried, which of them are, and what is said of the last one."""
+    silent = ["127.0.0.%d" % number for number in range(2, 5)]
+    good, unreachable = "127.0.0.5", "127.0.0.6"
+    with tempfile.TemporaryDirectory(prefix="names-") as room, contextlib.ExitStack() as stack:
+        shim = "%s/names.so" % room
+        subprocess.run(["gcc", "-O2", "-shared", "-fPIC", "-o", shim, "%s/names.c" % TESTS], check=True)
+        port = silent_port(stack, silent)
+        stack.enter_context(Server(programs.server, host=good, port=port))
+        rows = [
+            # (the addresses, -B, what it comes to, and after how many seconds)
+            ([good], 5, "coap+tcp", 0), ([silent[0], good], 4, "coap+tcp", 2), ([*silent, good], 4, "coap+tcp", 3),
+            ([silent[0], good, *["127.0.0.7"] * 8], 3, "coap+tcp", 1), ([silent[0], good], 1, "timed out", 1), (silent, 3, "timed out", 3),
+            (["127.0.0.7", silent[0]], 1, "timed out", 1), ([unreachable, "127.0.0.7"], 1, "connection refused", 0),
+            (["127.0.0.7", unreachable], 1, "host unreachable", 0), ([], 1, "unknown name", 0),
+            (["127.0.0.7"] * 31 + [good], 1, "coap+tcp", 0), (["127.0.0.7"] * 32 + [good], 1, "connection refused", 0),
+        ]
+        for addresses, seconds, told, after in rows:
+            names = {"NAMES": " ".join(addresses)} if addresses else {}
+            environment = {**os.environ, "LD_PRELOAD": shim, "UNREACHABLE": unreachable, **names}
+            began = time.monotonic()
+            done = client(programs.client, ["-B", str(seconds), "coap+tcp://many.test:%d/" % port], environment=environment)
+            passed = time.monotonic() - began
+            wanted = (0, told.encode(), b"") if told == "coap+tcp" else (3, b"", cannot_connect(told))
+            checks.same("a name for %r, -B %d" % (addresses, seconds), done, wanted)
+            checks.same("a name for %r, -B %d: %.2f s" % (addresses, seconds, passed), after <= passed + 0.01 < after + 0.9, True)
+
+
+def closing(numbers):
+    """What closes these descriptors in a program before it begins."""
+    return lambda: [os.close(number) for number in numbers]
+
+
+def check_closed(checks, programs):
+    """Programs whose standard descriptors are closed: no socket takes their place."""
+    body = b"out of the way"
+    for numbers in [it for count in (1, 2, 3) for it in itertools.combinations(range(3), count)]:
+        with socket.create_server((LOCAL, 0)) as listener:
+            listener.settimeout(LIMIT)
+            words = [programs.client, "-m", "put", "-f", "-", "-w", "coap+tcp://%s:%d/x" % listener.getsockname()]
+            process = subprocess.Popen(words, stdin=subprocess.PIPE, stdout=subprocess.PIPE, stderr=subprocess.PIPE, preexec_fn=closing(numbers))
+            # a pipe that nobody reads breaks as it is closed
+            with contextlib.suppress(BrokenPipeError):
+                process.stdin.write(body)
+                process.stdin.close()
+            peer, _ = listener.accept()
+            with peer:
+                held = [os.readlink("/proc/%d/fd/%d" % (process.pid, number)) for number in numbers]
+                peer.sendall(bytes.fromhex("00e1"))
+                payload = b"" if 0 in numbers else b"\xff" + body
+                asked = bytes.fromhex(CSM + ("210301b178" if 0 in numbers else "d1040301b178")) + payload
+                got = read_bytes(peer, len(asked))
+                # 4.04 with a payload, which is told on standard error
+                peer.sendall(bytes.fromhex("318401ff6869"))
+                more, _ = read_to_end(peer)
+            checks.same("a client without %r: what stands there" % (numbers,), held, ["/dev/null"] * len(numbers))
+            checks.same("a client without %r: what its peer got" % (numbers,), got + more, asked)
+            said = b"" if 2 in numbers else b"4.04 hi\n"
+            checks.same("a client without %r" % (numbers,), (process.wait(LIMIT), process.stdout.read(), process.stderr.read()), (2, b"", said))
+            process.stdout.close()
+            process.stderr.close()
+        check_closed_server(checks, programs, numbers)
+    done = subprocess.run([programs.server, "--stdio"], stderr=subprocess.PIPE, preexec_fn=closing([0, 1]), timeout=LIMIT)
+    checks.same("--stdio with nothing there", (done.returncode, done.stderr), (0, b""))
+
+
+def check_closed_server(checks, programs, numbers):
+    """A server whose descriptors of these numbers are closed as it begins."""
+    port = free_port()
+    with subprocess.Popen([programs.server, "-A", LOCAL, "-p", str(port)], stdin=subprocess.DEVNULL, stdout=subprocess.DEVNULL,
+                          stderr=subprocess.DEVNULL, preexec_fn=closing(numbers)) as process:
+        peer = accepted_at(port)
+        with peer:
+            peer.sendall(HELLO)
+            checks.same("a server without %r: what a peer gets" % (numbers,), read_bytes(peer, len(GREETED)), GREETED)
+            checks.same("a server without %r: and no more" % (numbers,), is_silent(peer), True)
+            held = [os.readlink("/proc/%d/fd/%d" % (process.pid, number)) for number in range(3)]
+            checks.same("a server without %r: what stands there" % (numbers,), held, ["/dev/null"] * 3)
+        process.kill()
+
+
+def accepted_at(port):
+    """A connection to a server of this machine, once it takes one."""
+    ends = time.monotonic() + LIMIT
+    while True:
+        try:
+            return socket.create_connection((LOCAL, port), LIMIT)
+        except ConnectionRefusedError:
+            if time.monotonic() > ends:
+                raise
+            time.sleep(0.01)
+
+
+def check_urgent(checks, programs):
+    """A byte that is sent out of band, at each place of a request: what stands around it is read."""
+    request, answered = HELLO[2:], GREETED[len(CSM) // 2 :]
+    with Server(programs.server) as server, server.connect() as peer:
+        peer.setsockopt(socket.IPPROTO_TCP, socket.TCP_NODELAY, 1)
+        peer.sendall(HELLO)
+        checks.same("an answer", read_bytes(peer, len(GREETED)), GREETED)
+        for place in range(len(request) + 1):
+            # so that the server finds all of it at once
+            server.process.send_signal(signal.SIGSTOP)
+            for bytes_, flag in ((request[:place], 0), (b"!", socket.MSG_OOB), (request[place:], 0)):
+                peer.send(bytes_, flag)
+            server.process.send_signal(signal.SIGCONT)
+            checks.same("urgent data behind %d bytes of a request" % place, read_bytes(peer, len(answered)), answered)
+        before = server.processor_time()
+        checks.same("nothing more comes", is_silent(peer, 1), True)
+        checks.same("and nothing spins", server.processor_time() - before < 0.2, True)
+
+
 def check_flooded_client(checks, programs):
     """A client whose peer sends pings and never reads: it waits for room, and still ends in time."""
     with socket.create_server((LOCAL, 0)) as listener:
@@ -214,7 +352,7 @@ class Programs:
 
 CHECKS = [
     check_requests, check_observers, check_bodies, check_connecting, check_ended, check_silent, check_address, check_files, check_close,
-    check_flooded_client,
+    check_flooded_client, check_addresses, check_closed, check_urgent,
 ]
 
 

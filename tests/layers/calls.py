@@ -1,6 +1,7 @@
 """Servers, as in `serve`, and beside the lines of a script one call by itself: `take CONNECTION BYTES` tells how many bytes it took and what
 of them it handled, `nothing`, a `message` or `stopped`; where memory was refused, `memory` and the bytes that it took before; or `nosuch`.
 `written CONNECTION COUNT` says that so many waiting bytes were written, and tells `ok`, `toomany` or `nosuch`.
+`part CONNECTION` tells a front of what waits, or `nosuch`.
 """
 
 from layers import serve

@@ -2,7 +2,8 @@
 first row, and written.
 
 The events: `take BYTES`, `send METHOD TARGET` and `cancel TOKEN TARGET` with words of what is asked for (`observe`, `plain`, `format:N`,
-`accept:N`, `option:N:BYTES`, `payload:BYTES`), `ping custody` or `ping plain`, `written COUNT`, `end` and `look`. `times N EVENT` makes an
+`accept:N`, `option:N:BYTES`, `payload:BYTES`), `ping custody` or `ping plain`, `written COUNT`, `end`, `part`, which tells a front of
+what waits, and `look`. `times N EVENT` makes an
 event so often, and each must give a token; `{9*a}` in a target stands for 9 times `a`. What is told is the event's answer, or `-`, and
 then the phase, how much is outstanding, and the bytes that wait; these are then written, but not where `keep` stands before the event.
 Numbers and texts of faults are compared where a row has them.
@@ -15,7 +16,7 @@ from layers.target import repeated
 from spelling import digits, spelled
 
 PROBE = "coap_client_probe"
-LOOKS = ("look",)
+LOOKS = ("look", "part")
 
 # The limits that both programs have where nothing else is said, but for the requests outstanding.
 USUAL = "65536 65536 131072 16 16"

@@ -1,4 +1,5 @@
-"""Framers: `= MAX`, and then `next BYTES`, `each BYTES` one by one, `hold BYTES`, `unread BYTES`, `clear`, `look` and `copied`.
+"""Framers: `= MAX`, and then `next BYTES`, `each BYTES` one by one, `hold BYTES`, `unread BYTES`, `clear`,
+`raise MAX`, `look` and `copied`.
 
 What is told is what was found in a piece and how many of its bytes were taken, or the framer's greatest frame, or how many bytes it has
 copied, and then how many bytes are kept and how many are spent. A frame that lies whole in its piece is told as `Whole`, one from the
@@ -55,4 +56,6 @@ def steps(opening, rows):
 
 def refused(event, line, again):
     """The call that was refused memory, and what is left, of which this is made again."""
+    if event.startswith("raise "):
+        return "`Framer::raise`", "the framer as before"
     return "`Framer::new`", "nothing"

@@ -6,8 +6,9 @@ number behind such a name has the peer announce then that it takes so many bytes
 
 The events: `hear` a message, `reply` with one, `hold` the answer to a token until a moment, `due` at a moment, `release`, `request`
 with a message (`plain`, `observe`), `cancel` with one that has the token, `ping` (`plain`, `custody`), `reject` bytes (`format`,
-`large`, `token`), `end` (`cut`, `whole`), `write` so many bytes, `count` what is pending and outstanding, and `look`. What is told is
-the event's answer, or `-`, and then the phase, the greatest message that the peer takes, the bytes that are free, whether the link is
+ `large`, `token`), `end` (`cut`, `whole`), `announce` another greatest message that is taken, `write` so many bytes, `count` what is
+ pending and outstanding, `part` a front of what waits, and `look`. What is told is the event's answer (of `announce` the size in force),
+ or `-`, and then the phase, the greatest message that the peer takes, the bytes that are free, whether the link is
 ready, whether it is finished, and the bytes that wait.
 """
 
@@ -19,7 +20,7 @@ from spelling import digits
 PROBE = "coap_probe"
 
 # What only asks.
-LOOKS = ("look", "count")
+LOOKS = ("look", "count", "part")
 
 LIMITS = {
     "small": "server 1152 1152 1152 16 16 16",
@@ -61,7 +62,7 @@ def event_of(text):
     if word == "request":
         how, _, message = rest.partition(" ")
         return f"{word} {digits(message)} {how}"
-    if word in ("due", "ping", "reject", "end", "write"):
+    if word in ("due", "ping", "reject", "end", "announce", "write"):
         return f"{word} - {rest}"
     return text
 

@@ -1,6 +1,6 @@
-"""Queues of bytes that wait to be written: `= COUNT`, and then `append BYTES`, `push BYTE`, `write COUNT` and `look`.
+"""Queues of bytes that wait to be written: `= COUNT`, and then `append BYTES`, `push BYTE`, `write COUNT`, `part` and `look`.
 
-What is told is the bytes that are free, the room for more, how many bytes wait, and these.
+What is told is, behind a `part` the front of what waits that it gives, the bytes that are free, the room for more, how many bytes wait, and these.
 """
 
 from layers import Step
@@ -8,7 +8,7 @@ from spelling import spelled
 
 PROBE = "coap_probe"
 
-LOOKS = ("look",)
+LOOKS = ("look", "part")
 
 
 def steps(opening, rows):

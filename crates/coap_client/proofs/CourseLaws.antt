@@ -24,6 +24,7 @@ use Rattle.coap_client.proofs.ClientSteps.{taken_then, client_first, client_more
 use Rattle.coap_client.proofs.ClientReached.{accepted_is}
 use Rattle.coap_client.proofs.FitLaws.{step_grows}
 use Rattle.coap_client.proofs.StandLemmas.{front_length}
+use Rattle.coap_serve.proofs.world.GrowLaws.{grows_then, grows_self, Grows}
 
 -- ---- what was taken
 
@@ -91,21 +92,6 @@ course_taken plan (course.Writes before got) is =
 -- ---- what was written
 
 -- nothing more was written, and more may be queued
-record Grows (h k : History) : Type 0 where
-  written : k.written ≡ h.written
-  more : List Message
-  queued : k.queued ≡ h.queued ++ more
-
-grows_none : (h : History) → Grows h h
-grows_none h = record { written = refl; more = []; queued = sym (append-nil h.queued) }
-
-grows_then : (h k l : History) → Grows h k → Grows k l → Grows h l
-grows_then h k l one other = record {
-  written = other.written ∙ one.written;
-  more = one.more ++ other.more;
-  queued = other.queued ∙ ap (λ (ms : List Message). ms ++ other.more) one.queued ∙ append_assoc h.queued one.more other.more;
-}
-
 written_if : (does : Bool) (h k : History) → k.written ≡ h.written → (cond does k h).written ≡ h.written
 written_if true h k is = is
 written_if false h k is = refl
@@ -135,9 +121,9 @@ step_quiet h s quiet = record { written = step_written h s quiet; more = (step_g
 
 fault_quiet : (h : History) (before after : Option StreamFault) → Grows h (after_steps h (new_fault before after))
 unfolding after_steps
-fault_quiet h before None = grows_none h
+fault_quiet h before None = grows_self h
 fault_quiet h None (Some fault) = step_quiet h (Faults fault) tt
-fault_quiet h (Some old) (Some fault) = grows_none h
+fault_quiet h (Some old) (Some fault) = grows_self h
 
 messages_quiet : (h : History) (ms : List Message) (before after : Option StreamFault) → Grows h (after_steps h (map Handles ms ++ new_fault before after))
 unfolding after_steps

@@ -1,5 +1,5 @@
 -- The messages handled are exactly those that the bytes taken spell, and their fault stops the connection.
-use Rattle.std.proofs.Common.{◌≡◌, ℕ, Bool, true, false, cond, List, [], ◌∷◌, ◌++◌, length, Option, Some, None, Result, Ok, Err, refl, sym, ap, subst, ◌∙◌}
+use Rattle.std.proofs.Common.{◌≡◌, ℕ, Bool, true, false, cond, List, [], ◌∷◌, ◌++◌, length, Some, None, Result, Ok, Err, refl, sym, ap, subst, ◌∙◌}
 use Rattle.std.specs.Prelude.{◌≤◌, nat_le, is_none}
 use Rattle.std.proofs.lemmas.Bool.{and_parts, leb-true}
 use Rattle.std.proofs.lemmas.List.{append-nil, nil_from_length}
@@ -27,6 +27,7 @@ use Rattle.coap_client.specs.Requests.{request_of, cancel_of}
 use Rattle.coap_frame.proofs.FrontLaws.{added_by}
 use Rattle.coap_client.proofs.ClientSteps.{stream_same, stream_first, client_first, client_same, client_step, by_calls, Adds, adds_whole, no_bytes_steps}
 use Rattle.coap_client.proofs.ClientReached.{accepted_is}
+use Rattle.coap_serve.proofs.world.HandledLaws.{takes_no_stop, no_fault}
 
 -- ---- what accepted bytes make
 
@@ -100,9 +101,6 @@ rests_if h k true handled phase = record { handled = handled; stopped = λ why i
 rests_if h k false handled phase = rests_self h
 
 -- a connection that takes messages has not stopped
-takes_no_stop : (p : Phase) (why : Reason) → takes_messages p ≡ true → p ≡ Stopped why → ⊥
-takes_no_stop p why takes is = let bad : false ≡ true = sym (ap takes_messages is) ∙ takes in cc
-
 ended_by : (h : History) (why : Reason) (takes : Bool) → takes_messages h.phase ≡ takes
     → Rests h (cond takes (with_effect h (stop (standing_now h) why [])) h)
 ended_by h why true is = record { handled = refl; stopped = λ other at. absurd (takes_no_stop h.phase other is at) }
@@ -122,9 +120,6 @@ cancel_rests h token m = rests_if h _ (is_none (cancel_refusal (asking_now h) to
 record Agrees (u : Stream) (h : History) : Type 0 where
   handled : h.handled ≡ u.messages
   stopped : (fault : StreamFault) → u.fault ≡ Some fault → h.phase ≡ Stopped (reject_reason (reject_of fault))
-
-no_fault : (u : Stream) (fault : StreamFault) → u.fault ≡ None → u.fault ≡ Some fault → ⊥
-no_fault u fault none some = let bad : ◌≡◌ {A = Option StreamFault} None (Some fault) = sym none ∙ some in cc
 
 rests_agrees : (u v : Stream) (h k : History) → Rests h k → v.messages ≡ u.messages → v.fault ≡ u.fault → Agrees u h → Agrees v k
 rests_agrees u v h k rests messages same is = record {

@@ -33,7 +33,7 @@ use Rattle.coap_client.proofs.ClientSteps.{rest_unfinished, client_first, client
 use Rattle.coap_client.proofs.ClientReached.{limits_same, accepted_is}
 use Rattle.coap_client.proofs.HandledLaws.{TakesSo, NoStep, OneMessage, OneFault, handles_parts, bytes_taken}
 use Rattle.coap_serve.proofs.world.ToldMessages.{abort_one, react_so}
-use Rattle.coap_serve.proofs.world.LimitLaws.{one_small, limit_within, queued_waits}
+use Rattle.coap_serve.proofs.world.LimitLaws.{one_small, limit_within, queued_waits, kept_small_by}
 
 -- ---- what a message does
 
@@ -240,16 +240,12 @@ few_wait limits tokens calls ranges accepted =
 
 -- ---- the bytes that are kept of an unfinished frame
 
-kept_small : (M : ℕ) (rest : List ℕ) (takes : Bool) → 1 ≤ M → (takes ≡ true → length rest < M) → length (cond takes rest []) < M
-kept_small M rest true enough go = go refl
-kept_small M rest false enough go = omega (arith, enough)
-
 -- fewer than the greatest message taken has
 pub few_kept : (limits : LimitValues) (tokens : ℕ) (calls : List ClientCall) → AreInRange limits
     → AreAccepted limits tokens calls → length (client_of limits tokens calls).frame < limits.max_message
 unfolding client_of
 few_kept limits tokens calls ranges accepted =
     let rest : List ℕ = (stream_in limits.max_message calls).rest in
-    kept_small limits.max_message rest (takes_messages (client_after limits tokens calls).phase) (omega (arith, ranges.message_low))
+    kept_small_by limits.max_message rest (takes_messages (client_after limits tokens calls).phase) (omega (arith, ranges.message_low))
     (λ takes. unfinished_below limits.max_message rest (omega (arith, ranges.message_low))
     (rest_unfinished limits.max_message calls ((accepted_is limits tokens calls accepted).live takes)))

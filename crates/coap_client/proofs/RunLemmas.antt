@@ -28,7 +28,9 @@ use Rattle.coap_client.specs.declared.run.Run.{Run}
 use Rattle.coap_client.proofs.CourseLaws.{course_taken, course_queued}
 use Rattle.coap_client.proofs.ClientShown.{took_takes, took_told, took_shown}
 use Rattle.coap_client.proofs.TakenLemmas.{takes_some, cancelled_takes, may_parts, may_not}
-use Rattle.coap_client.proofs.StandLemmas.{more_none, more_then, bytes_stay, bytes_same, front_length, taking_limits, sent_limits, cancelled_limits, read_limits, read_shown, asked_shown, given_up_shown, sent_told, cancelled_told}
+use Rattle.coap_client.proofs.StandLemmas.{bytes_stay, bytes_same, front_length, taking_limits, sent_limits, cancelled_limits, read_limits, read_shown, asked_shown, given_up_shown, sent_told, cancelled_told}
+use Rattle.coap_serve.proofs.streams.DoorLemmas.{told_then, told_none}
+use Rattle.coap_client.proofs.TargetLemmas.{false_is_true}
 
 -- ---- small facts
 
@@ -45,18 +47,15 @@ token_kept r r' same = rw same refl
 no_token : (r : Run) → r.token ≡ None → token_of r ≡ None
 no_token r none = rw none refl
 
-never : false ≡ true → ⊥
-never is = cc
-
 no_more_asking : (p : Phase) (token : List ℕ) → is_to_ask p (Some token) ≡ true → ⊥
-no_more_asking Waiting token is = never is
-no_more_asking Open token is = never is
-no_more_asking (Releasing why) token is = never is
-no_more_asking (phase.Stopped why) token is = never is
+no_more_asking Waiting token is = false_is_true is
+no_more_asking Open token is = false_is_true is
+no_more_asking (Releasing why) token is = false_is_true is
+no_more_asking (phase.Stopped why) token is = false_is_true is
 
 asking_refused : (asks : Bool) {refusal : Option RequestFault} (fault : RequestFault) → asks ≡ true → refusal ≡ Some fault → cond asks refusal None ≡ Some fault
 asking_refused true fault asks is = is
-asking_refused false fault asks is = absurd (never asks)
+asking_refused false fault asks is = absurd (false_is_true asks)
 
 some_is_none : {A : Type 0} {x : A} → ◌≡◌ {A = Option A} (Some x) None → ⊥
 some_is_none is = cc
@@ -66,7 +65,7 @@ and_none true b is = is
 and_none false b is = refl
 
 and_first : (a b : Bool) → a ≡ false → (a && b) ≡ false
-and_first true b is = absurd (never (sym is))
+and_first true b is = absurd (false_is_true (sym is))
 and_first false b is = refl
 
 not_below : (n : ℕ) → nat_lt n n ≡ false
@@ -78,18 +77,18 @@ cancelled_same (Some t) f None moment before = refl
 cancelled_same (Some t) f (Some fault) moment before = refl
 
 pub neither_first : (a b : Bool) → (a || b) ≡ false → a ≡ false
-neither_first true b is = absurd (never (sym is))
+neither_first true b is = absurd (false_is_true (sym is))
 neither_first false b is = refl
 
 pub neither_second : (a b : Bool) → (a || b) ≡ false → b ≡ false
-neither_second true b is = absurd (never (sym is))
+neither_second true b is = absurd (false_is_true (sym is))
 neither_second false b is = is
 
 pub some_waits : (v : ClientValue) (n : ℕ) → n ≡ length v.link.waiting → n ≢ 0 → v.link.waiting ≢ []
 some_waits v n is some none = some (is ∙ ap length none)
 
 some_left : (xs : List ℕ) → (length xs == 0) ≡ false → nat_lt 0 (length xs) ≡ true
-some_left [] is = absurd (never (sym is))
+some_left [] is = absurd (false_is_true (sym is))
 some_left (x ∷ xs) is = lt-ltb 0 (length (x ∷ xs)) (omega arith)
 
 pub none_left : (xs : List ℕ) → (length xs == 0) ≡ true → xs ≡ []
@@ -343,7 +342,7 @@ module _ (plan : ClientPlan) (start now : Seen) (r : Run) (c : Course) (stands :
       course = c;
       stands = same_stands client token err;
       ends = goes;
-      holds = record { turns = refl; looked = looked; asked = λ going still. absurd (never (sym asks ∙ asks_same ∙ still)); writes = λ ended. absurd (ended goes) };
+      holds = record { turns = refl; looked = looked; asked = λ going still. absurd (false_is_true (sym asks ∙ asks_same ∙ still)); writes = λ ended. absurd (ended goes) };
     }
 
     pub asked_on : has_looked c ≡ true → r'.client ≡ client_asking r.client r.token plan → token_of r' ≡ token_asking r.client (token_of r) plan
@@ -389,7 +388,7 @@ module _ (plan : ClientPlan) (start now : Seen) (r : Run) (c : Course) (stands :
       told = record {
         given = bytes_then start.given now.given given (given_in c) r'.rest stands.told.given gave;
         written = bytes_stay start.written now.written written (written_in c) stands.told.written wrote;
-        answers = more_then start.answers now.answers answers (answers_in c) (got ∷ []) stands.told.answers answered;
+        answers = told_then start.answers now.answers answers (answers_in c) (got ∷ []) stands.told.answers answered;
         moments = stands.told.moments;
         out = stands.told.out;
         err = bytes_then start.err now.err e (errors_in c) (stop_text (stop_read c got r'.rest)) stands.told.err (subst (λ (why : Option Reason). AddsBytes now.err e (stop_text why)) read_stops err);
@@ -428,7 +427,7 @@ module _ (plan : ClientPlan) (start now : Seen) (r : Run) (c : Course) (stands :
       told = record {
         given = bytes_stay start.given now.given given (given_in c) stands.told.given gave;
         written = bytes_then start.written now.written written (written_in c) (bytes_passed (waiting_in c) got) stands.told.written (subst (λ (w : List ℕ). AddsBytes now.written written (bytes_passed w got)) waits_same wrote);
-        answers = more_then start.answers now.answers answers (answers_in c) (got ∷ []) stands.told.answers answered;
+        answers = told_then start.answers now.answers answers (answers_in c) (got ∷ []) stands.told.answers answered;
         moments = stands.told.moments;
         out = stands.told.out;
         err = bytes_then start.err now.err e (errors_in c) (stop_text (stop_written (status_in c) got)) stands.told.err err;
@@ -490,7 +489,7 @@ module _ (plan : ClientPlan) (start now : Seen) (r : Run) (c : Course) (stands :
           holds = record { turns = refl; rests = λ still. absurd (some_is_none still); writes = tt };
         }
     waited_by since is not client cancelled err false passed =
-        done_nothing (λ held has due. absurd (never (sym not ∙ due)))
+        done_nothing (λ held has due. absurd (false_is_true (sym not ∙ due)))
         (ap (λ (s : Option ℕ). is_overdue_since s (moment_in c) plan.wait) is
         ∙ and_none (nat_lt since (moment_in c)) (has_passed (moment_in c) since plan.wait) (ap (λ (m : ℕ). has_passed m since plan.wait) (sym stands.moment) ∙ passed))
         client cancelled err
@@ -566,7 +565,7 @@ module _ (plan : ClientPlan) (start now : Seen) (r : Run) (c : Course) (stands :
         looked = looked;
         taken = cancelled_taken held (cancelled_stands held due has is client when err) has client taken;
         asked = λ still. absurd (no_more_asking (phase_in (Calls c (Cancelled held plan.target (planned_extras plan)))) held (subst (λ (t : Option (List ℕ)). is_to_ask (phase_in (Calls c (Cancelled held plan.target (planned_extras plan)))) t ≡ true) (sym stands.token ∙ has) still));
-        cancelled = λ other has again. absurd (never again);
+        cancelled = λ other has again. absurd (false_is_true again);
       });
       ends = ap status_told (cancelled_told (calls_in c) held plan.target (planned_extras plan) own_limits);
       holds = record { turns = refl; rests = λ still. tt; writes = tt };
@@ -589,7 +588,7 @@ module _ (plan : ClientPlan) (start now : Seen) (r : Run) (c : Course) (stands :
         → r'.cancelled ≡ cond due (cancelled_at (token_of r) (cancelling_refusal r.client (token_of r) plan) r.moment r.cancelled) r.cancelled
         → AddsBytes now.err e (cond due (refusal_text (cancelling_refusal r.client (token_of r) plan)) []) → Due (cond due (ended_by (cancelling_refusal r.client (token_of r) plan)) None)
     cancels_by early true is client when err = cancels_to is early (token_of r) refl client when err
-    cancels_by early false is client when err = done_nothing (λ held has due. absurd (never (sym is ∙ due))) early client when err
+    cancels_by early false is client when err = done_nothing (λ held has due. absurd (false_is_true (sym is ∙ due))) early client when err
 
     watched_by : (k f : Option ℕ) → r.cancelled ≡ k → r.first ≡ f
         → r'.client ≡ cond (is_to_cancel k f r.moment plan.observe) (client_cancelling r.client (token_of r) plan) r.client
@@ -693,8 +692,8 @@ module _ (plan : ClientPlan) (start now : Seen) (r : Run) (n : ℕ) (led : Leads
       as_many IsAsked (turns_in led.course) n led.holds.turns
       (took_last plan start now r led.course led.stands r' o e led.ends may within client rest first token started moment cancelled out err led.holds.looked status (sym is ∙ told))
 
-  abbrev told_then : Seen
-  told_then = seen now.given now.written now.answers now.moments o e
+  abbrev seen_then : Seen
+  seen_then = seen now.given now.written now.answers now.moments o e
 
   pub took_asked : next ≡ None → (r'' : Run) (e' : Option (List ℕ))
       → r''.rest ≡ r'.rest → r''.started ≡ r'.started → r''.moment ≡ r'.moment → r''.first ≡ r'.first → r''.cancelled ≡ r'.cancelled
@@ -703,10 +702,10 @@ module _ (plan : ClientPlan) (start now : Seen) (r : Run) (n : ℕ) (led : Leads
       → LeadsOn plan start (seen now.given now.written now.answers now.moments o e') r'' (IsAsked n) answer
   took_asked goes r'' e' rest' started' moment' first' cancelled' client' token' err' answer is =
       let c : Course = Calls led.course (Took (take (taking r.client r.rest).count r.rest)) in
-      let stands : Stands plan start told_then r' c = took_stands plan start now r led.course led.stands r' o e led.ends may within client rest first token started moment cancelled out err in
+      let stands : Stands plan start seen_then r' c = took_stands plan start now r led.course led.stands r' o e led.ends may within client rest first token started moment cancelled out err in
       let on : status_in c ≡ None = took_status plan start now r led.course led.stands r' o e led.ends may within client rest first token started moment cancelled out err ∙ sym told ∙ goes in
       as_many IsAsked (turns_in led.course) n led.holds.turns
-      (asked_next plan start told_then r' c stands r'' e' on rest' started' moment' first' cancelled' led.holds.looked client' token' err' answer is)
+      (asked_next plan start seen_then r' c stands r'' e' on rest' started' moment' first' cancelled' led.holds.looked client' token' err' answer is)
 
 -- ---- the beginning, a turn, and the end
 
@@ -728,7 +727,7 @@ module _ (plan : ClientPlan) (r : Run) (given written out err told moments : Opt
     told = record {
       given = bytes_none given;
       written = bytes_none written;
-      answers = more_none answers;
+      answers = told_none answers;
       moments = asked;
       out = bytes_none out;
       err = bytes_none err;
@@ -754,7 +753,7 @@ module _ (plan : ClientPlan) (start now : Seen) (r : Run) (c : Course) (stands :
       given = stands.told.given;
       written = stands.told.written;
       answers = stands.told.answers;
-      moments = more_then start.moments now.moments moments (moments_in c) (moment ∷ []) stands.told.moments asked;
+      moments = told_then start.moments now.moments moments (moments_in c) (moment ∷ []) stands.told.moments asked;
       out = stands.told.out;
       err = stands.told.err;
     };

@@ -1,39 +1,25 @@
 -- What devices tell of a run, and what calls leave of its client.
-use Rattle.std.proofs.Common.{◌≡◌, ℕ, ◌≤◌, Bool, true, false, cond, List, [], ◌∷◌, ◌++◌, length, take, Option, Some, None, Result, Ok, Err, refl, sym, ap, subst, ◌∙◌, append_assoc, arith}
+use Rattle.std.proofs.Common.{◌≡◌, ℕ, ◌≤◌, Bool, true, false, cond, List, [], ◌∷◌, ◌++◌, length, take, Option, None, Result, Ok, refl, sym, ap, subst, ◌∙◌, arith}
 use Rattle.std.proofs.lemmas.List.{append-nil, length-take}
-use Rattle.coap_wire.specs.Message.{Message}
-use Rattle.coap_wire.specs.Reading.{message_of}
-use Rattle.coap_wire.specs.declared.fault.FormatFault.{FormatFault}
-use Rattle.coap_frame.specs.Framing.{Framing, Finding, Nothing, AFrame, AFault, framing}
+use Rattle.coap_frame.specs.Framing.{framing}
 use Rattle.coap_conn.specs.Limits.{LimitValues}
-use Rattle.coap_conn.specs.Phases.{takes_messages}
-use Rattle.coap_conn.specs.LinkValue.{LinkValue}
 use Rattle.coap_conn.specs.declared.phase.RequestFault.{RequestFault}
 use Rattle.coap_serve.specs.declared.wire.Got.{Got}
 use Rattle.coap_serve.specs.declared.wire.Got.TheVariants.{Bytes, Later, End, Failed}
 use Rattle.coap_serve.specs.streams.Device.{AddsBytes}
-use Rattle.coap_serve.specs.streams.Telling.{TellsMore}
 use Rattle.coap_serve.proofs.streams.DeviceLemmas.{bytes_then}
 use Rattle.coap_client.specs.declared.request.Method.{Method}
 use Rattle.coap_client.specs.Targets.{TargetValue}
 use Rattle.coap_client.specs.Requests.{ExtrasValue}
-use Rattle.coap_client.specs.ClientValues.{ClientValue, Taking, taking_read, taking_found, taking, client_sent, client_cancelled, send_refusal, cancelling_refusal}
+use Rattle.coap_client.specs.ClientValues.{ClientValue, Taking, taking, client_sent, client_cancelled, send_refusal, cancelling_refusal}
 use Rattle.coap_client.specs.ClientWorld.{ClientCall, Sent, Cancelled, steps_by, event_of, ClientShows}
 use Rattle.coap_client.specs.RunSteps.{calls_read, client_read}
-use Rattle.coap_client.proofs.TakingLemmas.{limits_end}
+use Rattle.coap_client.proofs.TakingLemmas.{limits_found}
 use Rattle.coap_client.proofs.ClientShown.{sent_shown, cancelled_shown, ended_shown}
+use Rattle.coap_serve.proofs.values.LinkLemmas.{limits_stay}
+use Rattle.coap_serve.proofs.values.SessionLemmas.{end_limits}
 
 -- ---- what is told
-
-pub more_none : {A : Type 0} (a : Option (List A)) → TellsMore a a []
-more_none None = tt
-more_none {A} (Some x) = ap (λ (y : List A). Some y) (sym (append-nil x))
-
-pub more_then : {A : Type 0} (a b c : Option (List A)) (xs ys : List A) → TellsMore a b xs → TellsMore b c ys → TellsMore a c (xs ++ ys)
-more_then None b c xs ys p q = tt
-more_then {A} (Some x) b c xs ys p q =
-    let moved : TellsMore (Some (x ++ xs)) c ys = subst (λ (o : Option (List A)). TellsMore o c ys) p q in
-    moved ∙ ap (λ (y : List A). Some y) (append_assoc x xs ys)
 
 -- nothing more is told
 pub bytes_stay : (a b c : Option (List ℕ)) (xs : List ℕ) → AddsBytes a b xs → AddsBytes b c [] → AddsBytes a c xs
@@ -49,19 +35,6 @@ front_length n xs few = simp length-take (omega arith)
 
 -- ---- limits stay
 
-limits_if : (does : Bool) (l k : LinkValue) → k.limits ≡ l.limits → (cond does k l).limits ≡ l.limits
-limits_if true l k e = e
-limits_if false l k e = refl
-
-limits_read : (w : ClientValue) (n : ℕ) (read : Result Message FormatFault) → (taking_read w n read).client.link.limits ≡ w.link.limits
-limits_read w n (Ok m) = limits_if (takes_messages w.link.phase) w.link _ refl
-limits_read w n (Err e) = limits_if (takes_messages w.link.phase) w.link _ refl
-
-limits_found : (w : ClientValue) (f : Framing) (found : Finding) → (taking_found w f found).client.link.limits ≡ w.link.limits
-limits_found w f Nothing = refl
-limits_found w f (AFrame frame) = limits_read w f.taken (message_of frame)
-limits_found w f (AFault fault) = limits_if (takes_messages w.link.phase) w.link _ refl
-
 limits_taken : (does : Bool) (w : ClientValue) (t : Taking) → t.client.link.limits ≡ w.link.limits → (cond does t (record { count = 0; client = w; event = None })).client.link.limits ≡ w.link.limits
 limits_taken true w t e = e
 limits_taken false w t e = refl
@@ -71,15 +44,15 @@ unfolding taking
 taking_limits v piece = limits_taken _ v _ (limits_found v (framing v.link.limits.max_message v.frame piece) (framing v.link.limits.max_message v.frame piece).finding)
 
 pub sent_limits : (v : ClientValue) (method : Method) (target : TargetValue) (extras : ExtrasValue) → (client_sent v method target extras).link.limits ≡ v.link.limits
-sent_limits v method target extras = limits_if _ v.link _ refl
+sent_limits v method target extras = limits_stay _ v.link _ refl
 
 pub cancelled_limits : (v : ClientValue) (token : List ℕ) (target : TargetValue) (extras : ExtrasValue) → (client_cancelled v token target extras).link.limits ≡ v.link.limits
-cancelled_limits v token target extras = limits_if _ v.link _ refl
+cancelled_limits v token target extras = limits_stay _ v.link _ refl
 
 pub read_limits : (v : ClientValue) (got : Got) → (client_read v got).link.limits ≡ v.link.limits
 read_limits v (Bytes n) = refl
 read_limits v Later = refl
-read_limits v End = limits_end v.link _
+read_limits v End = end_limits v.link _
 read_limits v Failed = refl
 
 -- ---- calls that are shown

@@ -1,10 +1,9 @@
 -- What a client's run takes of what it read: something, as long as it may, until nothing is left.
-use Rattle.std.proofs.Common.{◌≡◌, ◌+◌, ◌-◌, ◌≤◌, ◌<◌, ◌⊎◌, ℕ, zero, suc, Bool, true, false, cond, List, [], ◌++◌, length, take, refl, sym, ap, subst, ◌∙◌, inl, inr, arith}
+use Rattle.std.proofs.Common.{◌≡◌, ◌+◌, ◌-◌, ◌≤◌, ◌<◌, ◌⊎◌, ℕ, Bool, true, false, cond, List, ◌++◌, length, refl, sym, ap, subst, ◌∙◌, inl, inr, arith}
 use Rattle.std.specs.Prelude.{nat_le, ◌&&◌}
 use Rattle.std.proofs.lemmas.Bool.{leb-false, lt-leb, and_parts}
-use Rattle.std.proofs.lemmas.List.{append-nil, length-append}
-use Rattle.coap_wire.specs.Beginning.{Beginning, Unfinished, Whole, Faulty, beginning}
-use Rattle.coap_frame.specs.Framing.{Framing, Nothing, framing_at, framing}
+use Rattle.std.proofs.lemmas.List.{length-append}
+use Rattle.coap_frame.specs.Framing.{framing}
 use Rattle.coap_conn.specs.History.{History, link_of}
 use Rattle.coap_conn.specs.LinkValue.{LinkValue, free_in}
 use Rattle.coap_conn.specs.Outstanding.{OutstandingValue}
@@ -16,30 +15,9 @@ use Rattle.coap_client.specs.Targets.{TargetValue}
 use Rattle.coap_client.specs.RunCourse.{own_limits}
 use Rattle.coap_client.proofs.ClientSteps.{rest_unfinished}
 use Rattle.coap_client.proofs.ClientReached.{accepted_is}
-use Rattle.coap_frame.proofs.FrontLaws.{front_framing}
+use Rattle.coap_frame.proofs.FrontLaws.{some_in_front}
 
 -- ---- something is taken of what is not empty
-
-none_framing : (M : ℕ) (kept : List ℕ) → beginning M kept ≡ Unfinished → framing M kept [] ≡ framing_at kept [] Unfinished
-unfolding framing
-none_framing M kept unfinished = ap (framing_at kept []) (ap (beginning M) (append-nil kept) ∙ unfinished)
-
-nothing_at : (kept piece : List ℕ) (b : Beginning) → (framing_at kept piece b).finding ≡ Nothing → (framing_at kept piece b).taken ≡ length piece
-nothing_at kept piece Unfinished e = refl
-nothing_at kept piece (Whole frame rest) e = absurd cc
-nothing_at kept piece (Faulty fault) e = absurd cc
-
--- where nothing is found, all is taken
-nothing_taken : (M : ℕ) (kept piece : List ℕ) → (framing M kept piece).finding ≡ Nothing → (framing M kept piece).taken ≡ length piece
-unfolding framing
-nothing_taken M kept piece e = nothing_at kept piece (beginning M (kept ++ piece)) e
-
-some_fronted : (M : ℕ) (kept piece : List ℕ) (n : ℕ) → beginning M kept ≡ Unfinished → (framing M kept piece).taken ≡ n → 0 < length piece → 1 ≤ n
-some_fronted M kept piece zero unfinished none some =
-    let same : framing M kept piece ≡ framing_at kept [] Unfinished = sym (front_framing M kept piece unfinished) ∙ ap (λ (k : ℕ). framing M kept (take k piece)) none ∙ none_framing M kept unfinished in
-    let all : (framing M kept piece).taken ≡ length piece = nothing_taken M kept piece (ap (λ (f : Framing). f.finding) same) in
-    absurd (omega (arith, some, none, all))
-some_fronted M kept piece (suc n) unfinished none some = omega arith
 
 module _ (calls : List ClientCall) where
   abbrev reached : History
@@ -60,7 +38,7 @@ module _ (calls : List ClientCall) where
       let live = (accepted_is own_limits 0 calls accepted).live (and_parts (takes_messages reached.phase) (nat_le reached.limits.max_sent (free_in (link_of reached))) handling).0 in
       let unfinished = rest_unfinished own_limits.max_message calls live in
       subst (λ (n : ℕ). 1 ≤ n) (sym (takes_where piece handling))
-      (some_fronted own_limits.max_message (stream_in own_limits.max_message calls).rest piece _ unfinished refl some)
+      (some_in_front own_limits.max_message (stream_in own_limits.max_message calls).rest piece unfinished some)
 
 -- ---- a client that takes nothing takes nothing behind a cancellation
 

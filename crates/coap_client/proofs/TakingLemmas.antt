@@ -13,7 +13,6 @@ use Rattle.coap_conn.specs.Phases.{takes_messages}
 use Rattle.coap_conn.specs.Rejects.{reject_of_frame, reject_reason}
 use Rattle.coap_conn.specs.Reaction.{react}
 use Rattle.coap_conn.specs.LinkValue.{LinkValue, standing_in}
-use Rattle.coap_conn.specs.Calls.{link_after}
 use Rattle.coap_conn.specs.Calls as call
 use Rattle.coap_client.specs.ClientValues.{ClientValue, EventValue, Taking, client_takes, event_told, taking_read, taking_found, taking}
 use Rattle.coap_client.specs.EventViews.{client_value, IsClient, heard_value, taking_framed}
@@ -21,6 +20,7 @@ use Rattle.coap_client.specs.declared.client.Client.TheInside.{Inside}
 use Rattle.coap_client.specs.declared.client.Heard.{Heard}
 use Rattle.coap_client.specs.declared.client.Heard.TheVariants as heard
 use Rattle.coap_client.proofs.TakeLemmas.{frame_is_back}
+use Rattle.coap_serve.proofs.values.LinkLemmas.{limits_stay}
 
 -- ---- what is told of a piece
 
@@ -80,23 +80,16 @@ module _ (v : FramerValue) (l : LinkValue) (piece : List ℕ) where
   unfolding framing
   kept_framed = kept_by (beginning v.max (v.kept ++ piece))
 
-limits_if : (does : Bool) (l k : LinkValue) → k.limits ≡ l.limits → (cond does k l).limits ≡ l.limits
-limits_if true l k e = e
-limits_if false l k e = refl
-
 limits_read : (w : ClientValue) (n : ℕ) (read : Result Message FormatFault) → (taking_read w n read).client.link.limits ≡ w.link.limits
-limits_read w n (Ok m) = limits_if (takes_messages w.link.phase) w.link _ refl
-limits_read w n (Err e) = limits_if (takes_messages w.link.phase) w.link _ refl
+limits_read w n (Ok m) = limits_stay (takes_messages w.link.phase) w.link _ refl
+limits_read w n (Err e) = limits_stay (takes_messages w.link.phase) w.link _ refl
 
-limits_found : (w : ClientValue) (f : Framing) (found : Finding) → (taking_found w f found).client.link.limits ≡ w.link.limits
+pub limits_found : (w : ClientValue) (f : Framing) (found : Finding) → (taking_found w f found).client.link.limits ≡ w.link.limits
 limits_found w f Nothing = refl
 limits_found w f (AFrame frame) = limits_read w f.taken (message_of frame)
-limits_found w f (AFault fault) = limits_if (takes_messages w.link.phase) w.link _ refl
+limits_found w f (AFault fault) = limits_stay (takes_messages w.link.phase) w.link _ refl
 
 -- the end of the input leaves the limits
-pub limits_end : (l : LinkValue) (cut : Bool) → (link_after l (call.End cut)).limits ≡ l.limits
-limits_end l cut = limits_if (takes_messages l.phase) l _ refl
-
 -- ---- the client
 
 -- a client stays one where its framer and its limits stay what they were

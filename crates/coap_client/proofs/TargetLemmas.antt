@@ -32,7 +32,7 @@ pub dotted_is_read : (text octets : List ℕ) → IsDotted text octets → is_do
 dotted_is_read text octets spelled =
     ap (λ read. is_some (whole_value read)) (ap read_ipv4 (sym (append-nil text)) ∙ read_ipv4_complete text octets [] spelled (lit≤ tt))
 
-false_is_true : false ≡ true → ⊥
+pub false_is_true : false ≡ true → ⊥
 false_is_true e = cc e
 
 option_cases : {A : Type 0} (o : Option A) → (o ≡ None) ⊎ ((x : A) × (o ≡ Some x))

@@ -4,8 +4,8 @@ use Rattle.coap_wire.specs.Uint.{bytes_of_uint}
 use Rattle.coap_wire.specs.Spelling.{spelling}
 use Rattle.coap_wire.specs.Reading.{declared_of, length_at, one_byte_at, two_bytes_at, four_bytes_at, message_of, head_at, option_number_at, option_head_at, option_at, body_at, body_within}
 use Rattle.coap_wire.specs.Beginning.{beginning}
-use Rattle.coap_wire.specs.Frames.{frames_of, frames_within}
-use Rattle.coap_wire.specs.Stream.{split}
+use Rattle.coap_wire.specs.Frames.{sized_frames, frames_within}
+use Rattle.coap_wire.specs.Stream.{sized_split, split}
 use Rattle.coap_frame.specs.Framing.{framing}
 use Rattle.coap_conn.specs.Limits.{LimitValues}
 use Rattle.coap_conn.specs.Outstanding.{Ping}
@@ -23,7 +23,7 @@ use Rattle.coap_client.specs.ClientLaws.{tokens_given}
 -- ---- what is computed with: to unfold one of these is to unfold all that its line names
 
 bytes_computed : Unit {0}
-unfolding split frames_of frames_within framing beginning declared_of length_at one_byte_at two_bytes_at four_bytes_at message_of head_at option_number_at option_head_at option_at body_at body_within spelling bytes_of_uint
+unfolding split sized_split sized_frames frames_within framing beginning declared_of length_at one_byte_at two_bytes_at four_bytes_at message_of head_at option_number_at option_head_at option_at body_at body_within spelling bytes_of_uint
 bytes_computed = tt
 
 calls_computed : Unit {0}

@@ -31,8 +31,8 @@ pub enum Event<'a> {
     Response(MessageRef<'a>),
     /// A response to an observation, behind which others come (RFC 7641 section 4.2).
     Notification(MessageRef<'a>),
-    /// A response to a request or an observation, which is ended by it, with a critical option that is not recognised (RFC 7252
-    /// section 5.4.1).
+    /// A response to a request or an observation, which is ended by it, with a critical option that is not recognised
+    /// (RFC 7252 section 5.4.1).
     Rejected {
         /// The request's token.
         token: Token,
@@ -113,14 +113,15 @@ impl Client {
     ghost use mathlib.Core.Option.{none};
     ghost use Rattle.coap_wire.specs.Refusal.{RefusedBy};
     ghost use Rattle.coap_conn.specs.Asking.{next_token};
+    ghost use Rattle.coap_conn.specs.QueueValue.{IsNextPart};
     ghost use Rattle.coap_client.specs.RequestViews.{extras_value};
     ghost use Rattle.coap_client.specs.ClientValues.{ClientValue, taking, client_takes, new_client, client_written, client_ended, client_sent, client_cancelled, client_pinged, send_refusal, cancelling_refusal, ping_refusal};
     ghost use Rattle.coap_client.specs.ClientWorld.{ClientCall, ClientShows, Took, Sent, Cancelled, Pinged, Wrote, Ended, takes, event_of};
     ghost use Rattle.coap_client.specs.EventViews.{taken_event};
     ghost use Rattle.coap_client.specs.contracts.client.Client.{the_row};
 
-    /// A new client with these limits, on which our Capabilities and Settings wait. All its room is reserved here. The first token that it
-    /// gives is that of the number behind `tokens_from`.
+    /// A new client with these limits, on which our Capabilities and Settings wait. All its room is reserved here. The
+    /// first token that it gives is that of the number behind `tokens_from`.
     ///
     /// # Errors
     ///
@@ -135,12 +136,13 @@ impl Client {
         })
     }
 
-    /// Sends a request to a target under a new token, and answers that token. It is outstanding until its last response, and with
-    /// `observe` it is an observation (RFC 7252 section 5.3.1, RFC 7641 section 3.1).
+    /// Sends a request to a target under a new token, and answers that token. It is outstanding until its last
+    /// response, and with `observe` it is an observation (RFC 7252 section 5.3.1, RFC 7641 section 3.1).
     ///
     /// # Errors
     ///
-    /// As `Link::request`. `TooBig` also where the extra option is longer than 1,034 bytes or the payload longer than 1,048,576.
+    /// As `Link::request`. `TooBig` also where the extra option is longer than 1,034 bytes or the payload longer than
+    /// 1,048,576.
     pub fn send<'x>(
         &mut self,
         method: Method,
@@ -150,7 +152,8 @@ impl Client {
         ensures answer { RefusedBy result (send_refusal self.old.link method target.now (extras_value extras.now)) }
         ensures token { IfOk result (λ t. t.items ≡ next_token self.old.link.tokens) }
         ensures after { OnOk result (self.new ≡ client_sent self.old method target.now (extras_value extras.now)) }
-        ensures shows { OnOk result ((tokens : ℕ) (calls : List ClientCall) → ClientShows self.old tokens calls → ClientShows self.new tokens (calls ++ Sent method target.now (extras_value extras.now) ∷ [])) }
+        ensures shows { OnOk result ((tokens : ℕ) (calls : List ClientCall) → ClientShows self.old tokens calls →
+            ClientShows self.new tokens (calls ++ Sent method target.now (extras_value extras.now) ∷ [])) }
         ensures err { OnErr result (self.new ≡ self.old) }
     {
         let formats = formats_of(extras);
@@ -164,8 +167,8 @@ impl Client {
         }
     }
 
-    /// Cancels an observation: sends the GET of the same target and extras with its token and Observe 1 (RFC 7641 section 3.6). It stays
-    /// outstanding until its last response.
+    /// Cancels an observation: sends the GET of the same target and extras with its token and Observe 1 (RFC 7641
+    /// section 3.6). It stays outstanding until its last response.
     ///
     /// # Errors
     ///
@@ -176,9 +179,13 @@ impl Client {
         target: &'x Target,
         extras: &Extras<'x>,
     ) -> Result<(), RequestFault>
-        ensures answer { RefusedBy result (cancelling_refusal self.old.link token.now.items target.now (extras_value extras.now)) }
-        ensures after { OnOk result (self.new ≡ client_cancelled self.old token.now.items target.now (extras_value extras.now)) }
-        ensures shows { OnOk result ((tokens : ℕ) (calls : List ClientCall) → ClientShows self.old tokens calls → ClientShows self.new tokens (calls ++ Cancelled token.now.items target.now (extras_value extras.now) ∷ [])) }
+        ensures answer { RefusedBy result (cancelling_refusal self.old.link token.now.items target.now
+            (extras_value extras.now)) }
+        ensures after { OnOk result (self.new ≡ client_cancelled self.old token.now.items target.now
+            (extras_value extras.now)) }
+        ensures shows { OnOk result ((tokens : ℕ) (calls : List ClientCall) → ClientShows self.old tokens calls →
+            ClientShows self.new tokens (calls ++ Cancelled token.now.items target.now (extras_value extras.now) ∷
+            [])) }
         ensures err { OnErr result (self.new ≡ self.old) }
     {
         let formats = formats_of(extras);
@@ -201,23 +208,30 @@ impl Client {
         ensures answer { RefusedBy result (ping_refusal self.old.link custody) }
         ensures token { IfOk result (λ t. t.items ≡ next_token self.old.link.tokens) }
         ensures after { OnOk result (self.new ≡ client_pinged self.old custody) }
-        ensures shows { OnOk result ((tokens : ℕ) (calls : List ClientCall) → ClientShows self.old tokens calls → ClientShows self.new tokens (calls ++ Pinged custody ∷ [])) }
+        ensures shows { OnOk result ((tokens : ℕ) (calls : List ClientCall) → ClientShows self.old tokens calls →
+            ClientShows self.new tokens (calls ++ Pinged custody ∷ [])) }
         ensures err { OnErr result (self.new ≡ self.old) }
     {
         self.link.ping(custody)
     }
 
-    /// Takes bytes of what came: up to the end of the first message, to the byte of a fault, or all of them; none where there is no room
-    /// in the queue for the greatest message sent, or where no message is taken any more. The caller offers the others again.
+    /// Takes bytes of what came: up to the end of the first message, to the byte of a fault, or all of them; none where
+    /// there is no room in the queue for the greatest message sent, or where no message is taken any more. The caller
+    /// offers the others again.
     pub fn take<'a>(&'a mut self, piece: &'a [u8]) -> Taken<'a>
-        ensures* writes_back { sem 𝓛 (follows_so the_row the_row self.entry.ghost_name none (λ _ _. ⊤) (λ c. c ≡ (taking self.old piece.now).client)) }
+        ensures* writes_back { sem 𝓛 (follows_so the_row the_row self.entry.ghost_name none (λ _ _. ⊤)
+            (λ c. c ≡ (taking self.old piece.now).client)) }
         ensures count { result.bytes ≡ (taking self.old piece.now).count }
         ensures within { result.bytes ≤ length piece.now }
         ensures event { taken_event result ≡ (taking self.old piece.now).event }
-        // For all calls that it showed: what it takes and tells is what the definition says, and then it shows these bytes too.
-        ensures takes { (tokens : ℕ) (calls : List ClientCall) → ClientShows self.old tokens calls → result.bytes ≡ takes self.old.link.limits tokens calls piece.now }
-        ensures told { (tokens : ℕ) (calls : List ClientCall) → ClientShows self.old tokens calls → taken_event result ≡ event_of self.old.link.limits tokens calls (Took (take result.bytes piece.now)) }
-        ensures shows { (tokens : ℕ) (calls : List ClientCall) → ClientShows self.old tokens calls → ClientShows (taking self.old piece.now).client tokens (calls ++ Took (take result.bytes piece.now) ∷ []) }
+        // For all calls that it showed: what it takes and tells is what the definition says, and then it shows these
+        // bytes too.
+        ensures takes { (tokens : ℕ) (calls : List ClientCall) → ClientShows self.old tokens calls →
+            result.bytes ≡ takes self.old.link.limits tokens calls piece.now }
+        ensures told { (tokens : ℕ) (calls : List ClientCall) → ClientShows self.old tokens calls →
+            taken_event result ≡ event_of self.old.link.limits tokens calls (Took (take result.bytes piece.now)) }
+        ensures shows { (tokens : ℕ) (calls : List ClientCall) → ClientShows self.old tokens calls →
+            ClientShows (taking self.old piece.now).client tokens (calls ++ Took (take result.bytes piece.now) ∷ []) }
     {
         if !self.takes() {
             return Taken {
@@ -236,25 +250,36 @@ impl Client {
 
     /// All bytes that wait to be written.
     pub fn front<'a>(&'a mut self) -> &'a [u8]
-        ensures* unchanged { sem 𝓛 (follows_so the_row the_row self.entry.ghost_name none (λ _ _. ⊤) (λ c. c ≡ self.old)) }
+        ensures* unchanged { sem 𝓛 (follows_so the_row the_row self.entry.ghost_name none (λ _ _. ⊤)
+            (λ c. c ≡ self.old)) }
         ensures front { result.now ≡ self.old.link.waiting }
     {
         self.link.front()
+    }
+
+    /// A front of the bytes that wait to be written, where they lie: none only where nothing waits.
+    pub fn next_part(&self) -> &[u8]
+        ensures { IsNextPart self.now.link.waiting result.now }
+    {
+        self.link.next_part()
     }
 
     /// The first so many bytes were written, and wait no more.
     pub fn written(&mut self, count: usize)
         requires { count ≤ length self.old.link.waiting }
         ensures after { self.new ≡ client_written self.old count }
-        ensures shows { (tokens : ℕ) (calls : List ClientCall) → ClientShows self.old tokens calls → ClientShows self.new tokens (calls ++ Wrote count ∷ []) }
+        ensures shows { (tokens : ℕ) (calls : List ClientCall) → ClientShows self.old tokens calls →
+            ClientShows self.new tokens (calls ++ Wrote count ∷ []) }
     {
         self.link.written(count);
     }
 
-    /// The input ended, within a message where bytes of one are kept. Nothing changes where no message is taken any more.
+    /// The input ended, within a message where bytes of one are kept. Nothing changes where no message is taken any
+    /// more.
     pub fn ended(&mut self)
         ensures after { self.new ≡ client_ended self.old }
-        ensures shows { (tokens : ℕ) (calls : List ClientCall) → ClientShows self.old tokens calls → ClientShows self.new tokens (calls ++ Ended ∷ []) }
+        ensures shows { (tokens : ℕ) (calls : List ClientCall) → ClientShows self.old tokens calls →
+            ClientShows self.new tokens (calls ++ Ended ∷ []) }
     {
         self.link.end(self.framer.kept() > 0);
         self.framer.clear();
@@ -290,8 +315,8 @@ impl Client {
     }
 }
 
-/// Takes bytes of a piece, and handles the message that they end; answers how many, and what is to be told. There must be room for the
-/// greatest message sent, and messages must be taken.
+/// Takes bytes of a piece, and handles the message that they end; answers how many, and what is to be told. There must
+/// be room for the greatest message sent, and messages must be taken.
 fn take_in(framer: &mut Framer, link: &mut Link, piece: &[u8]) -> (usize, Heard)
     requires framer { IsFramer framer.old }
     requires ready { IsReady link.old }
@@ -299,7 +324,8 @@ fn take_in(framer: &mut Framer, link: &mut Link, piece: &[u8]) -> (usize, Heard)
     ensures framer { framer.new ≡ framer_after framer.old piece.now }
     ensures count { result.0 ≡ (framing_of framer.old piece.now).taken }
     ensures within { result.0 ≤ length piece.now }
-    ensures told { heard_value result.1 (message_of (frame_back framer.new.spent (take result.0 piece.now))) ≡ (taking_framed framer.old link.old piece.now).event }
+    ensures told { heard_value result.1 (message_of (frame_back framer.new.spent (take result.0 piece.now)))
+        ≡ (taking_framed framer.old link.old piece.now).event }
     ensures link { link.new ≡ (taking_framed framer.old link.old piece.now).client.link }
 {
     let framed = framer.next(piece);
@@ -321,12 +347,13 @@ fn frame_given<'a>(split: &'a [u8], taken: &'a [u8]) -> &'a [u8]
     if split.is_empty() { taken } else { split }
 }
 
-/// Handles a message, and answers what is to be told of it. There must be room for the greatest message sent, and messages must be
-/// taken.
+/// Handles a message, and answers what is to be told of it. There must be room for the greatest message sent, and
+/// messages must be taken.
 fn hear(link: &mut Link, message: &MessageRef) -> Heard
     requires ready { IsReady link.old }
     requires live { IsLive link.old.phase }
-    ensures event { heard_value result (Ok message.now) ≡ event_told message.now (react (standing_in link.old) message.now).verdict }
+    ensures event { heard_value result (Ok message.now)
+        ≡ event_told message.now (react (standing_in link.old) message.now).verdict }
     ensures after { link.new ≡ link_after link.old (call.Handle message.now) }
 {
     match link.on(message) {
@@ -363,7 +390,8 @@ fn answer_in<'a>(frame: &'a [u8], last: bool) -> Option<Event<'a>>
 
 /// What is told of a response.
 fn answer<'a>(message: MessageRef<'a>, last: bool) -> Event<'a>
-    ensures { event_value result ≡ answer_told message.entry message.entry.token last (first_critical message.entry.options) }
+    ensures { event_value result
+        ≡ answer_told message.entry message.entry.token last (first_critical message.entry.options) }
 {
     if let Some(number) = message.first_critical() {
         return Event::Rejected {

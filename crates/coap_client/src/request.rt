@@ -75,8 +75,8 @@ pub(crate) fn formats_of(extras: &Extras) -> Formats
     }
 }
 
-/// The request with this method for this target, with no token yet. `None` where the one more option has more than 1,034
-/// bytes or the payload more than 1,048,576, and only there.
+/// The request with this method for this target, with no token yet. `None` where the one more option has more than
+/// 1,034 bytes or the payload more than 1,048,576, and only there.
 pub(crate) fn request<'a>(
     method: Method,
     target: &'a Target,
@@ -84,7 +84,9 @@ pub(crate) fn request<'a>(
     formats: &'a Formats,
 ) -> Option<Builder<'a>>
     requires { AreFormatsOf (extras_value extras.now) formats.now }
-    ensures { result ≡ (if spec.is_too_long (extras_value extras.now) then None else Some (spec.request_of method target.now (extras_value extras.now))) }
+    ensures { result
+        ≡ (if spec.is_too_long (extras_value extras.now) then None else Some
+        (spec.request_of method target.now (extras_value extras.now))) }
 {
     if is_too_long(extras) {
         return None;
@@ -97,16 +99,18 @@ pub(crate) fn request<'a>(
     Some(request)
 }
 
-/// The GET that ends the observation of this target, with no token yet (RFC 7641 section 3.6): that of the same target with
-/// the same extras, but with Observe 1 and no payload. `None` where the one more option has more than 1,034 bytes, and only
-/// there.
+/// The GET that ends the observation of this target, with no token yet (RFC 7641 section 3.6): that of the same target
+/// with the same extras, but with Observe 1 and no payload. `None` where the one more option has more than 1,034 bytes,
+/// and only there.
 pub(crate) fn cancellation<'a>(
     target: &'a Target,
     extras: &Extras<'a>,
     formats: &'a Formats,
 ) -> Option<Builder<'a>>
     requires { AreFormatsOf (extras_value extras.now) formats.now }
-    ensures { result ≡ (if spec.has_long_extra (extras_value extras.now) then None else Some (spec.cancel_of target.now (extras_value extras.now))) }
+    ensures { result
+        ≡ (if spec.has_long_extra (extras_value extras.now) then None else Some
+        (spec.cancel_of target.now (extras_value extras.now))) }
 {
     if has_long_extra(extras) {
         return None;
@@ -194,7 +198,8 @@ fn push<'a>(options: &mut Row<'a>, number: u16, value: &'a [u8])
     requires row { IsRow number (coap_options options.old.items) }
     requires short { length value.now ≤ 1034 }
     requires room { length options.old.items < 37 }
-    ensures added { coap_options options.new.items ≡ coap_options options.old.items ++ record { number = number; value = value.now } ∷ [] }
+    ensures added { coap_options options.new.items
+        ≡ coap_options options.old.items ++ record { number = number; value = value.now } ∷ [] }
     ensures row { IsRow number (coap_options options.new.items) }
     ensures count { length options.new.items ≡ length options.old.items + 1 }
 {
@@ -206,7 +211,8 @@ fn push_one<'a>(options: &mut Row<'a>, number: u16, value: Option<&'a [u8]>)
     requires row { IsRow number (coap_options options.old.items) }
     requires short { IfSome value (λ v. length v.now ≤ 1034) }
     requires room { length options.old.items < 37 }
-    ensures added { coap_options options.new.items ≡ coap_options options.old.items ++ spec.option_with number (option_copied value.entry) }
+    ensures added { coap_options options.new.items
+        ≡ coap_options options.old.items ++ spec.option_with number (option_copied value.entry) }
     ensures row { IsRow number (coap_options options.new.items) }
     ensures count { length options.new.items ≤ length options.old.items + 1 }
 {
@@ -220,7 +226,8 @@ fn push_each<'a>(options: &mut Row<'a>, number: u16, values: &'a [Vec<u8>])
     requires row { IsRow number (coap_options options.old.items) }
     requires short { AllByRecursion IsShort (byte_lists values.now) }
     requires room { length options.old.items + length values.now ≤ 37 }
-    ensures added { coap_options options.new.items ≡ coap_options options.old.items ++ spec.options_with number (byte_lists values.now) }
+    ensures added { coap_options options.new.items
+        ≡ coap_options options.old.items ++ spec.options_with number (byte_lists values.now) }
     ensures row { IsRow number (coap_options options.new.items) }
     ensures count { length options.new.items ≡ length options.old.items + length values.now }
 {
@@ -238,7 +245,8 @@ fn own_options<'a>(
 ) -> Row<'a>
     requires formats { AreFormatsOf (extras_value extras.now) formats.now }
     requires short { IfSome observe (λ value. length value.now ≤ 1) }
-    ensures value { coap_options result.items ≡ spec.own_options target.now (extras_value extras.now) (option_copied observe.entry) }
+    ensures value { coap_options result.items
+        ≡ spec.own_options target.now (extras_value extras.now) (option_copied observe.entry) }
     ensures row { IsRow 17 (coap_options result.items) }
     ensures few { length result.items ≤ 36 }
 {
@@ -261,7 +269,8 @@ fn insert<'a>(options: &mut Row<'a>, number: u16, value: &'a [u8])
     requires row { IsRow 17 (coap_options options.old.items) }
     requires short { length value.now ≤ 1034 }
     requires room { length options.old.items ≤ 36 }
-    ensures added { coap_options options.new.items ≡ spec.insert_option (record { number = number; value = value.now }) (coap_options options.old.items) }
+    ensures added { coap_options options.new.items
+        ≡ spec.insert_option (record { number = number; value = value.now }) (coap_options options.old.items) }
     ensures row { IsRow 65535 (coap_options options.new.items) }
     ensures count { length options.new.items ≤ 37 }
 {
@@ -283,7 +292,9 @@ fn all_options<'a>(
     requires formats { AreFormatsOf (extras_value extras.now) formats.now }
     requires observe { IfSome observe (λ value. length value.now ≤ 1) }
     requires short { spec.has_long_extra (extras_value extras.now) ≡ false }
-    ensures value { coap_options result.items ≡ spec.with_extra (extras_value extras.now).extra (spec.own_options target.now (extras_value extras.now) (option_copied observe.entry)) }
+    ensures value { coap_options result.items
+        ≡ spec.with_extra (extras_value extras.now).extra
+        (spec.own_options target.now (extras_value extras.now) (option_copied observe.entry)) }
     ensures row { IsRow 65535 (coap_options result.items) }
     ensures few { length result.items ≤ 37 }
 {

@@ -92,11 +92,12 @@ struct Run {
     cancelled: Option<u64>,
 }
 
-/// Runs a client over one wire: sends the request of the plan as the peer's Capabilities and Settings have come, writes the payloads of
-/// 2.xx responses to `out` and everything else that is to be told to `err`, and answers the exit status of the program: 0 where the last
-/// response was 2.xx, 2 where it was another one or was rejected for a critical option, 3 where the connection stopped or the request
-/// could not be sent, 4 where no answer came in time. An observation is cancelled once its seconds have passed. There are
-/// 1,000,000,000,000 turns at most; past them it answers 4.
+/// Runs a client over one wire: sends the request of the plan as the peer's Capabilities and Settings have come, writes
+/// the payloads of 2.xx responses to `out` and everything else that is to be told to `err`, and answers the exit status
+/// of the program: 0 where the last response was 2.xx, 2 where it was another one or was rejected for a critical
+/// option, 3 where the connection stopped or the request could not be sent, 4 where no answer came in time. An
+/// observation is cancelled once its seconds have passed. There are 1,000,000,000,000 turns at most; past them it
+/// answers 4.
 ///
 /// # Errors
 ///
@@ -112,10 +113,16 @@ pub fn run_client<W: Wire, C: Clock, O: Outlet, E: Outlet>(
     requires out_works { O.is_failed out.old ≡ false }
     requires err_works { E.is_failed err.old ≡ false }
     // It took a course that its devices told, and the status is that with which the course ends.
-    ensures run { IfOk result (IsClientRun plan.now (seen (W.given wire.old) (W.written wire.old) (W.answers wire.old) (C.moments clock.old) (O.written out.old) (E.written err.old)) (seen (W.given wire.new) (W.written wire.new) (W.answers wire.new) (C.moments clock.new) (O.written out.new) (E.written err.new))) }
+    ensures run { IfOk result (IsClientRun plan.now (seen (W.given wire.old) (W.written wire.old) (W.answers wire.old)
+        (C.moments clock.old) (O.written out.old) (E.written err.old))
+        (seen (W.given wire.new) (W.written wire.new) (W.answers wire.new) (C.moments clock.new) (O.written out.new)
+        (E.written err.new))) }
     ensures status { IfOk result IsStatus }
     // Memory is answered before anything is read, written or told.
-    ensures memory { IfMemory result (IsUnbegun plan.now (seen (W.given wire.old) (W.written wire.old) (W.answers wire.old) (C.moments clock.old) (O.written out.old) (E.written err.old)) (seen (W.given wire.new) (W.written wire.new) (W.answers wire.new) (C.moments clock.new) (O.written out.new) (E.written err.new))) }
+    ensures memory { IfMemory result (IsUnbegun plan.now
+        (seen (W.given wire.old) (W.written wire.old) (W.answers wire.old) (C.moments clock.old) (O.written out.old)
+        (E.written err.old)) (seen (W.given wire.new) (W.written wire.new) (W.answers wire.new) (C.moments clock.new)
+        (O.written out.new) (E.written err.new))) }
     // Output is answered exactly where an outlet failed.
     ensures output { (O.is_failed out.new || E.is_failed err.new) ≡ is_output_fault result }
 {
@@ -155,8 +162,8 @@ impl Run {
         })
     }
 
-    /// One turn: a read where nothing is left to take, what comes of it and of the moment, and a write of what waits, also where the run
-    /// then ends.
+    /// One turn: a read where nothing is left to take, what comes of it and of the moment, and a write of what waits,
+    /// also where the run then ends.
     fn turn<W: Wire, O: Outlet, E: Outlet>(
         &mut self,
         wire: &mut W,
@@ -166,7 +173,9 @@ impl Run {
     ) -> Next
         requires out_works { O.is_failed out.old ≡ false }
         requires err_works { E.is_failed err.old ≡ false }
-        ensures runs { Leads (with_all (W.given wire.old) (W.written wire.old) (W.answers wire.old) (O.written out.old) (E.written err.old)) (with_all (W.given wire.new) (W.written wire.new) (W.answers wire.new) (O.written out.new) (E.written err.new)) IsFresh IsFlushed plan.now self.old self.new result }
+        ensures runs { Leads (with_all (W.given wire.old) (W.written wire.old) (W.answers wire.old) (O.written out.old)
+            (E.written err.old)) (with_all (W.given wire.new) (W.written wire.new) (W.answers wire.new)
+            (O.written out.new) (E.written err.new)) IsFresh IsFlushed plan.now self.old self.new result }
         ensures status { IfOk result (λ next. IfSome next IsStatus) }
         ensures output { (O.is_failed out.new || E.is_failed err.new) ≡ is_err result }
     {
@@ -180,7 +189,9 @@ impl Run {
     /// Reads once, where nothing is left to take. The run ends where the input ends or the wire fails.
     fn listen<W: Wire, E: Outlet>(&mut self, wire: &mut W, err: &mut E) -> Next
         requires { E.is_failed err.old ≡ false }
-        ensures runs { LeadsAll (with_wire (W.given wire.old) (W.written wire.old) (W.answers wire.old) (E.written err.old)) (with_wire (W.given wire.new) (W.written wire.new) (W.answers wire.new) (E.written err.new)) IsFresh IsHeard self.old self.new result }
+        ensures runs { LeadsAll (with_wire (W.given wire.old) (W.written wire.old) (W.answers wire.old)
+            (E.written err.old)) (with_wire (W.given wire.new) (W.written wire.new) (W.answers wire.new)
+            (E.written err.new)) IsFresh IsHeard self.old self.new result }
         ensures status { IfOk result (λ next. IfSome next IsStatus) }
         ensures output { E.is_failed err.new ≡ is_err result }
     {
@@ -201,7 +212,9 @@ impl Run {
         ensures wrote { AddsBytes (W.written wire.old) (W.written wire.new) [] }
         ensures answered { TellsMore (W.answers wire.old) (W.answers wire.new) (result ∷ []) }
         ensures client { self.new.client ≡ spec.client_read self.old.client result }
-        ensures kept { (self.new.token ≡ self.old.token) × (self.new.started ≡ self.old.started) × (self.new.moment ≡ self.old.moment) × (self.new.first ≡ self.old.first) × (self.new.cancelled ≡ self.old.cancelled) }
+        ensures kept { (self.new.token ≡ self.old.token) × (self.new.started ≡ self.old.started)
+            × (self.new.moment ≡ self.old.moment) × (self.new.first ≡ self.old.first)
+            × (self.new.cancelled ≡ self.old.cancelled) }
     {
         match self.rest.read(wire) {
             Got::Bytes(count) => Got::Bytes(count),
@@ -218,7 +231,9 @@ impl Run {
     fn flush<W: Wire, E: Outlet>(&mut self, wire: &mut W, err: &mut E, next: Option<u8>) -> Next
         requires works { E.is_failed err.old ≡ false }
         requires known { IfSome next IsStatus }
-        ensures runs { Flushes (with_wire (W.given wire.old) (W.written wire.old) (W.answers wire.old) (E.written err.old)) (with_wire (W.given wire.new) (W.written wire.new) (W.answers wire.new) (E.written err.new)) self.old self.new next result }
+        ensures runs { Flushes (with_wire (W.given wire.old) (W.written wire.old) (W.answers wire.old)
+            (E.written err.old)) (with_wire (W.given wire.new) (W.written wire.new) (W.answers wire.new)
+            (E.written err.new)) self.old self.new next result }
         ensures status { IfOk result (λ next. IfSome next IsStatus) }
         ensures output { E.is_failed err.new ≡ is_err result }
     {
@@ -232,16 +247,20 @@ impl Run {
         }
     }
 
-    /// Writes once all that waits, as far as the wire takes it.
+    /// Writes once a front of what waits, as far as the wire takes it.
     fn write<W: Wire>(&mut self, wire: &mut W) -> Got
         ensures client { self.new.client ≡ value.client_written self.old.client (count_passed result) }
-        ensures shows { (tokens : ℕ) (calls : List ClientCall) → ClientShows self.old.client tokens calls → ClientShows self.new.client tokens (calls ++ spec.calls_written result) }
-        ensures wrote { AddsBytes (W.written wire.old) (W.written wire.new) (bytes_passed self.old.client.link.waiting result) }
+        ensures shows { (tokens : ℕ) (calls : List ClientCall) → ClientShows self.old.client tokens calls →
+            ClientShows self.new.client tokens (calls ++ spec.calls_written result) }
+        ensures wrote { AddsBytes (W.written wire.old) (W.written wire.new)
+            (bytes_passed self.old.client.link.waiting result) }
         ensures gave { AddsBytes (W.given wire.old) (W.given wire.new) [] }
         ensures answered { TellsMore (W.answers wire.old) (W.answers wire.new) (result ∷ []) }
-        ensures kept { (self.new.rest ≡ self.old.rest) × (self.new.token ≡ self.old.token) × (self.new.started ≡ self.old.started) × (self.new.moment ≡ self.old.moment) × (self.new.first ≡ self.old.first) × (self.new.cancelled ≡ self.old.cancelled) }
+        ensures kept { (self.new.rest ≡ self.old.rest) × (self.new.token ≡ self.old.token)
+            × (self.new.started ≡ self.old.started) × (self.new.moment ≡ self.old.moment)
+            × (self.new.first ≡ self.old.first) × (self.new.cancelled ≡ self.old.cancelled) }
     {
-        match wire.write(self.client.front()) {
+        match wire.write(self.client.next_part()) {
             Got::Bytes(count) => {
                 self.client.written(count);
                 Got::Bytes(count)
@@ -256,7 +275,9 @@ impl Run {
     fn go_on<O: Outlet, E: Outlet>(&mut self, out: &mut O, err: &mut E, plan: &ClientPlan) -> Next
         requires out_works { O.is_failed out.old ≡ false }
         requires err_works { E.is_failed err.old ≡ false }
-        ensures runs { Leads (with_outlets (O.written out.old) (E.written err.old)) (with_outlets (O.written out.new) (E.written err.new)) HasLooked IsFinished plan.now self.old self.new result }
+        ensures runs { Leads (with_outlets (O.written out.old) (E.written err.old))
+            (with_outlets (O.written out.new) (E.written err.new)) HasLooked IsFinished plan.now self.old self.new
+            result }
         ensures status { IfOk result (λ next. IfSome next IsStatus) }
         ensures output { (O.is_failed out.new || E.is_failed err.new) ≡ is_err result }
     {
@@ -295,11 +316,16 @@ impl Run {
     /// Sends the request, where it is to be sent. Where the queue has no room, the next turn tries again.
     fn ask<E: Outlet>(&mut self, err: &mut E, plan: &ClientPlan) -> Next
         requires { E.is_failed err.old ≡ false }
-        ensures next { IfOk result (λ next. next ≡ spec.ended_by (spec.asking_refusal self.old.client self.old.token plan.now)) }
-        ensures told { OnOk result (AddsBytes (E.written err.old) (E.written err.new) (spec.refusal_text (spec.asking_refusal self.old.client self.old.token plan.now))) }
+        ensures next { IfOk result (λ next. next ≡ spec.ended_by
+            (spec.asking_refusal self.old.client self.old.token plan.now)) }
+        ensures told { OnOk result (AddsBytes (E.written err.old) (E.written err.new)
+            (spec.refusal_text (spec.asking_refusal self.old.client self.old.token plan.now))) }
         ensures after { self.new.client ≡ spec.client_asking self.old.client self.old.token plan.now }
-        ensures token { option_map (λ t. t.items) self.new.token ≡ spec.token_asking self.old.client (option_map (λ t. t.items) self.old.token) plan.now }
-        ensures kept { (self.new.rest ≡ self.old.rest) × (self.new.started ≡ self.old.started) × (self.new.moment ≡ self.old.moment) × (self.new.first ≡ self.old.first) × (self.new.cancelled ≡ self.old.cancelled) }
+        ensures token { option_map (λ t. t.items) self.new.token
+            ≡ spec.token_asking self.old.client (option_map (λ t. t.items) self.old.token) plan.now }
+        ensures kept { (self.new.rest ≡ self.old.rest) × (self.new.started ≡ self.old.started)
+            × (self.new.moment ≡ self.old.moment) × (self.new.first ≡ self.old.first)
+            × (self.new.cancelled ≡ self.old.cancelled) }
         ensures status { IfOk result (λ next. IfSome next IsStatus) }
         ensures output { E.is_failed err.new ≡ is_err result }
     {
@@ -319,7 +345,8 @@ impl Run {
         }
     }
 
-    /// Takes what was read, message after message, as far as the client takes it. The request is sent before more is taken.
+    /// Takes what was read, message after message, as far as the client takes it. The request is sent before more is
+    /// taken.
     fn take_all<O: Outlet, E: Outlet>(
         &mut self,
         out: &mut O,
@@ -328,7 +355,8 @@ impl Run {
     ) -> Next
         requires out_works { O.is_failed out.old ≡ false }
         requires err_works { E.is_failed err.old ≡ false }
-        ensures runs { Leads (with_outlets (O.written out.old) (E.written err.old)) (with_outlets (O.written out.new) (E.written err.new)) IsReady IsTaken plan.now self.old self.new result }
+        ensures runs { Leads (with_outlets (O.written out.old) (E.written err.old))
+            (with_outlets (O.written out.new) (E.written err.new)) IsReady IsTaken plan.now self.old self.new result }
         ensures status { IfOk result (λ next. IfSome next IsStatus) }
         ensures output { (O.is_failed out.new || E.is_failed err.new) ≡ is_err result }
     {
@@ -350,14 +378,20 @@ impl Run {
     fn take<O: Outlet, E: Outlet>(&mut self, out: &mut O, err: &mut E, newline: bool) -> Next
         requires out_works { O.is_failed out.old ≡ false }
         requires err_works { E.is_failed err.old ≡ false }
-        ensures next { IfOk result (λ next. next ≡ spec.status_told (value.taking self.old.client self.old.rest).event) }
-        ensures out { OnOk result (AddsBytes (O.written out.old) (O.written out.new) (spec.output_told (value.taking self.old.client self.old.rest).event newline)) }
-        ensures err { OnOk result (AddsBytes (E.written err.old) (E.written err.new) (spec.errors_told (value.taking self.old.client self.old.rest).event)) }
+        ensures next { IfOk result (λ next. next ≡ spec.status_told
+            (value.taking self.old.client self.old.rest).event) }
+        ensures out { OnOk result (AddsBytes (O.written out.old) (O.written out.new)
+            (spec.output_told (value.taking self.old.client self.old.rest).event newline)) }
+        ensures err { OnOk result (AddsBytes (E.written err.old) (E.written err.new)
+            (spec.errors_told (value.taking self.old.client self.old.rest).event)) }
         ensures client { self.new.client ≡ (value.taking self.old.client self.old.rest).client }
-        ensures rest { OnOk result (self.new.rest ≡ drop (value.taking self.old.client self.old.rest).count self.old.rest) }
+        ensures rest { OnOk result (self.new.rest ≡ drop (value.taking self.old.client self.old.rest).count
+            self.old.rest) }
         ensures within { (value.taking self.old.client self.old.rest).count ≤ length self.old.rest }
-        ensures kept { (self.new.token ≡ self.old.token) × (self.new.started ≡ self.old.started) × (self.new.moment ≡ self.old.moment) × (self.new.cancelled ≡ self.old.cancelled) }
-        ensures first { OnOk result (self.new.first ≡ spec.first_told (value.taking self.old.client self.old.rest).event self.old.first self.old.moment) }
+        ensures kept { (self.new.token ≡ self.old.token) × (self.new.started ≡ self.old.started)
+            × (self.new.moment ≡ self.old.moment) × (self.new.cancelled ≡ self.old.cancelled) }
+        ensures first { OnOk result (self.new.first ≡ spec.first_told (value.taking self.old.client self.old.rest).event
+            self.old.first self.old.moment) }
         ensures status { IfOk result (λ next. IfSome next IsStatus) }
         ensures output { (O.is_failed out.new || E.is_failed err.new) ≡ is_err result }
     {
@@ -380,14 +414,29 @@ impl Run {
         }
     }
 
-    /// What is due by the moment: the observation is cancelled, or the run has waited long enough for its first or its last response.
+    /// What is due by the moment: the observation is cancelled, or the run has waited long enough for its first or its
+    /// last response.
     fn watch<E: Outlet>(&mut self, err: &mut E, plan: &ClientPlan) -> Next
         requires { E.is_failed err.old ≡ false }
-        ensures after { self.new.client ≡ (if spec.is_to_cancel self.old.cancelled self.old.first self.old.moment plan.now.observe then spec.client_cancelling self.old.client (option_map (λ t. t.items) self.old.token) plan.now else self.old.client) }
-        ensures cancelled { self.new.cancelled ≡ (if spec.is_to_cancel self.old.cancelled self.old.first self.old.moment plan.now.observe then spec.cancelled_at self.old.token (spec.cancelling_refusal self.old.client (option_map (λ t. t.items) self.old.token) plan.now) self.old.moment self.old.cancelled else self.old.cancelled) }
-        ensures kept { (self.new.rest ≡ self.old.rest) × (self.new.token ≡ self.old.token) × (self.new.started ≡ self.old.started) × (self.new.moment ≡ self.old.moment) × (self.new.first ≡ self.old.first) }
-        ensures next { IfOk result (λ next. next ≡ spec.watched self.old.cancelled self.old.first self.old.started self.old.moment plan.now (spec.ended_by (spec.cancelling_refusal self.old.client (option_map (λ t. t.items) self.old.token) plan.now))) }
-        ensures told { OnOk result (AddsBytes (E.written err.old) (E.written err.new) (if spec.is_to_cancel self.old.cancelled self.old.first self.old.moment plan.now.observe then spec.refusal_text (spec.cancelling_refusal self.old.client (option_map (λ t. t.items) self.old.token) plan.now) else [])) }
+        ensures after { self.new.client
+            ≡ (if spec.is_to_cancel self.old.cancelled self.old.first self.old.moment plan.now.observe then
+            spec.client_cancelling self.old.client (option_map (λ t. t.items) self.old.token) plan.now else
+            self.old.client) }
+        ensures cancelled { self.new.cancelled
+            ≡ (if spec.is_to_cancel self.old.cancelled self.old.first self.old.moment plan.now.observe then
+            spec.cancelled_at self.old.token (spec.cancelling_refusal self.old.client
+            (option_map (λ t. t.items) self.old.token) plan.now) self.old.moment self.old.cancelled else
+            self.old.cancelled) }
+        ensures kept { (self.new.rest ≡ self.old.rest) × (self.new.token ≡ self.old.token)
+            × (self.new.started ≡ self.old.started) × (self.new.moment ≡ self.old.moment)
+            × (self.new.first ≡ self.old.first) }
+        ensures next { IfOk result (λ next. next ≡ spec.watched self.old.cancelled self.old.first self.old.started
+            self.old.moment plan.now (spec.ended_by
+            (spec.cancelling_refusal self.old.client (option_map (λ t. t.items) self.old.token) plan.now))) }
+        ensures told { OnOk result (AddsBytes (E.written err.old) (E.written err.new)
+            (if spec.is_to_cancel self.old.cancelled self.old.first self.old.moment plan.now.observe then
+            spec.refusal_text (spec.cancelling_refusal self.old.client (option_map (λ t. t.items) self.old.token)
+            plan.now) else [])) }
         ensures status { IfOk result (λ next. IfSome next IsStatus) }
         ensures output { E.is_failed err.new ≡ is_err result }
     {
@@ -406,11 +455,19 @@ impl Run {
     /// Cancels the observation. Where the queue has no room, the next turn tries again.
     fn cancel<E: Outlet>(&mut self, err: &mut E, plan: &ClientPlan) -> Next
         requires { E.is_failed err.old ≡ false }
-        ensures next { IfOk result (λ next. next ≡ spec.ended_by (spec.cancelling_refusal self.old.client (option_map (λ t. t.items) self.old.token) plan.now)) }
-        ensures told { OnOk result (AddsBytes (E.written err.old) (E.written err.new) (spec.refusal_text (spec.cancelling_refusal self.old.client (option_map (λ t. t.items) self.old.token) plan.now))) }
-        ensures after { self.new.client ≡ spec.client_cancelling self.old.client (option_map (λ t. t.items) self.old.token) plan.now }
-        ensures cancelled { self.new.cancelled ≡ spec.cancelled_at self.old.token (spec.cancelling_refusal self.old.client (option_map (λ t. t.items) self.old.token) plan.now) self.old.moment self.old.cancelled }
-        ensures kept { (self.new.rest ≡ self.old.rest) × (self.new.token ≡ self.old.token) × (self.new.started ≡ self.old.started) × (self.new.moment ≡ self.old.moment) × (self.new.first ≡ self.old.first) }
+        ensures next { IfOk result (λ next. next ≡ spec.ended_by
+            (spec.cancelling_refusal self.old.client (option_map (λ t. t.items) self.old.token) plan.now)) }
+        ensures told { OnOk result (AddsBytes (E.written err.old) (E.written err.new)
+            (spec.refusal_text (spec.cancelling_refusal self.old.client (option_map (λ t. t.items) self.old.token)
+            plan.now))) }
+        ensures after { self.new.client
+            ≡ spec.client_cancelling self.old.client (option_map (λ t. t.items) self.old.token) plan.now }
+        ensures cancelled { self.new.cancelled
+            ≡ spec.cancelled_at self.old.token (spec.cancelling_refusal self.old.client
+            (option_map (λ t. t.items) self.old.token) plan.now) self.old.moment self.old.cancelled }
+        ensures kept { (self.new.rest ≡ self.old.rest) × (self.new.token ≡ self.old.token)
+            × (self.new.started ≡ self.old.started) × (self.new.moment ≡ self.old.moment)
+            × (self.new.first ≡ self.old.first) }
         ensures status { IfOk result (λ next. IfSome next IsStatus) }
         ensures output { E.is_failed err.new ≡ is_err result }
     {
@@ -502,8 +559,10 @@ fn hear<O: Outlet, E: Outlet>(
     requires out_works { O.is_failed out.old ≡ false }
     requires err_works { E.is_failed err.old ≡ false }
     ensures heard { IfOk result (λ heard. heard ≡ spec.heard_of (event_value event.now)) }
-    ensures out { OnOk result (AddsBytes (O.written out.old) (O.written out.new) (spec.output_of (event_value event.now) newline)) }
-    ensures err { OnOk result (AddsBytes (E.written err.old) (E.written err.new) (spec.errors_of (event_value event.now))) }
+    ensures out { OnOk result (AddsBytes (O.written out.old) (O.written out.new)
+        (spec.output_of (event_value event.now) newline)) }
+    ensures err { OnOk result (AddsBytes (E.written err.old) (E.written err.new)
+        (spec.errors_of (event_value event.now))) }
     ensures status { IfOk result EndsWithStatus }
     ensures output { (O.is_failed out.new || E.is_failed err.new) ≡ is_err result }
 {
@@ -537,8 +596,10 @@ fn answered<O: Outlet, E: Outlet>(
     requires out_works { O.is_failed out.old ≡ false }
     requires err_works { E.is_failed err.old ≡ false }
     ensures answer { IfOk result (λ status. status ≡ spec.response_status response.now.code) }
-    ensures out { OnOk result (AddsBytes (O.written out.old) (O.written out.new) (spec.output_of (value.Response response.now) newline)) }
-    ensures err { OnOk result (AddsBytes (E.written err.old) (E.written err.new) (spec.errors_of (value.Response response.now))) }
+    ensures out { OnOk result (AddsBytes (O.written out.old) (O.written out.new)
+        (spec.output_of (value.Response response.now) newline)) }
+    ensures err { OnOk result (AddsBytes (E.written err.old) (E.written err.new)
+        (spec.errors_of (value.Response response.now))) }
     ensures status { IfOk result IsStatus }
     ensures output { (O.is_failed out.new || E.is_failed err.new) ≡ is_err result }
 {

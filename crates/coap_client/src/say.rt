@@ -50,7 +50,8 @@ pub(crate) fn say_option<E: Outlet>(err: &mut E, number: u16) -> Result<(), Writ
 /// Tells a response by its code, as in `4.04`, and by its payload, where it has one.
 pub(crate) fn say_response<E: Outlet>(err: &mut E, response: &MessageRef) -> Result<(), WriteFailed>
     requires { E.is_failed err.old ≡ false }
-    ensures ok { OnOk result (AddsBytes (E.written err.old) (E.written err.new) (text.response_line response.now.code response.now.payload)) }
+    ensures ok { OnOk result (AddsBytes (E.written err.old) (E.written err.new)
+        (text.response_line response.now.code response.now.payload)) }
     ensures failure { E.is_failed err.new ≡ is_err result }
 {
     write_all(err, &code_text(response.code()))?;
@@ -69,7 +70,8 @@ pub(crate) fn write_payload<O: Outlet>(
     newline: bool,
 ) -> Result<(), WriteFailed>
     requires { O.is_failed out.old ≡ false }
-    ensures ok { OnOk result (AddsBytes (O.written out.old) (O.written out.new) (text.payload_text payload.now newline)) }
+    ensures ok { OnOk result (AddsBytes (O.written out.old) (O.written out.new)
+        (text.payload_text payload.now newline)) }
     ensures failure { O.is_failed out.new ≡ is_err result }
 {
     if payload.is_empty() {

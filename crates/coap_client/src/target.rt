@@ -52,7 +52,8 @@ pub enum TargetFault {
     /// There are more than 16 segments or more than 16 arguments.
     #[error("more than 16 segments or arguments")]
     TooManyParts = 7,
-    /// Memory was refused, or the URL came to 4 GB, which the crate `url` has no room for. It comes wherever that happens.
+    /// Memory was refused, or the URL came to 4 GB, which the crate `url` has no room for. It comes wherever that
+    /// happens.
     #[error("no memory")]
     Memory = 8,
 }
@@ -107,9 +108,10 @@ impl Target {
     ghost use Rattle.coap_client.specs.Targets.{GivesUnlessMemory, target_of};
     ghost use Rattle.coap_client.specs.TargetViews.{IsTarget, byte_lists};
 
-    /// The target that a text names. The text is an absolute URL as the crate `url` reads it: the scheme is `coap+tcp`, the
-    /// port is 5683 where there is none, an empty path and `/` have no segment, each argument stands between two `&`, and a
-    /// lone `?` has one empty argument (RFC 7252 section 6.4). Escapes are decoded, and a cut one stays as it is written.
+    /// The target that a text names. The text is an absolute URL as the crate `url` reads it: the scheme is `coap+tcp`,
+    /// the port is 5683 where there is none, an empty path and `/` have no segment, each argument stands between two
+    /// `&`, and a lone `?` has one empty argument (RFC 7252 section 6.4). Escapes are decoded, and a cut one stays as
+    /// it is written.
     ///
     /// # Errors
     ///
@@ -123,8 +125,8 @@ impl Target {
         }
     }
 
-    /// The host, as it is connected to and as Uri-Host has it: 1 to 255 bytes. An IPv6 address stands without its brackets.
-    /// Another host has its escapes decoded and its ASCII letters in lower case (RFC 7252 section 6.4).
+    /// The host, as it is connected to and as Uri-Host has it: 1 to 255 bytes. An IPv6 address stands without its
+    /// brackets. Another host has its escapes decoded and its ASCII letters in lower case (RFC 7252 section 6.4).
     pub fn host(&self) -> &[u8]
         ensures value { result.now ≡ self.now.host }
         ensures kept { IsTarget self.now }
@@ -132,8 +134,8 @@ impl Target {
         self.named.host.as_slice()
     }
 
-    /// Whether the host is an address: it stood in brackets, or is of four decimal numbers up to 255, without leading zeros,
-    /// with dots between them. An address is not sent as Uri-Host (RFC 7252 section 6.4).
+    /// Whether the host is an address: it stood in brackets, or is of four decimal numbers up to 255, without leading
+    /// zeros, with dots between them. An address is not sent as Uri-Host (RFC 7252 section 6.4).
     pub fn is_address(&self) -> bool
         ensures { result ≡ self.now.is_address }
     {
@@ -289,7 +291,8 @@ fn host_bytes(alloc: Global, url: &Url, host: &Host<&str>) -> Result<Vec<u8>, Al
     }
 }
 
-/// A host that stands without brackets: an address as it is written, or else decoded, with its ASCII letters in lower case.
+/// A host that stands without brackets: an address as it is written, or else decoded, with its ASCII letters in lower
+/// case.
 ///
 /// # Errors
 ///

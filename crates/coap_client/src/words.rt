@@ -23,15 +23,15 @@ use thiserror::Error;
 /// Why the words of a command line are refused. Its `Display` is the line for the user, without the program's name.
 #[derive(Debug, Drop, Error)]
 pub enum WordsFault {
-    /// The command line has words that the program does not know, lacks some, or asks for help or for the version. `clap`'s
-    /// error tells the kind, and its `Display` is the text for the user.
+    /// The command line has words that the program does not know, lacks some, or asks for help or for the version.
+    /// `clap`'s error tells the kind, and its `Display` is the text for the user.
     #[error("{0}")]
     Usage(UsageError),
     /// The URI names no target.
     #[error("bad target {}", *.0 as u8)]
     Target(TargetFault),
-    /// The text of the option with this name means nothing, or is out of its range: of the first such option, in the order
-    /// of the program's usage line.
+    /// The text of the option with this name means nothing, or is out of its range: of the first such option, in the
+    /// order of the program's usage line.
     #[error("bad value for {0}")]
     Value(&'static str),
     /// Two options exclude each other.
@@ -59,8 +59,8 @@ impl WordsFault {
         }
     }
 
-    /// Whether the words ask for help or for the version, which is no mistake: the text of `Display` belongs on standard output
-    /// then.
+    /// Whether the words ask for help or for the version, which is no mistake: the text of `Display` belongs on
+    /// standard output then.
     pub fn is_help_or_version(&self) -> bool
         ensures { result ≡ is_help_or_version self.now }
     {
@@ -78,9 +78,9 @@ impl WordsFault {
 ///
 /// # Errors
 ///
-/// `Usage` where `clap` refuses the words; else `Value` where the text of an option means nothing or is out of its range, of
-/// the first such option in the order of the usage line; else `Clash` for `--stdio` with `--script`; and `Memory` wherever
-/// memory is refused.
+/// `Usage` where `clap` refuses the words; else `Value` where the text of an option means nothing or is out of its
+/// range, of the first such option in the order of the usage line; else `Clash` for `--stdio` with `--script`; and
+/// `Memory` wherever memory is refused.
 pub fn server_words<'a, S: AsStr>(alloc: Global, words: &'a [S]) -> Result<ServerPlan, WordsFault>
     ensures { IsServerPlan (map S.text words.entry.now) result }
 {
@@ -98,9 +98,9 @@ pub fn server_words<'a, S: AsStr>(alloc: Global, words: &'a [S]) -> Result<Serve
 ///
 /// # Errors
 ///
-/// `Usage` where `clap` refuses the words; else `Target` where the URI names no target; else `Value` where the text of an
-/// option means nothing, of the first such option in the order of the usage line; else `Clash` for `-e` with `-f`, and for `-s`
-/// with another method than GET; and `Memory` wherever memory is refused.
+/// `Usage` where `clap` refuses the words; else `Target` where the URI names no target; else `Value` where the text of
+/// an option means nothing, of the first such option in the order of the usage line; else `Clash` for `-e` with `-f`,
+/// and for `-s` with another method than GET; and `Memory` wherever memory is refused.
 pub fn client_words<'a, S: AsStr>(alloc: Global, words: &'a [S]) -> Result<ClientPlan, WordsFault>
     ensures { IsClientPlan (map S.text words.entry.now) result }
 {

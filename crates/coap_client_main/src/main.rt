@@ -1,16 +1,17 @@
 //! The program `coap-client`: one request over a reliable transport (RFC 8323).
 //!
-//! Its words are those of `coap_client::client_words`. It reads the payload that `-f` names, connects to the host of the URI, opens the file that
-//! `-o` names, and then runs `coap_client::run_client`.
+//! Its words are those of `coap_client::client_words`. It reads the payload that `-f` names, connects to the host of
+//! the URI, opens the file that `-o` names, and then runs `coap_client::run_client`.
 #![tactic(auto)]
 
-ghost use Rattle.std.specs.Prelude.{◌≡◌, ◌≤◌};
+ghost use Rattle.std.specs.Prelude.{◌≡◌, ◌≤◌, IfSome, IfNone};
+ghost use Rattle.std.specs.Str.{IsUtf8};
 
 mod files;
 
-use coap_client::{ClientPlan, WordsFault, client_words, run_client};
+use coap_client::{ClientPlan, Target, WordsFault, client_words, run_client};
 use coap_serve::WriteOutlet;
-use coap_sockets::{ConnectFault, Line};
+use coap_sockets::{ConnectFault, Hindrance, Line, hold_standard};
 use files::Trouble;
 use std::alloc::{AllocError, Global};
 use std::env::Args;
@@ -53,16 +54,38 @@ fn tell_trouble(rt: &impl Eprint, trouble: Trouble, name: &str) -> u8
     }
 }
 
+/// Tells why there is no connection, and what hindered the one to the last address that was tried, and answers the
+/// status.
+fn tell_unconnected(rt: &impl Eprint, fault: ConnectFault) -> u8
+    ensures { result ≡ 3 }
+{
+    let status = tell(rt, fault, FAULT);
+    match fault {
+        ConnectFault::Socket(hindrance) => tell(rt, hindrance, status),
+        ConnectFault::Memory => status,
+    }
+}
+
+/// The host and the port of a target. No host has a name that is not UTF-8.
+fn place_of(target: &Target) -> Option<(&str, u16)>
+    ensures none { IfNone result (¬ (IsUtf8 target.now.host)) }
+    ensures place { IfSome result (λ place. (place.0.now ≡ target.now.host) × (place.1 ≡ target.now.port)) }
+{
+    match str::from_utf8(target.host()) {
+        Ok(host) => Some((host, target.port())),
+        Err(_) => None,
+    }
+}
+
 /// Connects to the host of a plan's target, in so many seconds as the plan waits for a response.
 fn connect<'a, R: Net + time::Clock + AllocGlobal>(
     rt: &'a R,
     plan: &ClientPlan,
 ) -> Result<Line<'a, R>, ConnectFault> {
-    // No host has a name that is not UTF-8.
-    let Ok(host) = str::from_utf8(plan.target.host()) else {
-        return Err(ConnectFault::Socket);
-    };
-    Line::connect(rt, rt.alloc(), host, plan.target.port(), plan.wait)
+    match place_of(&plan.target) {
+        Some(place) => Line::connect(rt, rt.alloc(), place, plan.wait),
+        None => Err(ConnectFault::Socket(Hindrance::UnknownName)),
+    }
 }
 
 /// Runs a client over a connection, with these writers for payloads and for lines, and answers the status.
@@ -84,8 +107,8 @@ fn converse<R: Eprint + Net + time::Clock + AllocGlobal>(
     }
 }
 
-/// Does what a plan says, with this writer for lines, and answers the status: reads the payload's file, connects, and opens the file for responses,
-/// so that this one is left as it is where there is no connection.
+/// Does what a plan says, with this writer for lines, and answers the status: reads the payload's file, connects, and
+/// opens the file for responses, so that this one is left as it is where there is no connection.
 fn run(
     rt: &(impl Input + Print + Eprint + Files + Net + time::Clock + AllocGlobal),
     err: impl Write + Drop,
@@ -101,7 +124,7 @@ fn run(
     }
     let line = match connect(rt, &plan) {
         Ok(line) => line,
-        Err(fault) => return tell(rt, fault, FAULT),
+        Err(fault) => return tell_unconnected(rt, fault),
     };
     match &plan.output {
         Some(name) if name.as_str() != "-" => match files::create(rt, name.as_str()) {
@@ -133,8 +156,8 @@ fn plan_of(alloc: Global, words: Args) -> Result<ClientPlan, WordsFault> {
     client_words(alloc, &words)
 }
 
-/// Writes help or the version, where the words ask for it, to standard output, and answers the status. Else it tells why words
-/// are refused; what `clap` says of them has lines of its own.
+/// Writes help or the version, where the words ask for it, to standard output, and answers the status. Else it tells
+/// why words are refused; what `clap` says of them has lines of its own.
 fn refuse(rt: &(impl Print + Eprint), fault: &WordsFault) -> u8
     ensures { result ≤ 4 }
 {
@@ -175,5 +198,6 @@ fn start(
 }
 
 fn main(rt: HostRuntime) -> ExitCode {
+    let (_first, _second, _third) = (hold_standard(&rt), hold_standard(&rt), hold_standard(&rt));
     ExitCode::from(start(&rt, rt.stderr()))
 }

@@ -1,6 +1,7 @@
-//! What is asked for beside a method and a target, as fields, of which `-` is none: `OBSERVE PLAIN FORMAT ACCEPT OPTION BYTES BYTES HEX`.
-//! The first two are `yes` or `-`; then come numbers: of the formats and of one more option, and how many of the hex digits' bytes are a
-//! token, and how many behind these the value of the option. The bytes behind both are the payload.
+//! What is asked for beside a method and a target, as fields, of which `-` is none: `OBSERVE PLAIN FORMAT ACCEPT OPTION
+//! BYTES BYTES HEX`. The first two are `yes` or `-`; then come numbers: of the formats and of one more option, and how
+//! many of the hex digits' bytes are a token, and how many behind these the value of the option. The bytes behind both
+//! are the payload.
 
 use coap_client::{Extras, Method};
 use coap_told::{cut, next_number, read_hex};

@@ -1,6 +1,6 @@
-//! Clients: `= client` and the six limits and the number before that of the first token, and then `take HEX`, `send METHOD TARGET` and
-//! `cancel TARGET` with what is asked for (`asked`), `ping custody` or `ping plain`, `written COUNT`, `end` and `look`. Behind each, what
-//! waits is written, but not where `keep` stands before it.
+//! Clients: `= client` and the six limits and the number before that of the first token, and then `take HEX`, `send
+//! METHOD TARGET` and `cancel TARGET` with what is asked for (`asked`), `ping custody` or `ping plain`, `written
+//! COUNT`, `end`, `part` and `look`. Behind each, what waits is written, but not where `keep` stands before it.
 
 use crate::asked::{method, read_asked};
 use crate::target::tell_fault;
@@ -152,6 +152,7 @@ pub(crate) fn act(
             client.ended();
             told.word("-");
         }
+        "part" => told.hex(client.next_part()),
         "look" => told.word("-"),
         _ => told.word("strange"),
     }

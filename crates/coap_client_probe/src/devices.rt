@@ -10,8 +10,8 @@ use coap_told::number;
 /// The most bytes that are written to a device.
 const ROOM: usize = 1_024;
 
-/// A wire whose reads a text names: `later`, `end`, `failed`, or how many bytes they give; and `later` behind them. Its writes take all,
-/// or one byte (`slow`), none (`deaf`), or come to `end` (`shut`) or `failed` (`torn`).
+/// A wire whose reads a text names: `later`, `end`, `failed`, or how many bytes they give; and `later` behind them. Its
+/// writes take all, or one byte (`slow`), none (`deaf`), or come to `end` (`shut`) or `failed` (`torn`).
 #[derive(Drop)]
 pub(crate) struct Line<'a> {
     pub reads: &'a str,

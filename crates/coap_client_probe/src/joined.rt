@@ -1,7 +1,7 @@
-//! A client and a server joined over memory: `= joined MOST CUT`, and then the client's events `send`, `cancel` and `ping` (`client`), `put
-//! HEX` at the path `a` and `tick MOMENT` of the server, and `look`. Behind each, bytes go to and fro until none is left, in pieces of so
-//! many at most that do not pass the cut of either stream. What is told is the event's answer, and then what the client told, each behind
-//! `,`, and how much is outstanding, behind `;`.
+//! A client and a server joined over memory: `= joined MOST CUT`, and then the client's events `send`, `cancel` and
+//! `ping` (`client`), `put HEX` at the path `a` and `tick MOMENT` of the server, and `look`. Behind each, bytes go to
+//! and fro until none is left, in pieces of so many at most that do not pass the cut of either stream. What is told is
+//! the event's answer, and then what the client told, each behind `,`, and how much is outstanding, behind `;`.
 
 use crate::client;
 use coap_client::Client;

@@ -1,5 +1,5 @@
-//! Plays rows of text from standard input on clients, targets and the command lines of both programs, and writes a line for each
-//! (`coap_told`).
+//! Plays rows of text from standard input on clients, targets and the command lines of both programs, and writes a line
+//! for each (`coap_told`).
 #![tactic(auto)]
 
 mod asked;

@@ -1,6 +1,6 @@
-//! Runs of a client over a wire in memory: `= run`, and then `KIND MOMENTS READS HEX WORDS`, with `-` for none and commas between
-//! moments and between reads; the bytes are those of all reads. Beside the kinds of wires (`devices`) `full` is an outlet that takes
-//! no byte, and `mute` a place for errors that takes none.
+//! Runs of a client over a wire in memory: `= run`, and then `KIND MOMENTS READS HEX WORDS`, with `-` for none and
+//! commas between moments and between reads; the bytes are those of all reads. Beside the kinds of wires (`devices`)
+//! `full` is an outlet that takes no byte, and `mute` a place for errors that takes none.
 
 use crate::devices::{Line, Moments, Page};
 use crate::words::{Words, tell_fault};

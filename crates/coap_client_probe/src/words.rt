@@ -1,5 +1,5 @@
-//! Command lines: `= words`, and then `server WORDS` and `client WORDS`, and `server-text WORDS` and `client-text WORDS` for the text of
-//! the fault.
+//! Command lines: `= words`, and then `server WORDS` and `client WORDS`, and `server-text WORDS` and `client-text
+//! WORDS` for the text of the fault.
 
 use crate::target::tell_target;
 use coap_client::{ClientPlan, Mode, ServerPlan, WordsFault, client_words, server_words};

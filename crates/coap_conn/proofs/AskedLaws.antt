@@ -85,6 +85,7 @@ call_few h call.Release few = few_by h call.Release few (omega arith)
 call_few h (call.Request m observe) few = asked_few h (with_token m (next_token h.tokens)) (entry_of observe (next_token h.tokens)) few
 call_few h (call.Cancel token m) few = few_by h (call.Cancel token m) few (omega (arith, length-map h.outstanding (cancelled_by token)))
 call_few h (call.Ping custody) few = asked_few h (ping_with custody (next_token h.tokens)) (Ping (next_token h.tokens)) few
+call_few h (call.Announce size) few = few_by h (call.Announce size) few (omega arith)
 call_few h (call.Written n) few = few
 
 live_no_stop : (p : Phase) (why : Reason) → stop_of p ≡ None → stop_of p ≡ Some why → ⊥

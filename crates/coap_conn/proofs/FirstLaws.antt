@@ -10,7 +10,7 @@ use Rattle.coap_wire.specs.Codes as code
 use Rattle.coap_conn.specs.Phases.{stop_of, is_waiting}
 use Rattle.coap_conn.specs.Reaction.{Standing, Reaction, live_reaction, react, csm_reaction, is_reserved}
 use Rattle.coap_conn.specs.LinkValue.{own_csm}
-use Rattle.coap_conn.specs.Calls.{Call, Deed, Handles, Does, Holds, Asks, Writes, Doing, doing}
+use Rattle.coap_conn.specs.Calls.{Call, Deed, Handles, Does, Holds, Asks, Announces, Writes, Doing, doing}
 use Rattle.coap_conn.specs.History.{History, AnnouncedFirst, link_of, with_deed, after}
 use Rattle.coap_conn.proofs.RequestLemmas.{react_live, react_asks}
 
@@ -28,6 +28,7 @@ deed_first h (Handles m e) first = first_stays h e.queued first
 deed_first h (Does e) first = first_stays h e.queued first
 deed_first h (Holds e) first = first
 deed_first h (Asks m outstanding tokens) first = first_stays h (m ∷ []) first
+deed_first h (Announces size) first = first_stays h (own_csm size ∷ []) first
 deed_first h (Writes n) first = first
 
 -- whatever happens

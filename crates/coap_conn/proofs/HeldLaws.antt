@@ -1,6 +1,6 @@
 -- What is due comes first, and a Pong with Custody waits for what is held.
 use Rattle.std.proofs.Common.{◌≡◌, ℕ, zero, suc, ◌+◌, ◌<◌, ◌≤◌, Bool, true, false, cond, ◌&&◌, ◌==◌, List, [], ◌∷◌, ◌++◌, length, get_or, take, drop, min, Option, Some, None, refl, sym, ap, subst, ◌∙◌, arith, inl, inr}
-use Rattle.std.specs.Prelude.{slice_get, nat_le, nat_lt, option_map, not, filter, find}
+use Rattle.std.specs.Prelude.{slice_get, nat_le, nat_lt, option_map, not, find}
 use Rattle.std.specs.List.{AllByRecursion, list_any, filter_map, cons_option, fold, reduce, position, position_from, remove}
 use Rattle.std.proofs.lemmas.Bool.{cond_both, cases_lt, leb-true, ltb-true, ltb-false, eqb-true, eq-eqb, or_cases}
 use Rattle.std.proofs.lemmas.List.{append-nil, length-append}
@@ -25,6 +25,7 @@ use Rattle.coap_conn.specs.Fit.{fit, fitted, abort_fitted, bare_response, withou
 use Rattle.coap_conn.specs.Outstanding.{OutstandingValue, is_asked, is_last, is_pinged, without_asked, without_pinged}
 use Rattle.coap_conn.specs.Reaction.{Standing, Effect, Reaction, stay, stop, abort, send_as, holds, ping_reaction, pong_reaction, csm_reaction, request_reaction, answered, open_reaction, live_reaction, reaction_unless, react, is_reserved, is_signal, is_method, minds_critical_options, asks_custody, pong_with, pong_of, is_custody_pong, not_implemented}
 use Rattle.coap_conn.specs.Held.{HeldValue, Answer, Pong, come, least_come, is_answer_at, answer_index, pong_index, else_index, due_index, held_at, without_at, first_due, without_due, HoldsNothingDue, IsDueFirst}
+use Rattle.coap_conn.proofs.AskedLemmas.{count_left}
 
 -- ---- what is made of the moments
 
@@ -36,7 +37,7 @@ cons_none : {X : Type 0} (o : Option X) (xs : List X) → cons_option o xs ≡ [
 cons_none None xs e = (refl, e)
 cons_none (Some x) xs e = absurd cc
 
-cons_parts : {X : Type 0} (P : X → Type 0) (o : Option X) (xs : List X) → AllByRecursion P (cons_option o xs) → ((x : X) → o ≡ Some x → P x) × AllByRecursion P xs
+pub cons_parts : {X : Type 0} (P : X → Type 0) (o : Option X) (xs : List X) → AllByRecursion P (cons_option o xs) → ((x : X) → o ≡ Some x → P x) × AllByRecursion P xs
 cons_parts P None xs each = (λ x e. absurd cc, each)
 cons_parts P (Some y) xs each = (λ x e. let same : y ≡ x = cc in subst P same each.0, each.1)
 
@@ -292,21 +293,15 @@ ping_does s P cases m =
     (λ f. sends_does s P cases late late (fit s.limit late late) (no_custody s late refl) (no_custody s late refl)))
     (λ e. sends_does s P cases (pong_of m) (without_options (pong_of m)) (fit s.limit (pong_of m) (without_options (pong_of m))) (pong_may s (asks_custody m) m.token e) (no_custody s (without_options (pong_of m)) refl))
 
-fewer_left : (p : OutstandingValue → Bool) (entries : List OutstandingValue) → length (filter p entries) ≤ length entries
-fewer_left p [] = omega arith
-fewer_left p (e ∷ entries) =
-    let fewer = fewer_left p entries in
-    cond_both (p e) (e ∷ filter p entries) (filter p entries) (λ l. length l ≤ length (e ∷ entries)) (λ f. omega (arith, fewer)) (λ f. omega (arith, fewer))
-
 answered_does : (s : Standing) (P : Effect → Type 0) → EffectCases s P → (m : Message) (e : Option OutstandingValue) → Does P (answered s m e)
 answered_does s P cases m None = cases.stays
 answered_does s P cases m (Some e) =
-    cond_both (is_last m e) _ _ (Does P) (λ f. cases.ends (without_asked m.token s.outstanding) (fewer_left (λ e. not (is_asked m.token e)) s.outstanding)) (λ f. cases.stays)
+    cond_both (is_last m e) _ _ (Does P) (λ f. cases.ends (without_asked m.token s.outstanding) (count_left (λ e. not (is_asked m.token e)) s.outstanding)) (λ f. cases.stays)
 
 pong_does : (s : Standing) (P : Effect → Type 0) → EffectCases s P → (m : Message) → Does P (pong_reaction s m)
 pong_does s P cases m =
     cond_both (list_any (is_pinged m.token) s.outstanding) _ _ (Does P)
-    (λ f. cases.ends (without_pinged m.token s.outstanding) (fewer_left (λ e. not (is_pinged m.token e)) s.outstanding)) (λ f. cases.stays)
+    (λ f. cases.ends (without_pinged m.token s.outstanding) (count_left (λ e. not (is_pinged m.token e)) s.outstanding)) (λ f. cases.stays)
 
 open_does : (s : Standing) (P : Effect → Type 0) → EffectCases s P → (m : Message) → Does P (open_reaction s m)
 open_does s P cases m =

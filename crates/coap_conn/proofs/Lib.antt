@@ -7,6 +7,7 @@ pub mod CsmLemmas
 pub mod HistoryLaws
 pub mod RequestLemmas
 pub mod FirstLaws
+pub mod AnnounceLaws
 pub mod StopLaws
 pub mod HeldLaws
 pub mod AskedLaws

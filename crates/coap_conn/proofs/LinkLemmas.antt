@@ -15,7 +15,7 @@ use Rattle.coap_conn.specs.Held.{HeldValue}
 use Rattle.coap_conn.specs.Outstanding.{OutstandingValue}
 use Rattle.coap_conn.specs.Reaction.{Effect}
 use Rattle.coap_conn.specs.LinkValue.{LinkValue, bytes_of, own_csm, new_link, link_with}
-use Rattle.coap_conn.specs.Calls.{Call, Deed, Handles, Does, Holds, Asks, Writes, doing, link_with_deed, link_after, IsWithin}
+use Rattle.coap_conn.specs.Calls.{Call, Deed, Handles, Does, Holds, Asks, Announces, Writes, doing, link_with_deed, link_after, IsWithin}
 use Rattle.coap_conn.specs.History.{History, IsHistory, LinkShows, link_of, new_history, with_effect, with_deed, after}
 
 -- ---- what is queued
@@ -26,14 +26,14 @@ bytes_more ms ns = flat_map-append spelling ms ns
 pub waiting_more : (h : History) (ms : List Message) → IsHistory h → drop h.written (bytes_of (h.queued ++ ms)) ≡ drop h.written (bytes_of h.queued) ++ bytes_of ms
 waiting_more h ms is = ap (drop h.written) (bytes_more h.queued ms) ∙ drop-append-le h.written (bytes_of h.queued) (bytes_of ms) is
 
-history_more : (h : History) (ms : List Message) → IsHistory h → h.written ≤ length (bytes_of (h.queued ++ ms))
+pub history_more : (h : History) (ms : List Message) → IsHistory h → h.written ≤ length (bytes_of (h.queued ++ ms))
 history_more h ms is = omega (arith, is, ap (λ (t : List ℕ). length t) (bytes_more h.queued ms), length-append (bytes_of h.queued) (bytes_of ms))
 
 -- the link that shows a history, with other bytes, another phase, another size of the peer, and where something else is held or
 -- outstanding
 abbrev link_at : History → List ℕ → Phase → List HeldValue → List OutstandingValue → ℕ → LinkValue
 link_at h waiting phase held outstanding peer_max =
-    record { role = h.role; limits = h.limits; waiting = waiting; phase = phase; peer_max = peer_max; held = held; outstanding = outstanding; tokens = h.tokens }
+    record { role = h.role; limits = h.limits; waiting = waiting; phase = phase; own_max = h.own_max; peer_max = peer_max; held = held; outstanding = outstanding; tokens = h.tokens }
 
 -- an effect shows as the same effect
 effect_of : (h : History) (e : Effect) → IsHistory h → link_with (link_of h) e ≡ link_of (with_effect h e)
@@ -71,6 +71,10 @@ asked_of : (h : History) (m : Message) (outstanding : List OutstandingValue) (to
 asked_of h m outstanding tokens is =
     ap (λ (w : List ℕ). link_at (record h { tokens = tokens }) w h.phase h.held outstanding (announced h.handled)) (sym (waiting_more h (m ∷ []) is))
 
+announces_of : (h : History) (size : ℕ) → IsHistory h → link_with_deed (link_of h) (Announces size) ≡ link_of (with_deed h (Announces size))
+announces_of h size is =
+    ap (λ (w : List ℕ). link_at (record h { own_max = size }) w h.phase h.held h.outstanding (announced h.handled)) (sym (waiting_more h (own_csm size ∷ []) is))
+
 written_of : (h : History) (n : ℕ) → link_with_deed (link_of h) (Writes n) ≡ link_of (with_deed h (Writes n))
 written_of h n = ap (λ (w : List ℕ). link_at h w h.phase h.held h.outstanding (announced h.handled)) (drop-drop n h.written (bytes_of h.queued))
 
@@ -80,6 +84,7 @@ deed_of h (Handles m e) is = heard_of h m e is
 deed_of h (Does e) is = effect_of h e is
 deed_of h (Holds e) is = refl
 deed_of h (Asks m outstanding tokens) is = asked_of h m outstanding tokens is
+deed_of h (Announces size) is = announces_of h size is
 deed_of h (Writes n) is = written_of h n
 
 -- and leaves a history
@@ -88,6 +93,7 @@ deed_kept h (Handles m e) is within = history_more h e.queued is
 deed_kept h (Does e) is within = history_more h e.queued is
 deed_kept h (Holds e) is within = is
 deed_kept h (Asks m outstanding tokens) is within = history_more h (m ∷ []) is
+deed_kept h (Announces size) is within = history_more h (own_csm size ∷ []) is
 deed_kept h (Writes n) is within = omega (arith, within, is, length-drop h.written (bytes_of h.queued))
 
 -- where it is done

@@ -9,10 +9,12 @@ use Rattle.coap_conn.specs.Phases.{stop_of, answers, is_open}
 use Rattle.coap_conn.specs.Verdicts as verdict
 use Rattle.coap_conn.specs.Reaction.{Standing, reaction_unless, react}
 use Rattle.coap_conn.specs.Asking.{asking_refusal, cancel_refusal, next_token, with_token, ping_with}
+use Rattle.coap_conn.specs.Fit.{fits}
+use Rattle.coap_conn.specs.LinkValue.{own_csm}
 use Rattle.coap_conn.specs.Calls.{Call}
 use Rattle.coap_conn.specs.CallKinds.{needs_live}
 use Rattle.coap_conn.specs.Calls as call
-use Rattle.coap_conn.specs.History.{History, asking_now, may_hold, after}
+use Rattle.coap_conn.specs.History.{History, limit_now, asking_now, may_hold, after}
 use Rattle.coap_conn.proofs.AskingLaws.{not_asked, not_cancelled}
 
 -- what messages, faults and the end of input do where none is taken
@@ -58,4 +60,5 @@ call_over h call.Release why needs over = stays_released h _ why over
 call_over h (call.Request m observe) why needs over = stays_unasked h _ (with_token m (next_token h.tokens)) why over
 call_over h (call.Cancel token m) why needs over = stays_uncancelled h _ token (with_token m token) why over
 call_over h (call.Ping custody) why needs over = stays_unasked h _ (ping_with custody (next_token h.tokens)) why over
+call_over h (call.Announce size) why needs over = stays_unheld h _ (fits (limit_now h) (own_csm size)) why over
 call_over h (call.Written n) why needs over = absurd cc

@@ -11,6 +11,7 @@ use Rattle.coap_conn.specs.declared.phase.RequestFault.TheVariants.{TooMany, Too
 use Rattle.coap_conn.specs.Held.{HeldValue, Answer, Pong, due_index, first_due, without_due}
 use Rattle.coap_conn.specs.Outstanding.{OutstandingValue, Request, Observation, Ping, is_notification, with_cancelled}
 use Rattle.coap_conn.specs.Asking.{Asking, new_refusal, asking_refusal, cancel_refusal, next_token}
+use Rattle.coap_conn.specs.LinkValue.{own_csm}
 use Rattle.coap_conn.specs.Verdicts.{VerdictValue}
 use Rattle.coap_conn.specs.Verdicts as verdict
 use Rattle.coap_conn.specs.Reaction.{Standing, Effect, Reaction, live_reaction, react, due_effect}
@@ -262,3 +263,13 @@ token_of_256 = refl
 greatest_token : next_token 18446744073709551614 ≡ 255 ∷ 255 ∷ 255 ∷ 255 ∷ 255 ∷ 255 ∷ 255 ∷ 255 ∷ []
 unfolding bytes_of_uint
 greatest_token = refl
+
+-- ---- another size that we announce
+
+announces_2000 : spelling (own_csm 2000) ≡ 0x30 ∷ 0xe1 ∷ 0x22 ∷ 0x07 ∷ 0xd0 ∷ []
+unfolding spelling bytes_of_uint
+announces_2000 = refl
+
+announces_1152 : spelling (own_csm 1152) ≡ 0x30 ∷ 0xe1 ∷ 0x22 ∷ 0x04 ∷ 0x80 ∷ []
+unfolding spelling bytes_of_uint
+announces_1152 = refl

@@ -7,18 +7,18 @@ use Rattle.coap_conn.specs.declared.reason.Reason.TheVariants.{Ended, Cut, Relea
 use Rattle.coap_conn.specs.declared.phase.Reject.{Reject as Fault}
 use Rattle.coap_conn.specs.Phases.{takes_messages, answers, is_open}
 use Rattle.coap_conn.specs.Rejects.{reject_reason}
-use Rattle.coap_conn.specs.Fit.{bare_response}
+use Rattle.coap_conn.specs.Fit.{fits, bare_response}
 use Rattle.coap_conn.specs.Held.{HeldValue, Answer, first_due, without_due}
 use Rattle.coap_conn.specs.Outstanding.{OutstandingValue, with_cancelled}
 use Rattle.coap_conn.specs.Outstanding as outstanding
 use Rattle.coap_conn.specs.Asking.{asking_refusal, cancel_refusal, next_token, with_token, entry_of, ping_with}
 use Rattle.coap_conn.specs.Reaction.{Standing, Effect, stop, abort, send, react, due_effect}
-use Rattle.coap_conn.specs.LinkValue.{LinkValue, can_hold, standing_in, asking_in, bytes_of, link_with, link_heard}
+use Rattle.coap_conn.specs.LinkValue.{LinkValue, can_hold, standing_in, asking_in, bytes_of, own_csm, limit_in, link_with, link_heard}
 
 -- A call, with what it is handed: a message that came is handled; the bytes behind the messages have a fault; the input ends, within a
 -- frame where it was cut; a response is sent; an answer is held until its moment; what is due first at a moment is taken out; our end
 -- releases the connection; a request is sent, which asks for an observation or not; an observation is cancelled by a message; a Ping is
--- sent, with Custody or not; so many bytes were written.
+-- sent, with Custody or not; our end announces another size as the greatest message that it takes; so many bytes were written.
 pub data Call : Type 0 where
   Handle : (m : Message) → Call
   Reject : (fault : Fault) → Call
@@ -30,15 +30,17 @@ pub data Call : Type 0 where
   Request : (m : Message) (observe : Bool) → Call
   Cancel : (token : List ℕ) (m : Message) → Call
   Ping : (custody : Bool) → Call
+  Announce : (size : ℕ) → Call
   Written : (n : ℕ) → Call
 
 -- What is done: a message is handled, with its effect; an effect alone; one more is held; a message is queued, and this is outstanding
--- and so many tokens were given; bytes were written.
+-- and so many tokens were given; our Capabilities and Settings are queued with this size, which is in force; bytes were written.
 pub data Deed : Type 0 where
   Handles : (m : Message) (e : Effect) → Deed
   Does : (e : Effect) → Deed
   Holds : (e : HeldValue) → Deed
   Asks : (m : Message) (outstanding : List OutstandingValue) (tokens : ℕ) → Deed
+  Announces : (size : ℕ) → Deed
   Writes : (n : ℕ) → Deed
 
 -- what a call does, where this is so; else nothing
@@ -72,6 +74,10 @@ sends_one v m less = where_so (answers v.phase) (Does (send (standing_in v) m le
 abbrev pub asks_one : LinkValue → Message → OutstandingValue → Doing
 asks_one v m e = where_so (is_none (asking_refusal (asking_in v) m)) (Asks m (v.outstanding ++ e ∷ []) (v.tokens + 1))
 
+-- our Capabilities and Settings with this size may be sent
+abbrev pub may_announce : LinkValue → ℕ → Bool
+may_announce v size = is_open v.phase && fits (limit_in v) (own_csm size)
+
 -- ---- what a call does
 
 -- messages, faults and the end of input count where messages are taken
@@ -87,6 +93,7 @@ doing v (Request m observe) = asks_one v (with_token m (next_token v.tokens)) (e
 doing v (Cancel token m) =
     where_so (is_none (cancel_refusal (asking_in v) token (with_token m token))) (Asks (with_token m token) (with_cancelled token v.outstanding) v.tokens)
 doing v (Ping custody) = asks_one v (ping_with custody (next_token v.tokens)) (outstanding.Ping (next_token v.tokens))
+doing v (Announce size) = where_so (may_announce v size) (Announces size)
 doing v (Written n) = where_so true (Writes n)
 
 -- ---- the link after it
@@ -96,6 +103,7 @@ link_with_deed v (Handles m e) = link_heard v m e
 link_with_deed v (Does e) = link_with v e
 link_with_deed v (Holds e) = record v { held = v.held ++ e ∷ [] }
 link_with_deed v (Asks m outstanding tokens) = record v { waiting = v.waiting ++ bytes_of (m ∷ []); outstanding = outstanding; tokens = tokens }
+link_with_deed v (Announces size) = record v { waiting = v.waiting ++ bytes_of (own_csm size ∷ []); own_max = size }
 link_with_deed v (Writes n) = record v { waiting = drop n v.waiting }
 
 abbrev pub link_done : LinkValue → Doing → LinkValue

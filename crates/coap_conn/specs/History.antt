@@ -11,10 +11,11 @@ use Rattle.coap_conn.specs.Outstanding.{OutstandingValue}
 use Rattle.coap_conn.specs.Asking.{Asking}
 use Rattle.coap_conn.specs.Reaction.{Standing, Effect}
 use Rattle.coap_conn.specs.LinkValue.{LinkValue, bytes_of, own_csm, limit_in, standing_in, asking_in, can_hold}
-use Rattle.coap_conn.specs.Calls.{Call, Deed, Handles, Does, Holds, Asks, Writes, Doing, doing, sends_one, asks_one}
+use Rattle.coap_conn.specs.Calls.{Call, Deed, Handles, Does, Holds, Asks, Announces, Writes, Doing, doing, sends_one, asks_one}
 
 -- the messages handled and the messages queued, in order, how many bytes of the queued ones were written, how the connection
--- stands, what is held, and what is outstanding; tokens is the number of the last token given
+-- stands, the greatest message that we take, as announced last, what is held, and what is outstanding; tokens is the number of the
+-- last token given
 pub record History : Type 0 where
   pub role : Role
   pub limits : LimitValues
@@ -22,6 +23,7 @@ pub record History : Type 0 where
   pub queued : List Message
   pub written : ℕ
   pub phase : Phase
+  pub own_max : ℕ
   pub held : List HeldValue
   pub outstanding : List OutstandingValue
   pub tokens : ℕ
@@ -29,7 +31,7 @@ pub record History : Type 0 where
 -- the connection begins with our Capabilities and Settings
 abbrev pub new_history : Role → LimitValues → ℕ → History
 new_history role limits tokens =
-    record { role = role; limits = limits; handled = []; queued = own_csm limits.max_message ∷ []; written = 0; phase = Waiting; held = []; outstanding = []; tokens = tokens }
+    record { role = role; limits = limits; handled = []; queued = own_csm limits.max_message ∷ []; written = 0; phase = Waiting; own_max = limits.max_message; held = []; outstanding = []; tokens = tokens }
 
 -- our Capabilities and Settings are the first message queued
 abbrev pub AnnouncedFirst : History → Type 0
@@ -48,7 +50,7 @@ waiting_of h = drop h.written (bytes_of h.queued)
 -- the link that a history leaves: the bytes that wait, and the last size announced
 abbrev pub link_of : History → LinkValue
 link_of h =
-    record { role = h.role; limits = h.limits; waiting = waiting_of h; phase = h.phase; peer_max = announced h.handled; held = h.held; outstanding = h.outstanding; tokens = h.tokens }
+    record { role = h.role; limits = h.limits; waiting = waiting_of h; phase = h.phase; own_max = h.own_max; peer_max = announced h.handled; held = h.held; outstanding = h.outstanding; tokens = h.tokens }
 
 -- the link shows the history
 pub record LinkShows (v : LinkValue) (h : History) : Type 0 where
@@ -82,6 +84,7 @@ with_deed h (Handles m e) = record (with_effect h e) { handled = h.handled ++ m 
 with_deed h (Does e) = with_effect h e
 with_deed h (Holds e) = record h { held = h.held ++ e ∷ [] }
 with_deed h (Asks m outstanding tokens) = record h { queued = h.queued ++ m ∷ []; outstanding = outstanding; tokens = tokens }
+with_deed h (Announces size) = record h { queued = h.queued ++ own_csm size ∷ []; own_max = size }
 with_deed h (Writes n) = record h { written = h.written + n }
 
 abbrev pub done : History → Doing → History

@@ -17,13 +17,14 @@ use Rattle.coap_conn.specs.Outstanding.{OutstandingValue}
 use Rattle.coap_conn.specs.Asking.{Asking}
 use Rattle.coap_conn.specs.Reaction.{Standing, Effect, csm_reaction, live_reaction}
 
--- waiting are the bytes to be written, peer_max the greatest message that the peer takes, held what is sent later, outstanding what
--- was asked; tokens is the number of the last token given
+-- waiting are the bytes to be written, own_max the greatest message that we take, as announced last, peer_max the one that the peer
+-- takes, held what is sent later, outstanding what was asked; tokens is the number of the last token given
 pub record LinkValue : Type 0 where
   pub role : Role
   pub limits : LimitValues
   pub waiting : List ℕ
   pub phase : Phase
+  pub own_max : ℕ
   pub peer_max : ℕ
   pub held : List HeldValue
   pub outstanding : List OutstandingValue
@@ -75,14 +76,18 @@ asking_in v = record { phase = v.phase; outstanding = v.outstanding; most = v.li
 abbrev pub bytes_of : List Message → List ℕ
 bytes_of ms = flat_map spelling ms
 
--- our Capabilities and Settings: Max-Message-Size, and nothing else (RFC 8323 section 5.3)
+-- our Capabilities and Settings: Max-Message-Size with these bytes, and nothing else (RFC 8323 section 5.3)
+abbrev pub csm_with : List ℕ → Message
+csm_with size = record { code = code.csm; token = []; options = record { number = option.max_message_size; value = size } ∷ []; payload = [] }
+
+-- the same, where they mean this size
 abbrev pub own_csm : ℕ → Message
-own_csm M = record { code = code.csm; token = []; options = record { number = option.max_message_size; value = bytes_of_uint M } ∷ []; payload = [] }
+own_csm M = csm_with (bytes_of_uint M)
 
 -- a new link: our Capabilities and Settings wait
 abbrev pub new_link : Role → LimitValues → ℕ → LinkValue
 new_link role limits tokens =
-    record { role = role; limits = limits; waiting = bytes_of (own_csm limits.max_message ∷ []); phase = Waiting; peer_max = base_size; held = []; outstanding = []; tokens = tokens }
+    record { role = role; limits = limits; waiting = bytes_of (own_csm limits.max_message ∷ []); phase = Waiting; own_max = limits.max_message; peer_max = base_size; held = []; outstanding = []; tokens = tokens }
 
 -- an effect
 abbrev pub link_with : LinkValue → Effect → LinkValue

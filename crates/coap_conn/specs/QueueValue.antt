@@ -1,5 +1,5 @@
 -- A queue of bytes to be written, in room that was reserved.
-use Rattle.std.specs.Prelude.{ℕ, ◌-◌, ◌≤◌, List, length}
+use Rattle.std.specs.Prelude.{◌≡◌, ℕ, ◌-◌, ◌≤◌, List, [], length, take}
 
 -- bytes is the room of the whole queue
 pub record QueueValue : Type 0 where
@@ -12,3 +12,8 @@ pub record IsQueue (q : QueueValue) : Type 0 where
 -- the bytes for which there is room
 abbrev pub free_of : QueueValue → ℕ
 free_of q = q.bytes - length q.waiting
+
+-- a front of the bytes that wait, with at least one of them where any waits
+pub record IsNextPart (waiting part : List ℕ) : Type 0 where
+  pub front : part ≡ take (length part) waiting
+  pub some : part ≡ [] → waiting ≡ []

@@ -98,8 +98,8 @@ impl Outstanding {
     }
 }
 
-/// At most so many that are outstanding, in room that was reserved once, in the order in which they were asked. Contracts see an
-/// `AskedValue`.
+/// At most so many that are outstanding, in room that was reserved once, in the order in which they were asked.
+/// Contracts see an `AskedValue`.
 #[derive(Drop)]
 pub(crate) struct Asked {
     room: usize,
@@ -213,7 +213,8 @@ impl Asked {
 
 /// Whether a response is the last one to the first of these that has its token, `None` where there is none.
 fn last_in(entries: &[Outstanding], response: &MessageRef) -> Option<bool>
-    ensures { result ≡ option_map (is_last_of response.now) (find (asks response.now.token) (map outstanding_value entries.now)) }
+    ensures { result
+        ≡ option_map (is_last_of response.now) (find (asks response.now.token) (map outstanding_value entries.now)) }
 {
     let entry = entries
         .iter()
@@ -237,7 +238,8 @@ fn may_cancel_in(entries: &[Outstanding], token: &Token) -> bool
 
 /// The observation with this token was cancelled.
 fn cancel_in(entries: &mut Vec<Outstanding>, token: &Token)
-    ensures cancelled { map outstanding_value entries.new.items ≡ with_cancelled token.now.items (map outstanding_value entries.old.items) }
+    ensures cancelled { map outstanding_value entries.new.items
+        ≡ with_cancelled token.now.items (map outstanding_value entries.old.items) }
     ensures as_many { length entries.new.items ≡ length entries.old.items }
     ensures capacity { vec_capacity entries.new ≡ vec_capacity entries.old }
 {
@@ -248,7 +250,8 @@ fn cancel_in(entries: &mut Vec<Outstanding>, token: &Token)
 
 /// All stay but the requests and observations with this token.
 fn forget_asked_in(entries: &mut Vec<Outstanding>, token: &Token)
-    ensures others { map outstanding_value entries.new.items ≡ without_asked token.now.items (map outstanding_value entries.old.items) }
+    ensures others { map outstanding_value entries.new.items
+        ≡ without_asked token.now.items (map outstanding_value entries.old.items) }
     ensures fewer { length entries.new.items ≤ length entries.old.items }
     ensures capacity { vec_capacity entries.new ≡ vec_capacity entries.old }
 {
@@ -257,15 +260,16 @@ fn forget_asked_in(entries: &mut Vec<Outstanding>, token: &Token)
 
 /// All stay but the Pings with this token.
 fn forget_pinged_in(entries: &mut Vec<Outstanding>, token: &Token)
-    ensures others { map outstanding_value entries.new.items ≡ without_pinged token.now.items (map outstanding_value entries.old.items) }
+    ensures others { map outstanding_value entries.new.items
+        ≡ without_pinged token.now.items (map outstanding_value entries.old.items) }
     ensures fewer { length entries.new.items ≤ length entries.old.items }
     ensures capacity { vec_capacity entries.new ≡ vec_capacity entries.old }
 {
     entries.retain(|entry| !entry.is_pinged(token));
 }
 
-/// Whether others may come behind a response: it is 2.xx, has Observe, and all its critical options are recognised (RFC 7641 sections
-/// 3.2 and 4.2).
+/// Whether others may come behind a response: it is 2.xx, has Observe, and all its critical options are recognised (RFC
+/// 7641 sections 3.2 and 4.2).
 #[tactic(auto, unfolding(crate::specs::Outstanding::is_notification))]
 fn is_notification(response: &MessageRef) -> bool
     ensures { result ≡ notifies response.now }

@@ -37,8 +37,8 @@ fn first_size<'a>(message: &MessageRef<'a>) -> Option<OptionRef<'a>>
         .find(|option| option.number == MAX_MESSAGE_SIZE)
 }
 
-/// The number of the first option that Capabilities and Settings may not have: a critical one, or Max-Message-Size where
-/// the first one is too long.
+/// The number of the first option that Capabilities and Settings may not have: a critical one, or Max-Message-Size
+/// where the first one is too long.
 fn bad_option(message: &MessageRef, is_long: bool) -> Option<u16>
     ensures { result ≡ option_map (λ o. o.number) (find (is_bad is_long) message.now.options) }
 {

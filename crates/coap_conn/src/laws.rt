@@ -3,12 +3,13 @@
 ghost use Rattle.std.specs.Prelude.{◌≡◌, ℕ, ◌+◌, ◌<◌, ◌≤◌, ◌&&◌, List, [], ◌∷◌, ◌++◌, length, Bool, true, false, Option, Some, None};
 ghost use Rattle.std.specs.List.{AllByRecursion, list_any};
 ghost use Rattle.coap_wire.specs.Message.{Message};
+ghost use Rattle.coap_conn.specs.LinkValue.{own_csm};
 ghost use Rattle.coap_conn.specs.Announced.{bad_csm_option, has_critical_option, announcement, announced};
 ghost use Rattle.coap_conn.specs.Fit.{AllFit};
 ghost use Rattle.coap_conn.specs.Limits.{LimitValues, AreInRange};
-ghost use Rattle.coap_conn.specs.History.{History, AnnouncedFirst, new_history, limit_now, standing_now, after, after_send, asking_now, after_asking};
-ghost use Rattle.coap_conn.specs.Calls.{Call, release};
-ghost use Rattle.coap_conn.specs.CallKinds.{needs_live, gives_token};
+ghost use Rattle.coap_conn.specs.History.{History, AnnouncedFirst, link_of, new_history, limit_now, standing_now, after, after_send, asking_now, after_asking};
+ghost use Rattle.coap_conn.specs.Calls.{Call, release, may_announce};
+ghost use Rattle.coap_conn.specs.CallKinds.{needs_live, gives_token, announces};
 ghost use Rattle.coap_conn.specs.Calls as call;
 ghost use Rattle.coap_conn.specs.Asking.{asking_refusal, cancel_refusal, next_token};
 ghost use Rattle.coap_conn.specs.Outstanding.{OutstandingValue, is_asked, is_pinged, is_notification, is_request_entry, without_asked, without_pinged};
@@ -27,19 +28,25 @@ ghost use Rattle.coap_conn.specs.declared.reason.Reason.{Reason};
 /// (RFC 8323 section 5.3.1).
 pub fn last_announcement_counts()
     ensures none { (ms : List Message) → AllByRecursion (λ m. announcement m ≡ None) ms → announced ms ≡ 1152 }
-    ensures last { (before after : List Message) (m : Message) (n : ℕ) → announcement m ≡ Some n → AllByRecursion (λ m. announcement m ≡ None) after → announced (before ++ m ∷ after) ≡ n }
+    ensures last { (before after : List Message) (m : Message) (n : ℕ) → announcement m ≡ Some n →
+        AllByRecursion (λ m. announcement m ≡ None) after → announced (before ++ m ∷ after) ≡ n }
 {}
 
 /// Whatever is queued is at most as great as the peer takes at that moment, and as our greatest message.
 pub fn what_is_queued_fits()
-    ensures new { (role : Role) (limits : LimitValues) (tokens : ℕ) → AreInRange limits → AllFit (limit_now (new_history role limits tokens)) (new_history role limits tokens).queued }
+    ensures new { (role : Role) (limits : LimitValues) (tokens : ℕ) → AreInRange limits →
+        AllFit (limit_now (new_history role limits tokens)) (new_history role limits tokens).queued }
     ensures message { (h : History) (m : Message) → AllFit (limit_now h) (react (standing_now h) m).effect.queued }
     ensures sent { (h : History) (m less : Message) → AllFit (limit_now h) (send (standing_now h) m less).queued }
     ensures stopped { (h : History) (why : Reason) → AllFit (limit_now h) (abort (standing_now h) why).queued }
     ensures released { (h : History) → 2 ≤ limit_now h → AllFit (limit_now h) (release ∷ []) }
     ensures due { (h : History) (e : Option HeldValue) → AllFit (limit_now h) (due_effect (standing_now h) e).queued }
-    ensures asked { (h : History) (m : Message) → asking_refusal (asking_now h) m ≡ None → AllFit (limit_now h) (m ∷ []) }
-    ensures cancelled { (h : History) (token : List ℕ) (m : Message) → cancel_refusal (asking_now h) token m ≡ None → AllFit (limit_now h) (m ∷ []) }
+    ensures asked { (h : History) (m : Message) → asking_refusal (asking_now h) m ≡ None →
+        AllFit (limit_now h) (m ∷ []) }
+    ensures announced { (h : History) (size : ℕ) → may_announce (link_of h) size ≡ true
+        → AllFit (limit_now h) (own_csm size ∷ []) }
+    ensures cancelled { (h : History) (token : List ℕ) (m : Message) → cancel_refusal (asking_now h) token m ≡ None →
+        AllFit (limit_now h) (m ∷ []) }
 {}
 
 /// Our Capabilities and Settings are the first message queued, and stay so, whatever happens (RFC 8323 section 5.3).
@@ -49,71 +56,115 @@ pub fn own_announcement_comes_first()
     ensures sent { (h : History) (m less : Message) → AnnouncedFirst h → AnnouncedFirst (after_send h m less) }
 {}
 
-/// Before the peer's Capabilities and Settings no request is handled, and nothing but they open the connection (RFC 8323
-/// section 3.3).
-pub fn peer_announces_before_requests()
-    ensures request { (s : Standing) (m : Message) → s.phase ≡ Waiting → (react s m).verdict ≡ Request → ⊥ }
-    ensures opens_by_code { (s : Standing) (m : Message) → s.phase ≡ Waiting → (react s m).effect.phase ≡ Open → m.code ≡ code.csm }
-    ensures opens_whole { (s : Standing) (m : Message) → s.phase ≡ Waiting → (react s m).effect.phase ≡ Open → bad_csm_option m ≡ None }
+/// The greatest message that we take is what our end announced last, and at first the limit: no other call changes it
+/// (RFC 8323 section 5.3.1).
+pub fn own_size_is_announced()
+    ensures new { (role : Role) (limits : LimitValues) (tokens : ℕ)
+        → (new_history role limits tokens).own_max ≡ limits.max_message }
+    ensures announced { (h : History) (size : ℕ) → may_announce (link_of h) size ≡ true
+        → after h (call.Announce size) ≡ record h { queued = h.queued ++ own_csm size ∷ []; own_max = size } }
+    ensures others { (h : History) (c : Call) → announces c ≡ false → (after h c).own_max ≡ h.own_max }
 {}
 
-/// Nothing follows a stop: where no message is taken any more, nothing has an effect but a response, what is held, and bytes that are
-/// written; and on a connection that stopped no response is sent either.
+/// Before the peer's Capabilities and Settings no request is handled, and nothing but they open the connection (RFC
+/// 8323 section 3.3).
+pub fn peer_announces_before_requests()
+    ensures request { (s : Standing) (m : Message) → s.phase ≡ Waiting → (react s m).verdict ≡ Request → ⊥ }
+    ensures opens_by_code { (s : Standing) (m : Message) → s.phase ≡ Waiting → (react s m).effect.phase ≡ Open →
+        m.code ≡ code.csm }
+    ensures opens_whole { (s : Standing) (m : Message) → s.phase ≡ Waiting → (react s m).effect.phase ≡ Open →
+        bad_csm_option m ≡ None }
+{}
+
+/// Nothing follows a stop: where no message is taken any more, nothing has an effect but a response, what is held, and
+/// bytes that are written; and on a connection that stopped no response is sent either.
 pub fn nothing_follows_a_stop()
-    ensures call { (h : History) (c : Call) (why : Reason) → needs_live c ≡ true → stop_of h.phase ≡ Some why → after h c ≡ h }
-    ensures told { (s : Standing) (m : Message) (why : Reason) → stop_of s.phase ≡ Some why → (react s m).verdict ≡ verdict.Stopped why }
+    ensures call { (h : History) (c : Call) (why : Reason) → needs_live c ≡ true → stop_of h.phase ≡ Some why →
+        after h c ≡ h }
+    ensures told { (s : Standing) (m : Message) (why : Reason) → stop_of s.phase ≡ Some why →
+        (react s m).verdict ≡ verdict.Stopped why }
     ensures sent { (h : History) (m less : Message) (why : Reason) → h.phase ≡ Stopped why → after_send h m less ≡ h }
 {}
 
-/// What is due comes first: of the answers whose moments have come the one of the least moment, the earliest of equals; else a Pong
-/// that nothing stands before; and nothing only where nothing is due. It is held no more then.
+/// What is due comes first: of the answers whose moments have come the one of the least moment, the earliest of equals;
+/// else a Pong that nothing stands before; and nothing only where nothing is due. It is held no more then.
 pub fn what_is_due_comes_first()
-    ensures answer { (now : ℕ) (held : List HeldValue) (token : List ℕ) (moment : ℕ) → first_due now held ≡ Some (Answer token moment) → IsDueFirst now held token moment (without_due now held) }
-    ensures pong { (now : ℕ) (held : List HeldValue) (token : List ℕ) → first_due now held ≡ Some (Pong token) → held ≡ Pong token ∷ without_due now held }
-    ensures alone { (now : ℕ) (held : List HeldValue) (token : List ℕ) → first_due now held ≡ Some (Pong token) → AllByRecursion (λ e. come now e ≡ None) held }
-    ensures nothing { (now : ℕ) (held : List HeldValue) → first_due now held ≡ None → HoldsNothingDue now held × (without_due now held ≡ held) }
-    ensures fewer { (now : ℕ) (held : List HeldValue) (e : HeldValue) → first_due now held ≡ Some e → length held ≡ 1 + length (without_due now held) }
+    ensures answer { (now : ℕ) (held : List HeldValue) (token : List ℕ) (moment : ℕ) →
+        first_due now held ≡ Some (Answer token moment) → IsDueFirst now held token moment (without_due now held) }
+    ensures pong { (now : ℕ) (held : List HeldValue) (token : List ℕ) → first_due now held ≡ Some (Pong token) →
+        held ≡ Pong token ∷ without_due now held }
+    ensures alone { (now : ℕ) (held : List HeldValue) (token : List ℕ) → first_due now held ≡ Some (Pong token) →
+        AllByRecursion (λ e. come now e ≡ None) held }
+    ensures nothing { (now : ℕ) (held : List HeldValue) → first_due now held ≡ None →
+        HoldsNothingDue now held × (without_due now held ≡ held) }
+    ensures fewer { (now : ℕ) (held : List HeldValue) (e : HeldValue) → first_due now held ≡ Some e →
+        length held ≡ 1 + length (without_due now held) }
 {}
 
-/// A message has a Pong with Custody queued at once only where nothing is held (RFC 8323 section 5.4.1); else its Pong waits for what
-/// is held. No more is held than may be, a message leaves what is held in place, and where it stops the connection gives it up.
+/// A message has a Pong with Custody queued at once only where nothing is held (RFC 8323 section 5.4.1); else its Pong
+/// waits for what is held. No more is held than may be, a message leaves what is held in place, and where it stops the
+/// connection gives it up.
 pub fn custody_waits_for_what_is_held()
-    ensures at_once { (s : Standing) (m : Message) → list_any is_custody_pong (react s m).effect.queued ≡ true → s.held ≡ [] }
+    ensures at_once { (s : Standing) (m : Message) → list_any is_custody_pong (react s m).effect.queued ≡ true →
+        s.held ≡ [] }
     ensures few { (s : Standing) (m : Message) → length s.held ≤ s.most → length (react s m).effect.held ≤ s.most }
-    ensures kept { (s : Standing) (m : Message) → stop_of (react s m).effect.phase ≡ None → (more : List HeldValue) × ((react s m).effect.held ≡ s.held ++ more) }
-    ensures released { (s : Standing) (m : Message) (why : Reason) → s.phase ≡ Open → (react s m).effect.phase ≡ Releasing why → (react s m).effect.held ≡ s.held }
-    ensures given_up { (s : Standing) (m : Message) (why : Reason) → stop_of s.phase ≡ None → (react s m).effect.phase ≡ Stopped why → (react s m).effect.held ≡ [] }
+    ensures kept { (s : Standing) (m : Message) → stop_of (react s m).effect.phase ≡ None →
+        (more : List HeldValue) × ((react s m).effect.held ≡ s.held ++ more) }
+    ensures released { (s : Standing) (m : Message) (why : Reason) → s.phase ≡ Open →
+        (react s m).effect.phase ≡ Releasing why → (react s m).effect.held ≡ s.held }
+    ensures given_up { (s : Standing) (m : Message) (why : Reason) → stop_of s.phase ≡ None →
+        (react s m).effect.phase ≡ Stopped why → (react s m).effect.held ≡ [] }
 {}
 
-/// No more is outstanding than may be, whatever happens: a message adds nothing, and what is asked adds one where there is room. A stop
-/// and the peer's Release give it up.
+/// No more is outstanding than may be, whatever happens: a message adds nothing, and what is asked adds one where there
+/// is room. A stop and the peer's Release give it up.
 pub fn outstanding_is_limited()
     ensures message { (s : Standing) (m : Message) → length (react s m).effect.outstanding ≤ length s.outstanding }
-    ensures call { (h : History) (c : Call) → length h.outstanding ≤ h.limits.outstanding → length (after h c).outstanding ≤ h.limits.outstanding }
-    ensures cancelled { (h : History) (token : List ℕ) (m : Message) → length (after h (call.Cancel token m)).outstanding ≡ length h.outstanding }
-    ensures given_up { (s : Standing) (m : Message) (why : Reason) → stop_of s.phase ≡ None → stop_of (react s m).effect.phase ≡ Some why → (react s m).effect.outstanding ≡ [] }
+    ensures call { (h : History) (c : Call) → length h.outstanding ≤ h.limits.outstanding →
+        length (after h c).outstanding ≤ h.limits.outstanding }
+    ensures cancelled { (h : History) (token : List ℕ) (m : Message) →
+        length (after h (call.Cancel token m)).outstanding ≡ length h.outstanding }
+    ensures given_up { (s : Standing) (m : Message) (why : Reason) → stop_of s.phase ≡ None →
+        stop_of (react s m).effect.phase ≡ Some why → (react s m).effect.outstanding ≡ [] }
 {}
 
-/// A response answers the request or observation that has its token, and none where there is none; a Pong answers a Ping so. Behind the
-/// last response nothing has the token any more; behind another one, which is a notification, all is as before (RFC 7252 section 5.3.2,
-/// RFC 7641 section 3.6).
+/// A response answers the request or observation that has its token, and none where there is none; a Pong answers a
+/// Ping so. Behind the last response nothing has the token any more; behind another one, which is a notification, all
+/// is as before (RFC 7252 section 5.3.2, RFC 7641 section 3.6).
 pub fn answers_end_what_was_asked()
-    ensures answer { (s : Standing) (m : Message) (token : List ℕ) (last : Bool) → (react s m).verdict ≡ verdict.Answer token last → (token ≡ m.token) × (list_any (is_asked token) s.outstanding ≡ true) }
-    ensures last { (s : Standing) (m : Message) (token : List ℕ) → (react s m).verdict ≡ verdict.Answer token true → (react s m).effect ≡ record (stay s) { outstanding = without_asked token s.outstanding } }
-    ensures gone { (token : List ℕ) (outstanding : List OutstandingValue) → list_any (is_asked token) (without_asked token outstanding) ≡ false }
-    ensures notified { (s : Standing) (m : Message) (token : List ℕ) → (react s m).verdict ≡ verdict.Answer token false → (is_notification m ≡ true) × ((react s m).effect ≡ stay s) }
-    ensures ended { (s : Standing) (m : Message) (token : List ℕ) → (react s m).verdict ≡ verdict.Answer token true → is_notification m ≡ true → list_any (λ e. is_asked token e && is_request_entry e) s.outstanding ≡ true }
-    ensures pong { (s : Standing) (m : Message) (token : List ℕ) (custody : Bool) → (react s m).verdict ≡ verdict.Pong token custody → (token ≡ m.token) × (custody ≡ asks_custody m) × (list_any (is_pinged token) s.outstanding ≡ true) × ((react s m).effect ≡ record (stay s) { outstanding = without_pinged token s.outstanding }) }
-    ensures stranger { (s : Standing) (m : Message) → (react s m).verdict ≡ verdict.Stranger → (react s m).effect ≡ stay s }
-    ensures response_told { (s : Standing) (m : Message) → s.phase ≡ Open → is_reserved m.code ≡ false → is_signal m.code ≡ false → is_method m.code ≡ false → list_any (is_asked m.token) s.outstanding ≡ true → (last : Bool) × ((react s m).verdict ≡ verdict.Answer m.token last) }
-    ensures pong_told { (s : Standing) (m : Message) → s.phase ≡ Open → m.code ≡ code.pong → has_critical_option m ≡ false → list_any (is_pinged m.token) s.outstanding ≡ true → (react s m).verdict ≡ verdict.Pong m.token (asks_custody m) }
+    ensures answer { (s : Standing) (m : Message) (token : List ℕ) (last : Bool) →
+        (react s m).verdict ≡ verdict.Answer token last →
+        (token ≡ m.token) × (list_any (is_asked token) s.outstanding ≡ true) }
+    ensures last { (s : Standing) (m : Message) (token : List ℕ) → (react s m).verdict ≡ verdict.Answer token true →
+        (react s m).effect ≡ record (stay s) { outstanding = without_asked token s.outstanding } }
+    ensures gone { (token : List ℕ) (outstanding : List OutstandingValue) →
+        list_any (is_asked token) (without_asked token outstanding) ≡ false }
+    ensures notified { (s : Standing) (m : Message) (token : List ℕ) →
+        (react s m).verdict ≡ verdict.Answer token false → (is_notification m ≡ true) × ((react s m).effect ≡ stay s) }
+    ensures ended { (s : Standing) (m : Message) (token : List ℕ) → (react s m).verdict ≡ verdict.Answer token true →
+        is_notification m ≡ true → list_any (λ e. is_asked token e && is_request_entry e) s.outstanding ≡ true }
+    ensures pong { (s : Standing) (m : Message) (token : List ℕ) (custody : Bool) →
+        (react s m).verdict ≡ verdict.Pong token custody →
+        (token ≡ m.token) × (custody ≡ asks_custody m) × (list_any (is_pinged token) s.outstanding ≡ true)
+        × ((react s m).effect ≡ record (stay s) { outstanding = without_pinged token s.outstanding }) }
+    ensures stranger { (s : Standing) (m : Message) → (react s m).verdict ≡ verdict.Stranger →
+        (react s m).effect ≡ stay s }
+    ensures response_told { (s : Standing) (m : Message) → s.phase ≡ Open → is_reserved m.code ≡ false →
+        is_signal m.code ≡ false → is_method m.code ≡ false → list_any (is_asked m.token) s.outstanding ≡ true →
+        (last : Bool) × ((react s m).verdict ≡ verdict.Answer m.token last) }
+    ensures pong_told { (s : Standing) (m : Message) → s.phase ≡ Open → m.code ≡ code.pong →
+        has_critical_option m ≡ false → list_any (is_pinged m.token) s.outstanding ≡ true →
+        (react s m).verdict ≡ verdict.Pong m.token (asks_custody m) }
 {}
 
-/// A token is given once: its number is one more than the last one, and different numbers of 64 bits are different tokens (RFC 7252 section
-/// 5.3.1). Nothing but what is asked gives one.
+/// A token is given once: its number is one more than the last one, and different numbers of 64 bits are different
+/// tokens (RFC 7252 section 5.3.1). Nothing but what is asked gives one.
 pub fn tokens_are_new()
-    ensures different { (one other : ℕ) → one < 18446744073709551615 → other < 18446744073709551615 → next_token one ≡ next_token other → one ≡ other }
-    ensures asked { (h : History) (m : Message) → asking_refusal (asking_now h) m ≡ None → h.tokens < 18446744073709551615 }
-    ensures given { (h : History) (m : Message) (e : OutstandingValue) → asking_refusal (asking_now h) m ≡ None → (after_asking h m e).tokens ≡ h.tokens + 1 }
+    ensures different { (one other : ℕ) → one < 18446744073709551615 → other < 18446744073709551615 →
+        next_token one ≡ next_token other → one ≡ other }
+    ensures asked { (h : History) (m : Message) → asking_refusal (asking_now h) m ≡ None →
+        h.tokens < 18446744073709551615 }
+    ensures given { (h : History) (m : Message) (e : OutstandingValue) → asking_refusal (asking_now h) m ≡ None →
+        (after_asking h m e).tokens ≡ h.tokens + 1 }
     ensures others { (h : History) (c : Call) → gives_token c ≡ false → (after h c).tokens ≡ h.tokens }
 {}

@@ -1,5 +1,5 @@
-//! One connection of CoAP over reliable transports: its signalling messages and its output queue (RFC 8323 sections 3.3,
-//! 3.4 and 5).
+//! One connection of CoAP over reliable transports: its signalling messages and its output queue (RFC 8323 sections
+//! 3.3, 3.4 and 5).
 #![tactic(auto)]
 
 mod asked;

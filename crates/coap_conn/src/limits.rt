@@ -71,7 +71,8 @@ impl Limits {
         observers: usize,
         outstanding: usize,
     ) -> Result<Limits, LimitFault>
-        ensures answer { RefusedBy result (limit_refusal (limits_of max_message max_sent queue pending observers outstanding)) }
+        ensures answer { RefusedBy result (limit_refusal (limits_of max_message max_sent queue pending observers
+            outstanding)) }
         ensures ok { IfOk result (λ l. l ≡ limits_of max_message max_sent queue pending observers outstanding) }
     {
         if max_message < 1_152 || max_message > 1_048_576 {

@@ -17,14 +17,15 @@ use std::marker::Model;
 /// The greatest message that a peer takes which has announced none (RFC 8323 section 5.3.1).
 const BASE_SIZE: u32 = 1_152;
 
-/// One side of a connection: what was announced, how it stands, what is held and outstanding, and the bytes that wait to be
-/// written. Contracts see a `LinkValue`, and which history of messages it shows.
+/// One side of a connection: what was announced, how it stands, what is held and outstanding, and the bytes that wait
+/// to be written. Contracts see a `LinkValue`, and which history of messages it shows.
 #[derive(Drop)]
 pub struct Link {
     role: Role,
     limits: Limits,
     queue: OutQueue,
     phase: Phase,
+    own_max: usize,
     peer_max: u32,
     pending: Pending,
     asked: Asked,
@@ -50,12 +51,13 @@ impl Link {
     ghost use Rattle.coap_conn.specs.Held.{next_moment as moment_next};
     ghost use Rattle.coap_conn.specs.History.{History, new_history, after, LinkShows};
     ghost use Rattle.coap_conn.specs.LinkValue.{IsLink, IsReady, free_in, limit_in, is_finished, new_link};
+    ghost use Rattle.coap_conn.specs.QueueValue.{IsNextPart};
     ghost use Rattle.coap_conn.specs.Calls.{link_after};
     ghost use Rattle.coap_conn.specs.Calls as call;
     ghost use Rattle.coap_conn.specs.contracts.link.Link.{the_row};
 
-    /// A new connection, with our Capabilities and Settings queued. The room of its queue, of what it holds and of what is
-    /// outstanding is reserved here. The first token that it gives is the number after `tokens_from`.
+    /// A new connection, with our Capabilities and Settings queued. The room of its queue, of what it holds and of what
+    /// is outstanding is reserved here. The first token that it gives is the number after `tokens_from`.
     ///
     /// # Errors
     ///
@@ -78,6 +80,7 @@ impl Link {
             limits,
             queue,
             phase: Phase::Waiting,
+            own_max: limits.max_message(),
             peer_max: BASE_SIZE,
             pending,
             asked,
@@ -87,10 +90,18 @@ impl Link {
 
     /// All bytes that wait.
     pub fn front<'a>(&'a mut self) -> &'a [u8]
-        ensures* unchanged { sem 𝓛 (follows_so the_row the_row self.entry.ghost_name none (λ _ _. ⊤) (λ l. l ≡ self.old)) }
+        ensures* unchanged { sem 𝓛 (follows_so the_row the_row self.entry.ghost_name none (λ _ _. ⊤)
+            (λ l. l ≡ self.old)) }
         ensures front { result.now ≡ self.old.waiting }
     {
         self.queue.front()
+    }
+
+    /// A front of the bytes that wait, where they lie: none only where nothing waits.
+    pub fn next_part(&self) -> &[u8]
+        ensures { IsNextPart self.now.waiting result.now }
+    {
+        self.queue.next_part()
     }
 
     /// The first so many bytes were written, and wait no more.
@@ -131,6 +142,14 @@ impl Link {
         self.phase
     }
 
+    /// The greatest message that we take, as we announced it last: at first that of the limits (RFC 8323 section
+    /// 5.3.1).
+    pub fn own_max(&self) -> usize
+        ensures { result ≡ self.now.own_max }
+    {
+        self.own_max
+    }
+
     /// The greatest message that the peer takes, as it announced it last, or 1,152 bytes (RFC 8323 section 5.3.1).
     pub fn peer_max(&self) -> u32
         ensures { result ≡ self.now.peer_max }
@@ -146,7 +165,8 @@ impl Link {
         self.pending.len()
     }
 
-    /// The least moment, in seconds, of a held answer that lies behind this one: what is held waits for it, where there is room.
+    /// The least moment, in seconds, of a held answer that lies behind this one: what is held waits for it, where there
+    /// is room.
     pub fn next_moment(&self, now: u64) -> Option<u64>
         ensures { result ≡ moment_next now self.now.held }
     {
@@ -161,8 +181,8 @@ impl Link {
         self.asked.len()
     }
 
-    /// Whether nothing more is to be written: it stopped, or its peer released it and nothing is held, and no byte waits. A request
-    /// that the caller has yet to answer is not counted.
+    /// Whether nothing more is to be written: it stopped, or its peer released it and nothing is held, and no byte
+    /// waits. A request that the caller has yet to answer is not counted.
     pub fn finished(&self) -> bool
         ensures { result ≡ is_finished self.now }
     {

@@ -5,7 +5,8 @@ ghost use Rattle.coap_conn.specs.Reasons.{abort_text as text_for, abort_with as 
 ghost use Rattle.coap_conn.specs.Asking.{ping_with};
 ghost use Rattle.coap_conn.specs.Reaction.{pong_with};
 ghost use Rattle.coap_conn.specs.Fit.{bare_response};
-ghost use Rattle.coap_conn.specs.LinkValue.{bytes_of, own_csm};
+ghost use Rattle.coap_wire.specs.Spelling.{spelling};
+ghost use Rattle.coap_conn.specs.LinkValue.{bytes_of, csm_with as csm_of, own_csm};
 ghost use Rattle.coap_conn.specs.Calls.{release};
 ghost use Rattle.coap_conn.specs.QueueValue.{free_of};
 
@@ -17,17 +18,34 @@ use coap_wire::{Code, MessageBuilder, Token, uint_bytes};
 /// Bad-CSM-Option, an option of Abort (RFC 8323 section 5.6).
 const BAD_CSM_OPTION: u16 = 2;
 
-/// Queues our Capabilities and Settings: Max-Message-Size, and nothing else (RFC 8323 section 5.3).
+/// Our Capabilities and Settings: Max-Message-Size with these bytes, and nothing else (RFC 8323 section 5.3).
+fn csm_with<'a>(size: &'a [u8]) -> MessageBuilder<'a, 1>
+    requires { length size.now ≤ 8 }
+    ensures { result ≡ csm_of size.now }
+{
+    let mut csm = MessageBuilder::new(Code::CSM, &Token::new());
+    let Ok(()) = csm.option(MAX_MESSAGE_SIZE, size) else {
+        unreachable!()
+    };
+    csm
+}
+
+/// The bytes of our Capabilities and Settings with this size.
+pub(crate) fn announcement_size(max_message: usize) -> u64
+    ensures { result ≡ length (spelling (own_csm max_message)) }
+{
+    let size = uint_bytes(max_message as u64);
+    csm_with(&size).size()
+}
+
+/// Queues our Capabilities and Settings with this size.
 pub(crate) fn announce(queue: &mut OutQueue, max_message: usize)
     requires { 24 ≤ free_of queue.old }
     ensures csm { queue.new ≡ record queue.old { waiting = queue.old.waiting ++ bytes_of (own_csm max_message ∷ []) } }
     ensures small { length (bytes_of (own_csm max_message ∷ [])) ≤ 24 }
 {
     let size = uint_bytes(max_message as u64);
-    let mut csm: MessageBuilder<1> = MessageBuilder::new(Code::CSM, &Token::new());
-    let Ok(()) = csm.option(MAX_MESSAGE_SIZE, &size) else {
-        unreachable!()
-    };
+    let csm = csm_with(&size);
     queue.put(&csm);
 }
 
@@ -67,8 +85,8 @@ pub(crate) fn ping_to(token: &Token, custody: bool) -> MessageBuilder<'static, 1
     ping
 }
 
-/// What is sent in place of a response that is too large: its code and token, where a code other than 2.01, 2.02 and 2.04
-/// becomes 5.00.
+/// What is sent in place of a response that is too large: its code and token, where a code other than 2.01, 2.02 and
+/// 2.04 becomes 5.00.
 pub(crate) fn bare_of<const N: usize>(response: &MessageBuilder<N>) -> MessageBuilder<'static, 0>
     ensures { result ≡ bare_response response.now }
 {

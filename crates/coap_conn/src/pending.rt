@@ -129,8 +129,8 @@ impl Pending {
         self.entries.push_reserved(one);
     }
 
-    /// The index of what is due first at a moment: of the answers whose moments have come the one of the least moment, the earliest
-    /// of equals; else a Pong with nothing before it.
+    /// The index of what is due first at a moment: of the answers whose moments have come the one of the least moment,
+    /// the earliest of equals; else a Pong with nothing before it.
     pub(crate) fn due(&self, now: u64) -> Option<usize>
         ensures first { result ≡ index_due now self.now.held }
         ensures within { IfSome result (λ i. i < length self.now.held) }

@@ -6,11 +6,14 @@ use coap_wire::{MessageBuilder, Sink};
 use std::alloc::{AllocError, Global};
 use std::marker::Model;
 
-/// A queue of bytes that wait to be written, in room that was reserved once. Contracts see a `QueueValue`: the room of the
-/// whole queue, and the bytes that wait.
+/// A queue of bytes that wait to be written, in room that was reserved once. Contracts see a `QueueValue`: the room of
+/// the whole queue, and the bytes that wait.
 #[derive(Drop)]
 pub struct OutQueue {
     bytes: usize,
+    /// How many bytes at the front of the buffer were written: at most as many as the queue has room for.
+    start: usize,
+    /// Has room for twice the queue, so that behind its end there is room for all that the queue can take.
     buffer: Vec<u8>,
 }
 
@@ -31,7 +34,7 @@ impl OutQueue {
     ghost use Rattle.std.specs.Borrow.{sem, follows_so};
     ghost use mathlib.Core.Option.{none};
     ghost use Rattle.coap_wire.specs.Spelling.{spelling};
-    ghost use Rattle.coap_conn.specs.QueueValue.{IsQueue, free_of};
+    ghost use Rattle.coap_conn.specs.QueueValue.{IsQueue, IsNextPart, free_of};
     ghost use Rattle.coap_conn.specs.contracts.queue.OutQueue.{the_row};
 
     /// A queue of so many bytes, 1,152 to 4,194,304, with none waiting.
@@ -46,7 +49,8 @@ impl OutQueue {
     {
         Ok(OutQueue {
             bytes,
-            buffer: Vec::with_capacity(alloc, bytes)?,
+            start: 0,
+            buffer: Vec::with_capacity(alloc, 2 * bytes)?,
         })
     }
 
@@ -54,7 +58,7 @@ impl OutQueue {
     pub fn free(&self) -> usize
         ensures { result ≡ free_of self.now }
     {
-        self.bytes - self.buffer.len()
+        self.bytes - self.waiting()
     }
 
     /// How many bytes wait.
@@ -62,15 +66,23 @@ impl OutQueue {
         ensures count { result ≡ length self.now.waiting }
         ensures within { IsQueue self.now }
     {
-        self.buffer.len()
+        self.buffer.len() - self.start
     }
 
     /// All bytes that wait.
     pub fn front<'a>(&'a mut self) -> &'a [u8]
-        ensures* unchanged { sem 𝓛 (follows_so the_row the_row self.entry.ghost_name none (λ _ _. ⊤) (λ q. q ≡ self.old)) }
+        ensures* unchanged { sem 𝓛 (follows_so the_row the_row self.entry.ghost_name none (λ _ _. ⊤)
+            (λ q. q ≡ self.old)) }
         ensures front { result.now ≡ self.old.waiting }
     {
-        &self.buffer
+        &self.buffer[self.start..]
+    }
+
+    /// A front of the bytes that wait, where they lie: none only where nothing waits.
+    pub fn next_part(&self) -> &[u8]
+        ensures { IsNextPart self.now.waiting result.now }
+    {
+        &self.buffer[self.start..]
     }
 
     /// Queues the spelling of a message, for which there must be room.
@@ -83,12 +95,20 @@ impl OutQueue {
         let _ = &self.bytes;
     }
 
-    /// The first so many bytes were written, and wait no more.
+    /// The first so many bytes were written, and wait no more. What still waits is moved to the front of the room only
+    /// where more was written in front of it than can wait: so a move is paid by as many bytes written.
     pub fn written(&mut self, count: usize)
         requires { count ≤ length self.old.waiting }
         ensures { self.new ≡ record self.old { waiting = drop count self.old.waiting } }
     {
-        drop(self.buffer.drain(..count));
+        self.start += count;
+        if self.start == self.buffer.len() {
+            self.buffer.clear();
+            self.start = 0;
+        } else if self.start > self.bytes {
+            drop(self.buffer.drain(..self.start));
+            self.start = 0;
+        }
     }
 }
 

@@ -4,7 +4,8 @@ use Rattle.std.proofs.lemmas.List.{length-append, length-take}
 use Rattle.coap_wire.specs.Beginning.{Beginning, Unfinished, Whole, Faulty, beginning}
 use Rattle.coap_wire.proofs.StreamSteps.{whole_parts}
 use Rattle.coap_frame.specs.Framing.{FramerValue, IsFramer, Finding, Nothing, AFrame, AFault, Framing, framing_at, framing, framing_of, counted, copied_alone, copied_of, framer_after, without_last, frame_back, copied_back, with_frame_back}
-use Rattle.coap_frame.specs.Copying.{FramerCall, Next, Unread, Clear, MayCall, after_call, IsCountedNext, IsCountedUnread, IsCounted, AreCounted}
+use Rattle.coap_frame.specs.Copying.{FramerCall, Next, Unread, Clear, Raise, MayCall, after_call, IsCountedNext, IsCountedUnread, IsCounted, AreCounted}
+use Rattle.coap_frame.proofs.RaiseLemmas.{asked_is_framer, asked_copied}
 use Rattle.coap_frame.proofs.FramingLemmas.{empty_framer, framing_is_framer, unread_is_framer}
 
 -- ---- a piece
@@ -72,11 +73,13 @@ call_counted : (v : FramerValue) (call : FramerCall) → IsFramer v → IsCounte
 call_counted v (Next piece) is = next_counted v piece is
 call_counted v (Unread piece) is = unread_counted v piece is
 call_counted v Clear is = refl
+call_counted v (Raise new) is = asked_copied v new
 
 call_is_framer : (v : FramerValue) (call : FramerCall) → IsFramer v → MayCall v call → IsFramer (after_call v call)
 call_is_framer v (Next piece) is may = framing_is_framer v piece is
 call_is_framer v (Unread piece) is may = unread_is_framer v piece is may
 call_is_framer v Clear is may = empty_framer v.max [] v.copied is.low is.high is.countable refl
+call_is_framer v (Raise new) is may = asked_is_framer v new is
 
 pub are_counted : (v : FramerValue) (calls : List FramerCall) → IsFramer v → AreCounted v calls
 unfolding AreCounted

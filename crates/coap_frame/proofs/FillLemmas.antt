@@ -8,21 +8,13 @@ use Rattle.coap_wire.specs.declared.frame.Declared.TheVariants.{Unknown, Size, B
 use Rattle.coap_wire.specs.declared.fault.FrameFault.{FrameFault}
 use Rattle.coap_wire.specs.declared.fault.FrameFault.TheVariants.{TokenLength, TooLarge}
 use Rattle.coap_wire.specs.Beginning.{Beginning, Unfinished, Whole, Faulty, beginning, fault_size, fault_bytes, size_bytes}
-use Rattle.coap_wire.proofs.StreamSteps.{begin_unknown, begin_bad_token, begin_too_large, begin_short, begin_whole, unfinished_small, size_has_bytes, size_at_last, declared_more, faulty_more, fault_bytes_more, fault_at_last}
+use Rattle.coap_wire.proofs.StreamSteps.{begin_unknown, begin_bad_token, begin_too_large, begin_short, begin_whole, size_has_bytes, size_at_last, declared_more, faulty_more, fault_bytes_more, fault_at_last, bad_has_byte}
 use Rattle.coap_frame.specs.Filling.{IsTakenTo, IsFilled}
 use Rattle.coap_frame.specs.declared.filling.Standing.TheVariants as standing
 use Rattle.std.proofs.Math.Seq.{take-append-add}
 
--- bytes that do not tell their size are few
-pub unknown_small : (s : List ℕ) → declared_of s ≡ Unknown → length s < 5
-unknown_small s e =
-    elim (unfinished_small 0 s (begin_unknown 0 s e)) [
-      | inl small ↦ small
-      | inr none ↦ absurd (omega arith)
-    ]
-
 -- a beginning that tells its size has fewer bytes, and is not too large
-told_unfinished : (M : ℕ) (s : List ℕ) (n : ℕ) → beginning M s ≡ Unfinished → declared_of s ≡ Size n → (n ≤ M) × (length s < n)
+pub told_unfinished : (M : ℕ) (s : List ℕ) (n : ℕ) → beginning M s ≡ Unfinished → declared_of s ≡ Size n → (n ≤ M) × (length s < n)
 told_unfinished M s n unfinished told =
     elim (cases_lt M n) [
       | inl large ↦ let bad : ◌≡◌ {A = Beginning} Unfinished (Faulty TooLarge) = sym unfinished ∙ begin_too_large M s n told large in absurd cc
@@ -33,11 +25,6 @@ told_unfinished M s n unfinished told =
     ]
 
 -- a token length is read in the first byte
-bad_token_has_a_byte : (s : List ℕ) → declared_of s ≡ BadToken → 1 ≤ length s
-unfolding declared_of
-bad_token_has_a_byte [] is = let bad : ◌≡◌ {A = Declared} Unknown BadToken = is in absurd cc
-bad_token_has_a_byte (b ∷ s) is = omega arith
-
 module _ (M : ℕ) (old piece new : List ℕ) (taken : ℕ) (size : Declared) (unfinished : beginning M old ≡ Unfinished) (h : IsTakenTo old piece new taken size) where
   -- the bytes that are not taken
   abbrev behind : List ℕ
@@ -147,7 +134,7 @@ module _ (M : ℕ) (piece : List ℕ) where
   }
 
   pub stands_bad_token : declared_of piece ≡ BadToken → IsFilled M [] piece (take 1 piece) 1 (standing.Fault TokenLength)
-  stands_bad_token is = stands_fault TokenLength (begin_bad_token M piece is) (bad_token_has_a_byte piece is)
+  stands_bad_token is = stands_fault TokenLength (begin_bad_token M piece is) (bad_has_byte piece is)
 
   pub stands_too_large : (n : ℕ) → declared_of piece ≡ Size n → M < n → IsFilled M [] piece (take (size_bytes piece) piece) (size_bytes piece) (standing.Fault TooLarge)
   stands_too_large n is large = stands_fault TooLarge (begin_too_large M piece n is large) (size_has_bytes piece n is).1

@@ -1,6 +1,6 @@
 -- What is found of a piece is found of the bytes that are taken of it, and what those add to a stream.
-use Rattle.std.proofs.Common.{◌≡◌, ℕ, ◌-◌, List, [], ◌∷◌, ◌++◌, length, take, drop, Some, None, refl, sym, ap, ◌∙◌, append_assoc, arith}
-use Rattle.std.proofs.lemmas.List.{append-nil, length-take-le, take-append-drop, take_all}
+use Rattle.std.proofs.Common.{◌≡◌, ℕ, zero, suc, ◌-◌, ◌<◌, ◌≤◌, List, [], ◌∷◌, ◌++◌, length, take, drop, Some, None, refl, sym, ap, ◌∙◌, append_assoc, arith}
+use Rattle.std.proofs.lemmas.List.{append-nil, length-append, length-take-le, take-append-drop, take_all}
 use Rattle.coap_wire.specs.Reading.{message_of}
 use Rattle.coap_wire.specs.declared.fault.FrameFault.{FrameFault}
 use Rattle.coap_wire.specs.Beginning.{Beginning, Unfinished, Whole, Faulty, beginning, fault_bytes}
@@ -104,6 +104,22 @@ pub front_whole : (M : ℕ) (kept piece : List ℕ) → beginning M kept ≡ Unf
 front_whole M kept piece u =
     ap (λ (f : Framing). f.taken) (front_framing M kept piece u)
     ∙ sym (length-take-le (framing M kept piece).taken piece (taken_within M kept piece u))
+
+-- where no byte comes, nothing is found
+none_framing : (M : ℕ) (kept : List ℕ) → beginning M kept ≡ Unfinished → framing M kept [] ≡ framing_at kept [] Unfinished
+unfolding framing
+none_framing M kept u = ap (framing_at kept []) (ap (beginning M) (append-nil kept) ∙ u)
+
+-- something is taken of a piece, where there is one
+some_fronted : (M : ℕ) (kept piece : List ℕ) (n : ℕ) → beginning M kept ≡ Unfinished → (framing M kept piece).taken ≡ n → 0 < length piece → 1 ≤ n
+some_fronted M kept piece zero u none some =
+    let same : framing M kept piece ≡ framing_at kept [] Unfinished = sym (front_framing M kept piece u) ∙ ap (λ (k : ℕ). framing M kept (take k piece)) none ∙ none_framing M kept u in
+    let keeps : kept ++ piece ≡ kept ++ [] = sym (nothing_kept M kept piece (ap (λ (f : Framing). f.finding) same)) ∙ ap (λ (f : Framing). f.kept) same in
+    absurd (omega (arith, some, ap (λ (b : List ℕ). length b) keeps, length-append kept piece, length-append kept []))
+some_fronted M kept piece (suc n) u none some = omega arith
+
+pub some_in_front : (M : ℕ) (kept piece : List ℕ) → beginning M kept ≡ Unfinished → 0 < length piece → 1 ≤ (framing M kept piece).taken
+some_in_front M kept piece u some = some_fronted M kept piece (framing M kept piece).taken u refl some
 
 -- ---- what bytes add to a stream
 

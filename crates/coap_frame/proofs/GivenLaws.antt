@@ -1,15 +1,18 @@
 -- The laws of framers: what they give is what the stream has, where they take a piece to, and that an unread frame comes again.
-use Rattle.std.proofs.Common.{◌≡◌, ℕ, ◌+◌, ◌-◌, ◌≤◌, List, [], ◌∷◌, ◌++◌, length, take, drop, refl, sym, ap, subst, ◌∙◌, append_assoc, arith, inl, inr}
+use Rattle.std.proofs.Common.{◌≡◌, ℕ, ◌+◌, ◌-◌, ◌<◌, ◌≤◌, Bool, true, false, List, [], ◌∷◌, ◌++◌, length, take, drop, refl, sym, ap, subst, ◌∙◌, append_assoc, arith, inl, inr, is_none, if◌then◌else◌}
 use Rattle.std.proofs.lemmas.Bool.{cases_lt}
 use Rattle.std.proofs.lemmas.List.{append-nil, take-append-drop, take-append-le, take_all, take_at, length-append, length-drop}
 use Rattle.std.proofs.Math.Seq.{take-append-add}
 use Rattle.coap_wire.specs.declared.fault.FrameFault.{FrameFault}
-use Rattle.coap_wire.specs.Beginning.{Beginning, Unfinished, Whole, Faulty, beginning, fault_bytes}
-use Rattle.coap_wire.specs.Frames.{Frames, with_frame, frames_of}
-use Rattle.coap_wire.proofs.StreamSteps.{whole_parts, whole_itself, whole_more, faulty_more, fault_bytes_more, fault_at_last, frames_unfinished, frames_faulty, frames_whole}
+use Rattle.coap_wire.specs.Beginning.{Beginning, Unfinished, Whole, Faulty, beginning, size_bytes, fault_bytes}
+use Rattle.coap_wire.specs.Frames.{Frames, Sizes, always, sizes_first, size_for, sizes_behind, with_frame, sized_frames}
+use Rattle.coap_wire.proofs.StreamSteps.{whole_parts, whole_itself, whole_more, faulty_more, fault_bytes_more, fault_at_last, size_has_bytes, size_bytes_more, AreAlikeBehind, frames_unfinished, frames_faulty, frames_whole, frames_alike}
+use Rattle.coap_wire.proofs.SizesLaws.{first_in, first_past, behind_first, first_none}
 use Rattle.coap_frame.specs.Framing.{FramerValue, IsFramer, Finding, Nothing, AFrame, AFault, Framing, split_frame, framing_at, framing, framing_of, framer_after, without_last, frame_back, MayUnread}
-use Rattle.coap_frame.specs.Given.{Given, given_then, given_by, IsGiven, taken_of, unread_after, last_byte}
+use Rattle.coap_frame.specs.Raising.{raise_refusal, with_size, asked_for}
+use Rattle.coap_frame.specs.Given.{Handed, Piece, Size, Given, given_then, given_by, stream_given, IsGiven, taken_of, unread_after, last_byte}
 use Rattle.coap_frame.proofs.FramingLemmas.{framing_is_framer, frame_is_small, front_unfinished}
+use Rattle.coap_frame.proofs.RaiseLemmas.{unfinished_with, allowed_by, asked_is_framer}
 
 -- ---- where a fault is known
 
@@ -106,13 +109,59 @@ call_is max kept piece u = call_at max kept piece (beginning max (kept ++ piece)
 found_is : (max : ℕ) (kept piece : List ℕ) (finding : Finding) → beginning max kept ≡ Unfinished → (framing max kept piece).finding ≡ finding → IsFoundAt max kept piece (framing max kept piece).taken (framing max kept piece).kept finding
 found_is max kept piece finding u e = subst (λ (f : Finding). IsFoundAt max kept piece (framing max kept piece).taken (framing max kept piece).kept f) e (call_is max kept piece u).found
 
+-- ---- the sizes of the bytes taken
+
+first_always : (n M : ℕ) → sizes_first n M (always M) ≡ always M
+first_always n M =
+    let point : (at : ℕ) → sizes_first n M (always M) at ≡ M = λ at.
+    elim (cases_lt at n) [
+      | inl lt ↦ first_in n M (always M) at lt
+      | inr ge ↦ first_past n M (always M) at ge
+    ] in
+    λ i at. point at i
+
+first_point : (m n M : ℕ) (S : Sizes) (at : ℕ) → sizes_first m M (sizes_first n M S) at ≡ sizes_first (m + n) M S at
+first_point m n M S at =
+    elim (cases_lt at m) [
+      | inl lt ↦ first_in m M (sizes_first n M S) at lt ∙ sym (first_in (m + n) M S at (omega (arith, lt)))
+      | inr ge ↦ elim (cases_lt (at - m) n) [
+        | inl lt ↦ first_past m M (sizes_first n M S) at ge ∙ first_in n M S (at - m) lt ∙ sym (first_in (m + n) M S at (omega (arith, lt, ge)))
+        | inr past ↦ (
+            let same : (at - m) - n ≡ at - (m + n) = omega arith in
+            first_past m M (sizes_first n M S) at ge ∙ first_past n M S (at - m) past ∙ ap S same ∙ sym (first_past (m + n) M S at (omega (arith, past, ge))))
+      ]
+    ]
+
+first_first : (m n M : ℕ) (S : Sizes) → sizes_first m M (sizes_first n M S) ≡ sizes_first (m + n) M S
+first_first m n M S = λ i at. first_point m n M S at i
+
+-- bytes of one size behind others of that size
+first_bytes : (M : ℕ) (kept taken more all : List ℕ) (S : Sizes) → all ≡ kept ++ taken
+    → sized_frames (sizes_first (length kept) M (sizes_first (length taken) M S)) (kept ++ (taken ++ more)) ≡ sized_frames (sizes_first (length all) M S) (all ++ more)
+first_bytes M kept taken more all S is =
+    let count : length kept + length taken ≡ length all = omega (arith, ap (λ (s : List ℕ). length s) is, length-append kept taken) in
+    let bytes : kept ++ (taken ++ more) ≡ all ++ more = sym (append_assoc kept taken more) ∙ ap (λ (s : List ℕ). s ++ more) (sym is) in
+    ap (λ (f : Sizes). sized_frames f (kept ++ (taken ++ more))) (first_first (length kept) (length taken) M S)
+    ∙ ap (sized_frames (sizes_first (length kept + length taken) M S)) bytes
+    ∙ ap (λ (n : ℕ). sized_frames (sizes_first n M S) (all ++ more)) count
+
+-- the size in force at a whole frame that was taken with this size
+size_at_frame : (M : ℕ) (frame more : List ℕ) (S : Sizes) → beginning M frame ≡ Whole frame [] → size_for (sizes_first (length frame) M S) (frame ++ more) ≡ M
+size_at_frame M frame more S whole =
+    let c = whole_parts M frame frame [] whole in
+    let few = size_has_bytes frame (length frame) c.declared in
+    let same = size_bytes_more frame more (omega (arith, c.some)) in
+    first_in (length frame) M S (size_bytes (frame ++ more) - 1) (omega (arith, few, same, c.some))
+
 -- ---- a list of calls
 
-given_step : (v after : FramerValue) (piece : List ℕ) (taken : ℕ) (go : FramerValue → Given) (finding : Finding) → after.max ≡ v.max → IsFoundAt v.max v.kept piece taken after.kept finding → IsGiven after (go after) → IsGiven v (given_then go (take taken piece) after finding)
+given_step : (v after : FramerValue) (piece : List ℕ) (taken : ℕ) (go : FramerValue → Given) (finding : Finding) → after.max ≡ v.max → IsFoundAt v.max v.kept piece taken after.kept finding → IsGiven after (go after) → IsGiven v (given_then go (take taken piece) v.max after finding)
 given_step v after piece taken go Nothing max found again =
     let more = (go after).taken in
-    let bytes : v.kept ++ (take taken piece ++ more) ≡ after.kept ++ more = sym (append_assoc v.kept (take taken piece) more) ∙ ap (λ (s : List ℕ). s ++ more) (sym found.1) in
-    let same : frames_of v.max (v.kept ++ (take taken piece ++ more)) ≡ frames_of after.max (after.kept ++ more) = ap (frames_of v.max) bytes ∙ ap (λ (m : ℕ). frames_of m (after.kept ++ more)) (sym max) in
+    let S = (go after).sizes in
+    let same : stream_given v (given_then go (take taken piece) v.max after Nothing) ≡ stream_given after (go after) =
+    first_bytes v.max v.kept (take taken piece) more after.kept S found.1
+    ∙ ap (λ (m : ℕ). sized_frames (sizes_first (length after.kept) m S) (after.kept ++ more)) (sym max) in
     record {
       frames = ap (λ (f : Frames). f.frames) same ∙ again.frames;
       rest = λ none. ap (λ (f : Frames). f.rest) same ∙ again.rest none;
@@ -121,10 +170,15 @@ given_step v after piece taken go Nothing max found again =
     }
 given_step v after piece taken go (AFrame frame) max found again =
     let more = (go after).taken in
-    let bytes : v.kept ++ (take taken piece ++ more) ≡ frame ++ more = sym (append_assoc v.kept (take taken piece) more) ∙ ap (λ (s : List ℕ). s ++ more) (sym found.0) in
-    let behind : frames_of v.max more ≡ frames_of after.max (after.kept ++ more) = ap (λ (k : List ℕ). frames_of v.max (k ++ more)) (sym found.2) ∙ ap (λ (m : ℕ). frames_of m (after.kept ++ more)) (sym max) in
-    let same : frames_of v.max (v.kept ++ (take taken piece ++ more)) ≡ with_frame frame (frames_of after.max (after.kept ++ more)) =
-    ap (frames_of v.max) bytes ∙ frames_whole v.max (frame ++ more) frame more (whole_more v.max frame more frame [] found.1) ∙ ap (with_frame frame) behind in
+    let S = (go after).sizes in
+    let whole : beginning (size_for (sizes_first (length frame) v.max S) (frame ++ more)) (frame ++ more) ≡ Whole frame more =
+    ap (λ (m : ℕ). beginning m (frame ++ more)) (size_at_frame v.max frame more S found.1) ∙ whole_more v.max frame more frame [] found.1 in
+    let behind : sized_frames (sizes_behind (length frame) (sizes_first (length frame) v.max S)) more ≡ stream_given after (go after) =
+    ap (λ (f : Sizes). sized_frames f more) (behind_first (length frame) v.max S ∙ sym (first_none after.max S))
+    ∙ ap (λ (k : List ℕ). sized_frames (sizes_first (length k) after.max S) (k ++ more)) (sym found.2) in
+    let same : stream_given v (given_then go (take taken piece) v.max after (AFrame frame)) ≡ with_frame frame (stream_given after (go after)) =
+    first_bytes v.max v.kept (take taken piece) more frame S found.0
+    ∙ frames_whole (sizes_first (length frame) v.max S) (frame ++ more) frame more whole ∙ ap (with_frame frame) behind in
     record {
       frames = ap (λ (f : Frames). f.frames) same ∙ ap (λ (fs : List (List ℕ)). frame ∷ fs) again.frames;
       rest = λ none. ap (λ (f : Frames). f.rest) same ∙ again.rest none;
@@ -132,7 +186,9 @@ given_step v after piece taken go (AFrame frame) max found again =
       nothing_kept = again.nothing_kept;
     }
 given_step v after piece taken go (AFault fault) max found again =
-    let same = frames_faulty v.max (v.kept ++ take taken piece) fault found.2 in
+    let same =
+    ap (λ (f : Sizes). sized_frames f (v.kept ++ take taken piece)) (first_always (length v.kept) v.max)
+    ∙ frames_faulty (always v.max) (v.kept ++ take taken piece) fault found.2 in
     record {
       frames = ap (λ (f : Frames). f.frames) same;
       rest = λ none. absurd cc;
@@ -140,19 +196,52 @@ given_step v after piece taken go (AFault fault) max found again =
       nothing_kept = λ other some. found.3;
     }
 
+-- the kept bytes may as well have been taken with a greater size
+raised_alike : (max new : ℕ) (kept : List ℕ) (S : Sizes) → beginning max kept ≡ Unfinished → max ≤ new → AreAlikeBehind (sizes_first (length kept) max S) (sizes_first (length kept) new S) kept
+raised_alike max new kept S u le =
+    let at : ℕ = size_bytes kept - 1 in
+    let n : ℕ = length kept in
+    record {
+      unfinished = unfinished_with max (sizes_first n max S at) kept u (λ there. omega (arith, first_in n max S at there));
+      larger = elim (cases_lt at n) [
+        | inl there ↦ omega (arith, le, first_in n max S at there, first_in n new S at there)
+        | inr past ↦ omega (arith, first_past n max S at past, first_past n new S at past)
+      ];
+      same = λ place past. first_past n max S place past ∙ sym (first_past n new S place past);
+    }
+
+given_raised : (v : FramerValue) (new : ℕ) (given : Given) → IsFramer v → v.max ≤ new → IsGiven (with_size v new) given → IsGiven v given
+given_raised v new given is le again =
+    let same : stream_given v given ≡ stream_given (with_size v new) given =
+    frames_alike (sizes_first (length v.kept) v.max given.sizes) (sizes_first (length v.kept) new given.sizes) v.kept given.taken (raised_alike v.max new v.kept given.sizes is.unfinished le) in
+    record {
+      frames = ap (λ (f : Frames). f.frames) same ∙ again.frames;
+      rest = λ none. ap (λ (f : Frames). f.rest) same ∙ again.rest none;
+      fault = ap (λ (f : Frames). f.fault) same ∙ again.fault;
+      nothing_kept = again.nothing_kept;
+    }
+
+given_asked : (v : FramerValue) (new : ℕ) (given : Given) (allowed : Bool) → is_none (raise_refusal v.max new) ≡ allowed → IsFramer v → IsGiven (if allowed then with_size v new else v) given → IsGiven v given
+given_asked v new given true e is again = given_raised v new given is (allowed_by v.max new e).0 again
+given_asked v new given false e is again = again
+
 -- What framers give is what the stream has.
-pub given_is : (v : FramerValue) (pieces : List (List ℕ)) → IsFramer v → IsGiven v (given_by v pieces)
+pub given_is : (v : FramerValue) (handed : List Handed) → IsFramer v → IsGiven v (given_by v handed)
 unfolding given_by
 given_is v [] is =
-    let same = ap (frames_of v.max) (append-nil v.kept) ∙ frames_unfinished v.max v.kept is.unfinished in
+    let same =
+    ap (λ (f : Sizes). sized_frames f (v.kept ++ [])) (first_always (length v.kept) v.max)
+    ∙ ap (sized_frames (always v.max)) (append-nil v.kept) ∙ frames_unfinished (always v.max) v.kept is.unfinished in
     record {
       frames = ap (λ (f : Frames). f.frames) same;
       rest = λ none. ap (λ (f : Frames). f.rest) same;
       fault = ap (λ (f : Frames). f.fault) same;
       nothing_kept = λ fault some. absurd cc;
     }
-given_is v (p ∷ ps) is =
-    given_step v (framer_after v p) p (framing_of v p).taken (λ now. given_by now ps) (framing_of v p).finding refl (call_is v.max v.kept p is.unfinished).found (given_is (framer_after v p) ps (framing_is_framer v p is))
+given_is v (Size new ∷ more) is =
+    given_asked v new (given_by (asked_for v new) more) (is_none (raise_refusal v.max new)) refl is (given_is (asked_for v new) more (asked_is_framer v new is))
+given_is v (Piece p ∷ more) is =
+    given_step v (framer_after v p) p (framing_of v p).taken (λ now. given_by now more) (framing_of v p).finding refl (call_is v.max v.kept p is.unfinished).found (given_is (framer_after v p) more (framing_is_framer v p is))
 
 -- ---- where a piece is taken to
 

@@ -1,7 +1,12 @@
 -- Worked values of the definitions.
-use Rattle.std.proofs.Common.{◌≡◌, ℕ, List, [], ◌∷◌, ◌++◌, refl}
+use Rattle.std.proofs.Common.{◌≡◌, ℕ, List, [], ◌∷◌, ◌++◌, Some, None, refl}
 use Rattle.coap_wire.specs.Beginning.{beginning}
-use Rattle.coap_wire.specs.Reading.{declared_of, length_at, one_byte_at}
+use Rattle.coap_wire.specs.Frames.{always, sizes_first, frames_within, sized_frames}
+use Rattle.coap_wire.specs.Stream.{OfFrame, sized_split}
+use Rattle.coap_wire.specs.Reading.{declared_of, length_at, one_byte_at, two_bytes_at}
+use Rattle.coap_wire.specs.declared.fault.FrameFault.TheVariants.{TooLarge}
+use Rattle.coap_frame.specs.declared.fault.RaiseFault.TheVariants as raise
+use Rattle.coap_frame.specs.Raising.{raise_refusal, asked_for}
 use Rattle.coap_frame.specs.Framing.{FramerValue, AFrame, framing, framing_of, framer_after, with_frame_back}
 
 -- a framer of which nothing was asked yet
@@ -67,3 +72,42 @@ whole_back = refl
 last : framer_after (record fresh { copied = 18446744073709551615 }) (0xd1 ∷ []) ≡ record first { copied = 18446744073709551615 }
 unfolding framing beginning declared_of length_at one_byte_at
 last = refl
+
+-- ---- a greater size in the life of a stream
+
+-- which sizes are refused after 1,152
+lower : raise_refusal 1152 1151 ≡ Some raise.Lower
+lower = refl
+
+too_large : raise_refusal 1152 1048577 ≡ Some raise.TooLarge
+too_large = refl
+
+allowed : raise_refusal 1152 2000 ≡ None
+allowed = refl
+
+equal : raise_refusal 1152 1152 ≡ None
+equal = refl
+
+-- of a frame of 1,153 bytes the first two are kept, then frames of 2,000 bytes are taken, then comes its last byte of the length
+abbrev begun : FramerValue
+begun = record { max = 1152; kept = 0xe1 ∷ 0x03 ∷ []; spent = []; copied = 2 }
+
+begun_is : framer_after fresh (0xe1 ∷ 0x03 ∷ []) ≡ begun
+unfolding framing beginning declared_of length_at two_bytes_at
+begun_is = refl
+
+begun_raised : asked_for begun 2000 ≡ record { max = 2000; kept = 0xe1 ∷ 0x03 ∷ []; spent = []; copied = 2 }
+begun_raised = refl
+
+judged_by_the_greater : framer_after (asked_for begun 2000) (0x6f ∷ []) ≡ record { max = 2000; kept = 0xe1 ∷ 0x03 ∷ 0x6f ∷ []; spent = []; copied = 3 }
+unfolding framing beginning declared_of length_at two_bytes_at
+judged_by_the_greater = refl
+
+-- the same of the stream, and where the last byte of the length came before
+told_after : sized_split (sizes_first 2 1152 (always 2000)) (0xe1 ∷ 0x03 ∷ 0x6f ∷ []) ≡ record { messages = []; rest = 0xe1 ∷ 0x03 ∷ 0x6f ∷ []; fault = None }
+unfolding sized_split sized_frames frames_within beginning declared_of length_at two_bytes_at
+told_after = refl
+
+told_before : sized_split (sizes_first 3 1152 (always 2000)) (0xe1 ∷ 0x03 ∷ 0x6f ∷ []) ≡ record { messages = []; rest = 0xe1 ∷ 0x03 ∷ 0x6f ∷ []; fault = Some (OfFrame TooLarge) }
+unfolding sized_split sized_frames frames_within beginning declared_of length_at two_bytes_at
+told_before = refl

@@ -1,24 +1,28 @@
 -- What the calls of a framer copy into its buffer.
 use Rattle.std.specs.Prelude.{◌≡◌, ◌≢◌, ℕ, ◌+◌, ◌-◌, ◌≤◌, ◌<◌, List, [], ◌∷◌, length}
 use Rattle.coap_frame.specs.Framing.{FramerValue, AFrame, framing_of, counted, framer_after, with_frame_back, MayUnread}
+use Rattle.coap_frame.specs.Raising.{asked_for}
 
 -- a call that changes a framer
 pub data FramerCall : Type 0 where
   Next : List ℕ → FramerCall
   Unread : List ℕ → FramerCall
   Clear : FramerCall
+  Raise : ℕ → FramerCall
 
 -- it may be made
 abbrev pub MayCall : FramerValue → FramerCall → Type 0
 MayCall v (Next piece) = Unit {0}
 MayCall v (Unread piece) = MayUnread v piece
 MayCall v Clear = Unit {0}
+MayCall v (Raise new) = Unit {0}
 
 -- the framer after it
 abbrev pub after_call : FramerValue → FramerCall → FramerValue
 after_call v (Next piece) = framer_after v piece
 after_call v (Unread piece) = with_frame_back v piece
 after_call v Clear = record v { kept = []; spent = [] }
+after_call v (Raise new) = asked_for v new
 
 -- how many bytes lie in the buffer
 abbrev pub lying : FramerValue → ℕ
@@ -46,6 +50,7 @@ abbrev pub IsCounted : FramerValue → FramerCall → FramerValue → Type 0
 IsCounted v (Next piece) after = IsCountedNext v piece after
 IsCounted v (Unread piece) after = IsCountedUnread v piece after
 IsCounted v Clear after = after.copied ≡ v.copied
+IsCounted v (Raise new) after = after.copied ≡ v.copied
 
 -- so it is with each of these calls, one after the other
 unfoldable pub AreCounted : FramerValue → List FramerCall → Type 0

@@ -1,38 +1,50 @@
 -- What a framer gives over a list of calls.
 use Rattle.std.specs.Prelude.{◌≡◌, ℕ, ◌-◌, List, [], ◌∷◌, ◌++◌, Option, Some, None, length, take, drop}
-use Rattle.coap_wire.specs.Frames.{Frames, frames_of}
+use Rattle.coap_wire.specs.Frames.{Frames, Sizes, always, sizes_first, sized_frames}
+use Rattle.coap_frame.specs.Raising.{asked_for}
 use Rattle.coap_frame.specs.Framing.{FramerValue, Finding, Nothing, AFrame, AFault, framing_of, framer_after, with_frame_back}
 use Rattle.coap_wire.specs.declared.fault.FrameFault.{FrameFault}
 
--- the bytes taken in all, the frames given, the fault that ended them, and the framer afterwards
+-- what a framer is handed: the next piece of the stream, or the size of the greatest frame from then on
+pub data Handed : Type 0 where
+  Piece : (bytes : List ℕ) → Handed
+  Size : (new : ℕ) → Handed
+
+-- the bytes taken in all, the greatest frame at the time of each of them, the frames given, the fault that ended them, and the
+-- framer afterwards
 pub record Given : Type 0 where
   pub taken : List ℕ
+  pub sizes : Sizes
   pub frames : List (List ℕ)
   pub fault : Option FrameFault
   pub after : FramerValue
 
--- bytes taken with nothing found, and then the rest
-abbrev pub taken_first : List ℕ → Given → Given
-taken_first bytes given = record given { taken = bytes ++ given.taken }
+-- bytes taken with this size and with nothing found, and then the rest
+abbrev pub taken_first : List ℕ → ℕ → Given → Given
+taken_first bytes max given = record given { taken = bytes ++ given.taken; sizes = sizes_first (length bytes) max given.sizes }
 
--- bytes taken with which a frame was found, and then the rest
-abbrev pub frame_first : List ℕ → List ℕ → Given → Given
-frame_first bytes frame given = record given { taken = bytes ++ given.taken; frames = frame ∷ given.frames }
+-- bytes taken with this size, with which a frame was found, and then the rest
+abbrev pub frame_first : List ℕ → ℕ → List ℕ → Given → Given
+frame_first bytes max frame given = record (taken_first bytes max given) { frames = frame ∷ given.frames }
 
-abbrev pub given_then : (FramerValue → Given) → List ℕ → FramerValue → Finding → Given
-given_then go bytes after Nothing = taken_first bytes (go after)
-given_then go bytes after (AFrame frame) = frame_first bytes frame (go after)
-given_then go bytes after (AFault fault) = record { taken = bytes; frames = []; fault = Some fault; after = after }
+abbrev pub given_then : (FramerValue → Given) → List ℕ → ℕ → FramerValue → Finding → Given
+given_then go bytes max after Nothing = taken_first bytes max (go after)
+given_then go bytes max after (AFrame frame) = frame_first bytes max frame (go after)
+given_then go bytes max after (AFault fault) = record { taken = bytes; sizes = always max; frames = []; fault = Some fault; after = after }
 
--- Each piece is given to one call, up to the first fault. Of a piece that is not taken whole, the rest may come again as the next.
-unfoldable pub given_by : FramerValue → List (List ℕ) → Given
-given_by v [] = record { taken = []; frames = []; fault = None; after = v }
-given_by v (p ∷ ps) =
-    given_then (λ now. given_by now ps) (take (framing_of v p).taken p) (framer_after v p) (framing_of v p).finding
+-- Each piece is given to one call, up to the first fault, and each size to one, which there is memory for. Of a piece that is not taken
+-- whole, the rest may come again as the next.
+unfoldable pub given_by : FramerValue → List Handed → Given
+given_by v [] = record { taken = []; sizes = always v.max; frames = []; fault = None; after = v }
+given_by v (Size new ∷ more) = given_by (asked_for v new) more
+given_by v (Piece p ∷ more) =
+    given_then (λ now. given_by now more) (take (framing_of v p).taken p) v.max (framer_after v p) (framing_of v p).finding
 
--- the frames, the rest and the fault of the stream that the kept bytes and then the taken bytes form
+-- The frames, the rest and the fault of the stream that the kept bytes and then the taken bytes form. A frame's size is judged by the
+-- one in force when the last byte of its length was taken. (What is kept may have come while a lower one was in force: what is
+-- unfinished then is so with a greater one.)
 abbrev pub stream_given : FramerValue → Given → Frames
-stream_given v given = frames_of v.max (v.kept ++ given.taken)
+stream_given v given = sized_frames (sizes_first (length v.kept) v.max given.sizes) (v.kept ++ given.taken)
 
 -- what a framer gave is what that stream has
 pub record IsGiven (v : FramerValue) (given : Given) : Type 0 where

@@ -5,3 +5,4 @@ pub mod Filling
 pub mod BufferViews
 pub mod Given
 pub mod Copying
+pub mod Raising

@@ -70,8 +70,8 @@ pub(crate) fn append(buffer: &mut Vec<u8>, bytes: &[u8])
     };
 }
 
-/// Takes bytes until the buffer declares its size, or has a token length above 8, or the piece is used up. At most 5 bytes
-/// are taken one by one.
+/// Takes bytes until the buffer declares its size, or has a token length above 8, or the piece is used up. At most 5
+/// bytes are taken one by one.
 fn fill_head(buffer: &mut Vec<u8>, piece: &[u8]) -> (usize, Declared)
     requires { 5 ≤ vec_capacity buffer.old }
     ensures head { IsHead buffer.old.items piece.now buffer.new.items result.0 result.1 }
@@ -87,7 +87,8 @@ fn fill_head(buffer: &mut Vec<u8>, piece: &[u8]) -> (usize, Declared)
     (taken, size)
 }
 
-/// Takes bytes of the piece until the buffer has a whole frame of at most `max` bytes or a fault, or the piece is used up.
+/// Takes bytes of the piece until the buffer has a whole frame of at most `max` bytes or a fault, or the piece is used
+/// up.
 pub(crate) fn fill(buffer: &mut Vec<u8>, max: usize, piece: &[u8]) -> (usize, Standing)
     requires unfinished { beginning max buffer.old.items ≡ Unfinished }
     requires low { 1152 ≤ max }

@@ -1,16 +1,20 @@
 //! A framer: gives the frames of a stream that comes in pieces cut anywhere.
 
-ghost use Rattle.std.specs.Prelude.{◌≡◌, ◌≤◌, ◌<◌, [], length, take};
+ghost use Rattle.std.specs.Prelude.{◌≡◌, ◌≤◌, ◌<◌, [], OnOk, OnErr, length, take};
 ghost use Rattle.std.specs.Vec.{vec_capacity};
 ghost use Rattle.coap_wire.specs.Beginning.{Unfinished, beginning};
 ghost use Rattle.coap_frame.specs.Framing.{framing, framing_of, framer_after};
 ghost use Rattle.coap_frame.specs.BufferViews.{framer_of, kept_in, frame_in, finding_in};
 ghost use Rattle.coap_frame.specs.declared.framer.Held.TheVariants as held_as;
 
+use crate::fault::RaiseFault;
 use crate::filling::{Standing, append, fill, stand};
 use coap_wire::FrameFault;
 use std::alloc::{AllocError, Global};
 use std::marker::Model;
+
+/// The greatest size that a framer is raised to.
+const GREATEST_SIZE: usize = 1_048_576;
 
 /// What a piece had.
 #[derive(Clone, Copy)]
@@ -64,9 +68,10 @@ enum Held {
     Split,
 }
 
-/// Gives the frames of at most `max` bytes of a stream that comes in pieces. It reserves their room once, and copies there
-/// what it keeps of an unfinished frame and the rest of that frame alone. Contracts see a `FramerValue`: the greatest frame,
-/// the bytes kept of an unfinished frame, the split frame given last, and how many bytes were copied.
+/// Gives the frames of at most `max` bytes of a stream that comes in pieces. It reserves their room when it is made and
+/// when the greatest frame is raised, and copies there what it keeps of an unfinished frame and the rest of that frame
+/// alone. Contracts see a `FramerValue`: the greatest frame, the bytes kept of an unfinished frame, the split frame
+/// given last, and how many bytes were copied.
 #[derive(Drop)]
 pub struct Framer {
     max: usize,
@@ -93,6 +98,7 @@ impl Framer {
     ghost use mathlib.Core.Option.{none};
     ghost use Rattle.coap_frame.specs.Framing.{IsFramer, MayUnread, framing_of, framer_after, with_frame_back};
     ghost use Rattle.coap_frame.specs.FramedViews.{IsFramed};
+    ghost use Rattle.coap_frame.specs.Raising.{raised, IsRaiseAnswer};
     ghost use Rattle.coap_frame.specs.contracts.framer.Framer.{the_row};
 
     /// A framer for frames of at most `max` bytes, with nothing kept.
@@ -113,10 +119,11 @@ impl Framer {
         })
     }
 
-    /// Takes bytes of the next piece up to the end of the first frame, to the byte of a fault, or all of them. A frame that
-    /// lies whole in the piece is given as it lies there, and nothing of it is copied.
+    /// Takes bytes of the next piece up to the end of the first frame, to the byte of a fault, or all of them. A frame
+    /// that lies whole in the piece is given as it lies there, and nothing of it is copied.
     pub fn next<'a, 'p>(&'a mut self, piece: &'p [u8]) -> Framed<'a, 'p>
-        ensures* writes_back { sem 𝓛 (follows_so the_row the_row self.entry.ghost_name none (λ _ _. ⊤) (λ f. f ≡ framer_after self.old piece.now)) }
+        ensures* writes_back { sem 𝓛 (follows_so the_row the_row self.entry.ghost_name none (λ _ _. ⊤)
+            (λ f. f ≡ framer_after self.old piece.now)) }
         ensures framed { IsFramed result (framing_of self.old piece.now) }
         ensures within { result.taken ≤ length piece.now }
     {
@@ -144,6 +151,31 @@ impl Framer {
     {
         self.buffer.clear();
         self.held = Held::Beginning;
+    }
+
+    /// Takes frames of at most `new` bytes from now on. A frame that has begun is judged by it, where the last byte of
+    /// its length is yet to come. What is kept stays, with the count of the bytes copied, and nothing is spent then.
+    ///
+    /// # Errors
+    ///
+    /// In this order: `Lower` where it is below the greatest frame, `TooLarge` above 1,048,576 bytes, `Memory` where it
+    /// is greater and its room is refused. Nothing has changed then.
+    pub fn raise(&mut self, new: usize) -> Result<(), RaiseFault>
+        ensures answer { IsRaiseAnswer self.old.max new result }
+        ensures after { self.new ≡ raised self.old new result }
+    {
+        if new < self.max {
+            return Err(RaiseFault::Lower);
+        }
+        if new > GREATEST_SIZE {
+            return Err(RaiseFault::TooLarge);
+        }
+        let Ok(()) = widen(&mut self.buffer, new) else {
+            return Err(RaiseFault::Memory);
+        };
+        keep_beginning(&mut self.buffer, &mut self.held);
+        self.max = new;
+        Ok(())
     }
 
     /// The bytes kept of an unfinished frame, fewer than `max`.
@@ -194,8 +226,8 @@ impl Framer {
         self.copied
     }
 
-    /// Takes back the last byte of the frame that `next` just gave, with that call's piece cut to the bytes taken: all of
-    /// the frame but that byte is kept. It is copied from the piece where it lay whole there.
+    /// Takes back the last byte of the frame that `next` just gave, with that call's piece cut to the bytes taken: all
+    /// of the frame but that byte is kept. It is copied from the piece where it lay whole there.
     pub fn unread(&mut self, piece: &[u8])
         requires { MayUnread self.old piece.now }
         ensures { self.new ≡ with_frame_back self.old piece.now }
@@ -211,6 +243,16 @@ impl Framer {
         }
         self.held = Held::Beginning;
     }
+}
+
+/// Makes room for so many bytes in a buffer, which keeps its own.
+fn widen(buffer: &mut Vec<u8>, room: usize) -> Result<(), AllocError>
+    ensures items { buffer.new.items ≡ buffer.old.items }
+    ensures capacity { vec_capacity buffer.old ≤ vec_capacity buffer.new }
+    ensures ok { OnOk result (room ≤ vec_capacity buffer.new) }
+    ensures err { OnErr result (vec_capacity buffer.old < room) }
+{
+    buffer.reserve(room.saturating_sub(buffer.len()))
 }
 
 /// Leaves the bytes of an unfinished frame alone in the buffer.
@@ -240,10 +282,12 @@ fn advance(
     requires countable { copied.old ≤ 18446744073709551615 }
     requires low { 1152 ≤ max }
     requires room { max ≤ vec_capacity buffer.old }
-    ensures after { framer_of max held.new buffer.new.items copied.new ≡ framer_after (framer_of max held.old buffer.old.items copied.old) piece.now }
+    ensures after { framer_of max held.new buffer.new.items copied.new
+        ≡ framer_after (framer_of max held.old buffer.old.items copied.old) piece.now }
     ensures taken { result.0 ≡ (framing max (kept_in held.old buffer.old.items) piece.now).taken }
     ensures within { result.0 ≤ length piece.now }
-    ensures found { finding_in (frame_in held.new buffer.new.items (take result.0 piece.now)) result.1 ≡ (framing max (kept_in held.old buffer.old.items) piece.now).finding }
+    ensures found { finding_in (frame_in held.new buffer.new.items (take result.0 piece.now)) result.1
+        ≡ (framing max (kept_in held.old buffer.old.items) piece.now).finding }
     ensures capacity { max ≤ vec_capacity buffer.new }
 {
     keep_beginning(buffer, held);
@@ -265,7 +309,8 @@ fn advance_alone(
     requires countable { copied.old ≤ 18446744073709551615 }
     requires low { 1152 ≤ max }
     requires room { max ≤ vec_capacity buffer.old }
-    ensures after { framer_of max held_as.Beginning buffer.new.items copied.new ≡ framer_after (framer_of max held_as.Beginning [] copied.old) piece.now }
+    ensures after { framer_of max held_as.Beginning buffer.new.items copied.new
+        ≡ framer_after (framer_of max held_as.Beginning [] copied.old) piece.now }
     ensures taken { result.0 ≡ (framing max [] piece.now).taken }
     ensures within { result.0 ≤ length piece.now }
     ensures found { finding_in (take result.0 piece.now) result.1 ≡ (framing max [] piece.now).finding }
@@ -295,10 +340,12 @@ fn advance_behind(
     requires some { 0 < length buffer.old.items }
     requires low { 1152 ≤ max }
     requires room { max ≤ vec_capacity buffer.old }
-    ensures after { framer_of max held.new buffer.new.items copied.new ≡ framer_after (framer_of max held_as.Beginning buffer.old.items copied.old) piece.now }
+    ensures after { framer_of max held.new buffer.new.items copied.new
+        ≡ framer_after (framer_of max held_as.Beginning buffer.old.items copied.old) piece.now }
     ensures taken { result.0 ≡ (framing max buffer.old.items piece.now).taken }
     ensures within { result.0 ≤ length piece.now }
-    ensures found { finding_in (frame_in held.new buffer.new.items (take result.0 piece.now)) result.1 ≡ (framing max buffer.old.items piece.now).finding }
+    ensures found { finding_in (frame_in held.new buffer.new.items (take result.0 piece.now)) result.1
+        ≡ (framing max buffer.old.items piece.now).finding }
     ensures capacity { max ≤ vec_capacity buffer.new }
 {
     let (taken, standing) = fill(buffer, max, piece);

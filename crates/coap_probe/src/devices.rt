@@ -5,8 +5,8 @@ use std::cell::RefCell;
 use std::io;
 use std::io::{Read, Write};
 
-/// How devices are set: the bytes that a read gives and a write takes at most, what no read gives bytes past, the room for all
-/// writes, and how many reads and writes there are before one that fails.
+/// How devices are set: the bytes that a read gives and a write takes at most, what no read gives bytes past, the room
+/// for all writes, and how many reads and writes there are before one that fails.
 #[derive(Clone, Copy)]
 pub(crate) struct Setting {
     by: usize,

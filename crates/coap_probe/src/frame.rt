@@ -1,5 +1,5 @@
 //! Framers: `= frame MAX`, and then `next BYTES`, `each BYTES` one by one, `all BYTES` frame by frame, `hold BYTES`,
-//! `unread BYTES`, `clear`, `look` and `copied`.
+//! `unread BYTES`, `clear`, `raise MAX`, `look` and `copied`.
 
 use crate::faults::tell_fault;
 use coap_frame::{Found, Framed, Framer};
@@ -61,8 +61,8 @@ fn all(framer: &mut Framer, piece: &[u8], told: &mut Told) {
     told.number(rest.len() as u64);
 }
 
-/// Hands over a piece, and what stands behind the frame that lies whole in it while that is held; tells what was found there, and
-/// then the frame.
+/// Hands over a piece, and what stands behind the frame that lies whole in it while that is held; tells what was found
+/// there, and then the frame.
 fn hold(framer: &mut Framer, piece: &[u8], told: &mut Told) {
     let framed = framer.next(piece);
     let taken = framed.taken;
@@ -75,8 +75,8 @@ fn hold(framer: &mut Framer, piece: &[u8], told: &mut Told) {
     told.hex(frame);
 }
 
-/// Takes back the frame that was just given, with its last piece: a split one, or an empty Capabilities and Settings message
-/// that lay whole in its piece.
+/// Takes back the frame that was just given, with its last piece: a split one, or an empty Capabilities and Settings
+/// message that lay whole in its piece.
 #[tactic(auto, unfolding(coap_wire::specs::Beginning::beginning, coap_wire::specs::Reading::declared_of, coap_wire::specs::Reading::length_at))]
 fn unread(framer: &mut Framer, piece: &[u8], told: &mut Told) {
     if framer.spent() > 0 {
@@ -85,6 +85,14 @@ fn unread(framer: &mut Framer, piece: &[u8], told: &mut Told) {
         framer.unread(&[0x00, 0xe1]);
     } else {
         told.word("refused");
+    }
+}
+
+/// Takes frames of at most so many bytes from now on, or tells why not.
+fn raise(framer: &mut Framer, text: &str, told: &mut Told) {
+    let max = number(text).unwrap_or(0);
+    if let Err(fault) = framer.raise(max.min(4_294_967_295) as usize) {
+        tell_fault(&fault, fault as u8, told);
     }
 }
 
@@ -112,7 +120,11 @@ pub(crate) fn play(framer: &mut Framer, event: &str, bytes: &mut Vec<u8>, told: 
             told.number(framer.copied());
         }
         _ => {
-            act(framer, word, bytes, told);
+            if word == "raise" {
+                raise(framer, rest, told);
+            } else {
+                act(framer, word, bytes, told);
+            }
             told.word("max");
             told.number(framer.max() as u64);
         }

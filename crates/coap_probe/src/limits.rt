@@ -1,4 +1,5 @@
-//! Limits and configurations: `limits` and six numbers, `config` and twelve, `starts`, and `faults`. They need no value: `= limits`.
+//! Limits and configurations: `limits` and six numbers, `config` and twelve, `starts`, and `faults`. They need no
+//! value: `= limits`.
 
 use crate::faults::tell_fault;
 use coap_conn::{LimitFault, Limits, Reason, SendFault};

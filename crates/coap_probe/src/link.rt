@@ -1,6 +1,7 @@
-//! Links: `= link ROLE` and the six limits, and then `hear MESSAGE`, `reply MESSAGE`, `request MESSAGE plain`
-//! (or `observe`), `cancel MESSAGE`, `ping - plain` (or `custody`), `hold TOKEN MOMENT`, `due - MOMENT`, `release`, `reject - FAULT`,
-//! `end - cut` or `end - whole`, `write - COUNT`, `count` and `look`. Answers are told as Debug has them.
+//! Links: `= link ROLE` and the six limits, and then `hear MESSAGE`, `reply MESSAGE`, `request MESSAGE plain` (or
+//! `observe`), `cancel MESSAGE`, `ping - plain` (or `custody`), `hold TOKEN MOMENT`, `due - MOMENT`, `release`, `reject
+//! - FAULT`, `end - cut` or `end - whole`, `announce - SIZE`, `write - COUNT`, `count`, `part` and `look`. Answers are
+//! told as Debug has them.
 
 use crate::limits::limits_of;
 use coap_conn::{Link, Phase, Reject, Role};
@@ -104,6 +105,23 @@ fn reject(link: &mut Link, fault: &str, told: &mut Told) {
     }
 }
 
+/// Announces another greatest message that is taken, and tells the one in force.
+fn announce(link: &mut Link, size: usize, told: &mut Told) {
+    let size = size.min(4_294_967_295) as u32;
+    match link.phase() {
+        Phase::Open => {
+            if link.ready() && link.takes_announcement(size) {
+                link.announce(size);
+            } else {
+                told.word("refused");
+            }
+        }
+        _ => told.word("refused"),
+    }
+    told.word("own");
+    told.number(link.own_max() as u64);
+}
+
 /// Writes so many bytes of those that wait.
 fn written(link: &mut Link, count: usize, told: &mut Told) {
     if count <= link.waiting() {
@@ -135,18 +153,20 @@ fn act(link: &mut Link, word: &str, bytes: &[u8], last: &str, told: &mut Told) {
             link.end(last == "cut");
             told.word("-");
         }
+        "announce" => announce(link, moment, told),
         "write" => written(link, moment, told),
         "count" => {
             let (pending, outstanding) = (link.pending(), link.outstanding());
             let _ = write!(told, "pending {pending} outstanding {outstanding} ");
         }
+        "part" => told.hex(link.next_part()),
         "look" => told.word("-"),
         _ => told.word("strange"),
     }
 }
 
-/// Plays an event: its answer, and then the phase, the greatest message that the peer takes, the bytes that are free, whether the link
-/// is ready, whether it is finished, and the bytes that wait.
+/// Plays an event: its answer, and then the phase, the greatest message that the peer takes, the bytes that are free,
+/// whether the link is ready, whether it is finished, and the bytes that wait.
 pub(crate) fn play(link: &mut Link, event: &str, bytes: &mut Vec<u8>, told: &mut Told) {
     let (word, rest) = cut(event);
     let (digits, last) = cut(rest);

@@ -1,4 +1,5 @@
-//! Plays rows of text from standard input on the values of the crates up to the server, and writes a line for each (`coap_told`).
+//! Plays rows of text from standard input on the values of the crates up to the server, and writes a line for each
+//! (`coap_told`).
 #![tactic(auto)]
 
 mod devices;

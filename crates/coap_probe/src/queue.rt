@@ -1,4 +1,5 @@
-//! Queues of bytes that wait to be written: `= queue COUNT`, and then `append BYTES`, `push BYTE`, `write COUNT` and `look`.
+//! Queues of bytes that wait to be written: `= queue COUNT`, and then `append BYTES`, `push BYTE`, `write COUNT`,
+//! `part` and `look`.
 
 use coap_conn::OutQueue;
 use coap_told::{Told, cut, number, read_hex};
@@ -21,6 +22,7 @@ fn act(queue: &mut OutQueue, word: &str, rest: &str, bytes: &mut Vec<u8>, told: 
         ("append", more) if more.len() <= queue.room() => queue.append(more),
         ("push", [byte]) if queue.room() > 0 => queue.push(*byte),
         ("write", _) if count <= queue.waiting() => queue.written(count),
+        ("part", _) => told.hex(queue.next_part()),
         ("look", _) => {}
         _ => told.word("refused"),
     }

@@ -1,5 +1,5 @@
-//! Texts of scripts: `= script`, and then `read BYTES`, which tells the events that are read, each before a semicolon, or the number
-//! and the text of the fault; and `faults`, which tells each fault so.
+//! Texts of scripts: `= script`, and then `read BYTES`, which tells the events that are read, each before a semicolon,
+//! or the number and the text of the fault; and `faults`, which tells each fault so.
 
 use coap_serve::{Event, ScriptFault, script};
 use coap_store::PathKey;

@@ -1,8 +1,8 @@
-//! Servers: `= serve` and the six limits of a connection, connections, resources, bytes of a representation, turns, and where the
-//! moment, the versions and the connections' numbers begin; and then the lines of a script, one a row, or some with `|` between them,
-//! whose lines are told so too. Where memory was refused, the lines before that are told, and the number of the event. Beside these
-//! lines `take CONNECTION BYTES` is one call, which tells the bytes that it took and what it handled, and `written CONNECTION COUNT`
-//! another one.
+//! Servers: `= serve` and the six limits of a connection, connections, resources, bytes of a representation, turns, and
+//! where the moment, the versions and the connections' numbers begin; and then the lines of a script, one a row, or
+//! some with `|` between them, whose lines are told so too. Where memory was refused, the lines before that are told,
+//! and the number of the event. Beside these lines `take CONNECTION BYTES` is one call, which tells the bytes that it
+//! took and what it handled, `written CONNECTION COUNT` another one, and `part CONNECTION` tells a front of what waits.
 
 use crate::limits::{config_of, limits_of};
 use coap_serve::{
@@ -68,6 +68,15 @@ fn written(server: &mut Server, text: &str, told: &mut Told) {
     });
 }
 
+/// Tells a front of what waits on a connection.
+fn part(server: &Server, text: &str, told: &mut Told) {
+    let (id, _) = next_number(text);
+    match server.next_part(id as u64) {
+        Some(part) => told.hex(part),
+        None => told.word("nosuch"),
+    }
+}
+
 /// Replays the lines of a row, and tells the server's lines.
 pub(crate) fn play(
     alloc: Global,
@@ -81,6 +90,9 @@ pub(crate) fn play(
     }
     if let Some(text) = row.strip_prefix("written ") {
         return written(server, text, told);
+    }
+    if let Some(text) = row.strip_prefix("part ") {
+        return part(server, text, told);
     }
     bytes.clear();
     let _ = bytes.extend_from_slice(row.as_bytes());

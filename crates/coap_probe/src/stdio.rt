@@ -1,6 +1,7 @@
-//! Runs over one input and one output: `= stdio` and the numbers of a configuration (`serve::config_of`), and then `serve` with the
-//! numbers that set its devices (`devices::devices_set`) and the bytes that come in. All calls of the devices are told in their order, and
-//! then what the run answers; and `faults`, which tells the number and the text of each fault.
+//! Runs over one input and one output: `= stdio` and the numbers of a configuration (`serve::config_of`), and then
+//! `serve` with the numbers that set its devices (`devices::devices_set`) and the bytes that come in. All calls of the
+//! devices are told in their order, and then what the run answers; and `faults`, which tells the number and the text of
+//! each fault.
 
 use crate::devices::{Reader, Setting, Writer, devices_set};
 use coap_serve::{Config, IoFault, Outlet, ReadSource, Report, Source, WriteOutlet, serve_one};
@@ -28,7 +29,8 @@ fn answered(outcome: &Result<Report, IoFault>, told: &mut Told) {
     }
 }
 
-/// Serves bytes over devices that are set so, and tells their calls and the answer. A device has failed where the answer says so.
+/// Serves bytes over devices that are set so, and tells their calls and the answer. A device has failed where the
+/// answer says so.
 fn served(alloc: Global, config: &Config, setting: Setting, rest: &[u8], page: &RefCell<Told>) {
     if config.starts().ids == u64::MAX {
         return;
@@ -50,7 +52,8 @@ fn served(alloc: Global, config: &Config, setting: Setting, rest: &[u8], page: &
     }
 }
 
-/// Serves the bytes of a row. The line is lent to the devices for so long; the one in its place has no room, and so no memory.
+/// Serves the bytes of a row. The line is lent to the devices for so long; the one in its place has no room, and so no
+/// memory.
 fn serve(alloc: Global, config: &Config, text: &str, bytes: &mut Vec<u8>, told: &mut Told) {
     let (setting, rest) = devices_set(text);
     read_hex(rest, bytes);

@@ -1,6 +1,7 @@
-//! Stores: `= store RESOURCES BYTES VERSION`, and then `ask REQUEST MOMENT`, `make REQUEST` whose change is made too, and what the
-//! program itself does: `put REQUEST FORMAT` with the path and the payload of a request, `remove REQUEST`, `state REQUEST MOMENT` and
-//! `notify REQUEST MOMENT FORMAT`. Where no FORMAT stands, there is none. `path REQUEST` tells the key that its segments are.
+//! Stores: `= store RESOURCES BYTES VERSION`, and then `ask REQUEST MOMENT`, `make REQUEST` whose change is made too,
+//! and what the program itself does: `put REQUEST FORMAT` with the path and the payload of a request, `remove REQUEST`,
+//! `state REQUEST MOMENT` and `notify REQUEST MOMENT FORMAT`. Where no FORMAT stands, there is none. `path REQUEST`
+//! tells the key that its segments are.
 
 use arrayvec::ArrayVec;
 use coap_store::{Change, PathKey, Plan, State, Store, StoreFault, UriPath, Watch, request_path};
@@ -63,8 +64,8 @@ fn word_of_watch(watch: Watch) -> &'static str {
     }
 }
 
-/// Tells an answer: its code, what it changes, what becomes of the observer, each part that the response has, the payload, and once more
-/// what becomes of the observer, as the answer without its payload tells it.
+/// Tells an answer: its code, what it changes, what becomes of the observer, each part that the response has, the
+/// payload, and once more what becomes of the observer, as the answer without its payload tells it.
 fn tell_plan(plan: Plan, told: &mut Told) {
     told.number(u64::from(plan.code().byte()));
     told.word(word_of_change(&plan.change()));

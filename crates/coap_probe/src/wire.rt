@@ -1,5 +1,5 @@
-//! Messages: `write BYTES LENGTH PART..`, `read BYTES`, `known BYTES`, `declared BYTES`, `code BYTES`, `codes`, `kind NUMBER`,
-//! `uint NUMBER` and `value BYTES`. They need no value: `= wire`.
+//! Messages: `write BYTES LENGTH PART..`, `read BYTES`, `known BYTES`, `declared BYTES`, `code BYTES`, `codes`, `kind
+//! NUMBER`, `uint NUMBER` and `value BYTES`. They need no value: `= wire`.
 
 use crate::faults::tell_fault;
 use coap_told::{Told, cut, next_number, number, read_hex};
@@ -74,7 +74,8 @@ fn read(bytes: &[u8], told: &mut Told) {
     }
 }
 
-/// Tells the options of a message that are recognised, behind which there must be none, and the first critical one that is not.
+/// Tells the options of a message that are recognised, behind which there must be none, and the first critical one that
+/// is not.
 fn known(bytes: &[u8], told: &mut Told) {
     let Ok(message) = parse(bytes) else {
         return told.word("strange");
@@ -117,8 +118,9 @@ fn add<'a>(message: &mut Builder<'a>, name: &str, value: &'a [u8], told: &mut To
     }
 }
 
-/// Builds a message. The bytes are its code, its token of so many, and the values of the parts, each of which is a name, `=` and a
-/// length: of an option its number, of the payload `payload`. `look` tells the message, and `token` the one with another token.
+/// Builds a message. The bytes are its code, its token of so many, and the values of the parts, each of which is a
+/// name, `=` and a length: of an option its number, of the payload `payload`. `look` tells the message, and `token` the
+/// one with another token.
 fn write(text: &str, bytes: &mut Vec<u8>, told: &mut Told) {
     let count = bytes.len();
     let room = count.saturating_mul(2).saturating_add(FORMS);
@@ -154,7 +156,8 @@ fn write(text: &str, bytes: &mut Vec<u8>, told: &mut Told) {
     }
 }
 
-/// Tells the least and the greatest length of the options with a number, and whether a message may have several of them.
+/// Tells the least and the greatest length of the options with a number, and whether a message may have several of
+/// them.
 fn tell_kind(number: usize, told: &mut Told) {
     let Ok(number) = u16::try_from(number) else {
         return told.word("strange");

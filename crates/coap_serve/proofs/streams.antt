@@ -19,4 +19,6 @@ pub mod NoteLemmas
 pub mod NotedLemmas
 pub mod ServingLemmas
 pub mod PartLemmas
+pub mod NextPartLemmas
 pub mod ServiceLemmas
+pub mod DoorLemmas

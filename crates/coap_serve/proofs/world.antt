@@ -30,8 +30,14 @@ pub mod HandlingLaws
 pub mod HandledLaws
 pub mod FitLaws
 pub mod RefusedLaws
+pub mod MemoryLaws
 pub mod ToldMessages
 pub mod CustodyLaws
 pub mod HeldLaws
 pub mod ToldAnswers
 pub mod ToldLaws
+pub mod HeardLaws
+pub mod AnswerCounts
+pub mod AnswerCodes
+pub mod AnsweredLaws
+pub mod ViewEventLaws

@@ -8,3 +8,4 @@ pub mod Turns
 pub mod Notes
 pub mod Serving
 pub mod Telling
+pub mod DoorRun

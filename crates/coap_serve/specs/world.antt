@@ -7,3 +7,7 @@ pub mod View
 pub mod Handling
 pub mod Told
 pub mod Custody
+pub mod Memory
+pub mod Heard
+pub mod Answered
+pub mod ViewEvents

@@ -14,12 +14,12 @@ ghost use Rattle.coap_store.specs.Changes.{IsPut, TakesChange};
 ghost use Rattle.coap_serve.specs.values.Causes.{change_hash};
 ghost use Rattle.coap_store.specs.Watching.{MayWatch};
 ghost use Rattle.coap_serve.specs.world.Observers.{asks_entry as asks, is_whole as is_sent_whole};
-ghost use Rattle.coap_serve.specs.values.Sessions.{ObserverValue, answer_on, hold_on, held_in, host_changed, is_stale, link_sent, new_entry, notification_on, without_entry};
-ghost use Rattle.coap_serve.specs.values.Entries.{first_index, link_replied, entries_replied, entries_notified};
+ghost use Rattle.coap_serve.specs.values.Sessions.{ObserverValue, answer_on, hold_on, held_in, host_changed, link_sent, new_entry, notification_on, without_entry};
+ghost use Rattle.coap_serve.specs.values.Entries.{IsFirstStale, link_replied, entries_replied, entries_notified};
 ghost use Rattle.coap_serve.specs.views.ObserverViews.{observer_value};
 
 use crate::host::{Host, mark_at};
-use crate::observers::{Observer, Observers};
+use crate::observers::{Observer, Observers, Stale};
 use crate::path_set::hash_of;
 use crate::response::respond;
 use coap_conn::{Due, Link, Reply};
@@ -27,9 +27,9 @@ use coap_store::{Change, Plan, State, Store, Watch, held_response, request_path}
 use coap_wire::{Code, MessageRef, copy_of};
 use std::alloc::AllocError;
 
-/// Answers a request, or holds its answer, and answers the hash of the path where that put or deleted a resource, if it did. What it
-/// changes is changed before it is answered. The entry with its token goes, and where it asks to be entered as an observer and there is
-/// room, it is, if its response is sent whole (RFC 7641 section 4.1).
+/// Answers a request, or holds its answer, and answers the hash of the path where that put or deleted a resource, if it
+/// did. What it changes is changed before it is answered. The entry with its token goes, and where it asks to be
+/// entered as an observer and there is room, it is, if its response is sent whole (RFC 7641 section 4.1).
 ///
 /// # Errors
 ///
@@ -43,8 +43,14 @@ pub(crate) fn answer(
     requires ready { IsReady link.old }
     requires open { is_open link.old.phase ≡ true }
     ensures changed { IfOk result (λ changed. changed ≡ change_hash (answer_on host.old request.now).change) }
-    ensures link { OnOk result (link.new ≡ link_replied host.old link.old observers.old.room (without_entry request.now.token observers.old.entries) request.now (held_in link.old (hold_on host.old request.now))) }
-    ensures entries { OnOk result (observers.new ≡ record observers.old { entries = entries_replied host.old link.old observers.old.room (without_entry request.now.token observers.old.entries) request.now (held_in link.old (hold_on host.old request.now)) }) }
+    ensures link { OnOk result (link.new ≡ link_replied host.old link.old observers.old.room
+        (without_entry request.now.token observers.old.entries) request.now
+        (held_in link.old (hold_on host.old request.now))) }
+    ensures entries { OnOk result (observers.new ≡ record observers.old {
+      entries = entries_replied host.old link.old observers.old.room
+          (without_entry request.now.token observers.old.entries) request.now
+          (held_in link.old (hold_on host.old request.now));
+    }) }
     ensures host { OnOk result (host.new ≡ host_changed host.old (answer_on host.old request.now).change) }
     ensures put { OnErr result (IsPut (answer_on host.old request.now).change) }
     ensures unchanged { OnErr result (host.new ≡ host.old) }
@@ -73,7 +79,8 @@ pub(crate) fn answer(
     Ok(None)
 }
 
-/// Makes the change of an answer that this store gave, and answers the hash of the path where it is. (Apart from `answer`, since a function clears all its locals.)
+/// Makes the change of an answer that this store gave, and answers the hash of the path where it is. (Apart from
+/// `answer`, since a function clears all its locals.)
 ///
 /// # Errors
 ///
@@ -103,7 +110,8 @@ fn hash_of_change(change: &Change) -> Option<u8>
     }
 }
 
-/// Holds the answer to a request until a moment, or refuses it for now where no more can be held. The observer with its token goes.
+/// Holds the answer to a request until a moment, or refuses it for now where no more can be held. The observer with its
+/// token goes.
 fn answer_late(
     link: &mut Link,
     observers: &mut Observers,
@@ -114,8 +122,11 @@ fn answer_late(
     requires ready { IsReady link.old }
     requires open { is_open link.old.phase ≡ true }
     requires short { length plan.response.payload ≤ 1048576 }
-    ensures link { link.new ≡ (if can_hold link.old then link_after link.old (call.Hold request.now.token moment) else link_after link.old (call.Reply (response_message request.now.token (unheld plan.entry).response))) }
-    ensures entries { observers.new ≡ record observers.old { entries = without_entry request.now.token observers.old.entries } }
+    ensures link { link.new
+        ≡ (if can_hold link.old then link_after link.old (call.Hold request.now.token moment) else link_after link.old
+        (call.Reply (response_message request.now.token (unheld plan.entry).response))) }
+    ensures entries { observers.new
+        ≡ record observers.old { entries = without_entry request.now.token observers.old.entries } }
 {
     observers.forget(request.token());
     if link.hold(copy_of(request.token()), moment).is_err() {
@@ -162,11 +173,13 @@ fn is_whole(reply: Reply) -> bool
     }
 }
 
-/// Enters a request as an observer, for which there is room. (Apart from `answer`, since a function clears all its locals.)
+/// Enters a request as an observer, for which there is room. (Apart from `answer`, since a function clears all its
+/// locals.)
 fn enter(observers: &mut Observers, host: &Host, request: &MessageRef)
     requires room { length observers.old.entries < observers.old.room }
     requires watched { MayWatch host.now.store host.now.now (path_of request.now) (answer_on host.now request.now) }
-    ensures { observers.new ≡ record observers.old { entries = observers.old.entries ++ new_entry host.entry.now request.now ∷ [] } }
+    ensures { observers.new
+        ≡ record observers.old { entries = observers.old.entries ++ new_entry host.entry.now request.now ∷ [] } }
 {
     observers.enter(entry_for(host, request));
 }
@@ -190,25 +203,27 @@ fn entry_for(host: &Host, request: &MessageRef) -> Observer
     }
 }
 
-/// Notifies the first observer that is stale, which is the one at this index (RFC 7641 section 4.2): it is told the state now and
+/// Notifies the first observer that is stale, which is this one (RFC 7641 section 4.2): it is told the state now and
 /// stays where that goes to it whole, and goes otherwise.
-pub(crate) fn notify(link: &mut Link, observers: &mut Observers, host: &Host, index: usize)
+pub(crate) fn notify(link: &mut Link, observers: &mut Observers, host: &Host, stale: Stale)
     requires ready { IsReady link.old }
     requires answering { IsAnswering link.old.phase }
-    requires first { first_index (is_stale host.now) observers.old.entries ≡ Some index }
-    ensures link { (o : ObserverValue) → slice_get observers.old.entries index ≡ Some o → link.new ≡ link_after link.old (call.Reply (notification_on host.entry.now o)) }
-    ensures entries { (o : ObserverValue) → slice_get observers.old.entries index ≡ Some o → observers.new ≡ record observers.old { entries = entries_notified host.entry.now link.old observers.old.entries o } }
+    requires first { IsFirstStale host.now observers.old.entries stale }
+    ensures link { (o : ObserverValue) → slice_get observers.old.entries stale.index ≡ Some o →
+        link.new ≡ link_after link.old (call.Reply (notification_on host.entry.now o)) }
+    ensures entries { (o : ObserverValue) → slice_get observers.old.entries stale.index ≡ Some o →
+        observers.new
+        ≡ record observers.old { entries = entries_notified host.entry.now link.old observers.old.entries o } }
 {
-    let observer = observers.get(index);
+    let observer = observers.get(stale.index);
     let plan = host
         .store
         .notification(&observer.path, observer.format, host.now);
     let goes_on = plan.code() == Code::CONTENT;
     let reply = respond(link, &observer.token, &plan, goes_on);
-    let mark = host.mark(&observer.path);
     if goes_on && is_whole(reply) {
-        observers.tell(index, mark);
+        observers.tell(stale.index, stale.mark);
     } else {
-        observers.remove(index);
+        observers.remove(stale.index);
     }
 }

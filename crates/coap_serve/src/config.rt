@@ -78,8 +78,10 @@ impl Config {
         turns: u64,
         starts: Starts,
     ) -> Result<Config, ConfigFault>
-        ensures answer { RefusedBy result (config_refusal (config_of limits connections dynamic_max rep_max turns (start_values starts))) }
-        ensures ok { IfOk result (λ c. c ≡ config_of limits connections dynamic_max rep_max turns (start_values starts)) }
+        ensures answer { RefusedBy result (config_refusal
+            (config_of limits connections dynamic_max rep_max turns (start_values starts))) }
+        ensures ok { IfOk result (λ c. c ≡ config_of limits connections dynamic_max rep_max turns
+            (start_values starts)) }
     {
         if connections < 1 || connections > 256 {
             return Err(ConfigFault::Connections);

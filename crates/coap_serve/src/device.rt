@@ -7,8 +7,8 @@ use std::io::{Read, Write};
 
 /// A source of bytes.
 pub trait Source {
-    /// What it tells: the pieces that its reads gave so far, in order, of which the one that found the end is empty; and
-    /// the bytes that are left.
+    /// What it tells: the pieces that its reads gave so far, in order, of which the one that found the end is empty;
+    /// and the bytes that are left.
     ghost told: { Self → Told };
 
     /// Whether a read has failed.
@@ -60,7 +60,8 @@ impl<R: Read> ReadSource<R> {
     /// The reader as a source that has not failed.
     pub fn new(reader: R) -> ReadSource<R>
         ensures works { ⟦<ReadSource<R> as Source>⟧.is_failed result ≡ false }
-        ensures told { ⟦<ReadSource<R> as Source>⟧.told result ≡ record { pieces = None; remaining = R.remaining reader } }
+        ensures told { ⟦<ReadSource<R> as Source>⟧.told result
+            ≡ record { pieces = None; remaining = R.remaining reader } }
     {
         ReadSource {
             reader,

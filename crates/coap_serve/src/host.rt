@@ -19,7 +19,7 @@ pub(crate) struct Host {
 impl Host {
     ghost use Rattle.std.specs.Prelude.{◌≡◌, ◌<◌, ◌^◌, IfOk};
     ghost use Rattle.coap_serve.specs.values.Servers.{new_host};
-    ghost use Rattle.coap_serve.specs.values.Sessions.{mark_of, is_marked as has_mark, state_on};
+    ghost use Rattle.coap_serve.specs.values.Sessions.{untold_mark};
 
     /// The host of a new server: nothing is stored, and its counts begin where the configuration says.
     ///
@@ -41,28 +41,24 @@ impl Host {
         Ok(Host { store, now: moment })
     }
 
-    /// The mark of the state of a path: what tells it from the others that the path has in time, 0 where the path is absent.
-    pub(crate) fn mark(&self, path: &PathKey) -> u64
-        ensures { result ≡ mark_of self.entry.now.now (state_on self.entry.now path.now) }
+    /// The mark of the state of a path, where it is not the one with this mark: what tells it from the others that the
+    /// path has in time. Where the path is absent no mark is its state's, and 0 is answered.
+    pub(crate) fn other_mark(&self, path: &PathKey, mark: u64) -> Option<u64>
+        ensures { result ≡ untold_mark self.entry.now path.now mark }
     {
-        match self.store.state(path, self.now) {
-            State::Absent => 0,
-            State::Present(there) => mark_at(self.now, &there),
+        let State::Present(there) = self.store.state(path, self.now) else {
+            return Some(0);
+        };
+        let present = mark_at(self.now, &there);
+        if present == mark {
+            return None;
         }
-    }
-
-    /// Whether the path is there, in the state that has this mark.
-    pub(crate) fn is_marked(&self, path: &PathKey, mark: u64) -> bool
-        ensures { result ≡ has_mark self.entry.now.now mark (state_on self.entry.now path.now) }
-    {
-        match self.store.state(path, self.now) {
-            State::Absent => false,
-            State::Present(there) => mark_at(self.now, &there) == mark,
-        }
+        Some(present)
     }
 }
 
-/// The mark of a representation at a moment in seconds: its version where it is stored, and the moment where it is built in.
+/// The mark of a representation at a moment in seconds: its version where it is stored, and the moment where it is
+/// built in.
 pub(crate) fn mark_at(now: u64, there: &Present) -> u64
     ensures { result ≡ mark_in now there.now }
 {

@@ -1,10 +1,10 @@
 //! The observers of a connection (RFC 7641).
 
-ghost use Rattle.std.specs.Prelude.{◌≡◌, ◌≤◌, false, length, map};
+ghost use Rattle.std.specs.Prelude.{◌≡◌, ◌<◌, ◌≤◌, None, false, length, map, IfNone, IfSome};
 ghost use Rattle.std.specs.List.{list_any};
 ghost use Rattle.std.specs.Vec.{vec_capacity};
 ghost use Rattle.coap_serve.specs.values.Dues.{tells_time as observes_time};
-ghost use Rattle.coap_serve.specs.values.Entries.{first_index};
+ghost use Rattle.coap_serve.specs.values.Entries.{IsFirstStale, first_index};
 ghost use Rattle.coap_serve.specs.values.Sessions.{is_stale as stale, without_entry};
 ghost use Rattle.coap_serve.specs.views.ObserverViews.{observer_value};
 
@@ -31,7 +31,7 @@ pub(crate) struct Observer {
 impl Observer {
     ghost use Rattle.std.specs.Prelude.{◌≡◌};
     ghost use Rattle.coap_serve.specs.values.Dues.{tells_time as observes_time};
-    ghost use Rattle.coap_serve.specs.values.Sessions.{is_stale as stale};
+    ghost use Rattle.coap_serve.specs.values.Sessions.{untold_mark};
     ghost use Rattle.coap_serve.specs.views.ObserverViews.{observer_value};
 
     /// Whether it observes something built in, which is the moment: no other one of these can be observed.
@@ -41,13 +41,21 @@ impl Observer {
         !self.path.place().is_dynamic()
     }
 
-    /// Whether it was told another state of its path than the one on this host.
-    #[tactic(auto, unfolding(crate::specs::values::Sessions::is_stale))]
-    fn is_stale(&self, host: &Host) -> bool
-        ensures { result ≡ stale host.entry.now (observer_value self.now) }
+    /// The mark of the state of its path on this host, where it was told another one.
+    fn other_mark(&self, host: &Host) -> Option<u64>
+        ensures { result ≡ untold_mark host.entry.now self.now.path self.now.mark }
     {
-        !host.is_marked(&self.path, self.mark)
+        host.other_mark(&self.path, self.mark)
     }
+}
+
+/// An observer that was told another state of its path than the one that is there.
+#[derive(Clone, Copy)]
+pub(crate) struct Stale {
+    /// Its index.
+    pub index: usize,
+    /// The mark of the state that is there.
+    pub mark: u64,
 }
 
 /// At most so many observers, in room that was reserved once, in the order in which they came. Contracts see an
@@ -72,12 +80,12 @@ impl Model for Observers {
 }
 
 impl Observers {
-    ghost use Rattle.std.specs.Prelude.{◌≡◌, ◌≤◌, ◌<◌, ◌++◌, ◌∷◌, [], false, length, not, nat_lt, IfOk, IfSome, Some, slice_get, slice_set};
+    ghost use Rattle.std.specs.Prelude.{◌≡◌, ◌≤◌, ◌<◌, ◌++◌, ◌∷◌, [], false, length, not, nat_lt, IfOk, IfNone, IfSome, None, Some, slice_get, slice_set};
     ghost use Rattle.std.specs.List.{remove, list_any};
     ghost use Rattle.coap_serve.specs.values.Causes.{ObservesNone};
     ghost use Rattle.coap_serve.specs.values.Dues.{tells_time as observes_time};
     ghost use Rattle.coap_serve.specs.values.Sessions.{ObserverValue, without_entry, is_stale};
-    ghost use Rattle.coap_serve.specs.values.Entries.{first_index};
+    ghost use Rattle.coap_serve.specs.values.Entries.{IsFirstStale, first_index};
     ghost use Rattle.coap_serve.specs.views.ObserverViews.{observer_value};
 
     /// No observer, and room for so many, at most 256.
@@ -114,7 +122,14 @@ impl Observers {
     pub(crate) fn tell_time(&self) -> bool
         ensures { result ≡ list_any observes_time self.now.entries }
     {
-        self.paths.may_have_built_in() && tells_time(&self.entries)
+        self.may_tell_time() && tells_time(&self.entries)
+    }
+
+    /// Whether one of them may observe the moment. This costs no look at any of them.
+    pub(crate) fn may_tell_time(&self) -> bool
+        ensures { result ≡ false → list_any observes_time self.now.entries ≡ false }
+    {
+        self.paths.may_have_built_in()
     }
 
     /// Whether one of them may observe a path with this hash.
@@ -124,10 +139,11 @@ impl Observers {
         self.paths.may_have(hash)
     }
 
-    /// The index of the first one that was told another state of its path than the one on this host.
-    pub(crate) fn first_stale(&self, host: &Host) -> Option<usize>
-        ensures first { result ≡ first_index (is_stale host.entry.now) self.now.entries }
-        ensures within { IfSome result (λ i. i < length self.now.entries) }
+    /// The first one that was told another state of its path than the one on this host.
+    pub(crate) fn first_stale(&self, host: &Host) -> Option<Stale>
+        ensures none { IfNone result (first_index (is_stale host.entry.now) self.now.entries ≡ None) }
+        ensures some { IfSome result (λ found. IsFirstStale host.entry.now self.now.entries found) }
+        ensures within { IfSome result (λ found. found.index < length self.now.entries) }
     {
         first_stale(&self.entries, host)
     }
@@ -143,7 +159,8 @@ impl Observers {
     /// The one at an index was told the state with this mark.
     pub(crate) fn tell(&mut self, index: usize, mark: u64)
         requires { index < length self.old.entries }
-        ensures { (o : ObserverValue) → slice_get self.old.entries index ≡ Some o → self.new ≡ record self.old { entries = slice_set self.old.entries index (record o { mark = mark }) } }
+        ensures { (o : ObserverValue) → slice_get self.old.entries index ≡ Some o →
+            self.new ≡ record self.old { entries = slice_set self.old.entries index (record o { mark = mark }) } }
     {
         self.entries[index].mark = mark;
     }
@@ -186,13 +203,15 @@ impl Observers {
     }
 }
 
-/// The index of the first of these that was told another state of its path than the one on this host.
-fn first_stale(observers: &[Observer], host: &Host) -> Option<usize>
-    ensures { result ≡ first_index (stale host.entry.now) (map observer_value observers.now) }
+/// The first of these that was told another state of its path than the one on this host.
+fn first_stale(observers: &[Observer], host: &Host) -> Option<Stale>
+    ensures none { IfNone result (first_index (stale host.entry.now) (map observer_value observers.now) ≡ None) }
+    ensures some { IfSome result (λ found. IsFirstStale host.entry.now (map observer_value observers.now) found) }
+    ensures within { IfSome result (λ found. found.index < length observers.now) }
 {
     for (index, observer) in observers.iter().enumerate() {
-        if observer.is_stale(host) {
-            return Some(index);
+        if let Some(mark) = observer.other_mark(host) {
+            return Some(Stale { index, mark });
         }
     }
     None
@@ -207,7 +226,8 @@ fn tells_time(observers: &[Observer]) -> bool
 
 /// All stay but those with this token, and whether there were any is answered.
 fn keep_others(observers: &mut Vec<Observer>, token: &Token) -> bool
-    ensures others { map observer_value observers.new.items ≡ without_entry token.now.items (map observer_value observers.old.items) }
+    ensures others { map observer_value observers.new.items
+        ≡ without_entry token.now.items (map observer_value observers.old.items) }
     ensures fewer { length observers.new.items ≤ length observers.old.items }
     ensures capacity { vec_capacity observers.new ≡ vec_capacity observers.old }
     ensures same { result ≡ false → observers.new.items ≡ observers.old.items }

@@ -16,17 +16,19 @@ use thiserror::Error;
 #[error("cannot write")]
 pub struct WriteFailed;
 
-/// Writes all that waits on a connection, until nothing waits: what is written makes room, and what there is room for then comes
-/// to wait. Answers why the connection takes no message any more.
+/// Writes all that waits on a connection, until nothing waits: what is written makes room, and what there is room for
+/// then comes to wait. Answers why the connection takes no message any more.
 pub(crate) fn flush<W: Outlet>(
     writer: &mut W,
     server: &mut Server,
     id: ConnId,
 ) -> Result<Option<Reason>, WriteFailed>
     requires { W.is_failed writer.old ≡ false }
-    ensures ok { OnOk result (IsFlushed id server.old server.new (AddsBytes (W.written writer.old) (W.written writer.new))) }
+    ensures ok { OnOk result (IsFlushed id server.old server.new
+        (AddsBytes (W.written writer.old) (W.written writer.new))) }
     ensures stop { IfOk result (λ stop. stop ≡ stop_on (session_of id server.new.sessions)) }
-    ensures part { OnErr result (IsPartFlushed id server.old (WritesPart (W.written writer.old) (W.written writer.new))) }
+    ensures part { OnErr result (IsPartFlushed id server.old
+        (WritesPart (W.written writer.old) (W.written writer.new))) }
     ensures failure { W.is_failed writer.new ≡ is_err result }
 {
     let first = server.flush_once(id, writer)?;

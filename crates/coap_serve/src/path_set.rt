@@ -9,7 +9,8 @@ ghost use Rattle.coap_serve.specs.views.ObserverViews.{observer_value};
 use crate::observers::Observer;
 use coap_store::PathKey;
 
-/// A set of paths that may have more than were put into it: whoever is to be found by a path is looked for only where it is here.
+/// A set of paths that may have more than were put into it: whoever is to be found by a path is looked for only where
+/// it is here.
 #[derive(Drop)]
 pub(crate) struct PathSet {
     /// For each hash of a path, whether one with it was put in.

@@ -129,14 +129,17 @@ impl Server {
     ///
     /// # Errors
     ///
-    /// `Write` where a write failed: the event whose line was not written whole was the last one that was run. `Memory` where
-    /// memory was refused for an event, with its number from 1: the events before it were run and their lines written, and
-    /// of this one, where it brings bytes in, what stands before the message that memory was refused for is taken.
+    /// `Write` where a write failed: the event whose line was not written whole was the last one that was run. `Memory`
+    /// where memory was refused for an event, with its number from 1: the events before it were run and their lines
+    /// written, and of this one, where it brings bytes in, what stands before the message that memory was refused for
+    /// is taken.
     pub fn replay<W: Outlet>(&mut self, events: &[Event], out: &mut W) -> Result<(), ReplayFault>
         requires { W.is_failed out.old ≡ false }
-        ensures replayed { IsReplayed self.old (map event_value events.now) self.new (AddsBytes (W.written out.old) (W.written out.new)) result }
+        ensures replayed { IsReplayed self.old (map event_value events.now) self.new
+            (AddsBytes (W.written out.old) (W.written out.new)) result }
         ensures failure { W.is_failed out.new ≡ fails_write result }
-        ensures shows { (before : List world.Event) → Shows self.old before → IsShownReplay before self.old (map event_value events.now) self.new result }
+        ensures shows { (before : List world.Event) → Shows self.old before →
+            IsShownReplay before self.old (map event_value events.now) self.new result }
     {
         for (index, event) in events.iter().enumerate() {
             let Ok(line) = self.run_event(event) else {

@@ -25,14 +25,16 @@ const FEW: usize = 5;
 /// The most options of any response: a path has 16 segments at most.
 const MANY: usize = 21;
 
-/// Sends the response of a plan to the request with this token, as it fits the peer (RFC 7252 section 5.10), with Observe where
-/// it is a notification too (RFC 7641 section 4.2). Answers what was sent.
+/// Sends the response of a plan to the request with this token, as it fits the peer (RFC 7252 section 5.10), with
+/// Observe where it is a notification too (RFC 7641 section 4.2). Answers what was sent.
 pub(crate) fn respond(link: &mut Link, token: &Token, plan: &Plan, observes: bool) -> Reply
     requires ready { IsReady link.old }
     requires answering { IsAnswering link.old.phase }
     requires short { length plan.now.response.payload ≤ 1048576 }
-    ensures reply { let response = response_with_observe token.now.items observes plan.now.response in result ≡ fit (limit_in link.old) response (bare_response response) }
-    ensures after { link.new ≡ link_after link.old (call.Reply (response_with_observe token.now.items observes plan.now.response)) }
+    ensures reply { let response = response_with_observe token.now.items observes plan.now.response in result
+        ≡ fit (limit_in link.old) response (bare_response response) }
+    ensures after { link.new
+        ≡ link_after link.old (call.Reply (response_with_observe token.now.items observes plan.now.response)) }
 {
     match plan.location() {
         None => respond_from::<FEW>(link, token, plan, observes, None),
@@ -55,8 +57,10 @@ fn respond_from<'a, const N: usize>(
     requires told { path_or_root path ≡ plan.now.response.location }
     requires room { length plan.now.response.location + 5 ≤ N }
     requires few { N ≤ 40 }
-    ensures reply { let response = response_with_observe token.now.items observes plan.now.response in result ≡ fit (limit_in link.old) response (bare_response response) }
-    ensures after { link.new ≡ link_after link.old (call.Reply (response_with_observe token.now.items observes plan.now.response)) }
+    ensures reply { let response = response_with_observe token.now.items observes plan.now.response in result
+        ≡ fit (limit_in link.old) response (bare_response response) }
+    ensures after { link.new
+        ≡ link_after link.old (call.Reply (response_with_observe token.now.items observes plan.now.response)) }
 {
     let format = wide(plan.format());
     let format_bytes = number_bytes(format);
@@ -111,7 +115,11 @@ fn add_etag<'a, const N: usize>(response: &mut MessageBuilder<'a, N>, etag: Opti
     requires room { 1 ≤ N }
     requires few { N ≤ 40 }
     requires short { IfSome etag (λ etag. length etag.now ≤ 8) }
-    ensures added { response.new ≡ record response.old { options = response.old.options ++ option_at numbers.etag (option_map (λ etag. etag.now) etag.entry) } }
+    ensures added { response.new
+        ≡ record response.old {
+          options = response.old.options ++ option_at numbers.etag
+              (option_map (λ etag. etag.now) etag.entry);
+        } }
     ensures order { last_number 0 response.new.options ≤ 4 }
     ensures few { length response.new.options ≤ 1 }
 {
@@ -125,7 +133,8 @@ fn add_observe<const N: usize>(response: &mut MessageBuilder<N>, observes: bool)
     requires order { last_number 0 response.old.options ≤ 4 }
     requires room { length response.old.options < N }
     requires few { N ≤ 40 }
-    ensures added { response.new ≡ record response.old { options = response.old.options ++ empty_at numbers.observe observes } }
+    ensures added { response.new
+        ≡ record response.old { options = response.old.options ++ empty_at numbers.observe observes } }
     ensures order { last_number 0 response.new.options ≤ 6 }
     ensures few { length response.new.options ≤ length response.old.options + 1 }
 {
@@ -140,7 +149,11 @@ fn add_location<'a, const N: usize>(response: &mut MessageBuilder<'a, N>, path: 
     requires order { last_number 0 response.old.options ≤ 8 }
     requires room { length response.old.options + length (path_or_root path) ≤ N }
     requires few { N ≤ 40 }
-    ensures added { response.new ≡ record response.old { options = response.old.options ++ each_at numbers.location_path (path_or_root path.entry) } }
+    ensures added { response.new
+        ≡ record response.old {
+          options = response.old.options ++ each_at numbers.location_path
+              (path_or_root path.entry);
+        } }
     ensures order { last_number 0 response.new.options ≤ 8 }
     ensures few { length response.new.options ≤ length response.old.options + length (path_or_root path.entry) }
 {
@@ -176,7 +189,8 @@ fn add_path<'a, const N: usize>(response: &mut MessageBuilder<'a, N>, path: UriP
     requires order { last_number 0 response.old.options ≤ 8 }
     requires room { length response.old.options + length path ≤ N }
     requires few { N ≤ 40 }
-    ensures added { response.new ≡ record response.old { options = response.old.options ++ each_at numbers.location_path path.entry } }
+    ensures added { response.new
+        ≡ record response.old { options = response.old.options ++ each_at numbers.location_path path.entry } }
     ensures order { last_number 0 response.new.options ≤ 8 }
     ensures few { length response.new.options ≤ length response.old.options + length path.entry }
 {

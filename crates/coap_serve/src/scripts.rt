@@ -41,8 +41,8 @@ impl ScriptFault {
     }
 }
 
-/// The events that the lines of a text name, in order. Each line ends with a newline; an empty line, and one that begins
-/// with `#`, names none.
+/// The events that the lines of a text name, in order. Each line ends with a newline; an empty line, and one that
+/// begins with `#`, names none.
 ///
 /// # Errors
 ///

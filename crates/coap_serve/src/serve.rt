@@ -64,21 +64,21 @@ struct Turn {
     stop: Option<Reason>,
 }
 
-/// Serves one connection: writes our Capabilities and Settings, then reads pieces of at most 4,096 bytes and writes
-/// the answer to each message before it looks at the next one (RFC 8323 sections 3.3, 5.3, 5.4). It runs one `Server`, which has
-/// this connection alone: requests are answered from a store in which nothing is stored at first, at the moment at which the
-/// configuration starts (RFC 7252 section 5.8), and observers are notified (RFC 7641).
+/// Serves one connection: writes our Capabilities and Settings, then reads pieces of at most 4,096 bytes and writes the
+/// answer to each message before it looks at the next one (RFC 8323 sections 3.3, 5.3, 5.4). It runs one `Server`,
+/// which has this connection alone: requests are answered from a store in which nothing is stored at first, at the
+/// moment at which the configuration starts (RFC 7252 section 5.8), and observers are notified (RFC 7641).
 ///
 /// It ends at the end of input or with the first message or fault that stops the connection. Every read is a turn, the
 /// one that finds the end too.
 ///
 /// # Errors
 ///
-/// `Memory` where the room of the connection or of the store was refused: then nothing was read or
-/// written. `Memory` too where the room of a representation that a request stores was refused: then all that is defined for
-/// the bytes before the last one of that request was written, and nothing of the request was handled. `Write` where a write
-/// failed, with a part of the output written. `Read` where a read failed, and `Turns` where one more
-/// turn would be needed: then all that is defined for the bytes so far was written.
+/// `Memory` where the room of the connection or of the store was refused: then nothing was read or written. `Memory`
+/// too where the room of a representation that a request stores was refused: then all that is defined for the bytes
+/// before the last one of that request was written, and nothing of the request was handled. `Write` where a write
+/// failed, with a part of the output written. `Read` where a read failed, and `Turns` where one more turn would be
+/// needed: then all that is defined for the bytes so far was written.
 pub fn serve_one<R: Source, W: Outlet>(
     alloc: Global,
     reader: &mut R,
@@ -88,8 +88,8 @@ pub fn serve_one<R: Source, W: Outlet>(
     requires reader_works { R.is_failed reader.old ≡ false }
     requires writer_works { W.is_failed writer.old ≡ false }
     requires id_left { config.now.starts.ids + 1 < 2 ^ 64 }
-    // The standard-stream law, whatever the cuts: over what was read and written, where the devices tell it. No read gives more
-    // than 4,096 bytes.
+    // The standard-stream law, whatever the cuts: over what was read and written, where the devices tell it. No read
+    // gives more than 4,096 bytes.
     ensures run { (pieces : List (List ℕ)) × (output : List ℕ)
         × HasGiven (R.told reader.old) (R.told reader.new) pieces
         × AllByRecursion (λ p. length p ≤ 4096) pieces
@@ -186,8 +186,8 @@ fn take_turn<R: Source, W: Outlet>(
     })
 }
 
-/// Handles the messages of a piece, and writes what each queues before the next one is looked at, and answers how many were handled.
-/// Where the connection takes no message any more, the bytes behind that are not looked at.
+/// Handles the messages of a piece, and writes what each queues before the next one is looked at, and answers how many
+/// were handled. Where the connection takes no message any more, the bytes behind that are not looked at.
 ///
 /// # Errors
 ///
@@ -200,8 +200,8 @@ fn serve_piece<W: Outlet>(
 ) -> Result<u64, IoFault>
     requires works { W.is_failed writer.old ≡ false }
     requires stands { (c : ConfigValues) × (bytes : List ℕ) × IsGoing c server.old id bytes }
-    ensures served { (c : ConfigValues) (bytes : List ℕ) → IsGoing c server.old id bytes → IsServed c bytes piece.now server.new
-        (AddsBytes (W.written writer.old) (W.written writer.new)) result }
+    ensures served { (c : ConfigValues) (bytes : List ℕ) → IsGoing c server.old id bytes →
+        IsServed c bytes piece.now server.new (AddsBytes (W.written writer.old) (W.written writer.new)) result }
     ensures few { IfOk result (λ messages. messages ≤ length piece.now) }
     ensures failure { W.is_failed writer.new ≡ is_write_fault result }
 {
@@ -246,7 +246,8 @@ fn stop(server: &Server, id: ConnId) -> Option<Reason>
 /// The input of a connection ended: why it takes no message any more.
 fn end(server: &mut Server, id: ConnId) -> Option<Reason>
     requires stands { (c : ConfigValues) × (bytes : List ℕ) × IsGoing c server.old id bytes }
-    ensures { (c : ConfigValues) (bytes : List ℕ) → IsGoing c server.old id bytes → result ≡ Some (end_reason (is_cut (stream_of c bytes).rest)) }
+    ensures { (c : ConfigValues) (bytes : List ℕ) → IsGoing c server.old id bytes →
+        result ≡ Some (end_reason (is_cut (stream_of c bytes).rest)) }
 {
     let Ok(()) = server.ended(id) else {
         unreachable!()

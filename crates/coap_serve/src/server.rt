@@ -62,8 +62,8 @@ pub enum TakeFault {
     /// No connection has this number.
     #[error("no such connection")]
     NoSuch,
-    /// Memory was refused for a representation that a message stores. So many bytes of the piece are taken: those before the
-    /// message's last one. Nothing was handled, and the caller may offer that byte again.
+    /// Memory was refused for a representation that a message stores. So many bytes of the piece are taken: those
+    /// before the message's last one. Nothing was handled, and the caller may offer that byte again.
     #[error("memory was refused")]
     Memory {
         /// How many bytes of the piece are taken.
@@ -138,7 +138,8 @@ pub struct Status {
     pub finished: bool,
 }
 
-/// What may concern every connection, if it changes: the moment, and what tells the store from those that it was before.
+/// What may concern every connection, if it changes: the moment, and what tells the store from those that it was
+/// before.
 #[derive(Clone, Copy, PartialEq, Eq)]
 pub(crate) struct Stamp {
     /// The moment, in seconds.
@@ -178,7 +179,8 @@ pub(crate) struct Flushed {
 /// The connections by their numbers, in order.
 type Sessions = IndexMap<u64, Session>;
 
-/// A server with all its connections. One event is one call. Contracts see a `ServerValue`, and which world of events it shows.
+/// A server with all its connections. One event is one call. Contracts see a `ServerValue`, and which world of events
+/// it shows.
 #[derive(Drop)]
 pub struct Server {
     alloc: Global,

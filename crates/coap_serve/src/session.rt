@@ -66,16 +66,17 @@ impl Model for Session {
 }
 
 impl Session {
-    ghost use Rattle.std.specs.Prelude.{◌≡◌, ◌≤◌, ◌+◌, ◌||◌, ⊤, false, length, take, is_some, IfOk, IfErr, OnOk, OnErr};
+    ghost use Rattle.std.specs.Prelude.{◌≡◌, ◌≤◌, ◌+◌, ◌||◌, ⊤, ℕ, None, false, length, take, is_some, IfOk, IfErr, OnOk, OnErr};
     ghost use Rattle.std.specs.Borrow.{sem, follows_so};
     ghost use mathlib.Core.Option.{none};
     ghost use Rattle.coap_wire.specs.Refusal.{RefusedBy};
     ghost use Rattle.coap_conn.specs.Limits.{AreInRange};
     ghost use Rattle.coap_conn.specs.LinkValue.{is_finished};
+    ghost use Rattle.coap_conn.specs.QueueValue.{IsNextPart};
     ghost use Rattle.coap_conn.specs.Release.{release_refusal};
     ghost use Rattle.coap_serve.specs.values.Causes.{change_hash, IsUntouched};
     ghost use Rattle.coap_serve.specs.values.Sessions.{new_session, session_takes, next_held_in, next_stale, session_notified, session_settled_once, taking, host_changed, session_written, session_ended, session_released, session_settled, IsSettled, RefusesPiece};
-    ghost use Rattle.coap_serve.specs.values.Dues.{due_on, next_told as next_told_of};
+    ghost use Rattle.coap_serve.specs.values.Dues.{due_on, IsBefore, next_told as next_told_of};
     ghost use Rattle.coap_serve.specs.values.Entries.{settled_held};
     ghost use Rattle.coap_serve.specs.contracts.session.Session.{the_row};
 
@@ -102,13 +103,13 @@ impl Session {
         self.link.phase().stop().is_none() && self.link.ready()
     }
 
-    /// Takes bytes of a piece up to the end of its first message, to the byte that stops the connection, or all of them; none
-    /// where there is no room for the greatest message sent or no message is taken any more.
+    /// Takes bytes of a piece up to the end of its first message, to the byte that stops the connection, or all of
+    /// them; none where there is no room for the greatest message sent or no message is taken any more.
     ///
     /// # Errors
     ///
-    /// How many bytes were taken, where memory is refused for a representation that the message stores: all up to the message's
-    /// last. Nothing of the message was handled then.
+    /// How many bytes were taken, where memory is refused for a representation that the message stores: all up to the
+    /// message's last. Nothing of the message was handled then.
     #[tactic(auto, unfolding(crate::specs::values::Sessions::taking, coap_frame::specs::Framing::framing))]
     pub(crate) fn take(&mut self, host: &mut Host, piece: &[u8]) -> Result<Taking, usize>
         ensures count { IfOk result (λ t. t.count ≡ (taking host.old self.old piece.now).count) }
@@ -157,8 +158,8 @@ impl Session {
         }
     }
 
-    /// Sends what is held and due, and notifies the observers that are due, one after the other, as long as there is room for the
-    /// greatest message sent (RFC 8323 section 5.4.1, RFC 7641 section 4.2).
+    /// Sends what is held and due, and notifies the observers that are due, one after the other, as long as there is
+    /// room for the greatest message sent (RFC 8323 section 5.4.1, RFC 7641 section 4.2).
     pub(crate) fn settle(&mut self, host: &Host)
         ensures after { self.new ≡ session_settled host.entry.now self.old }
         ensures settled { IsSettled host.entry.now self.new }
@@ -180,16 +181,31 @@ impl Session {
         }
     }
 
-    /// Whether what changed may make something due on it: an observer of such a path may be there, or the moment of something came.
+    /// Whether what changed may make something due on it: an observer of such a path may be there, or the moment of
+    /// something came.
     fn is_touched(&self, cause: Cause, now: u64) -> bool
         ensures { result ≡ false → IsUntouched cause now self.now }
     {
         match cause {
             Cause::Path(hash) => self.observers.may_observe(hash),
-            Cause::Moment(before) => match self.due(before) {
-                None => false,
-                Some(due) => due <= now,
-            },
+            Cause::Moment(before) => self.may_come_due() && self.comes_due(before, now),
+        }
+    }
+
+    /// Whether time alone may make anything due on it: something is held, or an observer of the moment may be there.
+    fn may_come_due(&self) -> bool
+        ensures { result ≡ false → (now : ℕ) → due_on now self.now ≡ None }
+    {
+        self.link.pending() > 0 || self.observers.may_tell_time()
+    }
+
+    /// Whether something came due on it behind this moment, up to now.
+    fn comes_due(&self, before: u64, now: u64) -> bool
+        ensures { result ≡ false → IsBefore now (due_on before self.now) }
+    {
+        match self.due(before) {
+            None => false,
+            Some(due) => due <= now,
         }
     }
 
@@ -202,11 +218,12 @@ impl Session {
         }
     }
 
-    /// Sends what is held and due first, or else notifies the first observer that is due, where there is room, and answers whether
-    /// there was any.
+    /// Sends what is held and due first, or else notifies the first observer that is due, where there is room, and
+    /// answers whether there was any.
     fn settle_once(&mut self, host: &Host) -> bool
         ensures after { self.new ≡ session_settled_once host.entry.now self.old }
-        ensures found { result ≡ (is_some (next_held_in host.entry.now.now self.old) || is_some (next_stale host.entry.now self.old)) }
+        ensures found { result
+            ≡ (is_some (next_held_in host.entry.now.now self.old) || is_some (next_stale host.entry.now self.old)) }
     {
         if !self.link.ready() {
             return false;
@@ -224,20 +241,28 @@ impl Session {
         ensures after { self.new ≡ session_notified host.entry.now self.old (next_stale host.entry.now self.old) }
         ensures found { result ≡ is_some (next_stale host.entry.now self.old) }
     {
-        let Some(index) = self.observers.first_stale(host) else {
+        let Some(stale) = self.observers.first_stale(host) else {
             return false;
         };
-        notify(&mut self.link, &mut self.observers, host, index);
+        notify(&mut self.link, &mut self.observers, host, stale);
         give_up(&mut self.framer, &self.link, &mut self.observers);
         true
     }
 
     /// All bytes that wait.
     pub(crate) fn front<'a>(&'a mut self) -> &'a [u8]
-        ensures* unchanged { sem 𝓛 (follows_so the_row the_row self.entry.ghost_name none (λ _ _. ⊤) (λ s. s ≡ self.old)) }
+        ensures* unchanged { sem 𝓛 (follows_so the_row the_row self.entry.ghost_name none (λ _ _. ⊤)
+            (λ s. s ≡ self.old)) }
         ensures front { result.now ≡ self.old.link.waiting }
     {
         self.link.front()
+    }
+
+    /// A front of the bytes that wait, where they lie: none only where nothing waits.
+    pub(crate) fn next_part(&self) -> &[u8]
+        ensures { IsNextPart self.now.link.waiting result.now }
+    {
+        self.link.next_part()
     }
 
     /// The first so many bytes were written, and wait no more.
@@ -246,6 +271,20 @@ impl Session {
         ensures { self.new ≡ session_written self.old count }
     {
         self.link.written(count);
+    }
+
+    /// The same of a settled one, and it settles: where there was room before, nothing is due, and so nothing is behind
+    /// it.
+    pub(crate) fn written_and_settled(&mut self, host: &Host, count: usize)
+        requires within { count ≤ length self.old.link.waiting }
+        requires settled { IsSettled host.now self.old }
+        ensures { self.new ≡ session_settled host.entry.now (session_written self.old count) }
+    {
+        let had_room = self.link.ready();
+        self.written(count);
+        if !had_room {
+            self.settle(host);
+        }
     }
 
     /// The input ended, within a frame where bytes of one are kept. Nothing changes where no message is taken any more.
@@ -271,8 +310,8 @@ impl Session {
         Ok(())
     }
 
-    /// The next moment, in seconds, at which time alone may queue something: until then an answer is held, or an observer of the
-    /// moment is to be told it.
+    /// The next moment, in seconds, at which time alone may queue something: until then an answer is held, or an
+    /// observer of the moment is to be told it.
     pub(crate) fn due(&self, now: u64) -> Option<u64>
         ensures { result ≡ due_on now self.now }
     {
@@ -373,7 +412,8 @@ fn handle(
     requires ready { IsReady link.old }
     requires live { IsLive link.old.phase }
     requires room { observers.old.room ≡ link.old.limits.observers }
-    ensures after { OnOk result ((frame : List ℕ) → session_with [] link.new observers.new.entries ≡ session_handled host.old (record { frame = frame; link = link.old; observers = observers.old.entries }) message.now) }
+    ensures after { OnOk result ((frame : List ℕ) → session_with [] link.new observers.new.entries ≡ session_handled
+        host.old (record { frame = frame; link = link.old; observers = observers.old.entries }) message.now) }
     ensures room { OnOk result (observers.new.room ≡ observers.old.room) }
     ensures limits { OnOk result (link.new.limits ≡ link.old.limits) }
     ensures changed { IfOk result (λ changed. changed ≡ change_hash (change_by host.old link.old message.now)) }
@@ -389,7 +429,8 @@ fn handle(
     }
 }
 
-/// Gives up the observers where the connection is not open any more, and the bytes of a frame where no message is taken any more.
+/// Gives up the observers where the connection is not open any more, and the bytes of a frame where no message is taken
+/// any more.
 fn give_up(framer: &mut Framer, link: &Link, observers: &mut Observers)
     ensures framer { framer.new ≡ framer_on link.now framer.old }
     ensures observers { observers.new ≡ record observers.old { entries = observers_on link.now observers.old.entries } }

@@ -1,8 +1,8 @@
 //! What connections and moments come from: wires, the door that hands them out, and the clock.
 
-ghost use Rattle.std.specs.Prelude.{ℕ, Bool, List, [], ◌∷◌, length, Option, None};
+ghost use Rattle.std.specs.Prelude.{ℕ, Bool, List, [], ◌∷◌, length, Option, None, is_some};
 ghost use Rattle.coap_serve.specs.streams.Device.{AddsBytes};
-ghost use Rattle.coap_serve.specs.streams.Telling.{TellsMore};
+ghost use Rattle.coap_serve.specs.streams.Telling.{TellsMore, DoorCall, Asked, Waited};
 ghost use Rattle.coap_serve.specs.streams.Wires.{IsWithin, IsTold, bytes_passed};
 ghost use Rattle.coap_serve.specs.declared.wire.Got.{Got};
 
@@ -19,8 +19,8 @@ pub enum Got {
     Failed,
 }
 
-/// One connection of a transport that gives and takes bytes in order (RFC 8323 section 3). The wires of a door never wait; that of a
-/// client may wait in `read`.
+/// One connection of a transport that gives and takes bytes in order (RFC 8323 section 3). The wires of a door never
+/// wait; that of a client may wait in `read`.
 pub trait Wire {
     /// The bytes that its reads gave so far, in order, where it tells.
     ghost given: { Self → Option (List ℕ) };
@@ -31,16 +31,16 @@ pub trait Wire {
     /// What its reads and writes came to so far, in order, where it tells.
     ghost answers: { Self → Option (List Got) } = { λ _. None };
 
-    /// Reads at least 1 byte and at most as many as the buffer has, into the front of the buffer. `Later` where no byte is
-    /// there now, `End` where the peer sends nothing more, `Failed` where reading fails.
+    /// Reads at least 1 byte and at most as many as the buffer has, into the front of the buffer. `Later` where no byte
+    /// is there now, `End` where the peer sends nothing more, `Failed` where reading fails.
     fn read(&mut self, buffer: &mut [u8]) -> Got
         ensures within { IsWithin (length buffer.new) result }
         ensures gave { AddsBytes (given self.old) (given self.new) (bytes_passed buffer.new result) }
         ensures wrote { AddsBytes (written self.old) (written self.new) [] }
         ensures answered { TellsMore (answers self.old) (answers self.new) (result ∷ []) };
 
-    /// Writes at least 1 of the bytes, from their front. `Later` where none can be taken now, `Failed` where writing fails;
-    /// `End` means the same as `Failed`.
+    /// Writes at least 1 of the bytes, from their front. `Later` where none can be taken now, `Failed` where writing
+    /// fails; `End` means the same as `Failed`.
     fn write(&mut self, bytes: &[u8]) -> Got
         ensures within { IsWithin (length bytes.now) result }
         ensures wrote { AddsBytes (written self.old) (written self.new) (bytes_passed bytes.now result) }
@@ -81,12 +81,18 @@ pub trait Door {
     /// The wires that it hands out.
     type Wire: Wire + Ready + Drop;
 
-    /// The next wire, where a peer has opened a connection that was not handed out yet. It never waits.
-    fn next(&mut self) -> Option<Self::Wire>;
+    /// Which calls it had so far, in order, where it tells.
+    ghost calls: { Self → Option (List DoorCall) } = { λ _. None };
 
-    /// Learns which wires are ready, and before that waits until one is that was not, or, where another connection may be opened
-    /// (`opens`), until a peer opens one: as long as it is told at the most, and not at all where a peer waits already.
-    fn wait(&mut self, wait: Wait, opens: bool);
+    /// The next wire, where a peer has opened a connection that was not handed out yet. It never waits.
+    fn next(&mut self) -> Option<Self::Wire>
+        ensures { TellsMore (calls self.old) (calls self.new) (Asked (is_some result) ∷ []) };
+
+    /// Learns which wires are ready, and before that waits until one is that was not, or, where another connection may
+    /// be opened (`opens`), until a peer opens one: as long as it is told at the most, and not at all where a peer
+    /// waits already.
+    fn wait(&mut self, wait: Wait, opens: bool)
+        ensures { TellsMore (calls self.old) (calls self.new) (Waited wait opens ∷ []) };
 }
 
 /// What tells the moment.

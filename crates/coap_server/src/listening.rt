@@ -26,8 +26,8 @@ fn starts_at(moment: u64) -> Starts
     }
 }
 
-/// Listens at an address, says so in one line of standard error, and serves what connects. It answers the status, with which it ends only where it cannot
-/// listen, memory was refused or the turns are used up.
+/// Listens at an address, says so in one line of standard error, and serves what connects. It answers the status, with
+/// which it ends only where it cannot listen, memory was refused or the turns are used up.
 pub(crate) fn run(
     rt: &(impl Eprint + Net + time::Clock + AllocGlobal),
     address: SocketAddr,

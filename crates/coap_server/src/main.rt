@@ -1,17 +1,21 @@
 //! The program `coap-server`: CoAP over reliable transports (RFC 8323).
 //!
-//! Its words are those of `coap_client::server_words`. With `--stdio` it serves one connection over standard input and output; with
-//! `--script FILE` it replays the script in that file, or in standard input where FILE is `-`, on a server, and writes the line of each
-//! event. Else it listens at an address, and serves the connections that are opened to it.
+//! Its words are those of `coap_client::server_words`. With `--stdio` it serves one connection over standard input and
+//! output; with `--script FILE` it replays the script in that file, or in standard input where FILE is `-`, on a
+//! server, and writes the line of each event. Else it listens at an address, and serves the connections that are opened
+//! to it.
 #![tactic(auto)]
 
-ghost use Rattle.std.specs.Prelude.{◌≡◌, IfSome};
+ghost use Rattle.std.specs.Prelude.{◌≡◌, true, is_some, IfSome, IfNone};
+ghost use Rattle.coap_serve.specs.Configs.{config_refusal};
+ghost use Rattle.coap_server.specs.Planned.{planned};
 
 mod listening;
 mod script;
 
 use coap_client::{Mode, ServerPlan, WordsFault, server_words};
 use coap_serve::{Config, ReadSource, Starts, WriteOutlet, serve_one};
+use coap_sockets::hold_standard;
 use std::alloc::{AllocError, Global};
 use std::env::Args;
 use std::fmt::Display;
@@ -53,17 +57,21 @@ const FROM_ZERO: Starts = Starts {
 
 /// The configuration of a plan, with counts that begin where it is told.
 pub(crate) fn config_of(plan: &ServerPlan, starts: Starts) -> Option<Config>
-    ensures { IfSome result (λ config. (config.starts.moment ≡ starts.moment) × (config.starts.versions ≡ starts.versions) × (config.starts.ids ≡ starts.ids)) }
+    ensures value { IfSome result (λ config. config ≡ planned plan.now starts) }
+    ensures refused { IfNone result (is_some (config_refusal (planned plan.now starts)) ≡ true) }
 {
-    Config::new(
+    let config = Config::new(
         plan.limits,
         plan.connections,
         plan.dynamic_max,
         REP_MAX,
         plan.turns,
         starts,
-    )
-    .ok()
+    );
+    match config {
+        Ok(config) => Some(config),
+        Err(_) => None,
+    }
 }
 
 /// Serves one connection over standard input and output, and answers the status.
@@ -116,8 +124,8 @@ fn plan_of(alloc: Global, words: Args) -> Result<ServerPlan, WordsFault> {
     server_words(alloc, &words)
 }
 
-/// Writes help or the version, where the words ask for it, to standard output, and answers the status. Else it tells why words
-/// are refused; what `clap` says of them has lines of its own.
+/// Writes help or the version, where the words ask for it, to standard output, and answers the status. Else it tells
+/// why words are refused; what `clap` says of them has lines of its own.
 fn refuse(rt: &(impl Print + Eprint), fault: &WordsFault) -> u8 {
     if fault.is_help_or_version() {
         return match print!(rt; "{fault}") {
@@ -151,5 +159,6 @@ fn start(rt: &(impl Input + Print + Eprint + Env + Files + Net + time::Clock + A
 }
 
 fn main(rt: HostRuntime) -> ExitCode {
+    let (_first, _second, _third) = (hold_standard(&rt), hold_standard(&rt), hold_standard(&rt));
     ExitCode::from(start(&rt))
 }

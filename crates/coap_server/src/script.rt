@@ -74,8 +74,8 @@ fn read_and_run(
     }
 }
 
-/// Runs the script in the file with this name, or in standard input where it is `-`, and answers the status: 1 for a line that is
-/// no event, 3 for a file, a device or memory. Nothing is run where a line is no event.
+/// Runs the script in the file with this name, or in standard input where it is `-`, and answers the status: 1 for a
+/// line that is no event, 3 for a file, a device or memory. Nothing is run where a line is no event.
 pub(crate) fn run(
     rt: &(impl Input + Print + Eprint + Files + AllocGlobal),
     name: &str,

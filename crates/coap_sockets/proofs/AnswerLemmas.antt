@@ -5,11 +5,13 @@ use Rattle.std.specs.Io.{ReadsAtMost, WritesAtMost}
 use Rattle.std.specs.declared.io.Error.{Error}
 use Rattle.std.specs.declared.io.ErrorKind.{ErrorKind}
 use Rattle.std.specs.declared.io.ErrorKind.TheVariants.{WouldBlock, Interrupted, ConnectionAborted}
+use Rattle.std.specs.declared.io.ErrorKind.TheVariants as kind
 use Rattle.std.specs.IoError.{error_kind}
 use Rattle.coap_serve.specs.declared.wire.Got.TheVariants.{Failed}
 use Rattle.coap_serve.specs.streams.Wires.{IsWithin}
+use Rattle.coap_sockets.specs.declared.answers.Hindrance.TheVariants.{System}
 use Rattle.coap_sockets.specs.declared.answers.Refused.TheVariants.{Full}
-use Rattle.coap_sockets.specs.Answers.{is_would_block, fault_got, accept_fault, read_got, write_got}
+use Rattle.coap_sockets.specs.Answers.{is_would_block, fault_got, accept_fault, hindrance_of, read_got, write_got}
 
 pub another_is_no_would_block : (k : ErrorKind) → k ≢ WouldBlock → false ≡ is_would_block k
 unfolding is_would_block
@@ -28,6 +30,18 @@ another_is_full WouldBlock not_1 not_2 not_3 = absurd (not_1 refl)
 another_is_full Interrupted not_1 not_2 not_3 = absurd (not_2 refl)
 another_is_full ConnectionAborted not_1 not_2 not_3 = absurd (not_3 refl)
 another_is_full _ not_1 not_2 not_3 = refl
+
+pub another_is_of_the_system : (k : ErrorKind)
+    → k ≢ kind.ConnectionRefused → k ≢ kind.HostUnreachable → k ≢ kind.NetworkUnreachable
+    → k ≢ kind.NetworkDown → k ≢ kind.AddrNotAvailable → k ≢ kind.TimedOut → System ≡ hindrance_of k
+unfolding hindrance_of
+another_is_of_the_system kind.ConnectionRefused not_1 not_2 not_3 not_4 not_5 not_6 = absurd (not_1 refl)
+another_is_of_the_system kind.HostUnreachable not_1 not_2 not_3 not_4 not_5 not_6 = absurd (not_2 refl)
+another_is_of_the_system kind.NetworkUnreachable not_1 not_2 not_3 not_4 not_5 not_6 = absurd (not_3 refl)
+another_is_of_the_system kind.NetworkDown not_1 not_2 not_3 not_4 not_5 not_6 = absurd (not_4 refl)
+another_is_of_the_system kind.AddrNotAvailable not_1 not_2 not_3 not_4 not_5 not_6 = absurd (not_5 refl)
+another_is_of_the_system kind.TimedOut not_1 not_2 not_3 not_4 not_5 not_6 = absurd (not_6 refl)
+another_is_of_the_system _ not_1 not_2 not_3 not_4 not_5 not_6 = refl
 
 fault_is_within : (room : ℕ) (k : ErrorKind) → IsWithin room (fault_got k)
 unfolding fault_got

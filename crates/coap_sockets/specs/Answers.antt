@@ -4,10 +4,13 @@ use Rattle.std.specs.IoError.{error_kind}
 use Rattle.std.specs.declared.io.Error.{Error}
 use Rattle.std.specs.declared.io.ErrorKind.{ErrorKind}
 use Rattle.std.specs.declared.io.ErrorKind.TheVariants.{WouldBlock, Interrupted, ConnectionAborted}
+use Rattle.std.specs.declared.io.ErrorKind.TheVariants as kind
 use Rattle.coap_serve.specs.declared.wire.Got.{Got}
 use Rattle.coap_serve.specs.declared.wire.Got.TheVariants.{Bytes, Later, End, Failed}
 use Rattle.coap_sockets.specs.declared.answers.Refused.{Refused}
 use Rattle.coap_sockets.specs.declared.answers.Refused.TheVariants.{NoneThere, Once, Full}
+use Rattle.coap_sockets.specs.declared.answers.Hindrance.{Hindrance}
+use Rattle.coap_sockets.specs.declared.answers.Hindrance.TheVariants as hindrance
 
 -- the socket has nothing to give, or no room to take
 unfoldable pub is_would_block : ErrorKind → Bool
@@ -39,3 +42,13 @@ accept_fault WouldBlock = NoneThere
 accept_fault Interrupted = Once
 accept_fault ConnectionAborted = Once
 accept_fault _ = Full
+
+-- what hinders a connection, by the error of the call or of the socket
+unfoldable pub hindrance_of : ErrorKind → Hindrance
+hindrance_of kind.ConnectionRefused = hindrance.Refused
+hindrance_of kind.HostUnreachable = hindrance.Unreachable
+hindrance_of kind.NetworkUnreachable = hindrance.Unreachable
+hindrance_of kind.NetworkDown = hindrance.Unreachable
+hindrance_of kind.AddrNotAvailable = hindrance.Unreachable
+hindrance_of kind.TimedOut = hindrance.TimedOut
+hindrance_of _ = hindrance.System

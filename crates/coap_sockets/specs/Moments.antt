@@ -1,5 +1,5 @@
 -- How long there is to wait, in nanoseconds.
-use Rattle.std.specs.Prelude.{ℕ, ◌-◌, ◌*◌, ◌%◌, min, Option, Some, None}
+use Rattle.std.specs.Prelude.{ℕ, ◌+◌, ◌-◌, ◌*◌, ◌/◌, ◌%◌, min, max, Option, Some, None}
 
 -- a second
 abbrev pub second : ℕ
@@ -16,6 +16,10 @@ left_of time began now = time - (now - began)
 -- until the next second begins
 abbrev pub to_next_second : ℕ → ℕ
 to_next_second now = second - now % second
+
+-- The share of one who has it first of what is left for all, with so many others behind it: a second at the least, while so much is left.
+abbrev pub share_of : (left others : ℕ) → ℕ
+share_of left others = min (max (left / (others + 1)) second) left
 
 -- the shorter of two times, of which none is endless
 abbrev pub at_most : (limit : ℕ) → Option ℕ → ℕ

@@ -7,6 +7,7 @@ ghost use Rattle.coap_sockets.specs.Answers as spec;
 use coap_serve::Got;
 use std::io;
 use std::io::ErrorKind;
+use thiserror::Error;
 
 /// Why an accept gave no connection.
 #[derive(Clone, Copy, PartialEq, Eq)]
@@ -17,6 +18,26 @@ pub(crate) enum Refused {
     Once,
     /// The system has no room for it, or something else is wrong that time may mend.
     Full,
+}
+
+/// What hinders a connection.
+#[derive(Clone, Copy, Debug, PartialEq, Eq, Error)]
+pub enum Hindrance {
+    /// The system knows no host of this name.
+    #[error("unknown name")]
+    UnknownName,
+    /// The address refuses it: nobody listens at the port.
+    #[error("connection refused")]
+    Refused,
+    /// No way leads to the address.
+    #[error("host unreachable")]
+    Unreachable,
+    /// Nothing came back in time.
+    #[error("timed out")]
+    TimedOut,
+    /// The system fails otherwise, as where no file can be opened any more.
+    #[error("system fault")]
+    System,
 }
 
 /// Whether an error says that the socket has nothing to give, or no room to take.
@@ -71,5 +92,20 @@ pub(crate) fn accept_fault(error: io::Error) -> Refused
         ErrorKind::Interrupted => Refused::Once,
         ErrorKind::ConnectionAborted => Refused::Once,
         _ => Refused::Full,
+    }
+}
+
+/// What hinders a connection where a call of the system ended with an error, or where the socket has it.
+pub(crate) fn hindrance_of(error: io::Error) -> Hindrance
+    ensures { result ≡ spec.hindrance_of (error_kind error) }
+{
+    match error.kind() {
+        ErrorKind::ConnectionRefused => Hindrance::Refused,
+        ErrorKind::HostUnreachable => Hindrance::Unreachable,
+        ErrorKind::NetworkUnreachable => Hindrance::Unreachable,
+        ErrorKind::NetworkDown => Hindrance::Unreachable,
+        ErrorKind::AddrNotAvailable => Hindrance::Unreachable,
+        ErrorKind::TimedOut => Hindrance::TimedOut,
+        _ => Hindrance::System,
     }
 }

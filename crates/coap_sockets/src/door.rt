@@ -1,6 +1,7 @@
-//! A server's door over TCP: one listener, the wires of the connections that it accepted, and one set of events for all of them.
+//! A server's door over TCP: one listener, the wires of the connections that it accepted, and one set of events for all
+//! of them.
 
-ghost use Rattle.std.specs.Prelude.{◌≡◌, ◌≤◌, ◌&&◌, true, false, Some, None, IsSome, IfSome, option_map};
+ghost use Rattle.std.specs.Prelude.{◌≡◌, ◌≤◌, ◌&&◌, true, false, length, Some, None, IsSome, IfSome, IfOk, option_map};
 ghost use Rattle.std.specs.Duration.{as_nanos};
 ghost use Rattle.coap_serve.specs.declared.wire.Wait.TheVariants as asked;
 ghost use Rattle.coap_sockets.specs.Moments.{second};
@@ -61,9 +62,9 @@ type Shared = Rc<Cell<Readiness>>;
 /// The token of the listener. No wire has it: a wire's is the index of its place.
 const LISTENER: Token = Token(usize::MAX);
 
-/// How many sockets that one wait tells of are written as soon as they were read. Each write may wake its peer, which costs more than
-/// the write where the peer is another process of the same machine; so of many sockets those behind these are all read first, and
-/// their writes stand together.
+/// How many sockets that one wait tells of are written as soon as they were read. Each write may wake its peer, which
+/// costs more than the write where the peer is another process of the same machine; so of many sockets those behind
+/// these are all read first, and their writes stand together.
 const AT_ONCE: usize = 8;
 
 /// One accepted connection. Its socket is closed where it is dropped.
@@ -72,8 +73,8 @@ pub struct SocketWire {
     readiness: Shared,
 }
 
-// The system resets a connection that is closed with bytes unread, and the peer may lose what was written last. So the peer is told the
-// end first, and what has come is read and given up.
+// The system resets a connection that is closed with bytes unread, and the peer may lose what was written last. So the
+// peer is told the end first, and what has come is read and given up.
 impl Drop for SocketWire {
     fn drop(self) {
         let SocketWire {
@@ -139,9 +140,9 @@ impl Ready for SocketWire {
 
 /// The door of a server that listens at one address.
 ///
-/// It has a place for each wire, which is free while no wire shares it. The token of a wire is the index of its place. A socket that is closed
-/// leaves the set of events, and all events of a wait are told before another place is taken; so no event of an old wire
-/// reaches a new one.
+/// It has a place for each wire, which is free while no wire shares it. The token of a wire is the index of its place.
+/// A socket that is closed leaves the set of events, and all events of a wait are told before another place is taken;
+/// so no event of an old wire reaches a new one.
 #[derive(Drop)]
 pub struct SocketDoor<'a, R> {
     rt: &'a R,
@@ -156,8 +157,8 @@ pub struct SocketDoor<'a, R> {
 }
 
 impl<'a, R: Net + time::Clock> SocketDoor<'a, R> {
-    /// Listens at an address, with a place for so many wires. The address can be taken again at once after a program that listened there was
-    /// killed (`SO_REUSEADDR`).
+    /// Listens at an address, with a place for so many wires. The address can be taken again at once after a program
+    /// that listened there was killed (`SO_REUSEADDR`).
     ///
     /// # Errors
     ///
@@ -215,7 +216,7 @@ impl<'a, R: Net + time::Clock> SocketDoor<'a, R> {
             .register(
                 &mut stream,
                 Token(place),
-                Interest::READABLE | Interest::WRITABLE,
+                Interest::READABLE | Interest::WRITABLE | Interest::PRIORITY,
             )
             .ok()?;
         Some(SocketWire { stream, readiness })
@@ -223,9 +224,12 @@ impl<'a, R: Net + time::Clock> SocketDoor<'a, R> {
 
     /// Keeps what an accept has told that gave no connection.
     fn keep(&mut self, refused: Refused)
-        ensures none_there { refused ≡ refusal.NoneThere → (self.new.may_accept ≡ false) × (self.new.full_since ≡ self.old.full_since) }
-        ensures once { refused ≡ refusal.Once → (self.new.may_accept ≡ self.old.may_accept) × (self.new.full_since ≡ self.old.full_since) }
-        ensures full { refused ≡ refusal.Full → (self.new.may_accept ≡ self.old.may_accept) × IsSome self.new.full_since }
+        ensures none_there { refused ≡ refusal.NoneThere →
+            (self.new.may_accept ≡ false) × (self.new.full_since ≡ self.old.full_since) }
+        ensures once { refused ≡ refusal.Once →
+            (self.new.may_accept ≡ self.old.may_accept) × (self.new.full_since ≡ self.old.full_since) }
+        ensures full { refused ≡ refusal.Full →
+            (self.new.may_accept ≡ self.old.may_accept) × IsSome self.new.full_since }
     {
         match refused {
             Refused::NoneThere => self.may_accept = false,
@@ -239,7 +243,8 @@ impl<'a, R: Net + time::Clock> SocketDoor<'a, R> {
         ensures no { wait ≡ asked.No → option_map as_nanos result ≡ Some 0 }
         ensures forever { wait ≡ asked.Forever → opens && self.now.may_accept ≡ false → result ≡ None }
         // A peer that waits already is not made to wait, but while the system has no room for it.
-        ensures at_once { opens && self.now.may_accept ≡ true → self.now.full_since ≡ None → option_map as_nanos result ≡ Some 0 }
+        ensures at_once { opens && self.now.may_accept ≡ true → self.now.full_since ≡ None →
+            option_map as_nanos result ≡ Some 0 }
         ensures full { opens && self.now.may_accept ≡ true → IfSome result (λ time. as_nanos time ≤ second) }
     {
         let asked = match wait {
@@ -254,7 +259,8 @@ impl<'a, R: Net + time::Clock> SocketDoor<'a, R> {
         }
     }
 
-    /// How long it is until a moment in seconds since 1970 begins. Where the system's clock cannot be read, it is a second.
+    /// How long it is until a moment in seconds since 1970 begins. Where the system's clock cannot be read, it is a
+    /// second.
     fn left_until(&self, moment: u64) -> Duration {
         match self.rt.since_1970() {
             Ok(now) => left_until(moment, now),
@@ -273,8 +279,10 @@ impl<'a, R: Net + time::Clock> SocketDoor<'a, R> {
     }
 }
 
-/// Places that no wire shares yet.
-fn places(alloc: Global, count: usize) -> Result<Vec<Shared>, AllocError> {
+/// So many places that no wire shares yet.
+fn places(alloc: Global, count: usize) -> Result<Vec<Shared>, AllocError>
+    ensures { IfOk result (λ places. length places.items ≡ count) }
+{
     let mut places = Vec::with_capacity(alloc, count)?;
     for _ in 0..count {
         places.push(Rc::new(alloc, Cell::new(Readiness::unknown()))?)?;

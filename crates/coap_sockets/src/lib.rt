@@ -1,7 +1,8 @@
-//! The sockets of both programs: what a server's door and a client's wire do over TCP (RFC 8323), and the clocks beside them.
+//! The sockets of both programs: what a server's door and a client's wire do over TCP (RFC 8323), and the clocks beside
+//! them.
 //!
-//! No socket waits by itself: what is ready is learnt from the system's events, and each call on a socket answers at once. A server's
-//! door waits for events of all its wires together, and the wire of a client for those of its own.
+//! No socket waits by itself: what is ready is learnt from the system's events, and each call on a socket answers at
+//! once. A server's door waits for events of all its wires together, and the wire of a client for those of its own.
 #![tactic(auto)]
 
 mod answers;
@@ -10,8 +11,11 @@ mod door;
 mod line;
 mod moments;
 mod readiness;
+mod standard;
 
+pub use answers::Hindrance;
 pub use clock::{RunClock, SystemClock};
 pub use door::{ListenFault, SocketDoor, SocketWire};
 pub use line::{ConnectFault, Line};
 pub use readiness::Readiness;
+pub use standard::hold_standard;

@@ -1,40 +1,47 @@
 //! A client's wire over TCP, which waits.
 
-ghost use Rattle.std.specs.Prelude.{◌≡◌, length};
+ghost use Rattle.std.specs.Prelude.{◌≡◌, ◌≢◌, length};
+ghost use Rattle.std.specs.IoError.{error_kind};
+ghost use Rattle.std.specs.declared.io.ErrorKind.TheVariants as kind;
 ghost use Rattle.coap_serve.specs.streams.Wires.{IsWithin};
 ghost use Rattle.coap_sockets.specs.Ready.{is_blocked_by};
+ghost use Rattle.coap_sockets.specs.declared.answers.Hindrance.TheVariants as hindrance;
+ghost use Rattle.coap_sockets.specs.declared.line.ConnectFault.TheVariants as fault;
 
-use crate::answers::{read_got, write_got};
+use crate::answers::{Hindrance, hindrance_of, read_got, write_got};
 use crate::clock::RunClock;
+use crate::moments::share_of;
 use coap_serve::{Got, Wire};
 use mio::net::TcpStream;
 use mio::{Events, Interest, Poll, Token};
 use std::alloc::{AllocError, Global};
-use std::io::{Read, Write};
+use std::io::{ErrorKind, Read, Write};
 use std::net::{Net, SocketAddr, ToSocketAddrs};
 use std::time::Duration;
 use std::{io, time};
 use thiserror::Error;
 
-/// Why there is no connection. The discriminants are the faults' numbers.
+/// Why there is no connection.
 #[derive(Clone, Copy, Debug, PartialEq, Eq, Error)]
 pub enum ConnectFault {
-    /// The host has no address that answers in time.
+    /// The host has no address that answers in time: what hindered the connection to the last one that was tried.
     #[error("cannot connect")]
-    Socket = 1,
+    Socket(Hindrance),
     /// Memory was refused.
     #[error("no memory")]
-    Memory = 2,
+    Memory,
 }
 
 impl From<io::Error> for ConnectFault {
     ghost use Rattle.std.specs.Prelude.{◌≡◌};
+    ghost use Rattle.std.specs.IoError.{error_kind};
+    ghost use Rattle.coap_sockets.specs.Answers.{hindrance_of};
     ghost use Rattle.coap_sockets.specs.declared.line.ConnectFault.TheVariants as fault;
 
-    ghost from_gives = { λ error given. given ≡ fault.Socket };
+    ghost from_gives = { λ error given. given ≡ fault.Socket (hindrance_of (error_kind error)) };
 
-    fn from(_error: io::Error) -> ConnectFault {
-        ConnectFault::Socket
+    fn from(error: io::Error) -> ConnectFault {
+        ConnectFault::Socket(hindrance_of(error))
     }
 }
 
@@ -52,47 +59,57 @@ impl From<AllocError> for ConnectFault {
 /// The token of the one socket.
 const LINE: Token = Token(0);
 
-/// What connects: tries one address after the other, within a time for all of them together.
+/// Why a name was not looked up.
+fn lookup_fault(error: io::Error) -> ConnectFault
+    ensures memory { error_kind error ≡ kind.OutOfMemory → result ≡ fault.Memory }
+    ensures other { error_kind error ≢ kind.OutOfMemory → result ≡ fault.Socket hindrance.UnknownName }
+{
+    match error.kind() {
+        ErrorKind::OutOfMemory => ConnectFault::Memory,
+        _ => ConnectFault::Socket(Hindrance::UnknownName),
+    }
+}
+
+/// What connects: tries one address after the other.
 #[derive(Drop)]
 struct Dialer<'a, R> {
     rt: &'a R,
     poll: Poll,
     events: Events,
     clock: RunClock<'a, R>,
-    limit: Duration,
 }
 
 impl<'a, R: Net + time::Clock> Dialer<'a, R> {
-    /// The connection to an address, where it comes about in time.
-    fn dial(&mut self, address: SocketAddr) -> Option<TcpStream> {
-        let mut stream = TcpStream::connect(self.rt, address).ok()?;
+    /// The connection to an address, where it comes about before the clock stands there.
+    fn dial(&mut self, address: SocketAddr, end: Duration) -> Result<TcpStream, ConnectFault> {
+        let mut stream = TcpStream::connect(self.rt, address)?;
         self.poll
             .registry()
-            .register(&mut stream, LINE, Interest::WRITABLE)
-            .ok()?;
-        if !self.comes_about() || stream.take_error().ok()?.is_some() {
-            return None;
+            .register(&mut stream, LINE, Interest::WRITABLE)?;
+        if !self.comes_about(end)? {
+            return Err(ConnectFault::Socket(Hindrance::TimedOut));
         }
-        stream.peer_addr().ok()?;
-        stream.set_nodelay(true).ok()?;
-        Some(stream)
+        if let Some(error) = stream.take_error()? {
+            return Err(ConnectFault::from(error));
+        }
+        stream.peer_addr()?;
+        stream.set_nodelay(true)?;
+        Ok(stream)
     }
 
-    /// Waits until something has become of the connection, and answers whether it has in time.
-    fn comes_about(&mut self) -> bool {
+    /// Waits until something has become of the connection, and answers whether it has before the clock stands there.
+    fn comes_about(&mut self, end: Duration) -> io::Result<bool> {
         for _ in 0..u64::MAX {
-            let left = self.limit.saturating_sub(self.clock.passed());
-            if self.poll.poll(&mut self.events, Some(left)).is_err() {
-                return false;
-            }
+            let left = end.saturating_sub(self.clock.passed());
+            self.poll.poll(&mut self.events, Some(left))?;
             if !self.events.is_empty() {
-                return true;
+                return Ok(true);
             }
             if left.is_zero() {
-                return false;
+                break;
             }
         }
-        false
+        Ok(false)
     }
 
     /// The wire of a connection, whose run begins now.
@@ -109,8 +126,9 @@ impl<'a, R: Net + time::Clock> Dialer<'a, R> {
     }
 }
 
-/// The wire of a client. A read with nothing there waits, until the next second of the run begins at the most. So does a write with no
-/// room, where the call before it was one too: whoever writes twice and reads nothing has something to write first.
+/// The wire of a client. A read with nothing there waits, until the next second of the run begins at the most. So does
+/// a write with no room, where the call before it was one too: whoever writes twice and reads nothing has something to
+/// write first.
 #[derive(Drop)]
 pub struct Line<'a, R> {
     stream: TcpStream,
@@ -126,8 +144,10 @@ pub struct Line<'a, R> {
 }
 
 impl<'a, R: Net + time::Clock> Line<'a, R> {
-    /// Connects to a host, which is a name, or an address without brackets: tries each address of it in turn, for so many seconds in all. Looking up
-    /// a name takes as long as the system takes for it.
+    /// Connects to a host, which is a name, or an address without brackets, at a port: tries each address of it in
+    /// turn, for so many seconds in all, of a name the first 32. Each gets an equal share of what is left for it and
+    /// those behind it, and a second at the least, while there is one. Looking up a name comes before these seconds,
+    /// and takes as long as the system takes for it.
     ///
     /// # Errors
     ///
@@ -135,23 +155,34 @@ impl<'a, R: Net + time::Clock> Line<'a, R> {
     pub fn connect(
         rt: &'a R,
         alloc: Global,
-        host: &str,
-        port: u16,
+        place: (&str, u16),
         seconds: u32,
     ) -> Result<Line<'a, R>, ConnectFault> {
+        let addresses = match place.to_socket_addrs(rt) {
+            Ok(addresses) => addresses,
+            Err(error) => return Err(lookup_fault(error)),
+        };
+        let count = u16::try_from(addresses.len()).unwrap_or(u16::MAX);
         let mut dialer = Dialer {
             rt,
             poll: Poll::new(rt)?,
             events: Events::with_capacity(alloc, 1)?,
             clock: RunClock::start(rt),
-            limit: Duration::from_secs(u64::from(seconds)),
         };
-        for address in (host, port).to_socket_addrs(rt)? {
-            if let Some(stream) = dialer.dial(address) {
-                return Ok(dialer.line(stream));
+        let limit = Duration::from_secs(u64::from(seconds));
+        let mut fault = ConnectFault::Socket(Hindrance::UnknownName);
+        for (address, others) in addresses.zip((0..count).rev()) {
+            let passed = dialer.clock.passed();
+            let left = limit.saturating_sub(passed);
+            if left.is_zero() {
+                break;
+            }
+            match dialer.dial(address, passed.saturating_add(share_of(left, others))) {
+                Ok(stream) => return Ok(dialer.line(stream)),
+                Err(trouble) => fault = trouble,
             }
         }
-        Err(ConnectFault::Socket)
+        Err(fault)
     }
 
     /// The clock of the run, which began as the connection came about.
@@ -170,7 +201,8 @@ impl<'a, R: Net + time::Clock> Line<'a, R> {
 
     /// Waits for one of these, or until the next second of the run begins.
     fn wait(&mut self, interest: Interest) {
-        // To register it once more has the system tell again what is ready. Where that fails, the wait ends with the second.
+        // To register it once more has the system tell again what is ready. Where that fails, the wait ends with the
+        // second.
         let _ = self
             .poll
             .registry()

@@ -34,6 +34,15 @@ pub(crate) fn to_next_second(now: Duration) -> Duration
     second().saturating_sub(Duration::from_nanos(u64::from(now.subsec_nanos())))
 }
 
+/// The share of one who has it first of what is left for all, with so many others behind it: a second at the least,
+/// while so much is left.
+pub(crate) fn share_of(left: Duration, others: u16) -> Duration
+    ensures { as_nanos result ≡ spec.share_of (as_nanos left) others }
+{
+    let share = left / (u32::from(others) + 1);
+    share.max(second()).min(left)
+}
+
 /// A time, but at most this one; `None` is a time without end.
 pub(crate) fn at_most(limit: Duration, time: Option<Duration>) -> Duration
     ensures { as_nanos result ≡ spec.at_most (as_nanos limit) (option_map as_nanos time) }

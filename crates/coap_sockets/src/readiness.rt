@@ -13,16 +13,18 @@ use std::io::{Read, Write};
 
 /// What is known of a socket without asking the system.
 ///
-/// The system tells of changes alone. So what it told holds until a call finds that the socket has nothing to give, or no room to take; and
-/// a call that passed on fewer bytes than it was asked for has found the same.
+/// The system tells of changes alone. So what it told holds until a call finds that the socket has nothing to give, or
+/// no room to take; and a call that passed on fewer bytes than it was asked for has found the same, but for a read that
+/// stops short.
 #[derive(Clone, Copy, PartialEq, Eq)]
 pub struct Readiness {
     /// Whether a read may come to something else than that nothing is there.
     pub readable: bool,
     /// Whether a write may come to something else than that there is no room.
     pub writable: bool,
-    /// Whether the peer sends no more, or the socket has failed: then a read finds that, behind the bytes that are there.
-    pub at_end: bool,
+    /// Whether a read may give fewer bytes than it has room for, and leave something that the system has told of
+    /// already: the end of what the peer sends, a failure, or bytes behind urgent data.
+    pub stops_short: bool,
     /// Whether the next write is put off once, until the other sockets that were told of with this one have been read.
     pub yields: bool,
     /// Whether that was done and nothing was written since: then the next write is not put off.
@@ -37,7 +39,7 @@ impl Readiness {
         Readiness {
             readable: true,
             writable: true,
-            at_end: false,
+            stops_short: false,
             yields: false,
             has_yielded: false,
         }
@@ -54,7 +56,7 @@ impl Readiness {
                 || event.is_writable()
                 || event.is_write_closed()
                 || event.is_error(),
-            at_end: self.at_end || failed,
+            stops_short: self.stops_short || failed || event.is_priority(),
             yields: behind_many && event.is_readable() && !self.has_yielded,
             has_yielded: self.has_yielded,
         }
@@ -65,7 +67,7 @@ impl Readiness {
         ensures { result ≡ spec.read_with self room answer }
     {
         let readable = match answer {
-            Ok(count) => count == 0 || !(count < room) || self.at_end,
+            Ok(count) => count == 0 || !(count < room) || self.stops_short,
             Err(error) => !is_would_block(error),
         };
         Readiness { readable, ..self }
@@ -102,7 +104,8 @@ impl Readiness {
     pub(crate) fn read<S: Read>(&mut self, stream: &mut S, buffer: &mut [u8]) -> Got
         ensures within { IsWithin (length buffer.new) result }
         // The system is not asked where nothing can come of it.
-        ensures idle { self.old.readable ≡ false → (stream.new ≡ stream.old) × (self.new ≡ self.old) × (result ≡ Later) }
+        ensures idle { self.old.readable ≡ false →
+            (stream.new ≡ stream.old) × (self.new ≡ self.old) × (result ≡ Later) }
     {
         if !self.readable {
             return Got::Later;
@@ -117,11 +120,14 @@ impl Readiness {
     pub(crate) fn write<S: Write>(&mut self, stream: &mut S, bytes: &[u8]) -> Got
         ensures within { IsWithin (length bytes.now) result }
         // The system is not asked where nothing can come of it.
-        ensures idle { self.old.writable ≡ false → (stream.new ≡ stream.old) × (self.new ≡ self.old) × (result ≡ Later) }
+        ensures idle { self.old.writable ≡ false →
+            (stream.new ≡ stream.old) × (self.new ≡ self.old) × (result ≡ Later) }
         // Nor where the write is put off, which happens once.
-        ensures later { self.old.writable ≡ true → self.old.yields ≡ true → (stream.new ≡ stream.old) × (self.new ≡ spec.put_off self.old) × (result ≡ Later) }
+        ensures later { self.old.writable ≡ true → self.old.yields ≡ true →
+            (stream.new ≡ stream.old) × (self.new ≡ spec.put_off self.old) × (result ≡ Later) }
         // A write that is made ends that.
-        ensures made { self.old.writable ≡ true → self.old.yields ≡ false → (self.new.yields ≡ false) × (self.new.has_yielded ≡ false) }
+        ensures made { self.old.writable ≡ true → self.old.yields ≡ false →
+            (self.new.yields ≡ false) × (self.new.has_yielded ≡ false) }
     {
         if !self.writable {
             return Got::Later;

@@ -196,13 +196,13 @@ key_is path q e =
     ] refl e
 
 -- a version is left
-version_fits : (n : ℕ) → (n == greatest_version) ≡ false → n < 2 ^ 64 → n + 1 < 2 ^ 64
+pub version_fits : (n : ℕ) → (n == greatest_version) ≡ false → n < 2 ^ 64 → n + 1 < 2 ^ 64
 version_fits n other small =
     let apart : n ≡ greatest_version → ⊥ = eqb-false n greatest_version other in
     omega arith
 
 -- what is there may be replaced, and what is not may be made while there is room
-has_room : (state : Option Representation) (most n : ℕ) → (is_none state && nat_le most n) ≡ false → (is_some state || nat_lt n most) ≡ true
+pub has_room : (state : Option Representation) (most n : ℕ) → (is_none state && nat_le most n) ≡ false → (is_some state || nat_lt n most) ≡ true
 has_room None most n e = lt-ltb n most (leb-false most n e)
 has_room (Some r) most n e = refl
 

@@ -13,18 +13,16 @@ use Rattle.coap_store.specs.Answer.{Answer, Change, Nothing, Put, Delete, only, 
 use Rattle.coap_store.specs.Changes.{changes, says_change}
 use Rattle.coap_store.specs.Invariant.{AreDistinct}
 use Rattle.coap_store.proofs.AnswerLaws.{is_error, OfErrors, get_cases, store_cases, answer_cases, state_dynamic, change_finally, change_unheld, unheld_finally}
+use Rattle.coap_store.proofs.PathLemmas.{same_path_sound}
 
 -- ---- the same path
 
 -- paths that compare equal are the same
-path_is : (p q : Path) → same_path p q ≡ true → p ≡ q
-path_is p q h = (pointwise_decides bytes_decides p q).0 h
-
 same_as_itself : (p : Path) → same_path p p ≡ true
 same_as_itself p = (pointwise_decides bytes_decides p p).1 refl
 
 other_path : (p q : Path) → p ≢ q → same_path p q ≡ false
-other_path p q apart = elim (same_path p q) as (λ b. same_path p q ≡ b → b ≡ false) [ true ↦ λ e. absurd (apart (path_is p q e)) | false ↦ λ e. refl ] refl
+other_path p q apart = elim (same_path p q) as (λ b. same_path p q ≡ b → b ≡ false) [ true ↦ λ e. absurd (apart (same_path_sound p q e)) | false ↦ λ e. refl ] refl
 
 -- ---- what is put and what is removed
 
@@ -42,7 +40,7 @@ unfolding found_in put_at
 other_put [] path q now apart = rw (other_path q path apart) refl
 other_put (r ∷ rs) path q now apart =
     elim (same_path path r.path) as (λ b. same_path path r.path ≡ b → found_in (if b then (record r { now = now } ∷ rs) else (r ∷ put_at rs path now)) q ≡ found_in (r ∷ rs) q) [
-      | true ↦ λ e. rw (ap (same_path q) (sym (path_is path r.path e)) ∙ other_path q path apart) refl
+      | true ↦ λ e. rw (ap (same_path q) (sym (same_path_sound path r.path e)) ∙ other_path q path apart) refl
       | false ↦ λ e. ap (λ (o : Option Representation). if same_path q r.path then Some r.now else o) (other_put rs path q now apart)
     ] refl
 
@@ -51,7 +49,7 @@ unfolding found_in removed_at
 other_removed [] path q apart = refl
 other_removed (r ∷ rs) path q apart =
     elim (same_path path r.path) as (λ b. same_path path r.path ≡ b → found_in (if b then rs else (r ∷ removed_at rs path)) q ≡ found_in (r ∷ rs) q) [
-      | true ↦ λ e. rw (ap (same_path q) (sym (path_is path r.path e)) ∙ other_path q path apart) refl
+      | true ↦ λ e. rw (ap (same_path q) (sym (same_path_sound path r.path e)) ∙ other_path q path apart) refl
       | false ↦ λ e. ap (λ (o : Option Representation). if same_path q r.path then Some r.now else o) (other_removed rs path q apart)
     ] refl
 
@@ -61,7 +59,7 @@ unfolding found_in removed_at
 found_removed [] path distinct = refl
 found_removed (r ∷ rs) path distinct =
     elim (same_path path r.path) as (λ b. same_path path r.path ≡ b → found_in (if b then rs else (r ∷ removed_at rs path)) path ≡ None) [
-      | true ↦ λ e. ap (found_in rs) (path_is path r.path e) ∙ distinct.0
+      | true ↦ λ e. ap (found_in rs) (same_path_sound path r.path e) ∙ distinct.0
       | false ↦ λ e. rw e (found_removed rs path distinct.1)
     ] refl
 

@@ -1,26 +1,22 @@
 -- The listing, and the resources that are kept, after a change.
-use Rattle.std.proofs.Common.{◌≡◌, ℕ, ◌+◌, ◌*◌, ◌<◌, ◌≤◌, Bool, true, false, ◌&&◌, List, [], ◌∷◌, ◌++◌, length, Option, Some, None, refl, sym, ap, subst, ◌∙◌, append_assoc, arith}
-use Rattle.std.specs.Prelude.{IfSome, option_map, if◌then◌else◌, nat_le, codes, ◌/◌, ◌%◌, not}
-use Rattle.std.specs.List.{AllByRecursion, flat_map, list_any}
+use Rattle.std.proofs.Common.{◌≡◌, ℕ, ◌+◌, ◌*◌, ◌<◌, ◌≤◌, Bool, true, false, List, [], ◌∷◌, ◌++◌, length, Option, Some, None, refl, sym, ap, subst, ◌∙◌, append_assoc, arith}
+use Rattle.std.specs.Prelude.{IfSome, option_map, if◌then◌else◌, codes, ◌/◌, ◌%◌}
+use Rattle.std.specs.List.{AllByRecursion, flat_map}
 use Rattle.std.specs.Fmt.{decimal}
 use Rattle.std.specs.Map.{lookup, set_value, values_of}
 use Rattle.std.specs.String.{string_bytes}
-use Rattle.std.proofs.lemmas.Bool.{and_parts, leb-true}
 use Rattle.std.proofs.lemmas.Fmt.{length-decimal-le}
 use Rattle.std.proofs.lemmas.List.{append-nil, length-append}
 use Rattle.indexmap.specs.IndexMap.{insert_entry, shift_remove_entry}
-use lib.Pointwise.{pointwise_decides, bytes_decides}
-use Rattle.coap_store.specs.Paths.{Path, same_path, written_length, is_path, is_dots, is_one_empty}
+use Rattle.coap_store.specs.Paths.{Path, same_path, written_length, is_path}
 use Rattle.coap_store.specs.Store.{Representation, found_in, put_at, removed_at}
 use Rattle.coap_store.specs.Store as store
 use Rattle.coap_store.specs.Listing.{is_unreserved, hex_digit, encoded_byte, path_bytes, format_bytes, entry_bytes, built_in_bytes, listing}
 use Rattle.coap_store.specs.ResourceViews.{representation, resource_at, resources_in, AreListed}
 use Rattle.coap_store.specs.declared.resource.Resource.{Resource}
+use Rattle.coap_store.proofs.PathLemmas.{path_fits, same_path_sound}
 
 -- paths that compare equal are the same
-pub same_path_is : (p q : Path) → same_path p q ≡ true → p ≡ q
-same_path_is p q h = (pointwise_decides bytes_decides p q).0 h
-
 abbrev line : store.Resource → List ℕ
 line r = entry_bytes r.path r.now.format
 
@@ -52,7 +48,7 @@ unfolding put_at
 lines_grow [] path now = omega (arith, length-append (entry_bytes path now.format) [])
 lines_grow (r ∷ rs) path now =
     elim (same_path path r.path) as (λ b. same_path path r.path ≡ b → length (lines (if b then (record r { now = now } ∷ rs) else (r ∷ put_at rs path now))) ≤ length (lines (r ∷ rs)) + length (entry_bytes path now.format)) [
-      | true ↦ λ e. (let is = ap (λ (p : Path). length (entry_bytes p now.format)) (same_path_is path r.path e) in omega (arith, is, length-append (entry_bytes r.path now.format) (lines rs), length-append (line r) (lines rs)))
+      | true ↦ λ e. (let is = ap (λ (p : Path). length (entry_bytes p now.format)) (same_path_sound path r.path e) in omega (arith, is, length-append (entry_bytes r.path now.format) (lines rs), length-append (line r) (lines rs)))
       | false ↦ λ e. omega (arith, lines_grow rs path now, length-append (line r) (lines (put_at rs path now)), length-append (line r) (lines rs))
     ] refl
 
@@ -104,13 +100,6 @@ path_short [] = omega arith
 path_short (s ∷ ss) =
     omega (arith, path_short ss, segment_short s, length-append (47 ∷ flat_map encoded_byte s) (path_bytes ss))
 
-is_path_short : (p : Path) → is_path p ≡ true → written_length p ≤ 255
-unfolding is_path
-is_path_short p h =
-    let three = and_parts (nat_le (length p) 16 && nat_le (written_length p) 255 && not (list_any is_dots p)) (not (is_one_empty p)) h in
-    let two = and_parts (nat_le (length p) 16 && nat_le (written_length p) 255) (not (list_any is_dots p)) three.0 in
-    leb-true (written_length p) 255 (and_parts (nat_le (length p) 16) (nat_le (written_length p) 255) two.0).1
-
 format_short : (format : Option ℕ) → IfSome format (λ n. n < 65536) → length (format_bytes format) ≤ 9
 format_short None h = omega arith
 format_short (Some format) h =
@@ -126,7 +115,7 @@ entry_short path format is small =
     omega (
       arith,
       path_short path,
-      is_path_short path is,
+      path_fits path is,
       format_short format small,
       length-append (codes ",<") (path_bytes path ++ (codes ">" ++ (format_bytes format ++ codes ";obs"))),
       length-append (path_bytes path) (codes ">" ++ (format_bytes format ++ codes ";obs")),

@@ -1,9 +1,9 @@
 -- What is refused from inside, and what is not.
-use Rattle.std.proofs.Common.{◌≡◌, ℕ, ◌+◌, ◌<◌, ◌^◌, Bool, true, false, ◌&&◌, ◌||◌, List, [], ◌∷◌, length, Option, Some, None, refl, sym, ap, subst, ◌∙◌, arith}
+use Rattle.std.proofs.Common.{◌≡◌, ℕ, ◌<◌, ◌^◌, Bool, true, false, ◌&&◌, List, [], ◌∷◌, length, Option, Some, None, refl, sym, ap, subst, ◌∙◌}
 use Rattle.std.specs.Prelude.{is_some, is_none, nat_le, nat_lt, ◌==◌, not, option_map, IfSome, if◌then◌else◌}
 use Rattle.std.specs.Borrow.{Bor}
 use Rattle.std.specs.List.{AllByRecursion}
-use Rattle.std.proofs.lemmas.Bool.{leb-false, ltb-false, eqb-false, lt-ltb}
+use Rattle.std.proofs.lemmas.Bool.{ltb-false}
 use Rattle.coap_store.specs.Paths.{Path, is_path}
 use Rattle.coap_store.specs.Store.{Representation, StoreValue, found_in, put_in}
 use Rattle.coap_store.specs.State.{place_of, is_dynamic}
@@ -15,7 +15,7 @@ use Rattle.coap_store.specs.Refusals.{first_fault, refusal_in, put_refusal, remo
 use Rattle.coap_store.specs.declared.resource.Resource as lent
 use Rattle.coap_store.specs.declared.fault.StoreFault.{StoreFault}
 use Rattle.coap_store.specs.declared.fault.StoreFault.TheVariants.{NoSuch, TooLarge, Limit, BadPath, VersionsSpent}
-use Rattle.coap_store.proofs.AnswerLaws.{place_dynamic}
+use Rattle.coap_store.proofs.AnswerLaws.{place_dynamic, version_fits, has_room}
 use Rattle.coap_store.proofs.StoreLemmas.{store_put, found_kept}
 
 -- ---- checks
@@ -44,17 +44,6 @@ put_told s path bytes fault is =
 is_dynamic_place : (dynamic : Bool) → not dynamic ≡ false → dynamic ≡ true
 is_dynamic_place true is = refl
 is_dynamic_place false is = absurd cc
-
--- a version is left
-version_fits : (n : ℕ) → (n == greatest_version) ≡ false → n < 2 ^ 64 → n + 1 < 2 ^ 64
-version_fits n other small =
-    let apart : n ≡ greatest_version → ⊥ = eqb-false n greatest_version other in
-    omega arith
-
--- what is there may be replaced, and what is not may be made while there is room
-has_room : (state : Option Representation) (most n : ℕ) → (is_none state && nat_le most n) ≡ false → (is_some state || nat_lt n most) ≡ true
-has_room None most n is = lt-ltb n most (leb-false most n is)
-has_room (Some r) most n is = refl
 
 -- what is not refused is taken
 pub takes_put : (s : StoreValue) (path : Path) (bytes : List ℕ) → is_path path ≡ true → s.versions < 2 ^ 64 → put_refusal s path bytes ≡ None → TakesPut s path bytes

@@ -10,7 +10,7 @@ use Rattle.coap_store.specs.declared.place.Place.TheVariants.{Dynamic}
 use Rattle.coap_store.proofs.AnswerLaws.{state_dynamic}
 use Rattle.coap_store.proofs.ChangeLaws.{put_is_stored, deleted_is_gone}
 
-own_key : (path : Path) → is_path path ≡ true → key_for path ≡ Some path
+pub own_key : (path : Path) → is_path path ≡ true → key_for path ≡ Some path
 unfolding key_for
 own_key path is = cond-true (is_path path) (Some path) None is
 

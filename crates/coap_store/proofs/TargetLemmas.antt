@@ -9,6 +9,7 @@ use Rattle.coap_store.specs.State.{key_for, place_of, root_path, time_path, asyn
 use Rattle.coap_store.specs.declared.place.Place.{Place}
 use Rattle.coap_store.specs.declared.place.Place.TheVariants.{Root, Time, Async, Listing, Dynamic}
 use Rattle.coap_store.proofs.PathLemmas.{same_path_sound}
+use Rattle.coap_store.proofs.StateLemmas.{own_key}
 
 pub key_is_path : (path p : Path) → Some p ≡ key_for path → p ≡ path
 unfolding key_for
@@ -27,7 +28,7 @@ is_root : is_path root_path ≡ true
 unfolding is_path
 is_root = refl
 
-is_time : is_path time_path ≡ true
+pub is_time : is_path time_path ≡ true
 unfolding is_path
 is_time = refl
 
@@ -50,10 +51,6 @@ unfolding key_for is_path
 too_many path many = sym (cond-false (is_path path) (Some path) None (rw (lt-leb (length path) 16 many) refl))
 
 -- ---- whether there is a key
-
-pub has_key : (path : Path) → is_path path ≡ true → key_for path ≡ Some path
-unfolding key_for
-has_key path is = ap (λ b. if b then Some path else None) is
 
 pub is_path_by_key : (path p : Path) → Some p ≡ key_for path → is_path path ≡ true
 unfolding key_for
@@ -88,7 +85,7 @@ built_state s now Dynamic key built = absurd cc
 
 pub built_target : (s : StoreValue) (now : ℕ) (path : Path) (place : Place) (state : Option Representation) → place ≡ place_of path → is_dynamic place ≡ false → state ≡ state_at s now None place → target_with (Some path) place state ≡ target_of s now path
 built_target s now path place state is built found =
-    let key = has_key path (is_path_by_place path (sym (ap is_dynamic is) ∙ built)) in
+    let key = own_key path (is_path_by_place path (sym (ap is_dynamic is) ∙ built)) in
     ap (target_with (Some path) place) (found ∙ built_state s now place (key_for path) built)
     ∙ ap (λ p. target_with (Some path) p (state_at s now (key_for path) p)) is
     ∙ ap (λ k. target_with k (place_of path) (state_of s now path)) (sym key)
@@ -96,7 +93,7 @@ built_target s now path place state is built found =
 pub stored_target : (s : StoreValue) (now : ℕ) (path p : Path) (state : Option Representation) → Some p ≡ key_for path → place_of path ≡ Dynamic → state ≡ found_in s.resources p → target_with (Some path) Dynamic state ≡ target_of s now path
 unfolding state_at
 stored_target s now path p state key place found =
-    let there : key_for path ≡ Some path = has_key path (is_path_by_key path p key) in
+    let there : key_for path ≡ Some path = own_key path (is_path_by_key path p key) in
     ap (target_with (Some path) Dynamic) (found ∙ ap (found_in s.resources) (key_is_path path p key))
     ∙ ap (λ k. target_with k Dynamic (state_at s now k Dynamic)) (sym there)
     ∙ ap (λ l. target_with (key_for path) l (state_at s now (key_for path) l)) (sym place)

@@ -16,6 +16,7 @@ use Rattle.coap_store.specs.declared.place.Place.{Place}
 use Rattle.coap_store.specs.declared.place.Place.TheVariants.{Root, Time, Async, Listing, Dynamic}
 use Rattle.coap_store.proofs.PathLemmas.{same_path_sound}
 use Rattle.coap_store.proofs.AnswerLaws.{answer_cases, get_cases, store_cases, key_is}
+use Rattle.coap_store.proofs.TargetLemmas.{is_time}
 
 -- ---- which places are watched
 
@@ -43,13 +44,9 @@ time_only : (path : Path) → place_of path ≡ Time → path ≡ time_path
 unfolding place_of
 time_only path e = same_path_sound path time_path (time_test _ (same_path path time_path) _ _ e)
 
-time_is_path : is_path time_path ≡ true
-unfolding is_path
-time_is_path = refl
-
 time_key : (path : Path) → place_of path ≡ Time → key_for path ≡ Some path
 unfolding key_for
-time_key path e = cond-true (is_path path) (Some path) None (ap is_path (time_only path e) ∙ time_is_path)
+time_key path e = cond-true (is_path path) (Some path) None (ap is_path (time_only path e) ∙ is_time)
 
 stored_key : (s : StoreValue) (path : Path) (key : Option Path) (r : Representation) → key_for path ≡ key → stored_at s key ≡ Some r → key_for path ≡ Some path
 stored_key s path None r is e = absurd cc
@@ -90,7 +87,7 @@ watches s now path m representation r there is e =
       };
     }
 
-stored_unwatched : (key : Option Path) (state : Option Representation) (m : Message) → (stored_under key state m).watch ≡ watch.Nothing
+pub stored_unwatched : (key : Option Path) (state : Option Representation) (m : Message) → (stored_under key state m).watch ≡ watch.Nothing
 stored_unwatched None state m = refl
 stored_unwatched (Some path) None m = refl
 stored_unwatched (Some path) (Some r) m = refl

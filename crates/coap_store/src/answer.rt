@@ -31,8 +31,8 @@ impl Store {
     ghost use Rattle.coap_store.specs.Invariant.{IsStore};
     ghost use Rattle.coap_store.specs.TargetViews.{found_value, target_value};
 
-    /// The answer to a request at a moment in seconds. It allocates nothing, and changes nothing: `apply` makes the change.
-    /// A GET of the resource that answers late is held for as many seconds as it asks: the plan tells how many.
+    /// The answer to a request at a moment in seconds. It allocates nothing, and changes nothing: `apply` makes the
+    /// change. A GET of the resource that answers late is held for as many seconds as it asks: the plan tells how many.
     pub fn answer<'s, 'r>(&'s self, request: &'r MessageRef<'r>, now: u64) -> Plan<'s, 'r>
         ensures answer { result ≡ answer_of self.now now request.now }
         ensures taken { TakesChange self.now result.change }
@@ -227,8 +227,8 @@ fn read<'s, 'r>(asked: &Asked<'_, 'r>, target: Target<'s>) -> Plan<'s, 'r>
     }
 }
 
-/// The answer to GET at a resource. At the one that answers late it is held for as many seconds as the first Uri-Query says, 5
-/// where there is none.
+/// The answer to GET at a resource. At the one that answers late it is held for as many seconds as the first Uri-Query
+/// says, 5 where there is none.
 #[tactic(auto, unfolding(crate::specs::Answer::get_answer))]
 fn get<'s, 'r>(asked: &Asked<'_, 'r>, place: Place, found: Found<'s>) -> Plan<'s, 'r>
     ensures { result ≡ get_answer place (found_value found.entry) asked.now }
@@ -312,7 +312,8 @@ pub(crate) fn max_age_of(place: Place) -> Option<u32>
 fn stored<'s, 'r>(asked: &Asked<'r, 'r>, is_new: bool) -> Plan<'s, 'r>
     requires path { is_path (path_asked asked.now) ≡ true }
     requires named { path_asked asked.now ≢ [] }
-    ensures { (state : Option Representation) → is_none state ≡ is_new → result ≡ stored_there (path_asked asked.now) state asked.now }
+    ensures { (state : Option Representation) → is_none state ≡ is_new →
+        result ≡ stored_there (path_asked asked.now) state asked.now }
 {
     let tells_location = is_new && asked.code() == Code::POST;
     let code = if is_new { Code::CREATED } else { Code::CHANGED };

@@ -12,8 +12,8 @@ use indexmap::IndexMap;
 use std::alloc::{AllocError, Global};
 use std::marker::Model;
 
-/// The dynamic resources in order of creation, and the bytes of `/.well-known/core`, which are kept ready. Contracts see the
-/// list of the resources.
+/// The dynamic resources in order of creation, and the bytes of `/.well-known/core`, which are kept ready. Contracts
+/// see the list of the resources.
 #[derive(Drop)]
 pub(crate) struct Catalogue {
     alloc: Global,
@@ -84,7 +84,8 @@ impl Catalogue {
         format: Option<u16>,
         bytes: &[u8],
     ) -> Result<(), AllocError>
-        ensures ok { OnOk result (self.new ≡ put_at self.old path (record { version = version; format = format; bytes = bytes.now })) }
+        ensures ok { OnOk result (self.new ≡ put_at self.old path
+            (record { version = version; format = format; bytes = bytes.now })) }
         ensures err { OnErr result (self.new ≡ self.old) }
     {
         let bytes = Vec::from_slice(self.alloc, bytes)?;
@@ -124,7 +125,8 @@ fn create(
     requires listed { IsListed (path, resource) }
     requires all_listed { AreListed resources.old.entries }
     requires ready { listing.old.items ≡ listing_of (resources_in resources.old.entries) }
-    ensures stored { OnOk result (resources_in resources.new.entries ≡ put_at (resources_in resources.old.entries) path (representation resource)) }
+    ensures stored { OnOk result (resources_in resources.new.entries ≡ put_at (resources_in resources.old.entries) path
+        (representation resource)) }
     ensures unchanged { OnErr result (resources_in resources.new.entries ≡ resources_in resources.old.entries) }
     ensures all_listed { AreListed resources.new.entries }
     ensures ready { listing.new.items ≡ listing_of (resources_in resources.new.entries) }
@@ -137,8 +139,8 @@ fn create(
     Ok(())
 }
 
-/// Replaces the representation of a resource that has this format, and so keeps its text. Gives the bytes back where there
-/// is none.
+/// Replaces the representation of a resource that has this format, and so keeps its text. Gives the bytes back where
+/// there is none.
 fn replace_alike(
     resources: &mut Resources,
     path: &PathKey,
@@ -148,8 +150,10 @@ fn replace_alike(
 ) -> Option<Vec<u8>>
     requires { AreListed resources.old.entries }
     ensures alike { is_none result ≡ has_format format (found_in (resources_in resources.old.entries) path.now) }
-    ensures stored { IfNone result (resources_in resources.new.entries ≡ put_at (resources_in resources.old.entries) path.now (record { version = version; format = format; bytes = bytes.items })) }
-    ensures ready { IfNone result (listing_of (resources_in resources.new.entries) ≡ listing_of (resources_in resources.old.entries)) }
+    ensures stored { IfNone result (resources_in resources.new.entries ≡ put_at (resources_in resources.old.entries)
+        path.now (record { version = version; format = format; bytes = bytes.items })) }
+    ensures ready { IfNone result (listing_of (resources_in resources.new.entries) ≡ listing_of
+        (resources_in resources.old.entries)) }
     ensures all_listed { AreListed resources.new.entries }
     ensures unchanged { IfSome result (λ back. resources.new.entries ≡ resources.old.entries) }
     ensures back { IfSome result (λ back. back.items ≡ bytes.items) }
@@ -176,7 +180,8 @@ fn replace(
     requires listed { IsListed (path, resource) }
     requires all_listed { AreListed resources.old.entries }
     requires ready { listing.old.items ≡ listing_of (resources_in resources.old.entries) }
-    ensures stored { OnOk result (resources_in resources.new.entries ≡ put_at (resources_in resources.old.entries) path (representation resource)) }
+    ensures stored { OnOk result (resources_in resources.new.entries ≡ put_at (resources_in resources.old.entries) path
+        (representation resource)) }
     ensures unchanged { OnErr result (resources_in resources.new.entries ≡ resources_in resources.old.entries) }
     ensures all_listed { AreListed resources.new.entries }
     ensures ready { listing.new.items ≡ listing_of (resources_in resources.new.entries) }

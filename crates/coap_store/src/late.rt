@@ -6,7 +6,8 @@ ghost use Rattle.coap_store.specs.Answer.{says, held_response as response_held};
 use crate::plan::{Bytes, Plan, Watch};
 use crate::target::{Found, TEXT_PLAIN};
 
-/// The response of every answer that was held, once its time has come: 2.05 with `done` (RFC 7252 sections 5.2.2, 5.9.1.5).
+/// The response of every answer that was held, once its time has come: 2.05 with `done` (RFC 7252 sections 5.2.2,
+/// 5.9.1.5).
 pub fn held_response() -> Plan<'static, 'static>
     ensures { result ≡ says response_held }
 {

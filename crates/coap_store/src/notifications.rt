@@ -13,9 +13,10 @@ impl Store {
     ghost use Rattle.coap_store.specs.Invariant.{IsStore};
     ghost use Rattle.coap_store.specs.Notifications.{notification_of};
 
-    /// What an observer of a path that was told representations of this Content-Format, or of none, is told of it at a moment
-    /// in seconds (RFC 7641 section 4.2): 4.04 where the path is absent, 4.06 where the representation has another format, else
-    /// 2.05 with the representation, as a GET that finds it is answered. It changes nothing, and allocates nothing.
+    /// What an observer of a path that was told representations of this Content-Format, or of none, is told of it at a
+    /// moment in seconds (RFC 7641 section 4.2): 4.04 where the path is absent, 4.06 where the representation has
+    /// another format, else 2.05 with the representation, as a GET that finds it is answered. It changes nothing, and
+    /// allocates nothing.
     pub fn notification<'s, 'r>(
         &'s self,
         path: &PathKey,

@@ -72,9 +72,9 @@ fn bytes_of(segments: &[&[u8]]) -> ArrayVec<u8, MAX_BYTES>
     bytes
 }
 
-/// The path of a resource: at most 16 segments, at most 255 bytes with one more for each segment, no segment `.` or `..`,
-/// and not one empty segment alone (RFC 7252 sections 5.10.1, 6.4). No segment is the root. Contracts see the list of
-/// the segments, and equality is that of these lists.
+/// The path of a resource: at most 16 segments, at most 255 bytes with one more for each segment, no segment `.` or
+/// `..`, and not one empty segment alone (RFC 7252 sections 5.10.1, 6.4). No segment is the root. Contracts see the
+/// list of the segments, and equality is that of these lists.
 #[derive(Drop, PartialEq, Eq, Hash)]
 pub struct PathKey {
     /// Each segment behind its length.
@@ -98,9 +98,9 @@ impl Model for PathKey {
 }
 
 impl PathKey {
-    /// The path with these segments. A slash in a segment is a byte like any other, so the one segment `a/b` and the two
-    /// segments `a` and `b` are different paths (RFC 7252 section 5.10.1). `None` where these are not the segments of a
-    /// path: more than 16, more than 255 bytes with one more for each segment, a segment `.` or `..`, or one empty
+    /// The path with these segments. A slash in a segment is a byte like any other, so the one segment `a/b` and the
+    /// two segments `a` and `b` are different paths (RFC 7252 section 5.10.1). `None` where these are not the segments
+    /// of a path: more than 16, more than 255 bytes with one more for each segment, a segment `.` or `..`, or one empty
     /// segment alone.
     pub fn from_segments(segments: &[&[u8]]) -> Option<PathKey>
         ensures { result ≡ (if is_path (segment_list segments.now) then Some (segment_list segments.now) else None) }
@@ -123,8 +123,8 @@ impl PathKey {
         PathKey { bytes }
     }
 
-    /// Tells the proof of a caller that this is the path of a resource. It reads the key, which is what the proof needs to know
-    /// that its invariant holds, and does nothing.
+    /// Tells the proof of a caller that this is the path of a resource. It reads the key, which is what the proof needs
+    /// to know that its invariant holds, and does nothing.
     pub(crate) fn is_kept(&self)
         ensures { is_path self.now ≡ true }
     {

@@ -93,22 +93,22 @@ pub(crate) enum Effect<'r> {
     },
 }
 
-/// What a request asks of the observers of its path (RFC 7641 sections 2, 3.6, 4.1). Whoever keeps observers removes an entry
-/// with the request's token before that, whatever this says: a token names one request of its client.
+/// What a request asks of the observers of its path (RFC 7641 sections 2, 3.6, 4.1). Whoever keeps observers removes an
+/// entry with the request's token before that, whatever this says: a token names one request of its client.
 #[derive(Clone, Copy, PartialEq, Eq)]
 pub enum Watch {
     /// Nothing.
     Nothing,
-    /// It asks that an observer with its token is entered: a GET with Observe 0 of a resource that can be observed, which is
-    /// answered 2.05 or 2.03.
+    /// It asks that an observer with its token is entered: a GET with Observe 0 of a resource that can be observed,
+    /// which is answered 2.05 or 2.03.
     Add,
     /// It asks that the observer with its token is removed: a GET with Observe 1, whatever its answer.
     Drop,
 }
 
 /// The answer to a request: the response, apart from the request's token, what the request changes, what it asks of the
-/// observers, and for how long the response is held. It borrows the bytes of the store and of the request. Contracts see an
-/// `Answer`.
+/// observers, and for how long the response is held. It borrows the bytes of the store and of the request. Contracts
+/// see an `Answer`.
 // A plan is moved often, so its fields stand by size: no byte lies beside an empty place.
 #[derive(Drop)]
 pub struct Plan<'s, 'r> {
@@ -166,7 +166,8 @@ impl<'s, 'r> Plan<'s, 'r> {
 
     /// 2.03 with an ETag, which changes nothing (RFC 7252 section 5.9.1.3).
     pub(crate) fn valid(etag: Option<ArrayVec<u8, 8>>, watch: Watch) -> Plan<'s, 'r>
-        ensures { result ≡ record (says (record (only code.valid) { etag = option_map (λ e. e.items) etag })) { watch = watch } }
+        ensures { result
+            ≡ record (says (record (only code.valid) { etag = option_map (λ e. e.items) etag })) { watch = watch } }
     {
         Plan {
             etag,
@@ -182,7 +183,14 @@ impl<'s, 'r> Plan<'s, 'r> {
         max_age: Option<u32>,
         watch: Watch,
     ) -> Plan<'s, 'r>
-        ensures { result ≡ record (says (record (only code.content) { etag = option_map (λ e. e.items) etag; format = found.entry.format; max_age = max_age; payload = bytes_in found.entry.bytes })) { watch = watch } }
+        ensures { result
+            ≡ record (says (record (only code.content) {
+              etag = option_map (λ e. e.items) etag;
+              format = found.entry.format;
+              max_age = max_age;
+              payload = bytes_in
+                  found.entry.bytes;
+            })) { watch = watch } }
     {
         Plan {
             etag,
@@ -208,7 +216,9 @@ impl<'s, 'r> Plan<'s, 'r> {
     pub(crate) fn changing(code: Code, tells_location: bool, effect: Effect<'r>) -> Plan<'s, 'r>
         requires path { IsAtPath effect }
         requires named { IsToldNamed tells_location effect }
-        ensures { result ≡ record (says (record (only code) { location = location_in tells_location (effect_value effect.entry) })) { change = effect_value effect.entry } }
+        ensures { result
+            ≡ record (says (record (only code) { location = location_in tells_location (effect_value effect.entry) }))
+            { change = effect_value effect.entry } }
     {
         Plan {
             tells_location,
@@ -327,8 +337,8 @@ impl<'s, 'r> Plan<'s, 'r> {
         self.watch
     }
 
-    /// For how many seconds the response is held, at most 3,600, where it is held. (Own: no RFC says when a separate response
-    /// comes.)
+    /// For how many seconds the response is held, at most 3,600, where it is held. (Own: no RFC says when a separate
+    /// response comes.)
     pub fn hold(&self) -> Option<u32>
         ensures seconds { result ≡ self.now.hold }
     {

@@ -12,13 +12,14 @@ impl Store {
     ghost use Rattle.coap_store.specs.Invariant.{IsStore};
     ghost use Rattle.coap_store.specs.Refusals.{RefusedOrMemory, put_refusal, remove_refusal};
 
-    /// Stores a representation with this Content-Format, if any, and these bytes at a path, in the place of the one that is
-    /// there, and answers its version: one more than that of the representation stored last, at this path or another.
+    /// Stores a representation with this Content-Format, if any, and these bytes at a path, in the place of the one
+    /// that is there, and answers its version: one more than that of the representation stored last, at this path or
+    /// another.
     ///
     /// # Errors
     ///
-    /// In this order: `TooLarge` where there are more bytes than a representation may have, `BadPath` where the path is that of a
-    /// built-in resource, `Limit` where the path is absent and as many dynamic resources are there as may be,
+    /// In this order: `TooLarge` where there are more bytes than a representation may have, `BadPath` where the path is
+    /// that of a built-in resource, `Limit` where the path is absent and as many dynamic resources are there as may be,
     /// `VersionsSpent` where no version is left, `Memory` where memory was refused. The store is then as before.
     pub fn put(
         &mut self,

@@ -146,7 +146,8 @@ impl<'q, 'r> Asked<'q, 'r> {
 
     /// Whether the request asks a proxy (RFC 7252 section 5.10.2).
     pub(crate) fn asks_proxy(&self) -> bool
-        ensures { result ≡ (spec.has_option numbers.proxy_uri self.now || spec.has_option numbers.proxy_scheme self.now) }
+        ensures { result
+            ≡ (spec.has_option numbers.proxy_uri self.now || spec.has_option numbers.proxy_scheme self.now) }
     {
         self.notes.has_proxy_uri || self.notes.has_proxy_scheme
     }
@@ -213,10 +214,11 @@ impl<'q, 'r> Asked<'q, 'r> {
         u32::from(seconds)
     }
 
-    /// Whether If-Match holds for a resource with this version, or for one that does not exist: it is absent, or one of its
-    /// values is empty, or the version's ETag (RFC 7252 section 5.10.8.1).
+    /// Whether If-Match holds for a resource with this version, or for one that does not exist: it is absent, or one of
+    /// its values is empty, or the version's ETag (RFC 7252 section 5.10.8.1).
     pub(crate) fn match_holds(&self, version: Option<u64>) -> bool
-        ensures { (state : Option Representation) → version ≡ option_map (λ r. r.version) state → result ≡ spec.match_holds state self.now }
+        ensures { (state : Option Representation) → version ≡ option_map (λ r. r.version) state →
+            result ≡ spec.match_holds state self.now }
     {
         if !self.notes.has_if_match {
             return true;
@@ -229,9 +231,11 @@ impl<'q, 'r> Asked<'q, 'r> {
             && (option.value.is_empty() || option.value == etag.as_slice()))
     }
 
-    /// Whether If-None-Match holds for a resource: it is absent, or the resource does not exist (RFC 7252 section 5.10.8.2).
+    /// Whether If-None-Match holds for a resource: it is absent, or the resource does not exist (RFC 7252 section
+    /// 5.10.8.2).
     pub(crate) fn none_match_holds(&self, is_present: bool) -> bool
-        ensures { (state : Option Representation) → is_present ≡ spec.is_present state → result ≡ spec.none_match_holds state self.now }
+        ensures { (state : Option Representation) → is_present ≡ spec.is_present state →
+            result ≡ spec.none_match_holds state self.now }
     {
         !(is_present && self.notes.has_if_none_match)
     }

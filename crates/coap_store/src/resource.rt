@@ -43,7 +43,8 @@ const ESCAPED: AsciiSet = ascii_set!(
 
 /// A slash and the segment, escaped (RFC 3986 section 2.1).
 fn push_segment(text: &mut String, segment: &[u8]) -> Result<(), AllocError>
-    ensures { OnOk result (string_bytes text.new ≡ string_bytes text.old ++ (slash ∷ flat_map encoded_byte segment.now)) }
+    ensures { OnOk result (string_bytes text.new ≡ string_bytes text.old ++
+        (slash ∷ flat_map encoded_byte segment.now)) }
 {
     text.push_str("/")?;
     percent_encode(segment, ESCAPED).append_to(text)

@@ -9,8 +9,8 @@ use crate::resource::Resource;
 use std::alloc::{AllocError, Global};
 use std::marker::Model;
 
-/// The resources of a server: those that are built in, and at most so many dynamic ones, in order of creation, each with at
-/// most so many bytes. Contracts see a `StoreValue`.
+/// The resources of a server: those that are built in, and at most so many dynamic ones, in order of creation, each
+/// with at most so many bytes. Contracts see a `StoreValue`.
 #[derive(Drop)]
 pub struct Store {
     dynamic_max: usize,
@@ -42,8 +42,8 @@ impl Store {
     ghost use Rattle.coap_store.specs.Invariant.{IsStore};
     ghost use Rattle.coap_store.specs.PlanViews.{change_value};
 
-    /// An empty store for at most `dynamic_max` resources (0 to 1,000) of at most `rep_max` bytes each (0 to 1,048,576),
-    /// whose first representation has the version `versions_from + 1`.
+    /// An empty store for at most `dynamic_max` resources (0 to 1,000) of at most `rep_max` bytes each (0 to
+    /// 1,048,576), whose first representation has the version `versions_from + 1`.
     ///
     /// # Errors
     ///
@@ -56,7 +56,12 @@ impl Store {
     ) -> Result<Store, AllocError>
         requires few { dynamic_max ≤ 1000 }
         requires small { rep_max ≤ 1048576 }
-        ensures empty { IfOk result (λ s. s ≡ record { dynamic_max = dynamic_max; rep_max = rep_max; resources = []; versions = versions_from }) }
+        ensures empty { IfOk result (λ s. s ≡ record {
+          dynamic_max = dynamic_max;
+          rep_max = rep_max;
+          resources = [];
+          versions = versions_from;
+        }) }
         ensures store { IfOk result IsStore }
     {
         Ok(Store {
@@ -137,8 +142,8 @@ impl Store {
         self.versions != u64::MAX
     }
 
-    /// Tells the proof of a caller what holds of every store. It reads the store, which is what the proof needs to know that
-    /// its invariant holds, and does nothing.
+    /// Tells the proof of a caller what holds of every store. It reads the store, which is what the proof needs to know
+    /// that its invariant holds, and does nothing.
     pub(crate) fn is_kept(&self)
         ensures store { IsStore self.now }
     {

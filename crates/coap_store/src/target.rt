@@ -71,7 +71,8 @@ pub(crate) fn decimal_digits(number: u64) -> ArrayVec<u8, 20>
     text
 }
 
-/// The path that a request asks for, by its Uri-Path options: `None` where it is none of a resource (RFC 7252 section 5.10.1).
+/// The path that a request asks for, by its Uri-Path options: `None` where it is none of a resource (RFC 7252 section
+/// 5.10.1).
 pub fn request_path(request: &MessageRef) -> Option<PathKey>
     ensures { result ≡ key_for (path_asked request.now) }
 {

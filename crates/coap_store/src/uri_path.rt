@@ -4,8 +4,8 @@ use coap_wire::option_numbers::URI_PATH;
 use coap_wire::{Known, MessageRef};
 use std::marker::Model;
 
-/// The segments of the path that a request asks for, in order: the values of its Uri-Path options (RFC 7252 section 5.10.1).
-/// Contracts see the list of those that are left.
+/// The segments of the path that a request asks for, in order: the values of its Uri-Path options (RFC 7252 section
+/// 5.10.1). Contracts see the list of those that are left.
 #[derive(Drop)]
 pub struct UriPath<'r> {
     /// The recognised options that are left.

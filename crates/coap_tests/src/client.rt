@@ -9,8 +9,8 @@ use coap_serve::{Clock, Got, Wire};
 use std::alloc::Global;
 use std::process::Abort;
 
-/// A wire that tells what it gave, what it took, and what its calls came to. A read gives so many bytes at most, and `Later` where none
-/// is left; a write takes all.
+/// A wire that tells what it gave, what it took, and what its calls came to. A read gives so many bytes at most, and
+/// `Later` where none is left; a write takes all.
 #[derive(Drop)]
 struct Talk<'a, A: Abort> {
     rt: &'a A,
@@ -97,10 +97,13 @@ fn run_told<A: Abort>(
 ) -> Result<u8, ClientFault>
     requires out_works { out.old.failed ≡ false }
     requires err_works { err.old.failed ≡ false }
-    requires nothing_passed { (wire.old.given.items ≡ []) × (wire.old.written.items ≡ []) × (wire.old.answers.items ≡ []) }
+    requires nothing_passed { (wire.old.given.items ≡ []) × (wire.old.written.items ≡ [])
+        × (wire.old.answers.items ≡ []) }
     requires no_moment { clock.old.moments.items ≡ [] }
     requires nothing_told { (out.old.bytes.items ≡ []) × (err.old.bytes.items ≡ []) }
-    ensures { IfOk result (IsClientRun plan.now (seen (Some []) (Some []) (Some []) (Some []) (Some []) (Some [])) (seen (Some wire.new.given.items) (Some wire.new.written.items) (Some wire.new.answers.items) (Some clock.new.moments.items) (Some out.new.bytes.items) (Some err.new.bytes.items))) }
+    ensures { IfOk result (IsClientRun plan.now (seen (Some []) (Some []) (Some []) (Some []) (Some []) (Some []))
+        (seen (Some wire.new.given.items) (Some wire.new.written.items) (Some wire.new.answers.items)
+        (Some clock.new.moments.items) (Some out.new.bytes.items) (Some err.new.bytes.items))) }
 {
     run_client(alloc, wire, clock, out, err, plan)
 }

@@ -151,8 +151,8 @@ impl Outlet for Ledger {
     }
 }
 
-/// A writer of std that allocates nothing. It counts its writes, also one of nothing, each of which takes one byte while
-/// there is room, and of which one may fail. It keeps the first bytes.
+/// A writer of std that allocates nothing. It counts its writes, also one of nothing, each of which takes one byte
+/// while there is room, and of which one may fail. It keeps the first bytes.
 #[derive(Drop)]
 pub struct Fixed {
     pub bytes: [u8; 64],

@@ -1,12 +1,14 @@
-//! Runs of `serve_door` over a door, wires and a clock in memory. A run is told by the calls of its devices in their order,
-//! by the bytes that each wire took, and by its fault.
+//! Runs of `serve_door` over a door, wires and a clock in memory. A run is told by the calls of its devices in their
+//! order, by the bytes that each wire took, and by its fault.
 //!
-//! Of the calls `+1` is a door that hands out the first wire and `+-` one that has none; `1<5` a read of the first wire that
-//! gave 5 bytes, and `1<later` one that gave none yet; `1>19` a write of 19 bytes that took all, and `1>19:1` one that took 1.
+//! Of the calls `+1` is a door that hands out the first wire and `+-` one that has none; `1<5` a read of the first wire
+//! that gave 5 bytes, and `1<later` one that gave none yet; `1>19` a write of 19 bytes that took all, and `1>19:1` one
+//! that took 1.
 //!
-//! Where the first word of the setting is `waits`, the waits of the door are told too: `~no` is none, `~6` one until the moment 6 at
-//! the most, `~ever` one until something is ready, and with `|` in place of `~` no connection may be opened. A wire may then be read
-//! while words are left that its reads give. All other runs have wires that are always ready.
+//! Where the first word of the setting is `waits`, the waits of the door are told too: `~no` is none, `~6` one until
+//! the moment 6 at the most, `~ever` one until something is ready, and with `|` in place of `~` no connection may be
+//! opened. A wire may then be read while words are left that its reads give. All other runs have wires that are always
+//! ready.
 
 ghost use Rattle.std.specs.Prelude.{None, length};
 ghost use Rattle.coap_serve.specs.streams.Wires.{IsWithin};
@@ -133,10 +135,10 @@ impl Book {
     }
 }
 
-/// A wire whose reads give what the words of a text name: bytes, `zeros` as many as there is room for, `later`, `end` or `failed`; and
-/// `later` behind them. Its writes take all, or `one` byte, or are `late` once, or all come to `end` or `failed`; words with commas
-/// between them name one write each, the last one all others. A word `@3` before another one of either kind says that the wire is not
-/// ready for it until the door was told to wait 3 times.
+/// A wire whose reads give what the words of a text name: bytes, `zeros` as many as there is room for, `later`, `end`
+/// or `failed`; and `later` behind them. Its writes take all, or `one` byte, or are `late` once, or all come to `end`
+/// or `failed`; words with commas between them name one write each, the last one all others. A word `@3` before another
+/// one of either kind says that the wire is not ready for it until the door was told to wait 3 times.
 #[derive(Drop)]
 struct Line<'a> {
     place: usize,
@@ -348,8 +350,8 @@ fn play_all(rt: &(impl Abort + AllocGlobal), text: &str) -> Result<(), Fail> {
     Ok(())
 }
 
-/// A request behind the Capabilities and Settings. Then the first of two wires fails at its first read; then writes take one
-/// byte each, or come late, or fail.
+/// A request behind the Capabilities and Settings. Then the first of two wires fails at its first read; then writes
+/// take one byte each, or come late, or fail.
 const SERVES_EACH_WIRE: &str = "= turns 10; 0; all 00e1010101 later
 +1 1<5 1>19 +- 1<later +- 1<later +- 1<later +- 1<later +- 1<later +- 1<later +- 1<later +- 1<later +- 1<later
 1 40e123010000a14501c0ff'coap+tcp'
@@ -380,8 +382,8 @@ fn serves_each_wire(rt: HostRuntime) -> Result<(), Fail> {
     play_all(&rt, SERVES_EACH_WIRE)
 }
 
-/// A wire that gives a byte at a time fails, or comes to its end, at each of its reads in turn, and one that takes a byte at a time at each
-/// of its writes; the other one is served.
+/// A wire that gives a byte at a time fails, or comes to its end, at each of its reads in turn, and one that takes a
+/// byte at a time at each of its writes; the other one is served.
 const FAILS_AT_EACH_CALL: &str = "= turns 4; 0; all failed | all 00e1010101
 +1 1<failed +2 2<5 2>19 +- 2<later +- 2<later
 1 -
@@ -416,8 +418,8 @@ fn fails_at_each_call(rt: HostRuntime) -> Result<(), Fail> {
     play_all(&rt, FAILS_AT_EACH_CALL)
 }
 
-/// The end comes within a message, behind a request, and at once; the peer releases, with nothing pending and with an answer
-/// held for 1 s; a message stops the connection, and the one behind it is not looked at. Nothing is read then.
+/// The end comes within a message, behind a request, and at once; the peer releases, with nothing pending and with an
+/// answer held for 1 s; a message stops the connection, and the one behind it is not looked at. Nothing is read then.
 const DROPS_WHAT_IS_FINISHED: &str = "= turns 4; 0; all 00e13101 end 00
 +1 1<4 1>6 +- 1<end +- +-
 1 40e123010000
@@ -445,8 +447,8 @@ fn drops_what_is_finished(rt: HostRuntime) -> Result<(), Fail> {
     play_all(&rt, DROPS_WHAT_IS_FINISHED)
 }
 
-/// With one connection at most the door is not asked for a second wire before the first one is dropped, and with no number
-/// left it is not asked at all.
+/// With one connection at most the door is not asked for a second wire before the first one is dropped, and with no
+/// number left it is not asked at all.
 const ASKS_THE_DOOR_WHERE_THERE_IS_ROOM: &str =
     "= turns 5 connections 1; 0; all 00e1010101 later end | all 00e1010102
 +1 1<5 1>19 1<later 1<end +2 2<5 2>19 2<later
@@ -483,8 +485,8 @@ fn tells_the_time(rt: HostRuntime) -> Result<(), Fail> {
     play_all(&rt, TELLS_THE_TIME)
 }
 
-/// A queue with room for one greatest message takes one request a turn, and what was read before is used up before the next
-/// read.
+/// A queue with room for one greatest message takes one request a turn, and what was read before is used up before the
+/// next read.
 const TAKES_THE_REST_FIRST: &str = "= turns 5 sent 1152 queue 1152; 0; all 00e1010101010102 010103
 +1 1>6 +- 1<8 1>13 +- 1>13 +- 1<3 1>13 +- 1<later
 1 40e123010000a14501c0ff'coap+tcp'a14502c0ff'coap+tcp'a14503c0ff'coap+tcp'
@@ -500,8 +502,8 @@ fn takes_the_rest_first(rt: HostRuntime) -> Result<(), Fail> {
     play_all(&rt, TAKES_THE_REST_FIRST)
 }
 
-/// No connection, and two on which nothing comes: the door waits until something is ready. With one connection at most it is told that
-/// none may be opened, until the first one is dropped.
+/// No connection, and two on which nothing comes: the door waits until something is ready. With one connection at most
+/// it is told that none may be opened, until the first one is dropped.
 const WAITS_WHERE_NOTHING_IS_TO_BE_DONE: &str = "= waits turns 3; 0
 +- ~ever +- ~ever +-
 = waits turns 6; 0; all 00e1 | all 00e1
@@ -526,8 +528,9 @@ fn waits_where_nothing_is_to_be_done(rt: HostRuntime) -> Result<(), Fail> {
     play_all(&rt, WAITS_WHERE_NOTHING_IS_TO_BE_DONE)
 }
 
-/// An answer is held until the moment 1; it is then written, or waits for the wire. Two are held on two connections: the door waits for
-/// the lesser moment. An observer of the moment is told each one, and the last moment of all has none behind it.
+/// An answer is held until the moment 1; it is then written, or waits for the wire. Two are held on two connections:
+/// the door waits for the lesser moment. An observer of the moment is told each one, and the last moment of all has
+/// none behind it.
 const WAITS_FOR_A_MOMENT: &str = "= waits turns 5; 0 0 0 1; all 00e1810105b5'async'4131
 +1 1<13 1>6 ~1 +- ~1 +- ~1 +- 1>9 ~ever +-
 1 40e123010000614505c0ff'done'
@@ -550,8 +553,9 @@ fn waits_for_a_moment(rt: HostRuntime) -> Result<(), Fail> {
     play_all(&rt, WAITS_FOR_A_MOMENT)
 }
 
-/// What is left of a read is taken before the door waits. A peer whose queue is full and whose wire may not be written keeps nobody
-/// awake, although its wire may be read: neither before the first byte is taken nor with a rest that waits for room.
+/// What is left of a read is taken before the door waits. A peer whose queue is full and whose wire may not be written
+/// keeps nobody awake, although its wire may be read: neither before the first byte is taken nor with a rest that waits
+/// for room.
 const WAITS_FOR_WIRES: &str = "= waits turns 5 sent 1152 queue 1152; 0; all 00e1010101010102
 +1 1>6 ~no +- 1<8 1>13 ~no +- 1>13 ~ever +- ~ever +-
 1 40e123010000a14501c0ff'coap+tcp'a14502c0ff'coap+tcp'
@@ -576,8 +580,8 @@ fn waits_for_wires(rt: HostRuntime) -> Result<(), Fail> {
     play_all(&rt, WAITS_FOR_WIRES)
 }
 
-/// A PUT on one connection notifies an observer on another one that is passed over otherwise: on one before it in the next turn, with
-/// no wait in between, and on one behind it in the same turn. So does a DELETE.
+/// A PUT on one connection notifies an observer on another one that is passed over otherwise: on one before it in the
+/// next turn, with no wait in between, and on one behind it in the same turn. So does a DELETE.
 const PASSES_OVER_NO_NEWS: &str =
     "= waits turns 7 dynamic 1; 0; all 00e1410302b1'a'ff'x'3101076051'a' | all @3 00e1410302b1'a'ff'y'
 +1 1<15 1>17 ~ever +2 2>6 ~ever +- ~ever +- 2<9 2>3 ~no +- 1>8 ~ever +- ~ever +-

@@ -1,6 +1,6 @@
-//! What only a proved test can show: laws called from another crate, sinks at concrete types, the law of `serve_one` and the clause of
-//! `run_client` at devices that tell all, and runs of `serve_door` over a door, wires and a clock in memory. All else is rows of text
-//! (docs/TESTING.md). Only the tests have code.
+//! What only a proved test can show: laws called from another crate, sinks at concrete types, the law of `serve_one`
+//! and the clause of `run_client` at devices that tell all, and runs of `serve_door` over a door, wires and a clock in
+//! memory. All else is rows of text (docs/TESTING.md). Only the tests have code.
 #![tactic(auto)]
 
 #[cfg(test)]

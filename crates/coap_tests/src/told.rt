@@ -1,4 +1,5 @@
-//! Runs of `serve_one` over devices that tell all, where its law is one of what they tell, and over a slice and a vector.
+//! Runs of `serve_one` over devices that tell all, where its law is one of what they tell, and over a slice and a
+//! vector.
 
 ghost use Rattle.std.specs.Prelude.{◌≡◌, ◌+◌, ◌<◌, ◌^◌, false, [], map, vec_items};
 ghost use Rattle.coap_serve.specs.streams.StdioRun.{IsStdioRun};
@@ -26,8 +27,8 @@ fn serve_told(
     serve_one(alloc, source, outlet, config)
 }
 
-/// Serves Capabilities and Settings and a Ping, by reads of two bytes, a write of which behind so many fails, and tells whether these
-/// bytes were written.
+/// Serves Capabilities and Settings and a Ping, by reads of two bytes, a write of which behind so many fails, and tells
+/// whether these bytes were written.
 fn writes(
     rt: &(impl Abort + AllocGlobal),
     write_fails: Option<usize>,

@@ -1,8 +1,10 @@
-//! What the programs that play rows share: the words of a row, the line that tells what came of one, and the run over all rows.
+//! What the programs that play rows share: the words of a row, the line that tells what came of one, and the run over
+//! all rows.
 //!
-//! A row that begins with `= ` opens the value that the later rows are about: `= frame 1152`. Every other row is an event. Its bytes
-//! are hex digits, or nothing. The line of a row is what came of it, and then how the value stands. What a row asks for against a
-//! `requires` is not done, and told by `refused`; a row that nobody understands by `strange`, a refusal of memory by `memory`.
+//! A row that begins with `= ` opens the value that the later rows are about: `= frame 1152`. Every other row is an
+//! event. Its bytes are hex digits, or nothing. The line of a row is what came of it, and then how the value stands.
+//! What a row asks for against a `requires` is not done, and told by `refused`; a row that nobody understands by
+//! `strange`, a refusal of memory by `memory`.
 #![tactic(auto)]
 
 mod told;
@@ -53,7 +55,8 @@ fn play_all<L: Layers>(
     }
 }
 
-/// Reads the rows and plays them. Room for what they tell is had before, so that a refusal of memory is the first, or a row's own.
+/// Reads the rows and plays them. Room for what they tell is had before, so that a refusal of memory is the first, or a
+/// row's own.
 fn read_and_play<L: Layers>(rt: &(impl Input + Print + AllocGlobal), layers: &mut L) -> Option<()> {
     let mut text = Vec::with_capacity(rt.alloc(), ROWS_ROOM).ok()?;
     rt.reader().read_to_end(&mut text).ok()?;

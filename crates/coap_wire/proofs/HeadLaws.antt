@@ -19,15 +19,15 @@ use Rattle.coap_wire.specs.Message.{AreBytes}
 
 -- ---- the declared size
 
-declared_bad : (b : ℕ) (s : List ℕ) → 8 < b % 16 → declared_of (b ∷ s) ≡ BadToken
+pub declared_bad : (b : ℕ) (s : List ℕ) → 8 < b % 16 → declared_of (b ∷ s) ≡ BadToken
 unfolding declared_of
 declared_bad b s h = rw (lt-ltb 8 (b % 16) h) refl
 
-declared_good : (b : ℕ) (s : List ℕ) → b % 16 ≤ 8 → declared_of (b ∷ s) ≡ size_from (b % 16) s (length_at (b / 16) s)
+pub declared_good : (b : ℕ) (s : List ℕ) → b % 16 ≤ 8 → declared_of (b ∷ s) ≡ size_from (b % 16) s (length_at (b / 16) s)
 unfolding declared_of
 declared_good b s h = rw (le-ltb 8 (b % 16) h) refl
 
-declared_nothing : declared_of [] ≡ Unknown
+pub declared_nothing : declared_of [] ≡ Unknown
 unfolding declared_of
 declared_nothing = refl
 

@@ -15,6 +15,7 @@ pub mod FaultLaws
 pub mod ReadingLaws
 pub mod ParseLemmas
 pub mod StreamSteps
+pub mod SizesLaws
 pub mod StreamLaws
 pub mod FramesLaws
 pub mod RecognitionLaws

@@ -2,7 +2,7 @@
 use Rattle.std.proofs.Common.{◌≡◌, ℕ, ◌+◌, ◌*◌, ◌<◌, ◌≤◌, List, [], ◌∷◌, ◌++◌, length, take, drop, Option, Some, None, Err, inl, inr, refl, sym, ap, subst, ◌∙◌, arith}
 use Rattle.std.specs.List.{concat}
 use Rattle.std.proofs.lemmas.Bool.{cases_lt}
-use Rattle.std.proofs.lemmas.List.{append-nil, append_assoc, get_or_append_left, get_or_past, length-append, take-append-drop, take_at, take-append-le, take_all, drop_all}
+use Rattle.std.proofs.lemmas.List.{append-nil, append_assoc, get_or_append_left, get_or_past, length-append, length-take, take-append-drop, take_at, take-append-le, take_all, drop_all}
 use Rattle.coap_wire.specs.Message.{Message, AreBytes}
 use Rattle.coap_wire.specs.Forms.{IsLengthForm}
 use Rattle.coap_wire.specs.Spelling.{Spells}
@@ -13,15 +13,15 @@ use Rattle.coap_wire.specs.Reading.{length_at, declared_of, message_of}
 use Rattle.coap_wire.specs.declared.fault.FrameFault.{FrameFault}
 use Rattle.coap_wire.specs.declared.fault.FrameFault.TheVariants.{TokenLength, TooLarge}
 use Rattle.coap_wire.specs.Beginning.{IsTooLarge, IsFrameFault, IsUnfinished, Beginning, Unfinished, Whole, Faulty, beginning, extension_of, size_bytes, fault_size, fault_bytes}
-use Rattle.coap_wire.specs.Frames.{AreAtMost, StandsBehind}
-use Rattle.coap_wire.specs.Stream.{StreamFault, OfFrame, Format, IsFormatFault, EndsWith, SpellEach, Splits, Stream, with_message, split}
+use Rattle.coap_wire.specs.Frames.{Sizes, sizes_behind, size_for, AreAtMost, StandsBehind, size_behind}
+use Rattle.coap_wire.specs.Stream.{StreamFault, OfFrame, Format, IsFormatFault, EndsWith, SpellEach, Splits, Stream, with_message, sized_split, SplitsAs}
 use Rattle.coap_wire.proofs.FormLaws.{token_form_is}
 use Rattle.coap_wire.proofs.NumberLaws.{AreBytes-tail, length_again}
 use Rattle.coap_wire.proofs.BodyLaws.{result_cases, ok_or_err, nibbles}
 use Rattle.coap_wire.proofs.HeadLaws.{bad_token_declared, size_declared, declares}
 use Rattle.coap_wire.proofs.SizeLaws.{spelling_is_frame}
 use Rattle.coap_wire.proofs.ReadingLaws.{message_spelled, message_again}
-use Rattle.coap_wire.proofs.StreamSteps.{length_at_taken, size_has_bytes, begin_bad_token, begin_too_large, begin_whole, whole_parts, whole_more, token_length_declared, too_large_declared, faulty_more, by_frames, split_unfinished, split_faulty, split_message, split_bad}
+use Rattle.coap_wire.proofs.StreamSteps.{length_at_taken, size_has_bytes, begin_bad_token, begin_too_large, begin_whole, whole_parts, whole_more, token_length_declared, too_large_declared, faulty_more, faulty_some, behind_twice, behind_none, size_for_more, Holding, HoldsBehind, stream_from, by_frames, sized_unfinished, sized_faulty, sized_message, sized_bad, unfinished_not_faulty}
 
 -- the bytes in front are bytes
 pub AreBytes-front : (front bytes : List ℕ) → AreBytes (front ++ bytes) → AreBytes front
@@ -126,13 +126,10 @@ fault_found M s TooLarge fits e = too_large_found M s fits e
 two_beginnings : (M : ℕ) (s frame rest : List ℕ) → beginning M s ≡ Unfinished → beginning M s ≡ Whole frame rest → ⊥
 two_beginnings M s frame rest u e = cc
 
-fault_or_not : (M : ℕ) (s : List ℕ) (fault : FrameFault) → beginning M s ≡ Unfinished → beginning M s ≡ Faulty fault → ⊥
-fault_or_not M s fault u e = cc
-
 no_frame_in : (M : ℕ) (p q : List ℕ) → beginning M (p ++ q) ≡ Unfinished → IsFrame p → ⊥
 no_frame_in M p q u f =
     elim (cases_lt M (length p)) [
-      | inl large ↦ fault_or_not M (p ++ q) TooLarge u (faulty_more M p q TooLarge (begin_too_large M p (length p) (size_declared p (length p) f) large))
+      | inl large ↦ unfinished_not_faulty M (p ++ q) TooLarge u (faulty_more M p q TooLarge (begin_too_large M p (length p) (size_declared p (length p) f) large))
       | inr small ↦ two_beginnings M (p ++ q) p q u (frame_begins M p q f small)
     ]
 
@@ -141,7 +138,7 @@ pub unfinished_is : (M : ℕ) (s : List ℕ) → beginning M s ≡ Unfinished �
 unfinished_is M s u p q is =
     let v : beginning M (p ++ q) ≡ Unfinished = sym (ap (beginning M) is) ∙ u in (
       no_frame_in M p q v,
-      λ fault f. fault_or_not M (p ++ q) fault v (fault_begins M p q fault f),
+      λ fault f. unfinished_not_faulty M (p ++ q) fault v (fault_begins M p q fault f),
     )
 
 unfinished_by : (M : ℕ) (s : List ℕ) (b : Beginning) → AreBytes s → IsUnfinished M s → beginning M s ≡ b → beginning M s ≡ Unfinished
@@ -153,84 +150,119 @@ unfinished_by M s (Faulty fault) fits u e = absurd ((u (fault_bytes fault s) (dr
 pub unfinished_again : (M : ℕ) (s : List ℕ) → AreBytes s → IsUnfinished M s → beginning M s ≡ Unfinished
 unfinished_again M s fits u = unfinished_by M s (beginning M s) fits u refl
 
+-- ---- the sizes behind frames
+
+-- where no frame stands in front
+pub size_behind_none : (sizes : Sizes) (rest : List ℕ) → size_behind sizes [] rest ≡ size_for sizes rest
+size_behind_none sizes rest = ap (λ (f : Sizes). size_for f rest) (behind_none sizes)
+
+-- where a frame stands in front of others
+pub size_behind_one : (sizes : Sizes) (frame : List ℕ) (frames : List (List ℕ)) (rest : List ℕ) → size_behind sizes (frame ∷ frames) rest ≡ size_behind (sizes_behind (length frame) sizes) frames rest
+size_behind_one sizes frame frames rest =
+    ap (λ (n : ℕ). size_for (sizes_behind n sizes) rest) (length-append frame (concat frames))
+    ∙ ap (λ (f : Sizes). size_for f rest) (sym (behind_twice (length frame) (length (concat frames)) sizes))
+
+-- the size in force at a frame's length is that at the front of bytes that begin with it
+-- a frame has a byte
+pub frame_some : (frame : List ℕ) → IsFrame frame → 1 ≤ length frame
+frame_some frame f = omega (arith, (size_has_bytes frame (length frame) (size_declared frame (length frame) f)).0)
+
 -- ---- what the function gives, the relation allows
 
--- the bytes are split so
-abbrev SplitsTo : ℕ → List ℕ → Stream → Type 0
-SplitsTo M s stream = Splits M s stream.messages stream.rest stream.fault
-
-splits_unfinished : (M : ℕ) (s : List ℕ) → beginning M s ≡ Unfinished → Splits M s [] s None
-splits_unfinished M s u = record {
+splits_unfinished : (sizes : Sizes) (s : List ℕ) → beginning (size_for sizes s) s ≡ Unfinished → Splits sizes s [] s None
+splits_unfinished sizes s u = record {
   frames = [];
   more = [];
   whole = sym (append-nil s);
   spelled = tt;
   small = tt;
-  ended = unfinished_is M s u;
+  ended = subst (λ (M : ℕ). IsUnfinished M s) (sym (size_behind_none sizes s)) (unfinished_is (size_for sizes s) s u);
   behind = refl;
 }
 
-splits_faulty : (M : ℕ) (s : List ℕ) (fault : FrameFault) → AreBytes s → beginning M s ≡ Faulty fault → Splits M s [] (fault_bytes fault s) (Some (OfFrame fault))
-splits_faulty M s fault fits e = record {
+-- a fault has a byte
+fault_size_some : (fault : FrameFault) (s : List ℕ) → 1 ≤ length s → 1 ≤ fault_size fault s
+fault_size_some TokenLength s some = omega arith
+fault_size_some TooLarge [] some = absurd (omega arith)
+fault_size_some TooLarge (b ∷ s) some = omega arith
+
+-- the size in force at a fault at the front
+pub size_for_fault : (sizes : Sizes) (s : List ℕ) (fault : FrameFault) → beginning (size_for sizes s) s ≡ Faulty fault → size_for sizes (fault_bytes fault s) ≡ size_for sizes s
+size_for_fault sizes s fault e =
+    let n : ℕ = fault_size fault s in
+    let some : 1 ≤ length s = faulty_some (size_for sizes s) s fault e in
+    let front : 1 ≤ length (take n s) = omega (arith, some, fault_size_some fault s some, length-take n s) in
+    sym (size_for_more sizes (take n s) (drop n s) front) ∙ ap (λ (l : List ℕ). size_for sizes l) (take-append-drop n s)
+
+splits_faulty : (sizes : Sizes) (s : List ℕ) (fault : FrameFault) → AreBytes s → beginning (size_for sizes s) s ≡ Faulty fault → Splits sizes s [] (fault_bytes fault s) (Some (OfFrame fault))
+splits_faulty sizes s fault fits e = record {
   frames = [];
   more = drop (fault_size fault s) s;
   whole = sym (take-append-drop (fault_size fault s) s);
   spelled = tt;
   small = tt;
-  ended = fault_found M s fault fits e;
+  ended = subst (λ (M : ℕ). IsFrameFault M fault (fault_bytes fault s)) (sym (size_behind_none sizes (fault_bytes fault s) ∙ size_for_fault sizes s fault e)) (fault_found (size_for sizes s) s fault fits e);
   behind = tt;
 }
 
-splits_bad : (M : ℕ) (s frame rest : List ℕ) (f : FormatFault) → AreBytes s → beginning M s ≡ Whole frame rest → message_of frame ≡ Err f → Splits M s [] frame (Some Format)
-splits_bad M s frame rest f fits e bad = record {
+-- the size in force at the front of bytes is that at their first frame
+pub size_for_whole : (sizes : Sizes) (s frame rest : List ℕ) → beginning (size_for sizes s) s ≡ Whole frame rest → size_for sizes s ≡ size_for sizes frame
+size_for_whole sizes s frame rest e =
+    let c = whole_parts (size_for sizes s) s frame rest e in
+    ap (size_for sizes) c.bytes ∙ size_for_more sizes frame rest (omega (arith, c.some))
+
+splits_bad : (sizes : Sizes) (s frame rest : List ℕ) (f : FormatFault) → AreBytes s → beginning (size_for sizes s) s ≡ Whole frame rest → message_of frame ≡ Err f → Splits sizes s [] frame (Some Format)
+splits_bad sizes s frame rest f fits e bad = record {
   frames = [];
   more = rest;
-  whole = (whole_parts M s frame rest e).bytes;
+  whole = (whole_parts (size_for sizes s) s frame rest e).bytes;
   spelled = tt;
   small = tt;
   ended = (
-    whole_frame M s frame rest fits e,
-    (whole_parts M s frame rest e).small,
+    whole_frame (size_for sizes s) s frame rest fits e,
+    omega (arith, (whole_parts (size_for sizes s) s frame rest e).small, size_for_whole sizes s frame rest e, size_behind_none sizes frame),
     λ m spelled. ok_or_err (message_of frame) m f (message_again frame m spelled) bad,
   );
   behind = tt;
 }
 
 -- a frame that spells a message in front of what is split
-pub splits_message : (M : ℕ) (frame rest : List ℕ) (m : Message) (ms : List Message) (r : List ℕ) (fault : Option StreamFault) → Spells frame m → length frame ≤ M → Splits M rest ms r fault → Splits M (frame ++ rest) (m ∷ ms) r fault
-splits_message M frame rest m ms r fault spelled small others = record {
+pub splits_message : (sizes : Sizes) (frame rest : List ℕ) (m : Message) (ms : List Message) (r : List ℕ) (fault : Option StreamFault) → Spells frame m → length frame ≤ size_for sizes frame → Splits (sizes_behind (length frame) sizes) rest ms r fault → Splits sizes (frame ++ rest) (m ∷ ms) r fault
+splits_message sizes frame rest m ms r fault spelled small others = record {
   frames = frame ∷ others.frames;
   more = others.more;
   whole = ap (λ (l : List ℕ). frame ++ l) others.whole ∙ sym (append_assoc frame (concat others.frames) (r ++ others.more));
   spelled = (spelled, others.spelled);
   small = (small, others.small);
-  ended = others.ended;
+  ended = subst (λ (M : ℕ). EndsWith M r fault) (sym (size_behind_one sizes frame others.frames r)) others.ended;
   behind = others.behind;
 }
 
 -- where s has bytes only, what the function gives splits it
-abbrev IsSplit : ℕ → List ℕ → Type 0
-IsSplit M s = AreBytes s → SplitsTo M s (split M s)
+abbrev IsSplit : Holding
+IsSplit sizes s = AreBytes s → SplitsAs sizes s (sized_split sizes s)
 
-splits_step : (M : ℕ) (s : List ℕ) (b : Beginning) → ((frame rest : List ℕ) → beginning M s ≡ Whole frame rest → IsSplit M rest) → beginning M s ≡ b → IsSplit M s
-splits_step M s Unfinished again e fits = subst (SplitsTo M s) (sym (split_unfinished M s e)) (splits_unfinished M s e)
-splits_step M s (Faulty fault) again e fits = subst (SplitsTo M s) (sym (split_faulty M s fault e)) (splits_faulty M s fault fits e)
-splits_step M s (Whole frame rest) again e fits =
-    let c = whole_parts M s frame rest e in
+splits_step : (sizes : Sizes) (s : List ℕ) (b : Beginning) → HoldsBehind IsSplit sizes s → beginning (size_for sizes s) s ≡ b → IsSplit sizes s
+splits_step sizes s Unfinished again e fits = subst (SplitsAs sizes s) (sym (sized_unfinished sizes s e)) (splits_unfinished sizes s e)
+splits_step sizes s (Faulty fault) again e fits = subst (SplitsAs sizes s) (sym (sized_faulty sizes s fault e)) (splits_faulty sizes s fault fits e)
+splits_step sizes s (Whole frame rest) again e fits =
+    let c = whole_parts (size_for sizes s) s frame rest e in
     let both : AreBytes (frame ++ rest) = subst (λ (l : List ℕ). AreBytes l) c.bytes fits in
     elim (result_cases (message_of frame)) [
       | inl good ↦
           let spelled : Spells frame good.0 = message_spelled frame good.0 (AreBytes-front frame rest both) good.1 in
-          let behind : SplitsTo M rest (split M rest) = again frame rest e (AreBytes-tail frame rest both) in
-          let others = splits_message M frame rest good.0 (split M rest).messages (split M rest).rest (split M rest).fault spelled c.small behind in
-          subst (SplitsTo M s) (sym (split_message M s frame rest good.0 e good.1))
-          (subst (λ (l : List ℕ). SplitsTo M l (with_message good.0 (split M rest))) (sym c.bytes) others)
-      | inr bad ↦ subst (SplitsTo M s) (sym (split_bad M s frame rest bad.0 e bad.1)) (splits_bad M s frame rest bad.0 fits e bad.1)
+          let first : Stream = stream_from sizes frame rest in
+          let behind : SplitsAs (sizes_behind (length frame) sizes) rest first = again frame rest e (AreBytes-tail frame rest both) in
+          let small : length frame ≤ size_for sizes frame = omega (arith, c.small, size_for_whole sizes s frame rest e) in
+          let others = splits_message sizes frame rest good.0 first.messages first.rest first.fault spelled small behind in
+          subst (SplitsAs sizes s) (sym (sized_message sizes s frame rest good.0 e good.1))
+          (subst (λ (l : List ℕ). SplitsAs sizes l (with_message good.0 first)) (sym c.bytes) others)
+      | inr bad ↦ subst (SplitsAs sizes s) (sym (sized_bad sizes s frame rest bad.0 e bad.1)) (splits_bad sizes s frame rest bad.0 fits e bad.1)
     ]
 
 -- What the function gives, the relation allows.
-pub split_splits : (M : ℕ) (bytes : List ℕ) → AreBytes bytes → Splits M bytes (split M bytes).messages (split M bytes).rest (split M bytes).fault
-split_splits M bytes fits = by_frames M (IsSplit M) (λ r again. splits_step M r (beginning M r) again refl) bytes fits
+pub split_splits : (sizes : Sizes) (bytes : List ℕ) → AreBytes bytes → SplitsAs sizes bytes (sized_split sizes bytes)
+split_splits sizes bytes = by_frames IsSplit (λ at r again. splits_step at r (beginning (size_for at r) r) again refl) sizes bytes
 
 -- ---- what the relation allows, the function gives
 
@@ -242,31 +274,47 @@ format_fault_read M r fits f =
       | inr bad ↦ bad
     ]
 
-split_ending : (M : ℕ) (rest more : List ℕ) (fault : Option StreamFault) → AreBytes (rest ++ more) → EndsWith M rest fault → StandsBehind more fault → split M (rest ++ more) ≡ record { messages = []; rest = rest; fault = fault }
-split_ending M rest more None fits ended behind =
-    let is : rest ++ more ≡ rest = ap (λ (l : List ℕ). rest ++ l) behind ∙ append-nil rest in
-    ap (split M) is ∙ split_unfinished M rest (unfinished_again M rest (AreBytes-front rest more fits) ended)
-split_ending M rest more (Some (OfFrame fault)) fits ended behind =
-    split_faulty M (rest ++ more) fault (fault_begins M rest more fault ended)
-    ∙ ap (λ (r : List ℕ). record { messages = []; rest = r; fault = Some (OfFrame fault) }) (fault_bytes_again M rest more fault ended)
-split_ending M rest more (Some Format) fits ended behind =
-    let bad = format_fault_read M rest (AreBytes-front rest more fits) ended in
-    split_bad M (rest ++ more) rest more bad.0 (frame_begins M rest more ended.0 ended.1) bad.1
+-- a fault has a byte
+pub fault_some : (M : ℕ) (r : List ℕ) (fault : FrameFault) → IsFrameFault M fault r → 1 ≤ length r
+fault_some M r fault f = faulty_some M r fault (subst (λ (s : List ℕ). beginning M s ≡ Faulty fault) (append-nil r) (fault_begins M r [] fault f))
 
-split_frames : (M : ℕ) (frames : List (List ℕ)) (ms : List Message) (rest more : List ℕ) (fault : Option StreamFault) → AreBytes (concat frames ++ (rest ++ more)) → SpellEach frames ms → AreAtMost M frames → EndsWith M rest fault → StandsBehind more fault → split M (concat frames ++ (rest ++ more)) ≡ record { messages = ms; rest = rest; fault = fault }
-split_frames M [] [] rest more fault fits spelled small ended behind = split_ending M rest more fault fits ended behind
-split_frames M [] (m ∷ ms) rest more fault fits spelled small ended behind = absurd spelled
-split_frames M (f ∷ fs) [] rest more fault fits spelled small ended behind = absurd spelled
-split_frames M (f ∷ fs) (m ∷ ms) rest more fault fits spelled small ended behind =
+-- with more bytes behind it the fault stands at the front
+pub fault_at_front : (sizes : Sizes) (rest more : List ℕ) (fault : FrameFault) → IsFrameFault (size_for sizes rest) fault rest → beginning (size_for sizes (rest ++ more)) (rest ++ more) ≡ Faulty fault
+fault_at_front sizes rest more fault ended =
+    ap (λ (M : ℕ). beginning M (rest ++ more)) (size_for_more sizes rest more (fault_some (size_for sizes rest) rest fault ended)) ∙ fault_begins (size_for sizes rest) rest more fault ended
+
+-- so does a frame of at most the size in force
+pub frame_at_front : (sizes : Sizes) (frame rest : List ℕ) → IsFrame frame → length frame ≤ size_for sizes frame → beginning (size_for sizes (frame ++ rest)) (frame ++ rest) ≡ Whole frame rest
+frame_at_front sizes frame rest f small =
+    ap (λ (M : ℕ). beginning M (frame ++ rest)) (size_for_more sizes frame rest (frame_some frame f)) ∙ frame_begins (size_for sizes frame) frame rest f small
+
+split_ending : (sizes : Sizes) (rest more : List ℕ) (fault : Option StreamFault) → AreBytes (rest ++ more) → EndsWith (size_for sizes rest) rest fault → StandsBehind more fault → sized_split sizes (rest ++ more) ≡ record { messages = []; rest = rest; fault = fault }
+split_ending sizes rest more None fits ended behind =
+    let is : rest ++ more ≡ rest = ap (λ (l : List ℕ). rest ++ l) behind ∙ append-nil rest in
+    ap (sized_split sizes) is ∙ sized_unfinished sizes rest (unfinished_again (size_for sizes rest) rest (AreBytes-front rest more fits) ended)
+split_ending sizes rest more (Some (OfFrame fault)) fits ended behind =
+    sized_faulty sizes (rest ++ more) fault (fault_at_front sizes rest more fault ended)
+    ∙ ap (λ (r : List ℕ). record { messages = []; rest = r; fault = Some (OfFrame fault) }) (fault_bytes_again (size_for sizes rest) rest more fault ended)
+split_ending sizes rest more (Some Format) fits ended behind =
+    let bad = format_fault_read (size_for sizes rest) rest (AreBytes-front rest more fits) ended in
+    sized_bad sizes (rest ++ more) rest more bad.0 (frame_at_front sizes rest more ended.0 ended.1) bad.1
+
+split_frames : (sizes : Sizes) (frames : List (List ℕ)) (ms : List Message) (rest more : List ℕ) (fault : Option StreamFault) → AreBytes (concat frames ++ (rest ++ more)) → SpellEach frames ms → AreAtMost sizes frames → EndsWith (size_behind sizes frames rest) rest fault → StandsBehind more fault → sized_split sizes (concat frames ++ (rest ++ more)) ≡ record { messages = ms; rest = rest; fault = fault }
+split_frames sizes [] [] rest more fault fits spelled small ended behind =
+    split_ending sizes rest more fault fits (subst (λ (M : ℕ). EndsWith M rest fault) (size_behind_none sizes rest) ended) behind
+split_frames sizes [] (m ∷ ms) rest more fault fits spelled small ended behind = absurd spelled
+split_frames sizes (f ∷ fs) [] rest more fault fits spelled small ended behind = absurd spelled
+split_frames sizes (f ∷ fs) (m ∷ ms) rest more fault fits spelled small ended behind =
     let others = concat fs ++ (rest ++ more) in
     let is : concat (f ∷ fs) ++ (rest ++ more) ≡ f ++ others = append_assoc f (concat fs) (rest ++ more) in
     let tail : AreBytes others = AreBytes-tail f others (subst (λ (l : List ℕ). AreBytes l) is fits) in
-    ap (split M) is
-    ∙ split_message M (f ++ others) f others m (frame_begins M f others (spelling_is_frame f m spelled.0) small.0) (message_again f m spelled.0)
-    ∙ ap (with_message m) (split_frames M fs ms rest more fault tail spelled.1 small.1 ended behind)
+    let ends = subst (λ (M : ℕ). EndsWith M rest fault) (size_behind_one sizes f fs rest) ended in
+    ap (sized_split sizes) is
+    ∙ sized_message sizes (f ++ others) f others m (frame_at_front sizes f others (spelling_is_frame f m spelled.0) small.0) (message_again f m spelled.0)
+    ∙ ap (with_message m) (split_frames (sizes_behind (length f) sizes) fs ms rest more fault tail spelled.1 small.1 ends behind)
 
 -- What the relation allows, the function gives.
-pub splits_split : (M : ℕ) (bytes : List ℕ) (ms : List Message) (rest : List ℕ) (fault : Option StreamFault) → AreBytes bytes → Splits M bytes ms rest fault → split M bytes ≡ record { messages = ms; rest = rest; fault = fault }
-splits_split M bytes ms rest fault fits s =
-    ap (split M) s.whole
-    ∙ split_frames M s.frames ms rest s.more fault (subst (λ (l : List ℕ). AreBytes l) s.whole fits) s.spelled s.small s.ended s.behind
+pub splits_split : (sizes : Sizes) (bytes : List ℕ) (other : Stream) → AreBytes bytes → SplitsAs sizes bytes other → other ≡ sized_split sizes bytes
+splits_split sizes bytes other fits s =
+    sym (ap (sized_split sizes) s.whole
+    ∙ split_frames sizes s.frames other.messages other.rest s.more other.fault (subst (λ (l : List ℕ). AreBytes l) s.whole fits) s.spelled s.small s.ended s.behind)

@@ -2,7 +2,7 @@
 use Rattle.std.proofs.Common.{◌≡◌, ℕ, zero, suc, ◌+◌, ◌-◌, ◌/◌, ◌%◌, ◌<◌, ◌≤◌, Bool, true, false, cond, eqb, ltb, List, [], ◌∷◌, ◌++◌, length, take, drop, Option, Some, None, Result, Ok, Err, ◌⊎◌, inl, inr, refl, sym, ap, subst, ◌∙◌, arith}
 use Rattle.std.specs.Int.{w16, w32, from_be_bytes}
 use Rattle.std.proofs.lemmas.Bool.{lt-ltb, le-ltb, cases_lt}
-use Rattle.std.proofs.lemmas.List.{length-append, length-drop, length-take-le, take-append-drop, take-append-le, drop-append-le, take_all, drop_all}
+use Rattle.std.proofs.lemmas.List.{length-append, length-drop, length-take, length-take-le, take-append-drop, take-append-le, drop-append-le, take_all, drop_all}
 use Rattle.coap_wire.specs.Message.{Message}
 use Rattle.coap_wire.specs.declared.frame.Declared.{Declared}
 use Rattle.coap_wire.specs.declared.frame.Declared.TheVariants.{Unknown, Size, BadToken}
@@ -10,12 +10,13 @@ use Rattle.coap_wire.specs.declared.fault.FormatFault.{FormatFault}
 use Rattle.coap_wire.specs.Reading.{one_byte_at, two_bytes_at, four_bytes_at, plus, length_at, size_from, declared_of, message_of}
 use Rattle.coap_wire.specs.declared.fault.FrameFault.{FrameFault}
 use Rattle.coap_wire.specs.declared.fault.FrameFault.TheVariants.{TokenLength, TooLarge}
-use Rattle.coap_wire.specs.Beginning.{Beginning, Unfinished, Whole, Faulty, begins_with, beginning, extension_of, size_bytes, fault_bytes}
-use Rattle.coap_wire.specs.Frames.{Frames, with_frame, frames_then, frames_within, frames_of}
-use Rattle.coap_wire.specs.Stream.{StreamFault, OfFrame, Format, Stream, with_message, frame_then, read_found, split, stream_then, gone_on, split_on}
+use Rattle.coap_wire.specs.Beginning.{Beginning, Unfinished, Whole, Faulty, begins_with, beginning, extension_of, size_bytes, fault_size, fault_bytes}
+use Rattle.coap_wire.specs.Frames.{Frames, Sizes, always, sizes_behind, size_for, sizes_of_rest, with_frame, frames_then, frames_within, sized_frames}
+use Rattle.coap_wire.specs.Stream.{StreamFault, OfFrame, Format, Stream, with_message, frame_then, read_found, sized_split, split, stream_then, gone_on, sized_split_on, split_on}
 use Rattle.coap_wire.proofs.BodySteps.{some_is}
 use Rattle.coap_wire.proofs.NumberLaws.{option_cases}
 use Rattle.coap_wire.proofs.BodyLaws.{result_cases}
+use Rattle.coap_wire.proofs.HeadLaws.{declared_nothing, declared_bad, declared_good}
 
 -- ---- the length behind a nibble
 
@@ -33,7 +34,7 @@ same_more n s t y e =
 same_rest : (n : ℕ) (s : List ℕ) (y : ℕ × List ℕ) → ◌≡◌ {A = Option (ℕ × List ℕ)} (Some (n, s)) (Some y) → length s ≡ length y.1
 same_rest n s y e = ap (λ (p : ℕ × List ℕ). length p.1) (some_is (n, s) y e)
 
-none_or_some : {A : Type 0} (x : A) → ◌≡◌ {A = Option A} None (Some x) → ⊥
+pub none_or_some : {A : Type 0} (x : A) → ◌≡◌ {A = Option A} None (Some x) → ⊥
 none_or_some x e = cc
 
 reads_none : (x : ℕ) → ReadsFrom 0 (λ s. Some (x, s))
@@ -121,25 +122,13 @@ length_at_missing x s e = (reads_length x).missing s e
 
 -- ---- the declared size
 
-declared_nothing : declared_of [] ≡ Unknown
-unfolding declared_of
-declared_nothing = refl
-
-declared_bad : (b : ℕ) (s : List ℕ) → 8 < b % 16 → declared_of (b ∷ s) ≡ BadToken
-unfolding declared_of
-declared_bad b s h = rw (lt-ltb 8 (b % 16) h) refl
-
-declared_good : (b : ℕ) (s : List ℕ) → b % 16 ≤ 8 → declared_of (b ∷ s) ≡ size_from (b % 16) s (length_at (b / 16) s)
-unfolding declared_of
-declared_good b s h = rw (le-ltb 8 (b % 16) h) refl
-
 bad_not_size : (n : ℕ) → BadToken ≡ Size n → ⊥
 bad_not_size n e = cc
 
 bad_not_unknown : BadToken ≡ Unknown → ⊥
 bad_not_unknown e = cc
 
-unknown_not_size : (n : ℕ) → Unknown ≡ Size n → ⊥
+pub unknown_not_size : (n : ℕ) → Unknown ≡ Size n → ⊥
 unknown_not_size n e = cc
 
 unknown_not_bad : Unknown ≡ BadToken → ⊥
@@ -389,7 +378,7 @@ whole_alone M s (b ∷ f) rest c e BadToken is =
 pub whole_itself : (M : ℕ) (s frame rest : List ℕ) → beginning M s ≡ Whole frame rest → beginning M frame ≡ Whole frame []
 whole_itself M s frame rest e = whole_alone M s frame rest (whole_parts M s frame rest e) e (declared_of frame) refl
 
-bad_has_byte : (s : List ℕ) → declared_of s ≡ BadToken → 1 ≤ length s
+pub bad_has_byte : (s : List ℕ) → declared_of s ≡ BadToken → 1 ≤ length s
 bad_has_byte s e = declared_some s (λ u. unknown_not_bad (sym u ∙ e))
 
 -- the byte of a fault stands among the bytes at which it was known
@@ -417,7 +406,7 @@ whole_at_last M s b frame rest u e =
     let size = last_is_size M s b w.size u w.declared w.long in
     (sym w.behind ∙ drop_all w.size (s ++ b ∷ []) (omega arith), sym w.front ∙ take_all w.size (s ++ b ∷ []) (omega arith))
 
-unfinished_not_faulty : (M : ℕ) (s : List ℕ) (fault : FrameFault) → beginning M s ≡ Unfinished → beginning M s ≡ Faulty fault → ⊥
+pub unfinished_not_faulty : (M : ℕ) (s : List ℕ) (fault : FrameFault) → beginning M s ≡ Unfinished → beginning M s ≡ Faulty fault → ⊥
 unfinished_not_faulty M s fault u e = cc
 
 bad_at_last : (M : ℕ) (s : List ℕ) (b : ℕ) → beginning M s ≡ Unfinished → declared_of (s ++ b ∷ []) ≡ BadToken → take 1 (s ++ b ∷ []) ≡ s ++ b ∷ []
@@ -452,7 +441,7 @@ extension_by_small false false false = omega arith
 pub extension_small : (x : ℕ) → extension_of x ≤ 4
 extension_small x = extension_by_small (ltb x 13) (eqb x 13) (eqb x 14)
 
-unknown_small : (s : List ℕ) → declared_of s ≡ Unknown → length s < 5
+pub unknown_small : (s : List ℕ) → declared_of s ≡ Unknown → length s < 5
 unknown_small [] e = omega arith
 unknown_small (b ∷ s) e =
     let k : length (b ∷ s) < size_bytes (b ∷ s) = unknown_at b s e in
@@ -482,108 +471,185 @@ unfinished_larger M N s h u =
       | inr short ↦ begin_short N s short.size short.declared (omega (arith, short.small)) short.short
     ]
 
+-- ---- the sizes in force
+
+-- the sizes behind so many bytes and then so many more
+pub behind_twice : (m n : ℕ) (sizes : Sizes) → sizes_behind n (sizes_behind m sizes) ≡ sizes_behind (m + n) sizes
+behind_twice m n sizes =
+    let same : (at : ℕ) → m + (n + at) ≡ (m + n) + at = λ at. omega arith in
+    λ i at. sizes (same at i)
+
+pub behind_none : (sizes : Sizes) → sizes_behind 0 sizes ≡ sizes
+behind_none sizes =
+    let same : (at : ℕ) → 0 + at ≡ at = λ at. omega arith in
+    λ i at. sizes (same at i)
+
+-- the bytes that come behind others do not change the size in force at the front
+pub size_for_more : (sizes : Sizes) (s t : List ℕ) → 1 ≤ length s → size_for sizes (s ++ t) ≡ size_for sizes s
+size_for_more sizes s t some = ap (λ (n : ℕ). sizes (n - 1)) (size_bytes_more s t some)
+
 -- ---- the turns do not matter
 
 -- two searches that agree behind each frame
-then_same : (go hop : List ℕ → Frames) (s : List ℕ) (b : Beginning) → ((frame rest : List ℕ) → b ≡ Whole frame rest → go rest ≡ hop rest) → frames_then go s b ≡ frames_then hop s b
+then_same : (go hop : List ℕ → List ℕ → Frames) (s : List ℕ) (b : Beginning) → ((frame rest : List ℕ) → b ≡ Whole frame rest → go frame rest ≡ hop frame rest) → frames_then go s b ≡ frames_then hop s b
 then_same go hop s Unfinished h = refl
 then_same go hop s (Faulty fault) h = refl
 then_same go hop s (Whole frame rest) h = ap (with_frame frame) (h frame rest refl)
 
-within_end : (turns M : ℕ) → frames_within turns M [] ≡ record { frames = []; rest = []; fault = None }
+within_end : (turns : ℕ) (sizes : Sizes) → frames_within turns sizes [] ≡ record { frames = []; rest = []; fault = None }
 unfolding frames_within
-within_end zero M = refl
-within_end (suc turns) M = ap (frames_then (frames_within turns M) []) (unfinished_empty M)
+within_end zero sizes = refl
+within_end (suc turns) sizes =
+    ap (frames_then (λ frame. frames_within turns (sizes_behind (length frame) sizes)) []) (unfinished_empty (size_for sizes []))
 
-within_same : (m n M : ℕ) (s : List ℕ) → length s ≤ m → length s ≤ n → frames_within m M s ≡ frames_within n M s
+within_same : (m n : ℕ) (sizes : Sizes) (s : List ℕ) → length s ≤ m → length s ≤ n → frames_within m sizes s ≡ frames_within n sizes s
 unfolding frames_within
-within_same m n M [] p q = within_end m M ∙ sym (within_end n M)
-within_same zero n M (b ∷ s) p q = absurd (omega arith)
-within_same (suc m) zero M (b ∷ s) p q = absurd (omega arith)
-within_same (suc m) (suc n) M (b ∷ s) p q =
-    then_same (frames_within m M) (frames_within n M) (b ∷ s) (beginning M (b ∷ s))
+within_same m n sizes [] p q = within_end m sizes ∙ sym (within_end n sizes)
+within_same zero n sizes (b ∷ s) p q = absurd (omega arith)
+within_same (suc m) zero sizes (b ∷ s) p q = absurd (omega arith)
+within_same (suc m) (suc n) sizes (b ∷ s) p q =
+    then_same (λ frame. frames_within m (sizes_behind (length frame) sizes)) (λ frame. frames_within n (sizes_behind (length frame) sizes)) (b ∷ s)
+    (beginning (size_for sizes (b ∷ s)) (b ∷ s))
     (λ frame rest e.
-    let k : length rest < length (b ∷ s) = whole_shorter M (b ∷ s) frame rest e in
-    within_same m n M rest (omega arith) (omega arith))
+    let k : length rest < length (b ∷ s) = whole_shorter (size_for sizes (b ∷ s)) (b ∷ s) frame rest e in
+    within_same m n (sizes_behind (length frame) sizes) rest (omega arith) (omega arith))
 
 -- no more turns are needed than there are bytes
-pub frames_enough : (turns M : ℕ) (s : List ℕ) → length s ≤ turns → frames_within turns M s ≡ frames_of M s
-unfolding frames_of
-frames_enough turns M s h = within_same turns (length s) M s h (omega arith)
+pub frames_enough : (turns : ℕ) (sizes : Sizes) (s : List ℕ) → length s ≤ turns → frames_within turns sizes s ≡ sized_frames sizes s
+unfolding sized_frames
+frames_enough turns sizes s h = within_same turns (length s) sizes s h (omega arith)
 
 -- ---- the frames, step by step
 
+-- the frames behind one
+abbrev pub frames_from : Sizes → List ℕ → List ℕ → Frames
+frames_from sizes frame rest = sized_frames (sizes_behind (length frame) sizes) rest
+
+-- what bytes spell behind a frame
+abbrev pub stream_from : Sizes → List ℕ → List ℕ → Stream
+stream_from sizes frame rest = sized_split (sizes_behind (length frame) sizes) rest
+
 -- the frames of bytes are what stands at their front, and then the frames of the others
-pub frames_step : (M : ℕ) (s : List ℕ) → frames_of M s ≡ frames_then (frames_of M) s (beginning M s)
+pub frames_step : (sizes : Sizes) (s : List ℕ) → sized_frames sizes s ≡ frames_then (frames_from sizes) s (beginning (size_for sizes s) s)
 unfolding frames_within
-frames_step M s =
-    sym (frames_enough (suc (length s)) M s (omega arith))
-    ∙ then_same (frames_within (length s) M) (frames_of M) s (beginning M s)
-    (λ frame rest e. frames_enough (length s) M rest (omega (arith, whole_shorter M s frame rest e)))
+frames_step sizes s =
+    sym (frames_enough (suc (length s)) sizes s (omega arith))
+    ∙ then_same (λ frame. frames_within (length s) (sizes_behind (length frame) sizes)) (frames_from sizes) s (beginning (size_for sizes s) s)
+    (λ frame rest e. frames_enough (length s) (sizes_behind (length frame) sizes) rest (omega (arith, whole_shorter (size_for sizes s) s frame rest e)))
 
--- what is not finished is left
-pub frames_unfinished : (M : ℕ) (s : List ℕ) → beginning M s ≡ Unfinished → frames_of M s ≡ record { frames = []; rest = s; fault = None }
-frames_unfinished M s e = frames_step M s ∙ ap (frames_then (frames_of M) s) e
+module _ (sizes : Sizes) (s : List ℕ) where
+  -- what is not finished is left
+  pub frames_unfinished : beginning (size_for sizes s) s ≡ Unfinished → sized_frames sizes s ≡ record { frames = []; rest = s; fault = None }
+  frames_unfinished e = frames_step sizes s ∙ ap (frames_then (frames_from sizes) s) e
 
--- a fault ends the frames
-pub frames_faulty : (M : ℕ) (s : List ℕ) (fault : FrameFault) → beginning M s ≡ Faulty fault → frames_of M s ≡ record { frames = []; rest = fault_bytes fault s; fault = Some fault }
-frames_faulty M s fault e = frames_step M s ∙ ap (frames_then (frames_of M) s) e
+  -- a fault ends the frames
+  pub frames_faulty : (fault : FrameFault) → beginning (size_for sizes s) s ≡ Faulty fault → sized_frames sizes s ≡ record { frames = []; rest = fault_bytes fault s; fault = Some fault }
+  frames_faulty fault e = frames_step sizes s ∙ ap (frames_then (frames_from sizes) s) e
 
--- a frame, and then the frames of the others
-pub frames_whole : (M : ℕ) (s frame rest : List ℕ) → beginning M s ≡ Whole frame rest → frames_of M s ≡ with_frame frame (frames_of M rest)
-frames_whole M s frame rest e = frames_step M s ∙ ap (frames_then (frames_of M) s) e
+  -- a frame, and then the frames of the others
+  pub frames_whole : (frame rest : List ℕ) → beginning (size_for sizes s) s ≡ Whole frame rest → sized_frames sizes s ≡ with_frame frame (frames_from sizes frame rest)
+  frames_whole frame rest e = frames_step sizes s ∙ ap (frames_then (frames_from sizes) s) e
 
 -- ---- what holds of all bytes, frame by frame
 
-by_turns : (turns M : ℕ) (P : List ℕ → Type 0) → ((s : List ℕ) → ((frame rest : List ℕ) → beginning M s ≡ Whole frame rest → P rest) → P s) → (s : List ℕ) → length s ≤ turns → P s
-by_turns zero M P step s k = step s (λ frame rest e. absurd (omega (arith, k, whole_shorter M s frame rest e)))
-by_turns (suc turns) M P step s k = step s (λ frame rest e. by_turns turns M P step rest (omega (arith, k, whole_shorter M s frame rest e)))
+-- what holds of bytes with these sizes
+abbrev pub Holding : Type 1
+Holding = Sizes → List ℕ → Type 0
+
+-- it holds behind the frame at the front
+abbrev pub HoldsBehind : Holding → Sizes → List ℕ → Type 0
+HoldsBehind P sizes s = (frame rest : List ℕ) → beginning (size_for sizes s) s ≡ Whole frame rest → P (sizes_behind (length frame) sizes) rest
+
+by_turns : (turns : ℕ) (P : Holding) → ((sizes : Sizes) (s : List ℕ) → HoldsBehind P sizes s → P sizes s) → (sizes : Sizes) (s : List ℕ) → length s ≤ turns → P sizes s
+by_turns zero P step sizes s k = step sizes s (λ frame rest e. absurd (omega (arith, k, whole_shorter (size_for sizes s) s frame rest e)))
+by_turns (suc turns) P step sizes s k =
+    step sizes s (λ frame rest e. by_turns turns P step (sizes_behind (length frame) sizes) rest (omega (arith, k, whole_shorter (size_for sizes s) s frame rest e)))
 
 -- what holds of bytes wherever it holds behind the frame at their front holds of all bytes
-pub by_frames : (M : ℕ) (P : List ℕ → Type 0) → ((s : List ℕ) → ((frame rest : List ℕ) → beginning M s ≡ Whole frame rest → P rest) → P s) → (s : List ℕ) → P s
-by_frames M P step s = by_turns (length s) M P step s (omega arith)
+pub by_frames : (P : Holding) → ((sizes : Sizes) (s : List ℕ) → HoldsBehind P sizes s → P sizes s) → (sizes : Sizes) (s : List ℕ) → P sizes s
+by_frames P step sizes s = by_turns (length s) P step sizes s (omega arith)
 
 -- ---- the stream, step by step
 
-split_by : (M : ℕ) (s : List ℕ) (b : Beginning) → beginning M s ≡ b → split M s ≡ stream_then (split M) s b
-unfolding split
-split_by M s Unfinished e = ap read_found (frames_unfinished M s e)
-split_by M s (Faulty fault) e = ap read_found (frames_faulty M s fault e)
-split_by M s (Whole frame rest) e = ap read_found (frames_whole M s frame rest e)
+split_by : (sizes : Sizes) (s : List ℕ) (b : Beginning) → beginning (size_for sizes s) s ≡ b → sized_split sizes s ≡ stream_then (stream_from sizes) s b
+unfolding sized_split
+split_by sizes s Unfinished e = ap read_found (frames_unfinished sizes s e)
+split_by sizes s (Faulty fault) e = ap read_found (frames_faulty sizes s fault e)
+split_by sizes s (Whole frame rest) e = ap read_found (frames_whole sizes s frame rest e)
 
--- what bytes spell is what stands at their front, and then what the others spell
-pub split_step : (M : ℕ) (s : List ℕ) → split M s ≡ stream_then (split M) s (beginning M s)
-split_step M s = split_by M s (beginning M s) refl
+module _ (sizes : Sizes) (s : List ℕ) where
+  -- what bytes spell is what stands at their front, and then what the others spell
+  pub sized_step : sized_split sizes s ≡ stream_then (stream_from sizes) s (beginning (size_for sizes s) s)
+  sized_step = split_by sizes s (beginning (size_for sizes s) s) refl
 
--- what is not finished is left
-pub split_unfinished : (M : ℕ) (s : List ℕ) → beginning M s ≡ Unfinished → split M s ≡ record { messages = []; rest = s; fault = None }
-split_unfinished M s e = split_by M s Unfinished e
+  -- what is not finished is left
+  pub sized_unfinished : beginning (size_for sizes s) s ≡ Unfinished → sized_split sizes s ≡ record { messages = []; rest = s; fault = None }
+  sized_unfinished e = split_by sizes s Unfinished e
 
--- a fault ends the stream
-pub split_faulty : (M : ℕ) (s : List ℕ) (fault : FrameFault) → beginning M s ≡ Faulty fault → split M s ≡ record { messages = []; rest = fault_bytes fault s; fault = Some (OfFrame fault) }
-split_faulty M s fault e = split_by M s (Faulty fault) e
+  -- a fault ends the stream
+  pub sized_faulty : (fault : FrameFault) → beginning (size_for sizes s) s ≡ Faulty fault → sized_split sizes s ≡ record { messages = []; rest = fault_bytes fault s; fault = Some (OfFrame fault) }
+  sized_faulty fault e = split_by sizes s (Faulty fault) e
 
--- a frame that spells a message, and then what the others spell
-pub split_message : (M : ℕ) (s frame rest : List ℕ) (m : Message) → beginning M s ≡ Whole frame rest → message_of frame ≡ Ok m → split M s ≡ with_message m (split M rest)
-split_message M s frame rest m e is = split_by M s (Whole frame rest) e ∙ ap (λ (r : Result Message FormatFault). frame_then frame r (split M rest)) is
+  -- a frame that spells a message, and then what the others spell
+  pub sized_message : (frame rest : List ℕ) (m : Message) → beginning (size_for sizes s) s ≡ Whole frame rest → message_of frame ≡ Ok m → sized_split sizes s ≡ with_message m (stream_from sizes frame rest)
+  sized_message frame rest m e is = split_by sizes s (Whole frame rest) e ∙ ap (λ (r : Result Message FormatFault). frame_then frame r (stream_from sizes frame rest)) is
 
--- a frame that spells none ends the stream
-pub split_bad : (M : ℕ) (s frame rest : List ℕ) (e : FormatFault) → beginning M s ≡ Whole frame rest → message_of frame ≡ Err e → split M s ≡ record { messages = []; rest = frame; fault = Some Format }
-split_bad M s frame rest e is bad = split_by M s (Whole frame rest) is ∙ ap (λ (r : Result Message FormatFault). frame_then frame r (split M rest)) bad
+  -- a frame that spells none ends the stream
+  pub sized_bad : (frame rest : List ℕ) (e : FormatFault) → beginning (size_for sizes s) s ≡ Whole frame rest → message_of frame ≡ Err e → sized_split sizes s ≡ record { messages = []; rest = frame; fault = Some Format }
+  sized_bad frame rest e is bad = split_by sizes s (Whole frame rest) is ∙ ap (λ (r : Result Message FormatFault). frame_then frame r (stream_from sizes frame rest)) bad
 
 -- ---- going on
 
-fault_of_faulty : (M : ℕ) (s : List ℕ) (fault : FrameFault) → beginning M s ≡ Faulty fault → (split M s).fault ≡ Some (OfFrame fault)
-fault_of_faulty M s fault e = ap (λ (stream : Stream). stream.fault) (split_faulty M s fault e)
-
-fault_of_bad : (M : ℕ) (s frame rest : List ℕ) (e : FormatFault) → beginning M s ≡ Whole frame rest → message_of frame ≡ Err e → (split M s).fault ≡ Some Format
-fault_of_bad M s frame rest e is bad = ap (λ (stream : Stream). stream.fault) (split_bad M s frame rest e is bad)
-
-fault_of_message : (M : ℕ) (s frame rest : List ℕ) (m : Message) → beginning M s ≡ Whole frame rest → message_of frame ≡ Ok m → (split M s).fault ≡ (split M rest).fault
-fault_of_message M s frame rest m e is = ap (λ (stream : Stream). stream.fault) (split_message M s frame rest m e is)
-
 no_fault : (o : Option StreamFault) (fault : StreamFault) → o ≡ Some fault → o ≡ None → ⊥
 no_fault o fault e h = none_or_some fault (sym h ∙ e)
+
+-- the rest of a stream is no longer than it
+abbrev IsWithin : Holding
+IsWithin sizes s = length (sized_split sizes s).rest ≤ length s
+
+within_step : (sizes : Sizes) (s : List ℕ) (b : Beginning) → HoldsBehind IsWithin sizes s → beginning (size_for sizes s) s ≡ b → IsWithin sizes s
+within_step sizes s Unfinished again e = omega (arith, ap (λ (u : Stream). length u.rest) (sized_unfinished sizes s e))
+within_step sizes s (Faulty fault) again e =
+    omega (arith, ap (λ (u : Stream). length u.rest) (sized_faulty sizes s fault e), length-take (fault_size fault s) s)
+within_step sizes s (Whole frame rest) again e =
+    let c = whole_parts (size_for sizes s) s frame rest e in
+    let all : length s ≡ length frame + length rest = ap (λ (l : List ℕ). length l) c.bytes ∙ length-append frame rest in
+    elim (result_cases (message_of frame)) [
+      | inl good ↦ omega (arith, all, again frame rest e, ap (λ (u : Stream). length u.rest) (sized_message sizes s frame rest good.0 e good.1))
+      | inr bad ↦ omega (arith, all, ap (λ (u : Stream). length u.rest) (sized_bad sizes s frame rest bad.0 e bad.1))
+    ]
+
+pub rest_within : (sizes : Sizes) (s : List ℕ) → length (sized_split sizes s).rest ≤ length s
+rest_within sizes s = by_frames IsWithin (λ at r again. within_step at r (beginning (size_for at r) r) again refl) sizes s
+
+-- the sizes of the rest, where a frame stands in front
+pub rest_behind : (sizes : Sizes) (frame rest s left : List ℕ) → length s ≡ length frame + length rest → length left ≤ length rest → sizes_of_rest (sizes_behind (length frame) sizes) rest left ≡ sizes_of_rest sizes s left
+rest_behind sizes frame rest s left all within =
+    let same : length frame + (length rest - length left) ≡ length s - length left = omega (arith, all, within) in
+    behind_twice (length frame) (length rest - length left) sizes ∙ ap (λ (n : ℕ). sizes_behind n sizes) same
+
+-- where all of it is left
+pub rest_is_all : (sizes : Sizes) (s : List ℕ) → sizes_of_rest sizes s s ≡ sizes
+rest_is_all sizes s =
+    let none : length s - length s ≡ 0 = omega arith in
+    ap (λ (n : ℕ). sizes_behind n sizes) none ∙ behind_none sizes
+
+-- where something stands at the front there is a byte
+pub faulty_some : (M : ℕ) (s : List ℕ) (fault : FrameFault) → beginning M s ≡ Faulty fault → 1 ≤ length s
+faulty_some M [] fault e = let bad : ◌≡◌ {A = Beginning} Unfinished (Faulty fault) = sym (unfinished_empty M) ∙ e in absurd cc
+faulty_some M (b ∷ s) fault e = omega arith
+
+pub whole_some : (M : ℕ) (s frame rest : List ℕ) → beginning M s ≡ Whole frame rest → 1 ≤ length s
+whole_some M s frame rest e = omega (arith, whole_shorter M s frame rest e)
+
+-- the same stands at the front with more bytes behind it, where the size in force is that of the front
+pub sized_faulty_more : (sizes : Sizes) (s t : List ℕ) (fault : FrameFault) → beginning (size_for sizes s) s ≡ Faulty fault → beginning (size_for sizes (s ++ t)) (s ++ t) ≡ Faulty fault
+sized_faulty_more sizes s t fault e =
+    ap (λ (M : ℕ). beginning M (s ++ t)) (size_for_more sizes s t (faulty_some (size_for sizes s) s fault e)) ∙ faulty_more (size_for sizes s) s t fault e
+
+pub sized_whole_more : (sizes : Sizes) (s t frame rest : List ℕ) → beginning (size_for sizes s) s ≡ Whole frame rest → beginning (size_for sizes (s ++ t)) (s ++ t) ≡ Whole frame (rest ++ t)
+sized_whole_more sizes s t frame rest e =
+    ap (λ (M : ℕ). beginning M (s ++ t)) (size_for_more sizes s t (whole_some (size_for sizes s) s frame rest e)) ∙ whole_more (size_for sizes s) s t frame rest e
 
 -- a message in front of a stream stands in front of the stream gone on
 message_on : (m : Message) (stream others : Stream) (fault : Option StreamFault) → gone_on (with_message m stream) fault others ≡ with_message m (gone_on stream fault others)
@@ -591,50 +657,213 @@ message_on m stream others None = refl
 message_on m stream others (Some fault) = refl
 
 -- the stream of s goes on with t
-abbrev GoesOn : ℕ → List ℕ → List ℕ → Type 0
-GoesOn M t s = split M (s ++ t) ≡ split_on M (split M s) t
+abbrev GoesOn : List ℕ → Holding
+GoesOn t sizes s = sized_split sizes (s ++ t) ≡ sized_split_on (sizes_of_rest sizes s (sized_split sizes s).rest) (sized_split sizes s) t
 
-on_step : (M : ℕ) (s t : List ℕ) (b : Beginning) → ((frame rest : List ℕ) → beginning M s ≡ Whole frame rest → GoesOn M t rest) → beginning M s ≡ b → GoesOn M t s
-on_step M s t Unfinished again e = sym (ap (λ (first : Stream). split_on M first t) (split_unfinished M s e))
-on_step M s t (Faulty fault) again e =
-    split_faulty M (s ++ t) fault (faulty_more M s t fault e)
-    ∙ ap (λ (r : List ℕ). record { messages = []; rest = r; fault = Some (OfFrame fault) }) (fault_bytes_more M s t fault e)
-    ∙ sym (ap (λ (first : Stream). split_on M first t) (split_faulty M s fault e))
-on_step M s t (Whole frame rest) again e =
+-- the stream first gone on with t
+abbrev on_with : Sizes → List ℕ → List ℕ → Stream → Stream
+on_with sizes s t first = sized_split_on (sizes_of_rest sizes s first.rest) first t
+
+on_step : (t : List ℕ) (sizes : Sizes) (s : List ℕ) (b : Beginning) → HoldsBehind (GoesOn t) sizes s → beginning (size_for sizes s) s ≡ b → GoesOn t sizes s
+on_step t sizes s Unfinished again e =
+    ap (λ (f : Sizes). sized_split f (s ++ t)) (sym (rest_is_all sizes s))
+    ∙ sym (ap (on_with sizes s t) (sized_unfinished sizes s e))
+on_step t sizes s (Faulty fault) again e =
+    sized_faulty sizes (s ++ t) fault (sized_faulty_more sizes s t fault e)
+    ∙ ap (λ (r : List ℕ). record { messages = []; rest = r; fault = Some (OfFrame fault) }) (fault_bytes_more (size_for sizes s) s t fault e)
+    ∙ sym (ap (on_with sizes s t) (sized_faulty sizes s fault e))
+on_step t sizes s (Whole frame rest) again e =
     elim (result_cases (message_of frame)) [
       | inl good ↦
-          split_message M (s ++ t) frame (rest ++ t) good.0 (whole_more M s t frame rest e) good.1
+          let first : Stream = stream_from sizes frame rest in
+          let c = whole_parts (size_for sizes s) s frame rest e in
+          let all : length s ≡ length frame + length rest = ap (λ (l : List ℕ). length l) c.bytes ∙ length-append frame rest in
+          let same = rest_behind sizes frame rest s first.rest all (rest_within (sizes_behind (length frame) sizes) rest) in
+          sized_message sizes (s ++ t) frame (rest ++ t) good.0 (sized_whole_more sizes s t frame rest e) good.1
           ∙ ap (with_message good.0) (again frame rest e)
-          ∙ sym (message_on good.0 (split M rest) (split M ((split M rest).rest ++ t)) (split M rest).fault)
-          ∙ sym (ap (λ (first : Stream). split_on M first t) (split_message M s frame rest good.0 e good.1))
+          ∙ ap (λ (f : Sizes). with_message good.0 (sized_split_on f first t)) same
+          ∙ sym (message_on good.0 first (sized_split (sizes_of_rest sizes s first.rest) (first.rest ++ t)) first.fault)
+          ∙ sym (ap (on_with sizes s t) (sized_message sizes s frame rest good.0 e good.1))
       | inr bad ↦
-          split_bad M (s ++ t) frame (rest ++ t) bad.0 (whole_more M s t frame rest e) bad.1
-          ∙ sym (ap (λ (first : Stream). split_on M first t) (split_bad M s frame rest bad.0 e bad.1))
+          sized_bad sizes (s ++ t) frame (rest ++ t) bad.0 (sized_whole_more sizes s t frame rest e) bad.1
+          ∙ sym (ap (on_with sizes s t) (sized_bad sizes s frame rest bad.0 e bad.1))
     ]
 
 -- Where bytes are cut does not matter.
-pub split_goes_on : (M : ℕ) (s more : List ℕ) → split M (s ++ more) ≡ split_on M (split M s) more
-split_goes_on M s more = by_frames M (GoesOn M more) (λ r again. on_step M r more (beginning M r) again refl) s
-
--- What bytes spell goes on from the messages and the rest that the first of them spell, where these have no fault.
-pub split_more : (M : ℕ) (s t : List ℕ) → (split M s).fault ≡ None → split M (s ++ t) ≡ record { messages = (split M s).messages ++ (split M ((split M s).rest ++ t)).messages; rest = (split M ((split M s).rest ++ t)).rest; fault = (split M ((split M s).rest ++ t)).fault }
-split_more M s t h = split_goes_on M s t ∙ ap (λ (fault : Option StreamFault). gone_on (split M s) fault (split M ((split M s).rest ++ t))) h
+pub sized_goes_on : (sizes : Sizes) (s more : List ℕ) → sized_split sizes (s ++ more) ≡ sized_split_on (sizes_of_rest sizes s (sized_split sizes s).rest) (sized_split sizes s) more
+sized_goes_on sizes s more = by_frames (GoesOn more) (λ at r again. on_step more at r (beginning (size_for at r) r) again refl) sizes s
 
 -- where s has no fault, what is left of it is not finished
-abbrev LeavesUnfinished : ℕ → List ℕ → Type 0
-LeavesUnfinished M s = (split M s).fault ≡ None → beginning M (split M s).rest ≡ Unfinished
+abbrev LeavesUnfinished : Holding
+LeavesUnfinished sizes s = (sized_split sizes s).fault ≡ None → beginning (size_for (sizes_of_rest sizes s (sized_split sizes s).rest) (sized_split sizes s).rest) (sized_split sizes s).rest ≡ Unfinished
 
-rest_step : (M : ℕ) (s : List ℕ) (b : Beginning) → ((frame rest : List ℕ) → beginning M s ≡ Whole frame rest → LeavesUnfinished M rest) → beginning M s ≡ b → LeavesUnfinished M s
-rest_step M s Unfinished again e h = ap (λ (stream : Stream). beginning M stream.rest) (split_unfinished M s e) ∙ e
-rest_step M s (Faulty fault) again e h = absurd (no_fault (split M s).fault (OfFrame fault) (fault_of_faulty M s fault e) h)
-rest_step M s (Whole frame rest) again e h =
+-- what stands at the front of what is left
+abbrev left_of : Sizes → List ℕ → List ℕ → Beginning
+left_of sizes s left = beginning (size_for (sizes_of_rest sizes s left) left) left
+
+rest_step : (sizes : Sizes) (s : List ℕ) (b : Beginning) → HoldsBehind LeavesUnfinished sizes s → beginning (size_for sizes s) s ≡ b → LeavesUnfinished sizes s
+rest_step sizes s Unfinished again e h =
+    ap (λ (u : Stream). left_of sizes s u.rest) (sized_unfinished sizes s e) ∙ ap (λ (f : Sizes). beginning (size_for f s) s) (rest_is_all sizes s) ∙ e
+rest_step sizes s (Faulty fault) again e h =
+    absurd (no_fault (sized_split sizes s).fault (OfFrame fault) (ap (λ (u : Stream). u.fault) (sized_faulty sizes s fault e)) h)
+rest_step sizes s (Whole frame rest) again e h =
     elim (result_cases (message_of frame)) [
       | inl good ↦
-          ap (λ (stream : Stream). beginning M stream.rest) (split_message M s frame rest good.0 e good.1)
-          ∙ again frame rest e (sym (fault_of_message M s frame rest good.0 e good.1) ∙ h)
-      | inr bad ↦ absurd (no_fault (split M s).fault Format (fault_of_bad M s frame rest bad.0 e bad.1) h)
+          let first : Stream = stream_from sizes frame rest in
+          let c = whole_parts (size_for sizes s) s frame rest e in
+          let all : length s ≡ length frame + length rest = ap (λ (l : List ℕ). length l) c.bytes ∙ length-append frame rest in
+          let same = rest_behind sizes frame rest s first.rest all (rest_within (sizes_behind (length frame) sizes) rest) in
+          let is = sized_message sizes s frame rest good.0 e good.1 in
+          ap (λ (u : Stream). left_of sizes s u.rest) is
+          ∙ ap (λ (f : Sizes). beginning (size_for f first.rest) first.rest) (sym same)
+          ∙ again frame rest e (sym (ap (λ (u : Stream). u.fault) is) ∙ h)
+      | inr bad ↦ absurd (no_fault (sized_split sizes s).fault Format (ap (λ (u : Stream). u.fault) (sized_bad sizes s frame rest bad.0 e bad.1)) h)
     ]
 
 -- Where there is no fault, what is left is not finished.
-pub split_rest : (M : ℕ) (s : List ℕ) → (split M s).fault ≡ None → beginning M (split M s).rest ≡ Unfinished
-split_rest M s = by_frames M (LeavesUnfinished M) (λ r again. rest_step M r (beginning M r) again refl) s
+pub sized_rest : (sizes : Sizes) (s : List ℕ) → (sized_split sizes s).fault ≡ None → beginning (size_for (sizes_of_rest sizes s (sized_split sizes s).rest) (sized_split sizes s).rest) (sized_split sizes s).rest ≡ Unfinished
+sized_rest sizes s = by_frames LeavesUnfinished (λ at r again. rest_step at r (beginning (size_for at r) r) again refl) sizes s
+
+-- ---- sizes that agree
+
+-- the size of an unfinished frame is not told yet, or it is told and at most the size in force
+abbrev IsTold : ℕ → List ℕ → Type 0
+IsTold M s = (n : ℕ) × (declared_of s ≡ Size n) × (n ≤ M) × (length s < n)
+
+front_cases : (M : ℕ) (s : List ℕ) → beginning M s ≡ Unfinished → (declared_of s ≡ Unknown) ⊎ IsTold M s
+front_cases M s u =
+    elim (front_is M s Unfinished u) [
+      | inl unknown ↦ inl unknown
+      | inr short ↦ inr (short.size, short.declared, short.small, short.short)
+    ]
+
+-- where a size is told, greater sizes in force do not change what stands at the front
+begins_same : (M N : ℕ) (s : List ℕ) (n : ℕ) → declared_of s ≡ Size n → n ≤ M → M ≤ N → beginning M s ≡ beginning N s
+begins_same M N s n e small larger =
+    elim (cases_lt (length s) n) [
+      | inl short ↦ begin_short M s n e small short ∙ sym (begin_short N s n e (omega (arith, small, larger)) short)
+      | inr long ↦ begin_whole M s n e small long ∙ sym (begin_whole N s n e (omega (arith, small, larger)) long)
+    ]
+
+-- what is kept is unfinished with the sizes F, its size in force is no greater with them than with G, and behind it they agree
+pub record AreAlikeBehind (F G : Sizes) (kept : List ℕ) : Type 0 where
+  pub unfinished : beginning (size_for F kept) kept ≡ Unfinished
+  pub larger : size_for F kept ≤ size_for G kept
+  pub same : (at : ℕ) → length kept ≤ at → F at ≡ G at
+
+front_agrees : (F G : Sizes) (kept more : List ℕ) → AreAlikeBehind F G kept → beginning (size_for F (kept ++ more)) (kept ++ more) ≡ beginning (size_for G (kept ++ more)) (kept ++ more)
+front_agrees F G [] more alike = ap (λ (M : ℕ). beginning M more) (alike.same (size_bytes more - 1) (omega arith))
+front_agrees F G (b ∷ s) more alike =
+    elim (front_cases (size_for F (b ∷ s)) (b ∷ s) alike.unfinished) [
+      | inl unknown ↦ ap (λ (M : ℕ). beginning M (b ∷ (s ++ more))) (alike.same (size_bytes (b ∷ s) - 1) (omega (arith, unknown_at b s unknown)))
+      | inr told ↦ begins_same (size_for F (b ∷ s)) (size_for G (b ∷ s)) (b ∷ (s ++ more)) told.0 (declared_more (b ∷ s) more told.0 told.1) told.2 alike.larger
+    ]
+
+-- a frame has all of what was kept of it
+frame_has_kept : (M N : ℕ) (kept more frame rest : List ℕ) → beginning M kept ≡ Unfinished → beginning N (kept ++ more) ≡ Whole frame rest → length kept ≤ length frame
+frame_has_kept M N [] more frame rest u e = omega arith
+frame_has_kept M N (b ∷ s) more frame rest u e =
+    let declared = (whole_parts N ((b ∷ s) ++ more) frame rest e).declared in
+    elim (front_cases M (b ∷ s) u) [
+      | inl unknown ↦ omega (arith, unknown_at b s unknown, (size_has_bytes ((b ∷ s) ++ more) (length frame) declared).0, size_bytes_more (b ∷ s) more (omega arith))
+      | inr told ↦ omega (arith, told.3, same_size told.0 (length frame) (sym (declared_more (b ∷ s) more told.0 told.1) ∙ declared))
+    ]
+
+behind_same : (F G : Sizes) (m n : ℕ) → ((at : ℕ) → m ≤ at → F at ≡ G at) → m ≤ n → sizes_behind n F ≡ sizes_behind n G
+behind_same F G m n same h =
+    let above : (at : ℕ) → m ≤ n + at = λ at. omega (arith, h) in
+    λ i at. same (n + at) (above at) i
+
+alike_at : (F G : Sizes) (kept more : List ℕ) (b : Beginning) → AreAlikeBehind F G kept → beginning (size_for G (kept ++ more)) (kept ++ more) ≡ b → sized_frames F (kept ++ more) ≡ sized_frames G (kept ++ more)
+alike_at F G kept more Unfinished alike e =
+    frames_unfinished F (kept ++ more) (front_agrees F G kept more alike ∙ e) ∙ sym (frames_unfinished G (kept ++ more) e)
+alike_at F G kept more (Faulty fault) alike e =
+    frames_faulty F (kept ++ more) fault (front_agrees F G kept more alike ∙ e) ∙ sym (frames_faulty G (kept ++ more) fault e)
+alike_at F G kept more (Whole frame rest) alike e =
+    let long = frame_has_kept (size_for F kept) (size_for G (kept ++ more)) kept more frame rest alike.unfinished e in
+    frames_whole F (kept ++ more) frame rest (front_agrees F G kept more alike ∙ e)
+    ∙ ap (λ (f : Sizes). with_frame frame (sized_frames f rest)) (behind_same F G (length kept) (length frame) alike.same long)
+    ∙ sym (frames_whole G (kept ++ more) frame rest e)
+
+-- What is unfinished may as well have been taken with a greater size in force.
+pub frames_alike : (F G : Sizes) (kept more : List ℕ) → AreAlikeBehind F G kept → sized_frames F (kept ++ more) ≡ sized_frames G (kept ++ more)
+frames_alike F G kept more alike = alike_at F G kept more (beginning (size_for G (kept ++ more)) (kept ++ more)) alike refl
+
+pub split_alike : (F G : Sizes) (kept more : List ℕ) → AreAlikeBehind F G kept → sized_split F (kept ++ more) ≡ sized_split G (kept ++ more)
+unfolding sized_split
+split_alike F G kept more alike = ap read_found (frames_alike F G kept more alike)
+
+-- ---- sizes of bytes that are not there
+
+abbrev AgreeTo : ℕ → Sizes → Sizes → Type 0
+AgreeTo n F G = (at : ℕ) → at < n → F at ≡ G at
+
+front_by_size : (F G : Sizes) (s : List ℕ) (d : Declared) → AgreeTo (length s) F G → declared_of s ≡ d → beginning (size_for F s) s ≡ beginning (size_for G s) s
+front_by_size F G s Unknown same e = begin_unknown (size_for F s) s e ∙ sym (begin_unknown (size_for G s) s e)
+front_by_size F G s BadToken same e = begin_bad_token (size_for F s) s e ∙ sym (begin_bad_token (size_for G s) s e)
+front_by_size F G s (Size n) same e =
+    let there : size_bytes s - 1 < length s = omega (arith, size_has_bytes s n e, size_bytes_positive s n e) in
+    ap (λ (M : ℕ). beginning M s) (same (size_bytes s - 1) there)
+
+abbrev IsSameTo : Holding
+IsSameTo F s = (G : Sizes) → AgreeTo (length s) F G → sized_frames F s ≡ sized_frames G s
+
+same_to_step : (F : Sizes) (s : List ℕ) (b : Beginning) → HoldsBehind IsSameTo F s → beginning (size_for F s) s ≡ b → IsSameTo F s
+same_to_step F s Unfinished again e G same =
+    frames_unfinished F s e ∙ sym (frames_unfinished G s (sym (front_by_size F G s (declared_of s) same refl) ∙ e))
+same_to_step F s (Faulty fault) again e G same =
+    frames_faulty F s fault e ∙ sym (frames_faulty G s fault (sym (front_by_size F G s (declared_of s) same refl) ∙ e))
+same_to_step F s (Whole frame rest) again e G same =
+    let c = whole_parts (size_for F s) s frame rest e in
+    let all : length s ≡ length frame + length rest = ap (λ (l : List ℕ). length l) c.bytes ∙ length-append frame rest in
+    let there : (at : ℕ) → at < length rest → length frame + at < length s = λ at h. omega (arith, all, h) in
+    frames_whole F s frame rest e
+    ∙ ap (with_frame frame) (again frame rest e (sizes_behind (length frame) G) (λ at h. same (length frame + at) (there at h)))
+    ∙ sym (frames_whole G s frame rest (sym (front_by_size F G s (declared_of s) same refl) ∙ e))
+
+-- The sizes behind the last byte do not matter.
+pub frames_same_to : (F G : Sizes) (s : List ℕ) → ((at : ℕ) → at < length s → F at ≡ G at) → sized_frames F s ≡ sized_frames G s
+frames_same_to F G s same = by_frames IsSameTo (λ sizes r again. same_to_step sizes r (beginning (size_for sizes r) r) again refl) F s G same
+
+pub split_same_to : (F G : Sizes) (s : List ℕ) → ((at : ℕ) → at < length s → F at ≡ G at) → sized_split F s ≡ sized_split G s
+unfolding sized_split
+split_same_to F G s same = ap read_found (frames_same_to F G s same)
+
+-- ---- one size for all time
+
+pub split_is : (M : ℕ) (s : List ℕ) → split M s ≡ sized_split (always M) s
+unfolding split
+split_is M s = refl
+
+module _ (M : ℕ) (s : List ℕ) where
+  pub split_step : split M s ≡ stream_then (λ frame. split M) s (beginning M s)
+  unfolding split
+  split_step = sized_step (always M) s
+
+  pub split_unfinished : beginning M s ≡ Unfinished → split M s ≡ record { messages = []; rest = s; fault = None }
+  unfolding split
+  split_unfinished e = sized_unfinished (always M) s e
+
+  pub split_faulty : (fault : FrameFault) → beginning M s ≡ Faulty fault → split M s ≡ record { messages = []; rest = fault_bytes fault s; fault = Some (OfFrame fault) }
+  unfolding split
+  split_faulty fault e = sized_faulty (always M) s fault e
+
+  pub split_message : (frame rest : List ℕ) (m : Message) → beginning M s ≡ Whole frame rest → message_of frame ≡ Ok m → split M s ≡ with_message m (split M rest)
+  unfolding split
+  split_message frame rest m e is = sized_message (always M) s frame rest m e is
+
+  pub split_bad : (frame rest : List ℕ) (e : FormatFault) → beginning M s ≡ Whole frame rest → message_of frame ≡ Err e → split M s ≡ record { messages = []; rest = frame; fault = Some Format }
+  unfolding split
+  split_bad frame rest e is bad = sized_bad (always M) s frame rest e is bad
+
+  pub split_goes_on : (more : List ℕ) → split M (s ++ more) ≡ split_on M (split M s) more
+  unfolding split
+  split_goes_on more = sized_goes_on (always M) s more
+
+  -- What bytes spell goes on from the messages and the rest that the first of them spell, where these have no fault.
+  pub split_more : (t : List ℕ) → (split M s).fault ≡ None → split M (s ++ t) ≡ record { messages = (split M s).messages ++ (split M ((split M s).rest ++ t)).messages; rest = (split M ((split M s).rest ++ t)).rest; fault = (split M ((split M s).rest ++ t)).fault }
+  split_more t h = split_goes_on t ∙ ap (λ (fault : Option StreamFault). gone_on (split M s) fault (split M ((split M s).rest ++ t))) h
+
+  pub split_rest : (split M s).fault ≡ None → beginning M (split M s).rest ≡ Unfinished
+  unfolding split
+  split_rest h = sized_rest (always M) s h

@@ -1,4 +1,4 @@
--- What a whole stream of bytes spells, where messages of at most M bytes are taken (RFC 8323 sections 3.2, 5.3.1).
+-- What a whole stream of bytes spells, where messages of at most the sizes in force are taken (RFC 8323 sections 3.2, 5.3.1).
 use Rattle.std.specs.Prelude.{◌≡◌, ℕ, ◌≤◌, List, [], ◌∷◌, ◌++◌, length, Option, Some, None, Result, Ok, Err, option_map}
 use Rattle.std.specs.List.{concat}
 use Rattle.coap_wire.specs.Message.{Message}
@@ -6,7 +6,7 @@ use Rattle.coap_wire.specs.Spelling.{Spells}
 use Rattle.coap_wire.specs.Size.{IsFrame}
 use Rattle.coap_wire.specs.Reading.{message_of}
 use Rattle.coap_wire.specs.Beginning.{IsFrameFault, IsUnfinished, Beginning, Unfinished, Whole, Faulty, fault_bytes}
-use Rattle.coap_wire.specs.Frames.{Frames, AreAtMost, StandsBehind, frames_of}
+use Rattle.coap_wire.specs.Frames.{Frames, Sizes, always, AreAtMost, StandsBehind, size_behind, sized_frames}
 use Rattle.coap_wire.specs.declared.fault.FormatFault.{FormatFault}
 use Rattle.coap_wire.specs.declared.fault.FrameFault.{FrameFault}
 
@@ -39,18 +39,18 @@ SpellEach [] (m ∷ ms) = ⊥
 SpellEach (f ∷ fs) [] = ⊥
 
 -- The bytes are frames that spell these messages, a rest, and behind a fault bytes that are not judged.
-pub record Splits (M : ℕ) (bytes : List ℕ) (messages : List Message) (rest : List ℕ) (fault : Option StreamFault) : Type 0 where
+pub record Splits (sizes : Sizes) (bytes : List ℕ) (messages : List Message) (rest : List ℕ) (fault : Option StreamFault) : Type 0 where
   pub frames : List (List ℕ)
   pub more : List ℕ
   pub whole : bytes ≡ concat frames ++ (rest ++ more)
   pub spelled : SpellEach frames messages
-  pub small : AreAtMost M frames
-  pub ended : EndsWith M rest fault
+  pub small : AreAtMost sizes frames
+  pub ended : EndsWith (size_behind sizes frames rest) rest fault
   pub behind : StandsBehind more fault
 
 -- the same of a stream
-abbrev pub SplitsAs : ℕ → List ℕ → Stream → Type 0
-SplitsAs M bytes stream = Splits M bytes stream.messages stream.rest stream.fault
+abbrev pub SplitsAs : Sizes → List ℕ → Stream → Type 0
+SplitsAs sizes bytes stream = Splits sizes bytes stream.messages stream.rest stream.fault
 
 -- ---- the same as a function
 
@@ -71,14 +71,18 @@ abbrev pub read_found : Frames → Stream
 read_found found = read_frames found.frames found.rest found.fault
 
 -- the messages, the rest and the fault of a whole stream: what its frames spell, up to the first that spells no message
+unfoldable pub sized_split : Sizes → List ℕ → Stream
+sized_split sizes s = read_found (sized_frames sizes s)
+
+-- the same, where messages of at most M bytes are taken for all time
 unfoldable pub split : ℕ → List ℕ → Stream
-split M s = read_found (frames_of M s)
+split M s = sized_split (always M) s
 
 -- what bytes spell at whose front this stands, where go reads on behind a frame
-abbrev pub stream_then : (List ℕ → Stream) → List ℕ → Beginning → Stream
+abbrev pub stream_then : (List ℕ → List ℕ → Stream) → List ℕ → Beginning → Stream
 stream_then go s Unfinished = record { messages = []; rest = s; fault = None }
 stream_then go s (Faulty fault) = record { messages = []; rest = fault_bytes fault s; fault = Some (OfFrame fault) }
-stream_then go s (Whole frame rest) = frame_then frame (message_of frame) (go rest)
+stream_then go s (Whole frame rest) = frame_then frame (message_of frame) (go frame rest)
 
 -- ---- going on
 
@@ -90,6 +94,13 @@ abbrev pub gone_on : Stream → Option StreamFault → Stream → Stream
 gone_on stream None others = behind stream.messages others
 gone_on stream (Some fault) others = stream
 
--- a stream gone on with more bytes, which stand behind its rest; behind a fault nothing is judged
+-- a stream gone on with more bytes, which stand behind its rest, where go reads these; behind a fault nothing is judged
+abbrev pub gone_on_by : (List ℕ → Stream) → Stream → List ℕ → Stream
+gone_on_by go stream more = gone_on stream stream.fault (go (stream.rest ++ more))
+
+-- the same with these sizes from the first byte of its rest on, and with one size for all time
+abbrev pub sized_split_on : Sizes → Stream → List ℕ → Stream
+sized_split_on sizes stream more = gone_on_by (sized_split sizes) stream more
+
 abbrev pub split_on : ℕ → Stream → List ℕ → Stream
-split_on M stream more = gone_on stream stream.fault (split M (stream.rest ++ more))
+split_on M stream more = gone_on_by (split M) stream more

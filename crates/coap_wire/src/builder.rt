@@ -26,14 +26,15 @@ const MAX_PAYLOAD: usize = 1_048_576;
 /// A message that is being built, of at most 40 options.
 pub type Builder<'a> = MessageBuilder<'a, MAX_OPTIONS>;
 
-/// A message that is being built, of at most `N` options, or 40 where that is less. It borrows the options' values and the payload.
-/// Each new one clears the room of its options, so that a message of few options costs less where `N` is small. Contracts see the
-/// `Message`.
+/// A message that is being built, of at most `N` options, or 40 where that is less. It borrows the options' values and
+/// the payload. Each new one clears the room of its options, so that a message of few options costs less where `N` is
+/// small. Contracts see the `Message`.
 #[derive(Drop)]
 pub struct MessageBuilder<'a, const N: usize> {
     token: Token,
     options: ArrayVec<OptionRef<'a>, N>,
-    /// The length of the spelling of all options: the size of a message is asked for before it is written, and told in its head.
+    /// The length of the spelling of all options: the size of a message is asked for before it is written, and told in
+    /// its head.
     options_size: u64,
     payload: &'a [u8],
     code: Code,
@@ -74,8 +75,8 @@ impl<'a, const N: usize> MessageBuilder<'a, N> {
     ///
     /// # Errors
     ///
-    /// In this order: `Order` where the number is below that of the last option, `TooLong` where the value has more than
-    /// 65,804 bytes, `Full` where `N` options or 40 are there. The message is then as before.
+    /// In this order: `Order` where the number is below that of the last option, `TooLong` where the value has more
+    /// than 65,804 bytes, `Full` where `N` options or 40 are there. The message is then as before.
     pub fn option(&mut self, number: u16, value: &'a [u8]) -> Result<(), BuildFault>
         ensures answer { RefusedBy result (option_refusal N self.old number value.now) }
         ensures ok { OnOk result (self.new ≡ with_option self.old number value.now) }

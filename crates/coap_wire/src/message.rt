@@ -63,8 +63,8 @@ impl<'a> MessageRef<'a> {
         Options::of_body(self.body)
     }
 
-    /// The recognised options, in order of number (RFC 7252 sections 5.4, 5.10): those with a number that `kind` knows and
-    /// a value of a length in its range, and of those that are not repeatable only the first with its number.
+    /// The recognised options, in order of number (RFC 7252 sections 5.4, 5.10): those with a number that `kind` knows
+    /// and a value of a length in its range, and of those that are not repeatable only the first with its number.
     pub fn known(&self) -> Known<'a>
         ensures { result ≡ known_options self.now.options }
     {

@@ -37,8 +37,8 @@ fn four_bytes(bytes: &[u8]) -> Option<(u32, &[u8])>
     ))
 }
 
-/// The length that a nibble and the bytes after it mean, and the bytes after its extension, or `None` where the extension
-/// is not all there (RFC 8323 section 3.2).
+/// The length that a nibble and the bytes after it mean, and the bytes after its extension, or `None` where the
+/// extension is not all there (RFC 8323 section 3.2).
 #[tactic(auto, unfolding(crate::specs::Reading::length_at, crate::specs::Reading::one_byte_at))]
 pub(crate) fn length_after(nibble: u8, bytes: &[u8]) -> Option<(u64, &[u8])>
     ensures value { option_map (λ x. (x.0, x.1.now)) result ≡ length_at nibble bytes.now }

@@ -1,5 +1,5 @@
-//! A gateway to a sensor: a program that embeds the server, and serves at the path /measured what a file holds, as the files of a
-//! system's sensors do. The file is read anew before each turn, and at least once a second.
+//! A gateway to a sensor: a program that embeds the server, and serves at the path /measured what a file holds, as the
+//! files of a system's sensors do. The file is read anew before each turn, and at least once a second.
 //!
 //!     example_gateway 127.0.0.1:5683 /sys/class/thermal/thermal_zone0/temp
 #![tactic(auto)]

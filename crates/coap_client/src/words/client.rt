@@ -113,7 +113,8 @@ fn format(matches: &ArgMatches<'_>, name: &'static str) -> Result<Option<u16>, &
 ///
 /// The option's name, where its text is no number that fits in 32 bits.
 fn observe(matches: &ArgMatches<'_>) -> Result<Option<u32>, &'static str>
-    ensures { named result ≡ option_value (codes "-s") (spec.perhaps (number_within 0 4294967295)) None (rows_of (found_of matches.now)) }
+    ensures { named result
+        ≡ option_value (codes "-s") (spec.perhaps (number_within 0 4294967295)) None (rows_of (found_of matches.now)) }
 {
     match text_of(matches, "-s") {
         Some(text) => match number_within(text, 0, 4_294_967_295) {
@@ -278,8 +279,8 @@ fn file_name(
     }
 }
 
-/// Whether two options exclude each other: a payload from the command line and one from a file, or an observation by another
-/// method than GET.
+/// Whether two options exclude each other: a payload from the command line and one from a file, or an observation by
+/// another method than GET.
 #[tactic(auto, unfolding(crate::specs::ClientWords::clashes))]
 fn clashes(matches: &ArgMatches<'_>, values: &RequestValues) -> bool
     ensures { result ≡ spec.clashes (rows_of (found_of matches.now)) values.now }
@@ -302,7 +303,8 @@ fn plan_with(
     values: RequestValues,
     extra: Option<(u16, Vec<u8>)>,
 ) -> Result<ClientPlan, AllocError>
-    ensures { IfOk result (λ plan. client_value plan ≡ spec.client_plan target values (option_map extra_value extra) (rows_of (found_of matches.now))) }
+    ensures { IfOk result (λ plan. client_value plan ≡ spec.client_plan target values (option_map extra_value extra)
+        (rows_of (found_of matches.now))) }
 {
     let payload = payload(alloc, matches)?;
     let input = file_name(alloc, matches, "-f")?;

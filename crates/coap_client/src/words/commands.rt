@@ -23,7 +23,8 @@ fn with_letter<'a>(
     value: &'a str,
     help: &'a str,
 ) -> Result<Command<'a>, AllocError>
-    ensures { IfOk result (λ c. app_of c ≡ with_rule (app_of command.entry) (record (new_rule name.entry.now) { short = Some letter; value_names = 1 })) }
+    ensures { IfOk result (λ c. app_of c ≡ with_rule (app_of command.entry)
+        (record (new_rule name.entry.now) { short = Some letter; value_names = 1 })) }
 {
     let option = Arg::new(alloc, name)
         .short(letter)
@@ -41,7 +42,8 @@ fn with_word<'a>(
     value: &'a str,
     help: &'a str,
 ) -> Result<Command<'a>, AllocError>
-    ensures { IfOk result (λ c. app_of c ≡ with_rule (app_of command.entry) (record (new_rule name.entry.now) { long = Some word.entry.now; value_names = 1 })) }
+    ensures { IfOk result (λ c. app_of c ≡ with_rule (app_of command.entry)
+        (record (new_rule name.entry.now) { long = Some word.entry.now; value_names = 1 })) }
 {
     let option = Arg::new(alloc, name)
         .long(word)
@@ -58,7 +60,8 @@ fn with_number<'a>(
     word: &'a str,
     help: &'a str,
 ) -> Result<Command<'a>, AllocError>
-    ensures { IfOk result (λ c. app_of c ≡ with_rule (app_of command.entry) (record (new_rule name.entry.now) { long = Some word.entry.now; value_names = 1 })) }
+    ensures { IfOk result (λ c. app_of c ≡ with_rule (app_of command.entry)
+        (record (new_rule name.entry.now) { long = Some word.entry.now; value_names = 1 })) }
 {
     with_word(alloc, command, name, word, "N", help)
 }
@@ -71,7 +74,8 @@ fn with_letter_flag<'a>(
     letter: char,
     help: &'a str,
 ) -> Result<Command<'a>, AllocError>
-    ensures { IfOk result (λ c. app_of c ≡ with_rule (app_of command.entry) (record (new_rule name.entry.now) { short = Some letter; action = Some SetTrue })) }
+    ensures { IfOk result (λ c. app_of c ≡ with_rule (app_of command.entry)
+        (record (new_rule name.entry.now) { short = Some letter; action = Some SetTrue })) }
 {
     let option = Arg::new(alloc, name)
         .short(letter)
@@ -88,7 +92,8 @@ fn with_word_flag<'a>(
     word: &'a str,
     help: &'a str,
 ) -> Result<Command<'a>, AllocError>
-    ensures { IfOk result (λ c. app_of c ≡ with_rule (app_of command.entry) (record (new_rule name.entry.now) { long = Some word.entry.now; action = Some SetTrue })) }
+    ensures { IfOk result (λ c. app_of c ≡ with_rule (app_of command.entry)
+        (record (new_rule name.entry.now) { long = Some word.entry.now; action = Some SetTrue })) }
 {
     let option = Arg::new(alloc, name)
         .long(word)
@@ -97,8 +102,8 @@ fn with_word_flag<'a>(
     command.arg(option)
 }
 
-/// The command of this name with the version of the programs and no other option, whose words are those behind the program's
-/// name.
+/// The command of this name with the version of the programs and no other option, whose words are those behind the
+/// program's name.
 fn bare<'a>(alloc: Global, name: &'a str, about: &'a str) -> Command<'a>
     ensures { app_of result ≡ spec.bare_app name.entry.now }
 {
@@ -186,7 +191,8 @@ pub(super) fn matches_in<'a, S: AsStr>(
     requires simple { is_simple (app_of command) ≡ true }
     requires free { is_simple_and_free (app_of command) ≡ true }
     ensures kinds { IfOk result (λ m. fault_of (app_of command.entry) (map S.text words.entry.now) ≡ []) }
-    ensures rows { IfOk result (λ m. rows_of (found_of m) ≡ matches_of (app_of command.entry) (map S.text words.entry.now)) }
+    ensures rows { IfOk result (λ m. rows_of (found_of m) ≡ matches_of (app_of command.entry)
+        (map S.text words.entry.now)) }
     ensures refusal { IfErr result (IsTurnedDown (fault_of (app_of command.entry) (map S.text words.entry.now))) }
 {
     match command.try_get_matches_from(words) {

@@ -53,7 +53,8 @@ pub(super) fn number(
 ) -> Result<u64, &'static str>
     requires low { low ≤ unused }
     requires high { unused ≤ high }
-    ensures value { spec.named result ≡ spec.option_value name.now (spec.number_within low high) unused (rows_of (found_of matches.now)) }
+    ensures value { spec.named result
+        ≡ spec.option_value name.now (spec.number_within low high) unused (rows_of (found_of matches.now)) }
     ensures bounds { IfOk result (λ n. (low ≤ n) × (n ≤ high)) }
 {
     match text_of(matches, name) {

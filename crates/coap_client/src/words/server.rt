@@ -38,7 +38,8 @@ fn address_in(text: &str) -> Option<IpAddr>
 ///
 /// The option's name, where its text is no numeric address.
 fn address(matches: &ArgMatches<'_>) -> Result<IpAddr, &'static str>
-    ensures { named result ≡ option_value (codes "-A") spec.address_of spec.every_address (rows_of (found_of matches.now)) }
+    ensures { named result
+        ≡ option_value (codes "-A") spec.address_of spec.every_address (rows_of (found_of matches.now)) }
 {
     match text_of(matches, "-A") {
         Some(text) => match address_in(text) {
@@ -113,7 +114,8 @@ fn mode_in(
     address: IpAddr,
     port: u16,
 ) -> Result<Option<Mode>, AllocError>
-    ensures { IfOk result (λ found. option_map mode_value found ≡ spec.mode_of stdio (option_map (λ s. s.now) script.entry) address port) }
+    ensures { IfOk result (λ found. option_map mode_value found ≡ spec.mode_of stdio
+        (option_map (λ s. s.now) script.entry) address port) }
 {
     match script {
         Some(name) => {

@@ -18,19 +18,22 @@ use crate::phase::{Phase, RequestFault};
 use coap_wire::{Builder, MessageBuilder, Token, copy_of, uint_bytes};
 
 impl Link {
-    /// Sends a request under a new token, in place of the one that it has, and answers that token. The request is outstanding until a
-    /// response with this token ends it; with `observe` a notification does not (RFC 7252 section 5.3.1, RFC 7641 section 3.1).
+    /// Sends a request under a new token, in place of the one that it has, and answers that token. The request is
+    /// outstanding until a response with this token ends it; with `observe` a notification does not (RFC 7252 section
+    /// 5.3.1, RFC 7641 section 3.1).
     ///
     /// # Errors
     ///
-    /// In this order: `NotOpen` where the connection is not open, `TooMany` where as many are outstanding as may be, `TokensSpent`
-    /// where every token was given, `TooBig` where the message is greater than what may be sent, `NoRoom` where fewer bytes are
-    /// free. Nothing has changed then.
+    /// In this order: `NotOpen` where the connection is not open, `TooMany` where as many are outstanding as may be,
+    /// `TokensSpent` where every token was given, `TooBig` where the message is greater than what may be sent, `NoRoom`
+    /// where fewer bytes are free. Nothing has changed then.
     pub fn request(&mut self, message: &Builder, observe: bool) -> Result<Token, RequestFault>
-        ensures answer { RefusedBy result (asking_refusal (asking_in self.old) (with_token message.now (next_token self.old.tokens))) }
+        ensures answer { RefusedBy result (asking_refusal (asking_in self.old)
+            (with_token message.now (next_token self.old.tokens))) }
         ensures token { IfOk result (λ t. t.items ≡ next_token self.old.tokens) }
         ensures after { OnOk result (self.new ≡ link_after self.old (call.Request message.now observe)) }
-        ensures shows { OnOk result ((h : History) → LinkShows self.old h → LinkShows self.new (after h (call.Request message.now observe))) }
+        ensures shows { OnOk result ((h : History) → LinkShows self.old h →
+            LinkShows self.new (after h (call.Request message.now observe))) }
         ensures err { OnErr result (self.new ≡ self.old) }
     {
         let token = self.next_token()?;
@@ -46,19 +49,21 @@ impl Link {
         Ok(token)
     }
 
-    /// Sends a message under the token of an observation, in place of the one that it has, and the observation counts as cancelled. It
-    /// stays outstanding until a response ends it (RFC 7641 section 3.6).
+    /// Sends a message under the token of an observation, in place of the one that it has, and the observation counts
+    /// as cancelled. It stays outstanding until a response ends it (RFC 7641 section 3.6).
     ///
     /// # Errors
     ///
-    /// In this order: `NotOpen` where the connection is not open, `NoSuchToken` where no observation with this token is outstanding
-    /// or it was cancelled, `TooBig` where the message is greater than what may be sent, `NoRoom` where fewer bytes are free.
-    /// Nothing has changed then.
+    /// In this order: `NotOpen` where the connection is not open, `NoSuchToken` where no observation with this token is
+    /// outstanding or it was cancelled, `TooBig` where the message is greater than what may be sent, `NoRoom` where
+    /// fewer bytes are free. Nothing has changed then.
     #[tactic(auto, unfolding(crate::specs::Asking::cancel_refusal))]
     pub fn cancel(&mut self, token: &Token, message: &Builder) -> Result<(), RequestFault>
-        ensures answer { RefusedBy result (cancel_refusal (asking_in self.old) token.now.items (with_token message.now token.now.items)) }
+        ensures answer { RefusedBy result (cancel_refusal (asking_in self.old) token.now.items
+            (with_token message.now token.now.items)) }
         ensures after { OnOk result (self.new ≡ link_after self.old (call.Cancel token.now.items message.now)) }
-        ensures shows { OnOk result ((h : History) → LinkShows self.old h → LinkShows self.new (after h (call.Cancel token.now.items message.now))) }
+        ensures shows { OnOk result ((h : History) → LinkShows self.old h →
+            LinkShows self.new (after h (call.Cancel token.now.items message.now))) }
         ensures err { OnErr result (self.new ≡ self.old) }
     {
         let Phase::Open = self.phase else {
@@ -72,17 +77,19 @@ impl Link {
         Ok(())
     }
 
-    /// Sends a Ping under a new token, with Custody or not, and answers that token (RFC 8323 section 5.4). The Ping is outstanding until
-    /// its Pong comes.
+    /// Sends a Ping under a new token, with Custody or not, and answers that token (RFC 8323 section 5.4). The Ping is
+    /// outstanding until its Pong comes.
     ///
     /// # Errors
     ///
     /// As `request`. Nothing has changed then.
     pub fn ping(&mut self, custody: bool) -> Result<Token, RequestFault>
-        ensures answer { RefusedBy result (asking_refusal (asking_in self.old) (ping_with custody (next_token self.old.tokens))) }
+        ensures answer { RefusedBy result (asking_refusal (asking_in self.old)
+            (ping_with custody (next_token self.old.tokens))) }
         ensures token { IfOk result (λ t. t.items ≡ next_token self.old.tokens) }
         ensures after { OnOk result (self.new ≡ link_after self.old (call.Ping custody)) }
-        ensures shows { OnOk result ((h : History) → LinkShows self.old h → LinkShows self.new (after h (call.Ping custody))) }
+        ensures shows { OnOk result ((h : History) → LinkShows self.old h →
+            LinkShows self.new (after h (call.Ping custody))) }
         ensures err { OnErr result (self.new ≡ self.old) }
     {
         let token = self.next_token()?;
@@ -95,8 +102,8 @@ impl Link {
     ///
     /// # Errors
     ///
-    /// In this order: `NotOpen` where the connection is not open, `TooMany` where as many are outstanding as may be, `TokensSpent`
-    /// where every token was given.
+    /// In this order: `NotOpen` where the connection is not open, `TooMany` where as many are outstanding as may be,
+    /// `TokensSpent` where every token was given.
     pub fn may_ask(&self) -> Result<(), RequestFault>
         ensures { RefusedBy result (new_refusal (asking_in self.now)) }
     {
@@ -108,8 +115,8 @@ impl Link {
     ///
     /// # Errors
     ///
-    /// In this order: `NotOpen` where the connection is not open, `NoSuchToken` where no observation with this token is outstanding
-    /// or it was cancelled.
+    /// In this order: `NotOpen` where the connection is not open, `NoSuchToken` where no observation with this token is
+    /// outstanding or it was cancelled.
     #[tactic(auto, unfolding(crate::specs::Asking::observation_refusal))]
     pub fn may_cancel(&self, token: &Token) -> Result<(), RequestFault>
         ensures { RefusedBy result (observation_refusal (asking_in self.now) token.now.items) }
@@ -149,14 +156,15 @@ impl Link {
     ///
     /// # Errors
     ///
-    /// In this order: `TooBig` where it is greater than what may be sent, `NoRoom` where fewer bytes are free. Nothing has changed
-    /// then.
+    /// In this order: `TooBig` where it is greater than what may be sent, `NoRoom` where fewer bytes are free. Nothing
+    /// has changed then.
     fn queue_asked<const N: usize>(
         &mut self,
         message: &MessageBuilder<N>,
     ) -> Result<(), RequestFault>
         ensures answer { RefusedBy result (size_refusal (asking_in self.old) (length (spelling message.now))) }
-        ensures after { OnOk result (self.new ≡ record self.old { waiting = self.old.waiting ++ bytes_of (message.now ∷ []) }) }
+        ensures after { OnOk result (self.new ≡ record self.old
+            { waiting = self.old.waiting ++ bytes_of (message.now ∷ []) }) }
         ensures err { OnErr result (self.new ≡ self.old) }
     {
         let size = message.size();
@@ -174,7 +182,12 @@ impl Link {
     fn enter(&mut self, one: Outstanding)
         requires room { length self.old.outstanding < self.old.limits.outstanding }
         requires token { self.old.tokens < 18446744073709551615 }
-        ensures { self.new ≡ record self.old { outstanding = self.old.outstanding ++ outstanding_value one ∷ []; tokens = self.old.tokens + 1 } }
+        ensures { self.new
+            ≡ record self.old {
+              outstanding = self.old.outstanding ++ outstanding_value one ∷ [];
+              tokens =
+                  self.old.tokens + 1;
+            } }
     {
         self.asked.enter(one);
         self.tokens += 1;

@@ -23,8 +23,8 @@ use coap_wire::{Code, MessageBuilder, MessageRef, copy_of};
 
 impl Link {
     /// Handles a message (RFC 8323 sections 3.3, 3.4 and 5). There must be room for the greatest message sent, and the
-    /// connection must take messages. Where it is a request, the caller answers it by `reply` or holds its answer by `hold`
-    /// before it hands over the next message.
+    /// connection must take messages. Where it is a request, the caller answers it by `reply` or holds its answer by
+    /// `hold` before it hands over the next message.
     pub fn on(&mut self, message: &MessageRef) -> Verdict
         requires ready { IsReady self.old }
         requires live { IsLive self.old.phase }
@@ -87,7 +87,8 @@ impl Link {
     /// Handles Capabilities and Settings (RFC 8323 section 5.3).
     fn on_csm(&mut self, message: &MessageRef) -> Verdict
         requires { IsReady self.old }
-        ensures verdict { verdict_value result ≡ (csm_reaction (standing_in self.old) (bad_csm_option message.now)).verdict }
+        ensures verdict { verdict_value result
+            ≡ (csm_reaction (standing_in self.old) (bad_csm_option message.now)).verdict }
         ensures after { self.new ≡ link_after_csm self.old message.now }
     {
         match announced_size(message) {
@@ -183,8 +184,8 @@ impl Link {
         Verdict::Stopped(Reason::PeerRelease)
     }
 
-    /// Handles a response: the request or observation with its token ends by the last one (RFC 7252 section 5.3.2, RFC 7641 section
-    /// 4.2).
+    /// Handles a response: the request or observation with its token ends by the last one (RFC 7252 section 5.3.2, RFC
+    /// 7641 section 4.2).
     fn on_response(&mut self, message: &MessageRef) -> Verdict
         ensures verdict { verdict_value result ≡ (response_reaction (standing_in self.old) message.now).verdict }
         ensures after { self.new ≡ link_with self.old (response_reaction (standing_in self.old) message.now).effect }
@@ -204,8 +205,10 @@ impl Link {
     /// Handles a request: the caller answers it at the server, and at the client it is not implemented.
     fn on_request(&mut self, message: &MessageRef) -> Verdict
         requires { IsReady self.old }
-        ensures verdict { verdict_value result ≡ (request_reaction (standing_in self.old) message.now self.old.role).verdict }
-        ensures after { self.new ≡ link_with self.old (request_reaction (standing_in self.old) message.now self.old.role).effect }
+        ensures verdict { verdict_value result
+            ≡ (request_reaction (standing_in self.old) message.now self.old.role).verdict }
+        ensures after { self.new
+            ≡ link_with self.old (request_reaction (standing_in self.old) message.now self.old.role).effect }
     {
         match self.role {
             Role::Server => Verdict::Request,
@@ -216,8 +219,10 @@ impl Link {
     /// Answers a request that is not implemented. (Apart from `on_request`, since a function clears all its locals.)
     fn refuse(&mut self, message: &MessageRef) -> Verdict
         requires { IsReady self.old }
-        ensures verdict { verdict_value result ≡ (request_reaction (standing_in self.old) message.now role.Client).verdict }
-        ensures after { self.new ≡ link_with self.old (request_reaction (standing_in self.old) message.now role.Client).effect }
+        ensures verdict { verdict_value result
+            ≡ (request_reaction (standing_in self.old) message.now role.Client).verdict }
+        ensures after { self.new
+            ≡ link_with self.old (request_reaction (standing_in self.old) message.now role.Client).effect }
     {
         let response: MessageBuilder<0> = MessageBuilder::new(
             Code::NOT_IMPLEMENTED,

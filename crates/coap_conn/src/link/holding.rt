@@ -25,7 +25,8 @@ impl Link {
         ensures held { OnOk result (IsTrue (can_hold self.old)) }
         ensures full { OnErr result (IsFalse (can_hold self.old)) }
         ensures after { OnOk result (self.new ≡ link_after self.old (call.Hold token.items moment)) }
-        ensures shows { OnOk result ((h : History) → LinkShows self.old h → LinkShows self.new (after h (call.Hold token.items moment))) }
+        ensures shows { OnOk result ((h : History) → LinkShows self.old h →
+            LinkShows self.new (after h (call.Hold token.items moment))) }
         ensures err { OnErr result (self.new ≡ self.old) }
     {
         if self.pending.is_full() {
@@ -35,17 +36,18 @@ impl Link {
         Ok(())
     }
 
-    /// Takes out what is due first at a moment, in seconds: of the held answers whose moments have come the one of the least moment,
-    /// the earliest of equals, which the caller sends by `reply`; else a Pong with nothing held before it, which is queued with
-    /// Custody as it fits the peer, or the connection stops (RFC 8323 section 5.4.1). There must be room for the greatest message
-    /// sent.
+    /// Takes out what is due first at a moment, in seconds: of the held answers whose moments have come the one of the
+    /// least moment, the earliest of equals, which the caller sends by `reply`; else a Pong with nothing held before
+    /// it, which is queued with Custody as it fits the peer, or the connection stops (RFC 8323 section 5.4.1). There
+    /// must be room for the greatest message sent.
     pub fn due(&mut self, now: u64) -> Due
         requires ready { IsReady self.old }
         ensures due { due_value result ≡ due_told (first_due now self.old.held) }
         ensures after { self.new ≡ link_after self.old (call.Due now) }
         ensures shows { (h : History) → LinkShows self.old h → LinkShows self.new (after h (call.Due now)) }
         // An answer can be sent at once.
-        ensures answer { (token : List ℕ) → due_value result ≡ AnAnswer token → IsReady self.new × IsAnswering self.new.phase }
+        ensures answer { (token : List ℕ) → due_value result ≡ AnAnswer token →
+            IsReady self.new × IsAnswering self.new.phase }
     {
         let Some(index) = self.pending.due(now) else {
             return Due::Nothing;

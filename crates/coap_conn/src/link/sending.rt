@@ -1,20 +1,24 @@
 //! What a link sends, as it fits the peer, and how it stops.
 
-ghost use Rattle.std.specs.Prelude.{◌≡◌, ◌++◌, false, [], OnOk, OnErr};
+ghost use Rattle.std.specs.Prelude.{◌≡◌, ◌++◌, false, true, [], OnOk, OnErr};
 ghost use Rattle.coap_wire.specs.Refusal.{RefusedBy};
-ghost use Rattle.coap_conn.specs.Fit.{fit, fitted, bare_response};
+ghost use Rattle.coap_conn.specs.Fit.{fit, fits, fitted, bare_response};
 ghost use Rattle.coap_conn.specs.Phases.{IsAnswering};
+ghost use Rattle.coap_conn.specs.declared.phase.Phase.TheVariants.{Open};
 ghost use Rattle.coap_conn.specs.Reaction.{stop, abort, send, told_of, pong_with, sends};
 ghost use Rattle.coap_conn.specs.Verdicts as verdict;
 ghost use Rattle.coap_conn.specs.History.{History, after, LinkShows};
-ghost use Rattle.coap_conn.specs.LinkValue.{bytes_of, IsReady, limit_in, standing_in, link_with};
+ghost use Rattle.coap_conn.specs.LinkValue.{bytes_of, own_csm, IsReady, limit_in, standing_in, link_with};
 ghost use Rattle.coap_conn.specs.Calls.{link_after};
 ghost use Rattle.coap_conn.specs.Calls as call;
 ghost use Rattle.coap_conn.specs.LinkViews.{verdict_value};
 ghost use Rattle.coap_conn.specs.Release.{release_refusal};
 
 use super::Link;
-use crate::messages::{abort_text, abort_with, bad_csm_number, bare_of, pong_to, queue_release};
+use crate::messages::{
+    abort_text, abort_with, announce, announcement_size, bad_csm_number, bare_of, pong_to,
+    queue_release,
+};
 use crate::phase::{Phase, Reply, SendFault, Verdict};
 use crate::reason::Reason;
 use coap_wire::{Code, MessageBuilder, Token, uint_bytes};
@@ -23,9 +27,9 @@ use coap_wire::{Code, MessageBuilder, Token, uint_bytes};
 const RELEASE_SIZE: usize = 2;
 
 impl Link {
-    /// Sends a response as it fits the peer: whole, or else its bare code and token, where a code other than 2.01, 2.02 and
-    /// 2.04 becomes 5.00, or else the connection stops. There must be room for the greatest message sent, and the connection
-    /// must be open or releasing.
+    /// Sends a response as it fits the peer: whole, or else its bare code and token, where a code other than 2.01, 2.02
+    /// and 2.04 becomes 5.00, or else the connection stops. There must be room for the greatest message sent, and the
+    /// connection must be open or releasing.
     pub fn reply<const N: usize>(&mut self, response: &MessageBuilder<N>) -> Reply
         requires ready { IsReady self.old }
         requires answering { IsAnswering self.old.phase }
@@ -40,12 +44,33 @@ impl Link {
         self.reply_bare(response)
     }
 
+    /// Whether the peer takes our Capabilities and Settings with this size.
+    pub fn takes_announcement(&self, size: u32) -> bool
+        ensures { result ≡ fits (limit_in self.now) (own_csm size) }
+    {
+        announcement_size(size as usize) <= self.limit() as u64
+    }
+
+    /// Announces another size as the greatest message that we take, which is in force from now on (RFC 8323 section
+    /// 5.3.1). The connection must be open, there must be room for the greatest message sent, and the peer must take
+    /// the announcement.
+    pub fn announce(&mut self, size: u32)
+        requires ready { IsReady self.old }
+        requires open { self.old.phase ≡ Open }
+        requires taken { fits (limit_in self.old) (own_csm size) ≡ true }
+        ensures after { self.new ≡ link_after self.old (call.Announce size) }
+        ensures shows { (h : History) → LinkShows self.old h → LinkShows self.new (after h (call.Announce size)) }
+    {
+        announce(&mut self.queue, size as usize);
+        self.own_max = size as usize;
+    }
+
     /// Sends Release and stops (RFC 8323 section 5.5). What is held is given up.
     ///
     /// # Errors
     ///
-    /// In this order: `NotOpen` where the connection is not open, `NoRoom` where fewer than 2 bytes are free, `PeerTooSmall`
-    /// where less than 2 bytes may be sent. Nothing has changed then.
+    /// In this order: `NotOpen` where the connection is not open, `NoRoom` where fewer than 2 bytes are free,
+    /// `PeerTooSmall` where less than 2 bytes may be sent. Nothing has changed then.
     pub fn release(&mut self) -> Result<(), SendFault>
         ensures answer { RefusedBy result (release_refusal self.old) }
         ensures after { OnOk result (self.new ≡ link_after self.old call.Release) }
@@ -74,7 +99,8 @@ impl Link {
     ) -> Reply
         requires { IsReady self.old }
         ensures reply { result ≡ fit (limit_in self.old) whole.now less.now }
-        ensures after { self.new ≡ record self.old { waiting = self.old.waiting ++ bytes_of (fitted whole.now less.now result) } }
+        ensures after { self.new
+            ≡ record self.old { waiting = self.old.waiting ++ bytes_of (fitted whole.now less.now result) } }
     {
         let limit = self.limit() as u64;
         if whole.size() <= limit {
@@ -109,11 +135,13 @@ impl Link {
         reply
     }
 
-    /// Sends a response as it fits the peer, or a bare one in its place. (Apart from `reply`, since a function clears all its locals.)
+    /// Sends a response as it fits the peer, or a bare one in its place. (Apart from `reply`, since a function clears
+    /// all its locals.)
     fn reply_bare<const N: usize>(&mut self, response: &MessageBuilder<N>) -> Reply
         requires { IsReady self.old }
         ensures reply { result ≡ fit (limit_in self.old) response.now (bare_response response.now) }
-        ensures after { self.new ≡ link_with self.old (send (standing_in self.old) response.now (bare_response response.now)) }
+        ensures after { self.new
+            ≡ link_with self.old (send (standing_in self.old) response.now (bare_response response.now)) }
     {
         let bare = bare_of(response);
         self.send(response, &bare)
@@ -136,11 +164,16 @@ impl Link {
         }
     }
 
-    /// Sends a Pong to the Ping with this token, with Custody or not. (Apart from its callers, since a function clears all its locals.)
+    /// Sends a Pong to the Ping with this token, with Custody or not. (Apart from its callers, since a function clears
+    /// all its locals.)
     pub(super) fn pong(&mut self, token: &Token, custody: bool) -> Verdict
         requires { IsReady self.old }
-        ensures verdict { verdict_value result ≡ (sends (standing_in self.old) (pong_with custody token.now.items) (pong_with false token.now.items)).verdict }
-        ensures after { self.new ≡ link_with self.old (sends (standing_in self.old) (pong_with custody token.now.items) (pong_with false token.now.items)).effect }
+        ensures verdict { verdict_value result
+            ≡ (sends (standing_in self.old) (pong_with custody token.now.items)
+            (pong_with false token.now.items)).verdict }
+        ensures after { self.new
+            ≡ link_with self.old (sends (standing_in self.old) (pong_with custody token.now.items)
+            (pong_with false token.now.items)).effect }
     {
         let pong = pong_to(token, custody);
         let plain: MessageBuilder<0> = MessageBuilder::new(Code::PONG, token);

@@ -4,7 +4,6 @@ use Rattle.std.specs.List.{concat}
 use Rattle.std.proofs.lemmas.Bool.{leb-true, leb-false, eqb-true, eqb-false}
 use Rattle.std.proofs.lemmas.List.{length-append, take-append-drop}
 use Rattle.coap_conn.specs.Release.{release_refusal}
-use Rattle.coap_conn.specs.declared.phase.SendFault.{SendFault}
 use Rattle.coap_store.specs.Refusals.{put_refusal, remove_refusal}
 use Rattle.coap_serve.specs.script.Events.{EventValue, Open, In, Drain, Tick, Put, Remove, End, Release, Drop, Status}
 use Rattle.coap_serve.specs.script.Replay.{Ran, comes_to, open_number, store_number, release_number, tick_refusal, unless_refused, on_connection, Fed, fed_more, goes_on, fed_turns, fed, in_ran, drained, drain_ran, status_ran, event_ran, replayed}
@@ -12,12 +11,13 @@ use Rattle.coap_serve.specs.script.Lines.{open_line, tick_line, put_line, remove
 use Rattle.coap_serve.specs.script.Cuts.{in_before, joined, DifferInCuts, is_in, lines_of, other_lines, IsInTime, AreInTime}
 use Rattle.coap_serve.specs.values.Sessions.{SessionValue}
 use Rattle.coap_serve.specs.values.Servers.{ServerValue, session_of, server_opened, server_taken_on, server_taken, server_ticked, server_put, server_removed, server_ended, server_released, server_dropped}
-use Rattle.coap_serve.specs.values.ServerAnswers.{open_refusal, release_fault, released_refusal_on, released_refusal}
+use Rattle.coap_serve.specs.values.ServerAnswers.{open_refusal, released_refusal_on, released_refusal}
 use Rattle.coap_serve.specs.declared.server.OpenFault.TheVariants as opening
 use Rattle.coap_serve.specs.world.Events.{Event}
 use Rattle.coap_serve.specs.world.Shows.{Shows}
 use Rattle.coap_serve.proofs.world.ShowLaws.{shows_opened, shows_taken, shows_written, shows_ticked, shows_put, shows_removed, shows_ended, shows_released, shows_dropped}
 use Rattle.coap_serve.proofs.scripting.CutTakes.{absent_stuck, stuck_turns, fed_in_parts}
+use Rattle.coap_serve.proofs.world.CallLaws.{not_refused}
 
 -- ---- a server that shows a world shows one after each event of a script
 
@@ -86,10 +86,6 @@ ticked_by v now true is none = leb-true v.host.now now is
 ticked_by v now false is none = absurd cc
 
 -- `release`
-not_refused : (refusal : Option SendFault) → option_map release_fault refusal ≡ None → refusal ≡ None
-not_refused None none = refl
-not_refused (Some fault) none = absurd cc
-
 released_by : (v : ServerValue) (id : ℕ) (found : Option SessionValue) → session_of id v.sessions ≡ found → released_refusal_on found ≡ None → (s : SessionValue) × (session_of id v.sessions ≡ Some s) × (release_refusal s.link ≡ None)
 released_by v id None at none = absurd cc
 released_by v id (Some s) at none = (s, at, not_refused (release_refusal s.link) none)

@@ -7,8 +7,8 @@ use Rattle.coap_wire.specs.Stream.{Stream, split}
 use Rattle.coap_wire.specs.Beginning.{Beginning, Unfinished, Whole, Faulty, beginning, fault_bytes}
 use Rattle.coap_wire.specs.declared.fault.FrameFault.{FrameFault}
 use Rattle.coap_wire.proofs.StreamSteps.{whole_more, faulty_more, fault_bytes_more}
-use Rattle.coap_frame.specs.Framing.{AFrame, AFault, Nothing, Framing, framing_at, framing}
-use Rattle.coap_frame.proofs.FrontLaws.{nothing_kept, front_framing}
+use Rattle.coap_frame.specs.Framing.{AFrame, AFault, Nothing, framing_at, framing}
+use Rattle.coap_frame.proofs.FrontLaws.{some_in_front}
 use Rattle.coap_frame.proofs.GivenLaws.{taken_within, nothing_taken, frame_taken, fault_taken}
 use Rattle.coap_serve.specs.Configs.{ConfigValues}
 use Rattle.coap_serve.specs.script.Replay.{Fed, unfed, fed_more, goes_on, fed_once, fed_turns, fed}
@@ -19,17 +19,16 @@ use Rattle.coap_serve.specs.world.World.{World, side_of}
 use Rattle.coap_serve.specs.world.Events.{Event, Took, taken_in, taken_on, stream_on, world_after, front_of, takes}
 use Rattle.coap_serve.specs.world.Shows.{session_shown, server_shown, server_of, Shows}
 use Rattle.coap_serve.proofs.world.StepLaws.{taken_then, world_same}
-use Rattle.coap_serve.proofs.world.CutLaws.{cut_worlds}
+use Rattle.coap_serve.proofs.world.CutLaws.{cut_worlds, TookAlike, taken_twice}
 use Rattle.coap_serve.proofs.world.TookLaws.{Adds, rest_unfinished, adds_nothing, no_bytes_steps}
 use Rattle.coap_serve.proofs.world.ReachedLaws.{accepted_is, handling_goes_on, takes_there}
 use Rattle.coap_serve.proofs.world.ShowLaws.{session_there, side_there, takes_shown, shows_taken}
+use Rattle.coap_serve.proofs.streams.TakeLemmas.{config_stays}
+use Rattle.coap_serve.proofs.scripting.ReplayLemmas.{stays_over}
 
 -- ---- servers that show the same
 
 -- two lists of events took the same bytes
-abbrev TookAlike : List Event → List Event → Type 0
-TookAlike es fs = (id : ℕ) → taken_on id es ≡ taken_on id fs
-
 streams_alike : (M : ℕ) (es fs : List Event) → TookAlike es fs → ◌≡◌ {A = ℕ → Stream} (λ id. stream_on M id es) (λ id. stream_on M id fs)
 streams_alike M es fs alike = λ i id. ap (split M) (alike id) i
 
@@ -49,14 +48,6 @@ shown_same : (u v : ServerValue) (es : List Event) → u.config ≡ v.config →
 shown_same u v es config first second = shown_alike u v es es config first second (λ id. refl) refl
 
 -- ---- a take that takes nothing
-
-config_on : (v : ServerValue) (id : ℕ) (piece : List ℕ) (found : Option SessionValue) → (server_taken_on v id piece found).config ≡ v.config
-config_on v id piece None = refl
-config_on v id piece (Some s) = refl
-
-config_stays : (v : ServerValue) (id : ℕ) (piece : List ℕ) → (server_taken v id piece).config ≡ v.config
-unfolding server_taken
-config_stays v id piece = config_on v id piece (session_of id v.sessions)
 
 -- no take takes a byte, nor changes the server
 pub record IsStuck (v : ServerValue) (id : ℕ) : Type 0 where
@@ -200,35 +191,10 @@ module _ (M : ℕ) (kept xs zs : List ℕ) (unfinished : beginning M kept ≡ Un
   front_later = later_by (beginning M ((kept ++ xs) ++ zs)) refl
 
 -- nothing is taken of a piece only where there is none
-none_framing : (M : ℕ) (kept : List ℕ) → beginning M kept ≡ Unfinished → framing M kept [] ≡ framing_at kept [] Unfinished
-unfolding framing
-none_framing M kept unfinished = ap (framing_at kept []) (ap (beginning M) (append-nil kept) ∙ unfinished)
-
-some_by : (M : ℕ) (kept piece : List ℕ) (n : ℕ) → beginning M kept ≡ Unfinished → front_of M kept piece ≡ n → 0 < length piece → 1 ≤ n
-some_by M kept piece zero unfinished none some =
-    let same : framing M kept piece ≡ framing_at kept [] Unfinished = sym (front_framing M kept piece unfinished) ∙ ap (λ (k : ℕ). framing M kept (take k piece)) none ∙ none_framing M kept unfinished in
-    let keeps : kept ++ piece ≡ kept ++ [] = sym (nothing_kept M kept piece (ap (λ (f : Framing). f.finding) same)) ∙ ap (λ (f : Framing). f.kept) same in
-    absurd (omega (arith, some, ap (λ (b : List ℕ). length b) keeps, length-append kept piece, length-append kept []))
-some_by M kept piece (suc n) unfinished none some = omega arith
-
-some_taken : (M : ℕ) (kept piece : List ℕ) → beginning M kept ≡ Unfinished → 0 < length piece → 1 ≤ front_of M kept piece
-some_taken M kept piece unfinished some = some_by M kept piece (front_of M kept piece) unfinished refl some
-
 session_is : (v : ServerValue) (es : List Event) (id : ℕ) (t : Side) → Shows v es → side_of id (world_after v.config es).sides ≡ Some t → (s : SessionValue) × (session_of id v.sessions ≡ Some s)
 session_is v es id t shows there = (session_shown (stream_on v.config.limits.max_message id es).rest t, side_there v es id t shows there)
 
 -- ---- a piece that is taken in two parts
-
-bytes_both : (here : Bool) (xs ys : List ℕ) → ◌≡◌ {A = List ℕ} (if here then xs ++ ys else []) ((if here then xs else []) ++ (if here then ys else []))
-bytes_both true xs ys = refl
-bytes_both false xs ys = refl
-
-taken_twice : (es : List Event) (id : ℕ) (xs ys : List ℕ) → TookAlike (es ++ Took id (xs ++ ys) ∷ []) ((es ++ Took id xs ∷ []) ++ Took id ys ∷ [])
-taken_twice es id xs ys k =
-    taken_then k es (Took id (xs ++ ys))
-    ∙ ap (λ (bytes : List ℕ). taken_on k es ++ bytes) (bytes_both (id == k) xs ys)
-    ∙ sym (append_assoc (taken_on k es) (taken_in k (Took id xs)) (taken_in k (Took id ys)))
-    ∙ sym (taken_then k (es ++ Took id xs ∷ []) (Took id ys) ∙ ap (λ (bytes : List ℕ). bytes ++ taken_in k (Took id ys)) (taken_then k es (Took id xs)))
 
 world_twice : (c : ConfigValues) (es : List Event) (id : ℕ) (xs ys : List ℕ) → world_after c (es ++ Took id (xs ++ ys) ∷ []) ≡ world_after c ((es ++ Took id xs ∷ []) ++ Took id ys ∷ [])
 world_twice c es id xs ys = cut_worlds c es [] id xs ys ∙ ap (world_after c) (sym (append_assoc es (Took id xs ∷ []) (Took id ys ∷ [])))
@@ -308,23 +274,11 @@ is_over v id bytes =
     ] refl
 
 -- once no take follows, more turns do nothing
-rests : (v : ServerValue) (id : ℕ) (bytes : List ℕ) (n : ℕ) → goes_on bytes (fed_turns n v id bytes) ≡ false → (k : ℕ) → fed_turns (n + k) v id bytes ≡ fed_turns n v id bytes
-unfolding fed_turns
-rests v id bytes n is zero =
-    let same : n + 0 ≡ n = omega arith in
-    ap (λ (m : ℕ). fed_turns m v id bytes) same
-rests v id bytes n is (suc k) =
-    let same : n + suc k ≡ suc (n + k) = omega arith in
-    let f : Fed = fed_turns n v id bytes in
-    ap (λ (m : ℕ). fed_turns m v id bytes) same
-    ∙ ap (fed_once id bytes) (rests v id bytes n is k)
-    ∙ ap (λ (b : Bool). if b then fed_more id (drop f.count bytes) f else f) is
-
 -- so many turns are all
 enough_turns : (v : ServerValue) (id : ℕ) (bytes : List ℕ) (turns : ℕ) → length bytes ≤ turns → fed_turns turns v id bytes ≡ fed v id bytes
 enough_turns v id bytes turns many =
     let same : turns ≡ length bytes + (turns - length bytes) = omega (arith, many) in
-    ap (λ (m : ℕ). fed_turns m v id bytes) same ∙ rests v id bytes (length bytes) (is_over v id bytes) (turns - length bytes)
+    ap (λ (m : ℕ). fed_turns m v id bytes) same ∙ stays_over v id bytes (length bytes) (is_over v id bytes) (turns - length bytes)
 
 -- the first take, and then those of the bytes that it left
 fed_by : (v : ServerValue) (id : ℕ) (bytes : List ℕ) (n : ℕ) → count_taken v id bytes ≡ n → 1 ≤ n → n ≤ length bytes → fed v id bytes ≡ shifted n (fed (server_taken v id bytes) id (drop n bytes))
@@ -419,7 +373,7 @@ module _ (v : ServerValue) (es : List Event) (id : ℕ) (xs ys : List ℕ) (show
       → IsFedInParts v id xs ys
   found_parts some same again =
       let n : ℕ = front_of most kept xs in
-      let takes_some : 1 ≤ n = some_taken most kept xs goes.unfinished some in
+      let takes_some : 1 ≤ n = some_in_front most kept xs goes.unfinished some in
       let within : n ≤ length xs = taken_within most kept xs goes.unfinished in
       let longer : n ≤ length (xs ++ ys) = omega (arith, within, length-append xs ys) in
       let whole_count : count_taken v id (xs ++ ys) ≡ n = goes.counts (xs ++ ys) ∙ same in
@@ -466,7 +420,7 @@ module _ (v : ServerValue) (es : List Event) (id : ℕ) (xs ys : List ℕ) (show
     later_parts : IsFedInParts v id xs ys
     later_parts =
         let n : ℕ = front_of most (kept ++ xs) ys in
-        let takes_some : 1 ≤ n = some_taken most (kept ++ xs) ys still more in
+        let takes_some : 1 ≤ n = some_in_front most (kept ++ xs) ys still more in
         let within : n ≤ length ys = taken_within most (kept ++ xs) ys still in
         let whole_count : count_taken v id (xs ++ ys) ≡ length xs + n = goes.counts (xs ++ ys) ∙ front_later most kept xs ys goes.unfinished still in
         let longer : length xs + n ≤ length (xs ++ ys) = omega (arith, within, length-append xs ys) in

@@ -100,10 +100,6 @@ no_such s path refused =
       | false ↦ elim (is_none (found_in s.resources path)) as (λ b. is_none (if b then Some NoSuch else None) ≡ false → (if b then Some NoSuch else None) ≡ Some NoSuch) [ true ↦ λ some. refl | false ↦ λ some. absurd cc ]
     ] refused
 
-pub not_refused : {F : Type 0} (refusal : Option F) → is_none refusal ≡ true → refusal ≡ None
-not_refused None none = refl
-not_refused (Some f) none = absurd cc
-
 -- ---- `drain`
 
 -- what waits is enough
@@ -137,7 +133,7 @@ over : (id : ℕ) (bytes : List ℕ) (f : Fed) → goes_on bytes f ≡ false →
 over id bytes f is = ap (λ (b : Bool). if b then fed_more id (drop f.count bytes) f else f) is
 
 -- once no take follows, more turns do nothing
-stays_over : (v : ServerValue) (id : ℕ) (bytes : List ℕ) (n : ℕ) → goes_on bytes (fed_turns n v id bytes) ≡ false → (k : ℕ) → fed_turns (n + k) v id bytes ≡ fed_turns n v id bytes
+pub stays_over : (v : ServerValue) (id : ℕ) (bytes : List ℕ) (n : ℕ) → goes_on bytes (fed_turns n v id bytes) ≡ false → (k : ℕ) → fed_turns (n + k) v id bytes ≡ fed_turns n v id bytes
 unfolding fed_turns
 stays_over v id bytes n is zero =
     let same : n + 0 ≡ n = omega arith in

@@ -16,6 +16,7 @@ use Rattle.coap_serve.specs.values.Dues.{sooner, same_stamp, stamp_of, outlook_o
 use Rattle.coap_serve.specs.values.Servers.{ServerValue}
 use Rattle.coap_serve.specs.streams.Wires.{IsTold}
 use Rattle.coap_serve.specs.streams.Turns.{FarEnd, agenda_with, agenda_past, IsAsked, IsServed, IsServedOnce, CanGoOn, IsAtRest, IsInTurn, IsRestAnswer, IsAgendaOf, least_with, wants_in, wants_of, can_go_on}
+use Rattle.coap_serve.proofs.world.EntryLemmas.{all_append}
 
 -- ---- what a connection is to be served for
 
@@ -76,10 +77,6 @@ least_both : (due : Option ℕ) (all more : List FarEnd) → least_with due (all
 least_both due [] more = refl
 least_both due (one ∷ all) more = least_both (sooner due one.wants.due) all more
 
-all_both : {X : Type 0} (P : X → Type 0) (xs ys : List X) → AllByRecursion P xs → AllByRecursion P ys → AllByRecursion P (xs ++ ys)
-all_both P [] ys none all = all
-all_both P (x ∷ xs) ys front all = (front.0, all_both P xs ys front.1 all)
-
 -- the same stamp
 is_same : (one other : Stamp) → same_stamp one other ≡ true → one ≡ other
 is_same one other e =
@@ -98,14 +95,14 @@ seen_more a stamp all e ready seen same can = record {
   due = ap (λ due. sooner due e.wants.due) seen.due ∙ sym (least_both None all (e ∷ []));
   rest = λ none.
       let parts = or_parts a.at_once ready none in
-      all_both (IsAtRest stamp) all (e ∷ []) (seen.rest parts.0) ((same, subst (CanGoOn e) parts.1 can), tt);
+      all_append (IsAtRest stamp) all (e ∷ []) (seen.rest parts.0) ((same, subst (CanGoOn e) parts.1 can), tt);
 }
 
 -- those at rest were passed over
 pub seen_past : (a : Agenda) (stamp : Stamp) (all more : List FarEnd) → IsAgendaOf a stamp all → AllByRecursion (IsAtRest stamp) more → IsAgendaOf (agenda_past a more) stamp (all ++ more)
 seen_past a stamp all more seen rest = record {
   due = ap (λ due. least_with due more) seen.due ∙ sym (least_both None all more);
-  rest = λ none. all_both (IsAtRest stamp) all more (seen.rest none) rest;
+  rest = λ none. all_append (IsAtRest stamp) all more (seen.rest none) rest;
 }
 
 -- it was served when the server had another stamp
@@ -154,7 +151,7 @@ seen_later far xs i a stamp later seen = record {
 
 -- ---- the front of a list
 
-take_more : {X : Type 0} (xs : List X) (i : ℕ) (x : X) → slice_get xs i ≡ Some x → take (suc i) xs ≡ take i xs ++ x ∷ []
+pub take_more : {X : Type 0} (xs : List X) (i : ℕ) (x : X) → slice_get xs i ≡ Some x → take (suc i) xs ≡ take i xs ++ x ∷ []
 take_more [] i x at = absurd cc
 take_more (y ∷ xs) zero x at = let same : y ≡ x = cc in ap (λ z. z ∷ []) same
 take_more (y ∷ xs) (suc i) x at = ap (λ ys. y ∷ ys) (take_more xs i x at)
@@ -162,7 +159,7 @@ take_more (y ∷ xs) (suc i) x at = ap (λ ys. y ∷ ys) (take_more xs i x at)
 pub front_more : {X : Type 0} (far : X → FarEnd) (xs : List X) (i : ℕ) (x : X) → slice_get xs i ≡ Some x → map far (take (i + 1) xs) ≡ map far (take i xs) ++ far x ∷ []
 front_more far xs i x at = ap (λ n. map far (take n xs)) (let next : i + 1 ≡ suc i = omega arith in next) ∙ ap (map far) (take_more xs i x at) ∙ map-append far (take i xs) (x ∷ [])
 
-front_kept : {X : Type 0} (xs : List X) (i : ℕ) → take i (remove xs i) ≡ take i xs
+pub front_kept : {X : Type 0} (xs : List X) (i : ℕ) → take i (remove xs i) ≡ take i xs
 front_kept [] zero = refl
 front_kept [] (suc i) = refl
 front_kept (x ∷ xs) zero = refl
@@ -239,7 +236,7 @@ more_between (y ∷ xs) zero i x order at = take_more (y ∷ xs) i x at
 more_between (y ∷ xs) (suc from) zero x order at = absurd (omega (arith, order))
 more_between (y ∷ xs) (suc from) (suc i) x order at = more_between xs from i x (omega (arith, order)) at
 
-front_between : {X : Type 0} (xs : List X) (from to : ℕ) → from ≤ to → take from xs ++ drop from (take to xs) ≡ take to xs
+pub front_between : {X : Type 0} (xs : List X) (from to : ℕ) → from ≤ to → take from xs ++ drop from (take to xs) ≡ take to xs
 front_between xs zero to order = refl
 front_between [] (suc from) zero order = refl
 front_between [] (suc from) (suc to) order = refl
@@ -273,7 +270,7 @@ one_more_passed far es from i p q stamp before due later order at again passed r
     ap (map (λ e. far e.1)) more ∙ map-append (λ e. far e.1) (drop from (take i es)) (there.0 ∷ []) ∙ ap (λ x. map (λ e. far e.1) (drop from (take i es)) ++ far x ∷ []) there.2 in
     let here : IsAtRest stamp (far p) = subst (λ x. IsAtRest stamp (far x)) (same_value (values_of es) i p q at again) rests in
     record {
-      rest = subst (AllByRecursion (IsAtRest stamp)) (sym ends) (all_both (IsAtRest stamp) (map (λ e. far e.1) (drop from (take i es))) (far p ∷ []) passed.rest (here, tt));
+      rest = subst (AllByRecursion (IsAtRest stamp)) (sym ends) (all_append (IsAtRest stamp) (map (λ e. far e.1) (drop from (take i es))) (far p ∷ []) passed.rest (here, tt));
       due = is ∙ ap (λ d. sooner d (far p).wants.due) passed.due ∙ sym (least_both before (map (λ e. far e.1) (drop from (take i es))) (far p ∷ [])) ∙ ap (least_with before) (sym ends);
     }
 

@@ -17,10 +17,10 @@ use Rattle.coap_serve.specs.streams.Output.{waiting_of, more_of, written_once, w
 use Rattle.coap_serve.proofs.world.GrowLaws.{settled_handled, written_handled}
 use Rattle.coap_serve.proofs.world.EntryLemmas.{count_due, count_within}
 use Rattle.coap_serve.proofs.world.SettleLaws.{IsAtRest, left_on, once_less, at_rest, settled_rests}
-use Rattle.coap_serve.proofs.world.WalkLaws.{written_between}
 use Rattle.coap_serve.proofs.world.PlaceLaws.{all_there, changed_here}
 use Rattle.coap_serve.proofs.world.HearingLaws.{AllHear, step_hears}
 use Rattle.coap_serve.proofs.world.ShownLemmas.{unchanged, settled_stays}
+use Rattle.coap_serve.proofs.world.HeldLaws.{written_same}
 
 -- ---- one write
 
@@ -32,9 +32,6 @@ observers_by false s h = refl
 written_observers : (s : Side) (n : ℕ) → (side_written s n).observers ≡ s.observers
 unfolding side_written
 written_observers s n = observers_by (nat_le n (length (waiting_on s))) s (after s.history (call.Written n))
-
-written_held : (s : Side) (n : ℕ) → (side_written s n).history.held ≡ s.history.held
-written_held = written_between (λ h k. k.held ≡ h.held) (λ h. refl) (λ h n within. refl)
 
 -- where all that waits is written, nothing waits
 written_empties : (s : Side) → waiting_on (side_written s (length (waiting_on s))) ≡ []
@@ -107,7 +104,7 @@ once_stays store now s rests =
 -- a write leaves what is left to be sent
 written_left : (store : StoreValue) (now : ℕ) (s : Side) (n : ℕ) → left_on store now (side_written s n) ≡ left_on store now s
 written_left store now s n =
-    ap (λ (held : List HeldValue). length held + count_due (is_due store now) (side_written s n).observers) (written_held s n)
+    ap (λ (held : List HeldValue). length held + count_due (is_due store now) (side_written s n).observers) (written_same s n)
     ∙ ap (λ (os : List Observer). length s.history.held + count_due (is_due store now) os) (written_observers s n)
 
 -- after a turn nothing waits, or less is left
@@ -291,7 +288,7 @@ unfolding side_written
 written_phase s n = written_phase_by _ s _ refl
 
 written_more : (s : Side) (n : ℕ) → more_of (Some (side_written s n)) ≡ more_of (Some s)
-written_more s n = omega (arith, ap (λ (held : List HeldValue). length held) (written_held s n), ap (λ (os : List Observer). length os) (written_observers s n))
+written_more s n = omega (arith, ap (λ (held : List HeldValue). length held) (written_same s n), ap (λ (os : List Observer). length os) (written_observers s n))
 
 once_alone : (store : StoreValue) (now : ℕ) (s : Side) → more_of (Some s) ≡ 0 → (side_once store now s).history.phase ≡ s.history.phase
 once_alone store now s none =

@@ -8,7 +8,6 @@ use Rattle.coap_serve.specs.declared.host.Host.{Host}
 use Rattle.coap_serve.specs.declared.server.Stamp.{Stamp}
 use Rattle.coap_serve.specs.declared.server.Outlook.{Outlook}
 use Rattle.coap_serve.specs.declared.door.peer.Course.{Course}
-use Rattle.coap_serve.specs.declared.door.peer.Course.TheVariants.{Open}
 use Rattle.coap_serve.specs.declared.door.wants.Wants.{Wants}
 use Rattle.coap_serve.specs.declared.wire.Got.{Got}
 use Rattle.coap_serve.specs.declared.wire.Got.TheVariants.{Bytes, Later, End, Failed}
@@ -16,7 +15,7 @@ use Rattle.coap_serve.specs.values.Sessions.{SessionValue, Taking, taking, host_
 use Rattle.coap_serve.specs.values.Servers.{ServerValue, LiesAt, AreSettled, session_of, session_becomes, settled_entry, server_opened, server_ticked, server_taken, server_taken_on, server_dropped}
 use Rattle.coap_serve.specs.values.Dues.{stamp_of, session_outlook, outlook_of}
 use Rattle.coap_serve.specs.script.Replay.{Fed, fed_turns, fed, fed_more, goes_on}
-use Rattle.coap_serve.specs.streams.Turns.{IsServedOnce, IsCarriedOn, server_heard, server_wrote, has_failed, is_over_in, wants_in, wants_of, can_go_on}
+use Rattle.coap_serve.specs.streams.Turns.{IsServedOnce, IsCarriedOn, ComesToNothing, server_heard, server_wrote, has_failed, is_over_in, wants_in, wants_of, can_go_on}
 use Rattle.coap_serve.specs.streams.Notes.{IsNoEarlier, KeepsNotes, WhilePassedOver, AtFirst, Served, Dropped, Opened, Ticked}
 use Rattle.coap_serve.proofs.streams.PassedLemmas.{passed_over}
 use Rattle.coap_serve.proofs.values.ServerLemmas.{Entries, is_other, all_are_settled, all_settled_stay}
@@ -318,7 +317,7 @@ module _ (id : ℕ) (v after : ServerValue) (rest : List ℕ) (settled : AreSett
   noted_throughout = noted_so v after id rest outlook_throughout same
 
   -- where nothing could be done then, nothing can now
-  pub still_nothing_to_do : (i : ℕ) (may_read may_write : Bool) → LiesAt id i after.sessions → can_go_on (wants_of v id rest) may_read may_write ≡ false → is_over_in (outlook_of v id) ≡ false → IsServedOnce may_read may_write after id rest after rest Open
+  pub still_nothing_to_do : (i : ℕ) (may_read may_write : Bool) → LiesAt id i after.sessions → can_go_on (wants_of v id rest) may_read may_write ≡ false → is_over_in (outlook_of v id) ≡ false → ComesToNothing may_read may_write after id rest
   still_nothing_to_do i may_read may_write lies idle on =
       passed_over after id i rest may_read may_write lies ((passed_on id v after passed).settled settled)
       (ap (λ (w : Wants). can_go_on w may_read may_write) noted_throughout ∙ idle)

@@ -12,6 +12,7 @@ use Rattle.coap_serve.specs.values.Servers.{ServerValue, server_opened, server_d
 use Rattle.coap_serve.specs.values.ServerAnswers.{open_refusal}
 use Rattle.coap_serve.specs.streams.Turns.{IsServed, IsAtRest, IsInTurn, end_of}
 use Rattle.coap_serve.specs.streams.Serving.{HasGoneOn, HasOneMore, AreServed, NoMore, PassedOver, HadItsPart}
+use Rattle.coap_serve.proofs.streams.AgendaLemmas.{front_between, front_kept, take_more}
 
 -- ---- parts of a list
 
@@ -27,13 +28,6 @@ parted [] (suc from) (suc to) order = refl
 parted (x ∷ xs) (suc from) zero order = absurd (omega (arith, order))
 parted (x ∷ xs) (suc from) (suc to) order = parted xs from to (omega (arith, order))
 
-front_parted : {X : Type 0} (xs : List X) (from to : ℕ) → from ≤ to → take from xs ++ drop from (take to xs) ≡ take to xs
-front_parted xs zero to order = refl
-front_parted [] (suc from) zero order = refl
-front_parted [] (suc from) (suc to) order = refl
-front_parted (x ∷ xs) (suc from) zero order = absurd (omega (arith, order))
-front_parted (x ∷ xs) (suc from) (suc to) order = ap (λ ys. x ∷ ys) (front_parted xs from to (omega (arith, order)))
-
 behind_both : {X : Type 0} (xs ys zs : List X) → (xs ++ ys) ++ zs ≡ xs ++ (ys ++ zs)
 behind_both [] ys zs = refl
 behind_both (x ∷ xs) ys zs = ap (λ rest. x ∷ rest) (behind_both xs ys zs)
@@ -47,17 +41,6 @@ next_first : {X : Type 0} (xs : List X) (i : ℕ) (x : X) → slice_get xs i ≡
 next_first [] i x at = absurd cc
 next_first (y ∷ xs) zero x at = let same : y ≡ x = cc in ap (λ z. z ∷ xs) same
 next_first (y ∷ xs) (suc i) x at = next_first xs i x at
-
-front_and : {X : Type 0} (xs : List X) (i : ℕ) (x : X) → slice_get xs i ≡ Some x → take (suc i) xs ≡ take i xs ++ x ∷ []
-front_and [] i x at = absurd cc
-front_and (y ∷ xs) zero x at = let same : y ≡ x = cc in ap (λ z. z ∷ []) same
-front_and (y ∷ xs) (suc i) x at = ap (λ ys. y ∷ ys) (front_and xs i x at)
-
-front_stays : {X : Type 0} (xs : List X) (i : ℕ) → take i (remove xs i) ≡ take i xs
-front_stays [] zero = refl
-front_stays [] (suc i) = refl
-front_stays (x ∷ xs) zero = refl
-front_stays (x ∷ xs) (suc i) = ap (λ ys. x ∷ ys) (front_stays xs i)
 
 back_stays : {X : Type 0} (xs : List X) (i : ℕ) → drop i (remove xs i) ≡ drop (suc i) xs
 back_stays [] zero = refl
@@ -131,7 +114,7 @@ module _ {W : Type 0} (readable writable : W → Option Bool) where
   passed_on u v all now from to stamp is order rests before = record {
     done = before.done ++ drop from (take to now);
     all_of_them = before.all_of_them ∙ ap (λ xs. before.done ++ xs) (parted now from to order) ∙ sym (behind_both before.done (drop from (take to now)) (drop to now));
-    served = subst (AreServed readable writable u (before.done ++ drop from (take to now)) v) (front_parted now from to order)
+    served = subst (AreServed readable writable u (before.done ++ drop from (take to now)) v) (front_between now from to order)
         (both_served u v v before.done (drop from (take to now)) (take from now) (drop from (take to now)) before.served
         (all_passed v (drop from (take to now)) (subst (λ s. AllByRecursion (IsAtRest s) (map (λ e. end_of readable writable e.1) (drop from (take to now)))) is rests)));
   }
@@ -168,7 +151,7 @@ module _ {W : Type 0} (readable writable : W → Option Bool) where
           its = (was.0.0, is.0.1) ∷ [];
           there = was.1;
           part = record { served = between; peer = is.0.1; course = Open; part = served; server = refl; far_end = refl };
-          front = ap (λ n. take n mid) (one_more_than i) ∙ front_and mid i is.0 is.1 ∙ ap (λ xs. xs ++ is.0 ∷ []) before ∙ ap (λ k. take i es ++ (k, is.0.1) ∷ []) (same_key es mid i was.0 is.0 keys was.1 is.1);
+          front = ap (λ n. take n mid) (one_more_than i) ∙ take_more mid i is.0 is.1 ∙ ap (λ xs. xs ++ is.0 ∷ []) before ∙ ap (λ k. take i es ++ (k, is.0.1) ∷ []) (same_key es mid i was.0 is.0 keys was.1 is.1);
           back = ap (λ n. drop n mid) (one_more_than i) ∙ back_same;
         }
 
@@ -190,6 +173,6 @@ module _ {W : Type 0} (readable writable : W → Option Bool) where
             server = if_there (slice_get (keys_of mid) i) (λ id. after ≡ server_dropped between id) was.0.0 (ap (λ ks. slice_get ks i) keys ∙ key_at es i was.0 was.1) dropped;
             far_end = refl;
           };
-          front = ap (λ xs. take i xs) removed ∙ front_stays mid i ∙ before ∙ sym (append-nil (take i es));
+          front = ap (λ xs. take i xs) removed ∙ front_kept mid i ∙ before ∙ sym (append-nil (take i es));
           back = ap (λ xs. drop i xs) removed ∙ back_stays mid i ∙ back_same;
         }

@@ -1,24 +1,25 @@
 -- A connection on which nothing can be done: its part of a turn comes to nothing.
-use Rattle.std.proofs.Common.{◌≡◌, ℕ, zero, suc, Bool, true, false, ◌&&◌, List, [], ◌∷◌, length, map, drop, Option, Some, None, refl, sym, ap, subst, ◌∙◌, not, arith, ◌||◌, ◌==◌, is_some, option_map, slice_get, if◌then◌else◌}
+use Rattle.std.proofs.Common.{◌≡◌, ℕ, zero, suc, Bool, true, false, ◌&&◌, List, [], ◌∷◌, length, map, drop, Option, Some, None, refl, sym, ap, subst, ◌∙◌, not, arith, ◌||◌, ◌==◌, is_some, nat_lt, option_map, slice_get, if◌then◌else◌}
 use Rattle.std.specs.Map.{values_of}
-use Rattle.std.proofs.lemmas.Bool.{or_parts, eqb-true, ne_eqb}
+use Rattle.std.proofs.lemmas.Bool.{or_parts, eqb-true, ne_eqb, ltb-false}
+use Rattle.std.proofs.lemmas.List.{nil_from_length}
 use Rattle.coap_conn.specs.Phases.{stop_of, is_over}
 use Rattle.coap_conn.specs.declared.phase.Phase.{Phase}
 use Rattle.coap_conn.specs.declared.reason.Reason.{Reason}
 use Rattle.coap_serve.specs.declared.door.peer.Course.TheVariants.{Open, Over}
+use Rattle.coap_serve.specs.declared.door.peer.Course.{Course}
+use Rattle.coap_serve.specs.declared.wire.Got.{Got}
 use Rattle.coap_serve.specs.declared.wire.Got.TheVariants.{Later}
 use Rattle.coap_serve.specs.values.Sessions.{SessionValue, session_takes}
 use Rattle.coap_serve.specs.values.Servers.{ServerValue, LiesAt, AreSettled, session_of, settled_entry, changed_at, server_taken, server_taken_on, server_taken_so, count_taken, count_on}
 use Rattle.coap_serve.specs.values.ServerAnswers.{can_take_on, stop_on}
 use Rattle.coap_serve.specs.script.Replay.{Fed, fed_turns, fed, fed_more, goes_on}
-use Rattle.coap_serve.specs.streams.Turns.{IsServedOnce, IsLaidOut, is_heard, is_over_in, left_behind, rest_left, wants_of, can_go_on}
-use Rattle.coap_serve.proofs.values.ServerLemmas.{changed_one, all_settled_stay}
+use Rattle.coap_serve.specs.streams.Turns.{IsServedOnce, IsTakenAndWritten, IsCarriedOn, IsLaidOut, ComesToNothing, is_heard, waiting_once, server_heard, server_wrote, has_failed, course_of, is_over_in, left_behind, rest_left, wants_of, can_go_on}
+use Rattle.coap_serve.proofs.values.ServerLemmas.{changed_one, all_settled_stay, Entries}
 use Rattle.coap_serve.specs.values.Dues.{session_outlook, outlook_of}
+use Rattle.coap_serve.specs.values.Flushes.{waiting_in}
 use Rattle.coap_serve.proofs.streams.AgendaLemmas.{cannot_take}
 use Rattle.coap_serve.proofs.world.ShownLemmas.{taking_stopped}
-
-abbrev Entries : Type 0
-Entries = List (ℕ × SessionValue)
 
 -- ---- it takes nothing
 
@@ -121,11 +122,70 @@ passed_on v id i s rest may_read may_write lies here settled idle on =
       };
     }
 
+-- ---- whatever its wire does
+
+and_false : (b : Bool) → (b && true) ≡ false → b ≡ false
+and_false true e = e
+and_false false e = refl
+
+not_heard : (may_read is_empty takes : Bool) → ((is_empty && takes) && may_read) ≡ false → ((may_read && is_empty) && takes) ≡ false
+not_heard false is_empty takes e = refl
+not_heard true false takes e = refl
+not_heard true true true e = e
+not_heard true true false e = refl
+
+not_written : (may_write : Bool) (waiting : List ℕ) → (nat_lt 0 (length waiting) && may_write) ≡ false → (if may_write then waiting else []) ≡ []
+not_written false waiting e = refl
+not_written true waiting e = nil_from_length waiting (let none = ltb-false 0 (length waiting) (and_false (nat_lt 0 (length waiting)) e) in omega (arith, none))
+
+module _ (v : ServerValue) (id i : ℕ) (s : SessionValue) (rest : List ℕ) (may_read may_write : Bool) (lies : LiesAt id i v.sessions) (here : session_of id v.sessions ≡ Some s) (settled : AreSettled v.host v.sessions) where
+  module _ (idle : can_go_on (wants_of v id rest) may_read may_write ≡ false) where
+    parts : (((wants_of v id rest).take || ((wants_of v id rest).read && may_read)) ≡ false) × (((wants_of v id rest).write && may_write) ≡ false)
+    parts = or_parts ((wants_of v id rest).take || ((wants_of v id rest).read && may_read)) ((wants_of v id rest).write && may_write) idle
+
+    is_unread : is_heard may_read v id rest ≡ false
+    is_unread =
+        ap (λ o. may_read && (length rest == 0) && can_take_on o) here
+        ∙ not_heard may_read (length rest == 0) (session_takes s) (rw here at ((or_parts (wants_of v id rest).take ((wants_of v id rest).read && may_read) parts.0).1))
+
+    is_unwritten : waiting_once may_write id v ≡ []
+    is_unwritten = ap (λ o. if may_write then waiting_in o else []) here ∙ not_written may_write s.link.waiting (rw here at parts.1)
+
+  -- a part in which the wire is neither read nor written
+  module _ (none : (wants_of v id rest).take ≡ false) (unwritten : waiting_once may_write id v ≡ []) (on : is_over_in (outlook_of v id) ≡ false) where
+    taken_so : (after : ServerValue) (left : List ℕ) (course : Course) → IsTakenAndWritten may_write v id rest after left course → (after ≡ v) × (left ≡ rest) × (course ≡ Open)
+    taken_so after left course part =
+        let same = still_fed v id i s rest lies here settled none in
+        let wrote : part.wrote ≡ Later = part.idle (ap (waiting_once may_write id) same.server ∙ unwritten) in
+        let server : after ≡ v = part.server ∙ ap (server_wrote (fed v id rest).server id) wrote ∙ same.server in (
+          server,
+          part.rest ∙ rest_stays v id s rest here none same,
+          part.outcome ∙ ap (λ got. course_of got (is_over_in (outlook_of after id))) wrote ∙ ap (λ (w : ServerValue). course_of Later (is_over_in (outlook_of w id))) server ∙ ap (course_of Later) on,
+        )
+
+    carried_so : (heard : Got) (bytes : List ℕ) (after : ServerValue) (left : List ℕ) (course : Course) → IsLaidOut false rest heard bytes → IsCarriedOn (has_failed heard) may_write (server_heard v id heard) id bytes after left course → (after ≡ v) × (left ≡ rest) × (course ≡ Open)
+    carried_so heard bytes after left course laid carried =
+        taken_so after left course
+        (subst (λ (bs : List ℕ). IsTakenAndWritten may_write v id bs after left course) laid.1
+        (subst (λ (got : Got). IsCarriedOn (has_failed got) may_write (server_heard v id got) id bytes after left course) laid.0 carried))
+
+  pub nothing_done : can_go_on (wants_of v id rest) may_read may_write ≡ false → is_over_in (outlook_of v id) ≡ false → ComesToNothing may_read may_write v id rest
+  nothing_done idle on =
+      let none = cannot_take (wants_of v id rest) may_read may_write idle in
+      let unread = is_unread idle in
+      let unwritten = is_unwritten idle in
+      record {
+        unread = unread;
+        unwritten = unwritten;
+        there_is_one = passed_on v id i s rest may_read may_write lies here settled none on;
+        always = λ after left course part.
+            carried_so none unwritten on part.heard part.bytes after left course (subst (λ b. IsLaidOut b rest part.heard part.bytes) unread part.laid) part.carried;
+      }
+
 -- a connection on which nothing can be done may be passed over
-pub passed_over : (v : ServerValue) (id i : ℕ) (rest : List ℕ) (may_read may_write : Bool) → LiesAt id i v.sessions → AreSettled v.host v.sessions → can_go_on (wants_of v id rest) may_read may_write ≡ false → is_over_in (outlook_of v id) ≡ false → IsServedOnce may_read may_write v id rest v rest Open
+pub passed_over : (v : ServerValue) (id i : ℕ) (rest : List ℕ) (may_read may_write : Bool) → LiesAt id i v.sessions → AreSettled v.host v.sessions → can_go_on (wants_of v id rest) may_read may_write ≡ false → is_over_in (outlook_of v id) ≡ false → ComesToNothing may_read may_write v id rest
 passed_over v id i rest may_read may_write lies settled idle on =
-    let none = cannot_take (wants_of v id rest) may_read may_write idle in
-    elim (session_of id v.sessions) as (λ o. session_of id v.sessions ≡ o → is_over_in (option_map (session_outlook v.host.now) o) ≡ false → IsServedOnce may_read may_write v id rest v rest Open) [
+    elim (session_of id v.sessions) as (λ o. session_of id v.sessions ≡ o → is_over_in (option_map (session_outlook v.host.now) o) ≡ false → ComesToNothing may_read may_write v id rest) [
       | None ↦ λ here over. absurd cc
-      | Some s ↦ λ here over. passed_on v id i s rest may_read may_write lies here settled none on
+      | Some s ↦ λ here over. nothing_done v id i s rest may_read may_write lies here settled idle on
     ] refl on

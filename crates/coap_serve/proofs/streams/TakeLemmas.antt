@@ -3,10 +3,8 @@ use Rattle.std.proofs.Common.{◌≡◌, ◌⊎◌, ℕ, zero, suc, ◌+◌, ◌
 use Rattle.std.proofs.lemmas.Bool.{le-leb}
 use Rattle.std.proofs.lemmas.Bool.{cases_eq}
 use Rattle.coap_wire.specs.Message.{Message}
-use Rattle.std.proofs.lemmas.List.{append-nil, length-append}
-use Rattle.coap_wire.specs.Beginning.{Unfinished, beginning}
+use Rattle.std.proofs.lemmas.List.{append-nil}
 use Rattle.coap_wire.specs.Stream.{Stream, split}
-use Rattle.coap_frame.specs.Framing.{Framing, framing_at, framing}
 use Rattle.coap_conn.specs.declared.reason.Reason.{Reason}
 use Rattle.coap_conn.specs.Limits.{LimitValues, AreInRange}
 use Rattle.coap_conn.specs.Phases.{stop_of}
@@ -33,7 +31,7 @@ use Rattle.coap_serve.specs.declared.server.Handled.{Handled}
 use Rattle.coap_serve.specs.declared.server.Handled.TheVariants as handled
 use Rattle.coap_serve.proofs.values.FlushLemmas.{turn_more}
 use Rattle.coap_serve.proofs.world.StepLaws.{taken_then, taken_here, world_same, world_step}
-use Rattle.coap_frame.proofs.FrontLaws.{nothing_kept, front_framing}
+use Rattle.coap_frame.proofs.FrontLaws.{some_in_front}
 use Rattle.coap_serve.proofs.world.TookLaws.{rest_unfinished}
 use Rattle.coap_serve.proofs.world.GoingOn.{side_is}
 use Rattle.coap_serve.proofs.world.ReachedLaws.{IsReached, accepted_is, takes_there, handling_goes_on}
@@ -47,18 +45,6 @@ use Rattle.coap_serve.proofs.streams.FlushShown.{FlushShown, session_is}
 use Rattle.coap_serve.proofs.streams.FlushShown as shown
 
 -- ---- some bytes are taken
-
-none_framing : (M : ℕ) (kept : List ℕ) → beginning M kept ≡ Unfinished → framing M kept [] ≡ framing_at kept [] Unfinished
-unfolding framing
-none_framing M kept unfinished = ap (framing_at kept []) (ap (beginning M) (append-nil kept) ∙ unfinished)
-
--- nothing is taken of a piece only where there is none
-some_fronted : (M : ℕ) (kept piece : List ℕ) (n : ℕ) → beginning M kept ≡ Unfinished → front_of M kept piece ≡ n → 0 < length piece → 1 ≤ n
-some_fronted M kept piece zero unfinished none some =
-    let same : framing M kept piece ≡ framing_at kept [] Unfinished = sym (front_framing M kept piece unfinished) ∙ ap (λ (k : ℕ). framing M kept (take k piece)) none ∙ none_framing M kept unfinished in
-    let keeps : kept ++ piece ≡ kept ++ [] = sym (nothing_kept M kept piece (ap (λ (f : Framing). f.finding) same)) ∙ ap (λ (f : Framing). f.kept) same in
-    absurd (omega (arith, some, ap (λ (b : List ℕ). length b) keeps, length-append kept piece, length-append kept []))
-some_fronted M kept piece (suc n) unfinished none some = omega arith
 
 -- ---- more turns write more
 
@@ -115,7 +101,7 @@ config_on : (v : ServerValue) (id : ℕ) (piece : List ℕ) (found : Option Sess
 config_on v id piece None = refl
 config_on v id piece (Some s) = refl
 
-config_stays : (v : ServerValue) (id : ℕ) (piece : List ℕ) → (server_taken v id piece).config ≡ v.config
+pub config_stays : (v : ServerValue) (id : ℕ) (piece : List ℕ) → (server_taken v id piece).config ≡ v.config
 unfolding server_taken
 config_stays v id piece = config_on v id piece (session_of id v.sessions)
 
@@ -180,7 +166,7 @@ module _ (v : ServerValue) (bytes piece : List ℕ) (stands : Stands v.config v 
   takes_some some =
       let M : ℕ = c.limits.max_message in
       let unfinished = rest_unfinished M id es (handling_goes_on c es id s reached there handling) in
-      let front = some_fronted M (stream_on M id es).rest piece (front_of M (stream_on M id es).rest piece) unfinished refl some in
+      let front = some_in_front M (stream_on M id es).rest piece unfinished some in
       omega (arith, front, takes_there c es id piece s there ∙ ap (λ (b : Bool). cond b (front_of M (stream_on M id es).rest piece) 0) handling)
 
   -- ---- memory is refused

@@ -20,7 +20,7 @@ use Rattle.coap_serve.specs.values.Sessions.{ObserverValue, SessionValue, is_mar
 use Rattle.coap_serve.specs.values.Servers.{AreSettled, changed_at, settled_entry}
 use Rattle.coap_serve.specs.values.Causes.{path_hash, change_hash, ObservesNone, IsUntouched, AreSettledUntouched, AreOthersSettled}
 use Rattle.coap_serve.proofs.values.SettleLemmas.{settled_is_settled, settled_stays}
-use Rattle.coap_serve.proofs.values.ServerLemmas.{Entries, written_at_index, settled_up_to}
+use Rattle.coap_serve.proofs.values.ServerLemmas.{Entries, one_of_all, written_at_index, settled_up_to}
 use Rattle.coap_serve.proofs.values.DueLemmas.{at_moment, none_found, stays_settled}
 
 -- ---- the hash of a change
@@ -99,11 +99,6 @@ untouched_by_removal host path hash es store is same settled =
 
 -- ---- the loop over them
 
-untouched_at : (why : Cause) (host : Host) (i : ℕ) (es : Entries) (s : SessionValue) → AreSettledUntouched why host es → slice_get (values_of es) i ≡ Some s → IsUntouched why host.now s → IsSettled host s
-untouched_at why host i [] s all at = absurd cc
-untouched_at why host zero (e ∷ es) s all at = subst (λ (u : SessionValue). IsUntouched why host.now u → IsSettled host u) (let is : e.1 ≡ s = cc in is) all.0
-untouched_at why host (suc i) (e ∷ es) s all at = untouched_at why host i es s all.1 at
-
 not_yet_settled : (n : ℕ) (host : Host) (es : Entries) → slice_get (values_of (settled_up_to n host es)) n ≡ slice_get (values_of es) n
 unfolding settled_up_to
 not_yet_settled zero host es = refl
@@ -114,7 +109,7 @@ not_yet_settled (suc n) host (e ∷ es) = not_yet_settled n host es
 pub next_untouched : (why : Cause) (n : ℕ) (host : Host) (es now : Entries) (s : SessionValue) → now ≡ settled_up_to n host es → AreSettledUntouched why host es → slice_get (values_of now) n ≡ Some s → IsUntouched why host.now s → IsSettled host s
 next_untouched why n host es now s is all at untouched =
     let before : slice_get (values_of es) n ≡ Some s = sym (ap (λ (fs : Entries). slice_get (values_of fs) n) is ∙ not_yet_settled n host es) ∙ at in
-    untouched_at why host n es s all before untouched
+    one_of_all (λ u. IsUntouched why host.now u → IsSettled host u) n es s all before untouched
 
 -- ---- the one that changed something
 

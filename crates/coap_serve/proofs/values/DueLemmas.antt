@@ -1,9 +1,9 @@
 -- What is not due yet: a tick to a moment before each that is due changes nothing but the moment.
 use Rattle.std.proofs.Common.{◌≡◌, ℕ, ◌+◌, ◌<◌, ◌≤◌, ◌^◌, Bool, true, false, not, List, [], ◌∷◌, Option, Some, None, min, refl, sym, ap, subst, ◌∙◌, arith, inl, inr, ◌==◌, find, fold, nat_le, nat_lt, if◌then◌else◌}
-use Rattle.std.specs.List.{AllByRecursion, list_any, filter_map, cons_option, reduce}
+use Rattle.std.specs.List.{AllByRecursion, list_any, filter_map, reduce}
 use Rattle.std.proofs.lemmas.Bool.{cases_lt, cond-true, cond-false, or_parts, lt-ltb, le-leb, lt-leb, ne_eqb}
 use Rattle.coap_conn.specs.Held.{HeldValue, Answer, Pong, come, to_come, next_moment, first_due}
-use Rattle.coap_conn.proofs.HeldLaws.{due_nothing}
+use Rattle.coap_conn.proofs.HeldLaws.{due_nothing, cons_parts}
 use Rattle.coap_store.specs.Paths.{Path}
 use Rattle.coap_store.specs.Store.{Representation, StoreValue}
 use Rattle.coap_store.specs.State.{place_of, key_for, stored_at, state_at, is_dynamic}
@@ -15,11 +15,8 @@ use Rattle.coap_serve.specs.declared.host.Host.{Host}
 use Rattle.coap_serve.specs.values.Sessions.{ObserverValue, SessionValue, mark_at, is_marked, state_on, is_stale, session_ready, next_held_in, next_stale, IsSettled}
 use Rattle.coap_serve.specs.values.Servers.{ServerValue, AreSettled}
 use Rattle.coap_serve.specs.values.Dues.{sooner, next_second, tells_time, next_told, due_on, IsBefore, WaitsForWhatIsDue}
-use Rattle.coap_serve.proofs.values.ServerLemmas.{all_settled_stay}
+use Rattle.coap_serve.proofs.values.ServerLemmas.{all_settled_stay, Entries}
 use Rattle.coap_serve.proofs.world.SettleLaws.{nothing_first}
-
-abbrev Entries : Type 0
-Entries = List (ℕ × SessionValue)
 
 abbrev pub at_moment : Host → ℕ → Host
 at_moment host later = record host { now = later }
@@ -47,10 +44,6 @@ before_each later (x ∷ xs) h = before_fold later x xs h
 
 -- ---- what is held
 
-first_part : {X : Type 0} (P : X → Type 0) (o : Option X) (xs : List X) → AllByRecursion P (cons_option o xs) → ((x : X) → o ≡ Some x → P x) × AllByRecursion P xs
-first_part P None xs each = (λ x e. absurd cc, each)
-first_part P (Some y) xs each = (λ x e. let same : y ≡ x = cc in subst P same each.0, each.1)
-
 -- an answer that has not come has not come later either, where that is before its moment
 not_come : (now later : ℕ) (e : HeldValue) → come now e ≡ None → ((m : ℕ) → to_come now e ≡ Some m → later < m) → come later e ≡ None
 not_come now later (Pong token) none after = refl
@@ -66,7 +59,7 @@ not_come now later (Answer token moment) none after = elim (cases_lt now moment)
 none_come : (now later : ℕ) (held : List HeldValue) → AllByRecursion (λ e. come now e ≡ None) held → AllByRecursion (λ x. later < x) (filter_map (to_come now) held) → AllByRecursion (λ e. come later e ≡ None) held
 none_come now later [] none after = tt
 none_come now later (e ∷ held) none after =
-    let parts = first_part (λ x. later < x) (to_come now e) (filter_map (to_come now) held) after in
+    let parts = cons_parts (λ x. later < x) (to_come now e) (filter_map (to_come now) held) after in
     (not_come now later e none.0 parts.0, none_come now later held none.1 parts.1)
 
 not_due : (now later : ℕ) (held : List HeldValue) → first_due now held ≡ None → IsBefore later (next_moment now held) → first_due later held ≡ None

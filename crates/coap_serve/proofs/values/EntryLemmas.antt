@@ -1,14 +1,16 @@
 -- Entries by their index, and what becomes of the first one that is stale.
-use Rattle.std.proofs.Common.{◌≡◌, ℕ, zero, suc, ◌+◌, ◌<◌, Bool, true, false, List, [], ◌∷◌, length, map, set, get_or, Option, Some, None, refl, sym, ap, subst, ◌∙◌, arith, inl, inr, ◌||◌, find, filter, not, option_map, slice_get, slice_set, if◌then◌else◌, IfSome}
+use Rattle.std.proofs.Common.{◌≡◌, ℕ, zero, suc, ◌+◌, ◌<◌, Bool, true, false, List, [], ◌∷◌, length, map, set, get_or, Option, Some, None, refl, sym, ap, subst, ◌∙◌, arith, inl, inr, ◌||◌, find, filter, not, option_map, slice_get, slice_set, if◌then◌else◌}
 use Rattle.std.specs.List.{remove, list_any}
 use Rattle.std.proofs.lemmas.Bool.{cases_lt, cond-true, cond-false}
 use Rattle.std.proofs.lemmas.List.{length-map, map-set}
 use Rattle.std.proofs.lemmas.Option.{slice_get_read, slice_get-map}
 use Rattle.coap_store.specs.Paths.{same_bytes}
+use Rattle.coap_serve.specs.declared.host.Host.{Host}
 use Rattle.coap_serve.specs.declared.observers.Observer.{Observer}
+use Rattle.coap_serve.specs.declared.observers.Stale.{Stale}
 use Rattle.coap_serve.specs.world.Observers.{first_becomes}
-use Rattle.coap_serve.specs.values.Sessions.{ObserverValue, ObserversValue, without_entry}
-use Rattle.coap_serve.specs.values.Entries.{first_index}
+use Rattle.coap_serve.specs.values.Sessions.{ObserverValue, ObserversValue, mark_of, is_marked, state_on, untold_mark, is_stale, without_entry}
+use Rattle.coap_serve.specs.values.Entries.{IsFirstStale, first_index}
 use Rattle.coap_serve.specs.views.ObserverViews.{observer_value}
 
 -- ---- the first index
@@ -57,10 +59,6 @@ unfolding first_index
 is_first due [] i e = absurd cc
 is_first due (o ∷ os) i e = is_first_at due o os i (λ k first. is_first due os k first) e
 
-pub first_within : {O : Type 0} (due : O → Bool) (os : List O) (found : Option ℕ) → found ≡ first_index due os → IfSome found (λ i. i < length os)
-first_within due os None e = tt
-first_within due os (Some i) e = (is_first due os i (sym e)).within
-
 pub none_found : {O : Type 0} (due : O → Bool) (os : List O) → first_index due os ≡ None → find due os ≡ None
 unfolding first_index
 none_found due [] e = refl
@@ -103,6 +101,31 @@ first_at due (p ∷ os) zero o at is none = let same : p ≡ o = cc in sym (cond
 first_at due (p ∷ os) (suc i) o at is none =
     let rest = first_at due os i o at is (λ k q below there. none (suc k) q (omega arith) there) in
     ap (λ (f : Option ℕ). option_map (λ k. suc k) f) rest ∙ sym (cond-false (due p) _ _ (none 0 p (omega arith) refl))
+
+-- ---- what was told
+
+-- where no other mark is found, the state now was told
+pub is_told : (host : Host) (o : ObserverValue) → untold_mark host o.path o.mark ≡ None → is_stale host o ≡ false
+unfolding is_stale
+is_told host o =
+    let there = state_on host o.path in
+    elim (is_marked host.now o.mark there) as (λ b. (if b then None else Some (mark_of host.now there)) ≡ None → not b ≡ false) [ true ↦ λ none. refl | false ↦ λ none. absurd cc ]
+
+-- where one is found, another one was told, and it is that of the state now
+pub is_untold : (host : Host) (o : ObserverValue) (mark : ℕ) → untold_mark host o.path o.mark ≡ Some mark → (is_stale host o ≡ true) × (mark ≡ mark_of host.now (state_on host o.path))
+unfolding is_stale
+is_untold host o mark =
+    let there = state_on host o.path in
+    elim (is_marked host.now o.mark there) as (λ b. (if b then None else Some (mark_of host.now there)) ≡ Some mark → (not b ≡ true) × (mark ≡ mark_of host.now there)) [ true ↦ λ found. absurd cc | false ↦ λ found. (refl, cc) ]
+
+-- the first one for which it is found
+pub first_untold : (host : Host) (os : List ObserverValue) (found : Stale) (o : ObserverValue) → slice_get os found.index ≡ Some o → untold_mark host o.path o.mark ≡ Some found.mark → NoneBefore (is_stale host) os found.index → IsFirstStale host os found
+first_untold host os found o at untold none =
+    let is = is_untold host o found.mark untold in
+    record {
+      first = sym (first_at (is_stale host) os found.index o at is.0 none);
+      mark = λ p there. let same : o ≡ p = cc in is.1 ∙ ap (λ (q : ObserverValue). mark_of host.now (state_on host q.path)) same;
+    }
 
 -- ---- a filter of what is seen
 

@@ -14,7 +14,7 @@ use Rattle.coap_conn.specs.Calls as call
 
 -- ---- limits stay
 
-limits_stay : (does : Bool) (l now : LinkValue) → now.limits ≡ l.limits → (cond does now l).limits ≡ l.limits
+pub limits_stay : (does : Bool) (l now : LinkValue) → now.limits ≡ l.limits → (cond does now l).limits ≡ l.limits
 limits_stay true l now same = same
 limits_stay false l now same = refl
 

@@ -28,6 +28,12 @@ same_either_way m n = by (nat_eq m n) refl
 
 -- ---- found
 
+-- what is so of all connections is so of the one at an index
+pub one_of_all : (P : SessionValue → Type 0) (i : ℕ) (es : Entries) (s : SessionValue) → AllByRecursion (λ e. P e.1) es → slice_get (values_of es) i ≡ Some s → P s
+one_of_all P i [] s all at = absurd cc
+one_of_all P zero (e ∷ es) s all at = subst P (let is : e.1 ≡ s = cc in is) all.0
+one_of_all P (suc i) (e ∷ es) s all at = one_of_all P i es s all.1 at
+
 -- what the map finds is the connection with the number
 pub session_found : (id : ℕ) (es : Entries) → session_of id es ≡ lookup (nat_eq id) es
 unfolding session_of

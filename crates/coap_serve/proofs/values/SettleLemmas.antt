@@ -20,7 +20,7 @@ use Rattle.coap_store.proofs.NotificationLaws.{notification_tells}
 use Rattle.coap_serve.specs.declared.host.Host.{Host}
 use Rattle.coap_serve.specs.world.Sides.{held_message}
 use Rattle.coap_serve.specs.world.Observers.{goes_on, is_whole, first_becomes}
-use Rattle.coap_serve.specs.values.Sessions.{ObserverValue, SessionValue, mark_at, mark_of, is_marked, state_on, is_stale, session_ready, session_with, observers_on, entry_left, notification_on, session_notified, next_held_in, next_stale, link_sent, session_settled_so, session_settled_once, session_settled_within, session_settled, IsSettled}
+use Rattle.coap_serve.specs.values.Sessions.{ObserverValue, SessionValue, mark_at, mark_of, is_marked, state_on, is_stale, session_ready, session_with, observers_on, entry_left, notification_on, session_notified, next_held_in, next_stale, link_sent, session_settled_so, session_settled_once, session_settled_within, session_settled, session_written, IsSettled}
 use Rattle.coap_serve.proofs.world.EntryLemmas.{count_due, count_within, none_counted, count_less}
 
 -- ---- how much is held
@@ -114,6 +114,17 @@ stays_within host v (suc turns) settled = ap (session_settled_within turns host)
 pub settled_stays : (host : Host) (v : SessionValue) → IsSettled host v → session_settled host v ≡ v
 unfolding session_settled
 settled_stays host v settled = stays_within host v (length v.link.held + length v.observers) settled
+
+-- where there was room, nothing is due, and so nothing is behind what was written
+pub settled_where_room : (host : Host) (v : SessionValue) (n : ℕ) → session_ready v ≡ true → IsSettled host v → IsSettled host (session_written v n)
+unfolding next_held_in next_stale
+settled_where_room host v n room settled =
+    let w = session_written v n in
+    let none_due : first_due host.now v.link.held ≡ None = sym (ap (λ b. if b then first_due host.now v.link.held else None) room) ∙ settled.0 in
+    let none_stale : find (is_stale host) v.observers ≡ None = sym (ap (λ b. if b then find (is_stale host) v.observers else None) room) ∙ settled.1 in (
+      elim (session_ready w) as (λ b. (if b then first_due host.now v.link.held else None) ≡ None) [ true ↦ none_due | false ↦ refl ],
+      elim (session_ready w) as (λ b. (if b then find (is_stale host) v.observers else None) ≡ None) [ true ↦ none_stale | false ↦ refl ],
+    )
 
 -- what is found where there is room is held and due, or a stale observer
 pub found_held : (now : ℕ) (v : SessionValue) (e : HeldValue) → next_held_in now v ≡ Some e → (session_ready v ≡ true) × (first_due now v.link.held ≡ Some e)

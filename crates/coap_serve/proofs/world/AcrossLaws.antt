@@ -14,8 +14,9 @@ use Rattle.coap_serve.specs.world.Sides.{Side, new_side, side_after, side_faulte
 use Rattle.coap_serve.specs.world.World.{Place, World, Step, new_world, side_of, changed_at, stored_after, ticks, acted, settled_place, all_settled, after_steps}
 use Rattle.coap_serve.specs.world.World as world
 use Rattle.coap_serve.specs.world.Events.{Event, steps_of, world_after}
-use Rattle.coap_serve.proofs.world.PlaceLaws.{none_not_some, found, nobody, all_there, changed_here, changed_elsewhere, still_there, new_there, but, dropped_here, dropped_elsewhere}
+use Rattle.coap_serve.proofs.world.PlaceLaws.{found, nobody, all_there, changed_here, changed_elsewhere, still_there, new_there, but, dropped_here, dropped_elsewhere}
 use Rattle.coap_serve.proofs.world.WalkLaws.{Composes, Between, Hears, Replies, Holds, LetsGo, Pongs, Rejects, Ends, Releases, Writes, once_between, after_between, faulted_between, written_between, ended_between, released_between}
+use Rattle.coap_wire.proofs.StreamSteps.{none_or_some}
 
 -- ---- settling
 
@@ -210,7 +211,7 @@ module _ (limits : LimitValues) (P : Side → Type 0) (first : P (new_side limit
 pub kept_by : (c : ConfigValues) (P : Side → Type 0) → P (new_side c.limits) → ((w : World) (st : Step) (id : ℕ) → HoldsOf (λ s t. P s → P t) w st id)
     → (es : List Event) (id : ℕ) (s : Side) → side_of id (world_after c es).sides ≡ Some s → P s
 unfolding world_after
-kept_by c P first keeps es = steps_keep c.limits P first keeps (new_world c) (steps_of c.limits.max_message es) (λ id s there. absurd (none_not_some s (sym (nobody id) ∙ there)))
+kept_by c P first keeps es = steps_keep c.limits P first keeps (new_world c) (steps_of c.limits.max_message es) (λ id s there. absurd (none_or_some s (sym (nobody id) ∙ there)))
 
 -- what is kept composes
 pub keeping : (P : History → Type 0) → Composes (λ h k. P h → P k)

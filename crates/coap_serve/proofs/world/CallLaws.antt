@@ -107,7 +107,7 @@ drop_shows (Err e) v new id there is = tt
 
 -- ---- release
 
-not_refused : (refusal : Option SendFault) → option_map release_fault refusal ≡ None → refusal ≡ None
+pub not_refused : (refusal : Option SendFault) → option_map release_fault refusal ≡ None → refusal ≡ None
 not_refused None none = refl
 not_refused (Some f) none = absurd cc
 

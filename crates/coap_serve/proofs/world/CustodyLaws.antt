@@ -66,7 +66,7 @@ no_pong : (G : Type 0) (m : Message) → is_custody_pong m ≡ false → Gives G
 no_pong G m other is = absurd cc
 
 -- a message that is no such Pong
-abbrev IsNoPong : Message → Type 0
+abbrev pub IsNoPong : Message → Type 0
 IsNoPong m = is_custody_pong m ≡ false
 
 -- so it holds where one is queued between two moments
@@ -112,11 +112,11 @@ response_other observe r =
     (all_append IsOther (number_at numbers.content_format r.format) _ (number_other numbers.content_format r.format refl)
     (all_append IsOther (number_at numbers.max_age r.max_age) _ (number_other numbers.max_age r.max_age refl) (number_other numbers.size1 r.size1 refl)))))
 
-response_no_pong : (token : List ℕ) (observe : Bool) (r : Response) → is_custody_pong (response_with_observe token observe r) ≡ false
+pub response_no_pong : (token : List ℕ) (observe : Bool) (r : Response) → is_custody_pong (response_with_observe token observe r) ≡ false
 response_no_pong token observe r =
     and_right (r.code == code.pong) (asks_custody (response_with_observe token observe r)) (other_options (options_with_observe observe r) (response_other observe r))
 
-bare_no_pong : (m : Message) → is_custody_pong (bare_response m) ≡ false
+pub bare_no_pong : (m : Message) → is_custody_pong (bare_response m) ≡ false
 bare_no_pong m = and_right ((bare_response m).code == code.pong) false refl
 
 sent_no_pong : (s : Standing) (m : Message) (r : Reply) → IsNoPong m → AllByRecursion IsNoPong (send_as s m (bare_response m) r).queued
@@ -358,7 +358,7 @@ held_in_order c es id s there = kept_after c (λ s. Stands s.history) (stands_ke
 
 -- ---- what is held was asked for, and is sent when it is due
 
-held_at_all : (h : History) (hold : Option ℕ) (seconds : ℕ) → held_for h hold ≡ Some seconds → may_hold h ≡ true
+pub held_at_all : (h : History) (hold : Option ℕ) (seconds : ℕ) → held_for h hold ≡ Some seconds → may_hold h ≡ true
 held_at_all h None seconds e = absurd cc
 held_at_all h (Some n) seconds e = elim (may_hold h) as (λ b. cond b (Some n) None ≡ Some seconds → b ≡ true) [ true ↦ λ is. refl | false ↦ λ is. absurd cc ] e
 
@@ -382,7 +382,7 @@ open_at phase.Open takes now = refl
 open_at (phase.Releasing why) takes now = absurd cc
 open_at (phase.Stopped why) takes now = absurd cc
 
-asked_open : (s : Side) (m : Message) → takes_messages s.history.phase ≡ true → asks_answer s m ≡ true → is_open (after s.history (call.Handle m)).phase ≡ true
+pub asked_open : (s : Side) (m : Message) → takes_messages s.history.phase ≡ true → asks_answer s m ≡ true → is_open (after s.history (call.Handle m)).phase ≡ true
 asked_open s m takes asks =
     let quiet = react_asks (standing_now s.history) m (said_request (react (standing_now s.history) m).verdict asks) in
     ap is_open (heard_phase s.history m (react (standing_now s.history) m).effect (takes_messages s.history.phase) quiet.same) ∙ open_at s.history.phase takes quiet.not_waiting

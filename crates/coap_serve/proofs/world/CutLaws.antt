@@ -13,7 +13,7 @@ use Rattle.coap_serve.proofs.world.StepLaws.{taken_more, behind_more, stream_mor
 -- ---- only what was taken matters
 
 -- two lists of events took the same bytes
-abbrev TookAlike : List Event → List Event → Type 0
+abbrev pub TookAlike : List Event → List Event → Type 0
 TookAlike es fs = (id : ℕ) → taken_on id es ≡ taken_on id fs
 
 alike_by : (M : ℕ) (es fs : List Event) (e : Event) → TookAlike es fs → TookAlike (es ++ e ∷ []) (fs ++ e ∷ [])
@@ -96,7 +96,7 @@ taken_both : (id other : ℕ) (xs ys : List ℕ) → taken_on id (Took other (xs
 unfolding taken_on
 taken_both id other xs ys = both_taken (other == id) xs ys
 
-taken_twice : (es : List Event) (other : ℕ) (xs ys : List ℕ) → TookAlike (es ++ Took other (xs ++ ys) ∷ []) ((es ++ Took other xs ∷ []) ++ Took other ys ∷ [])
+pub taken_twice : (es : List Event) (other : ℕ) (xs ys : List ℕ) → TookAlike (es ++ Took other (xs ++ ys) ∷ []) ((es ++ Took other xs ∷ []) ++ Took other ys ∷ [])
 taken_twice es other xs ys id =
     taken_more id es (Took other (xs ++ ys) ∷ [])
     ∙ ap (λ (zs : List ℕ). taken_on id es ++ zs) (taken_both id other xs ys)
@@ -133,8 +133,3 @@ cut_steps M es fs id xs ys =
 pub cut_worlds : (c : ConfigValues) (es fs : List Event) (id : ℕ) (xs ys : List ℕ) → world_after c (es ++ Took id (xs ++ ys) ∷ fs) ≡ world_after c (es ++ Took id xs ∷ Took id ys ∷ fs)
 unfolding world_after
 cut_worlds c es fs id xs ys = ap (after_steps c.limits (new_world c)) (cut_steps c.limits.max_message es fs id xs ys)
-
--- equal steps leave equal worlds
-pub same_worlds : (c : ConfigValues) (es fs : List Event) → steps_of c.limits.max_message es ≡ steps_of c.limits.max_message fs → world_after c es ≡ world_after c fs
-unfolding world_after
-same_worlds c es fs alike = ap (after_steps c.limits (new_world c)) alike

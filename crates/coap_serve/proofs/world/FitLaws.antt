@@ -25,9 +25,9 @@ use Rattle.coap_serve.specs.world.Sides.{Side, new_side, settled_once}
 use Rattle.coap_serve.specs.world.World.{World, Step, side_of}
 use Rattle.coap_serve.specs.world.World as world
 use Rattle.coap_serve.proofs.world.EntryLemmas.{all_append}
-use Rattle.coap_serve.proofs.world.PlaceLaws.{none_not_some}
 use Rattle.coap_serve.proofs.world.WalkLaws.{release_fits, holding, without_first, Hears, Replies, Pongs, Between, once_between, after_between, faulted_between, written_between, ended_between, released_between}
 use Rattle.coap_serve.proofs.world.AcrossLaws.{some_same, HoldsOf, HoldsFrom, step_across}
+use Rattle.coap_wire.proofs.StreamSteps.{none_or_some}
 
 -- ---- a message that announces a size queues nothing
 
@@ -156,7 +156,7 @@ grows_of w st id = record {
 
 grows_from : (limits : LimitValues) (w : World) (st : Step) (id : ℕ) (s t : Side) → side_of id w.sides ≡ Some s → HoldsFrom (Between Grows) limits w st id t → Between Grows s t
 grows_from limits w st id s t there (inl old) = subst (λ (u : Side). Between Grows u t) (some_same old.0 s (sym old.1 ∙ there)) old.2
-grows_from limits w st id s t there (inr new) = absurd (none_not_some s (sym new.0 ∙ there))
+grows_from limits w st id s t there (inr new) = absurd (none_or_some s (sym new.0 ∙ there))
 
 -- each step only adds to what a connection has queued, and what it adds fits
 pub step_grows : (limits : LimitValues) (w : World) (st : Step) (id : ℕ) (s t : Side) → side_of id w.sides ≡ Some s → side_of id (world.step limits w st).sides ≡ Some t
@@ -172,7 +172,7 @@ opened_fits limits t ranges evenly =
     subst (AllFit (limit_now t.history)) (sym evenly.grows.queued) (all_append _ new evenly.grows.more first evenly.grows.fit)
 
 new_from : (limits : LimitValues) (w : World) (st : Step) (id : ℕ) (t : Side) → AreInRange limits → side_of id w.sides ≡ None → HoldsFrom (Between GrowsEvenly) limits w st id t → AllFit (limit_now t.history) t.history.queued
-new_from limits w st id t ranges none (inl old) = absurd (none_not_some old.0 (sym none ∙ old.1))
+new_from limits w st id t ranges none (inl old) = absurd (none_or_some old.0 (sym none ∙ old.1))
 new_from limits w st id t ranges none (inr new) = opened_fits limits t ranges new.2
 
 -- all that a connection has queued fits, where the step opened it

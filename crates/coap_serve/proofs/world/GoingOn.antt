@@ -1,8 +1,8 @@
 -- A history that another one goes on to: one of the same connection, which takes no message any more once it does not. What each call
 -- keeps of a history, and the link that shows the history after it.
-use Rattle.std.proofs.Common.{◌≡◌, ℕ, ◌≤◌, Bool, true, false, cond, ◌&&◌, List, ◌++◌, length, Option, Some, None, refl, ap, ◌∙◌, arith}
+use Rattle.std.proofs.Common.{◌≡◌, ℕ, ◌≤◌, Bool, true, false, cond, ◌&&◌, List, length, Option, Some, None, refl, ap, ◌∙◌, arith}
 use Rattle.std.proofs.lemmas.Bool.{both_ways, and_parts}
-use Rattle.std.proofs.lemmas.List.{length-append, length-drop}
+use Rattle.std.proofs.lemmas.List.{length-drop}
 use Rattle.coap_wire.specs.Message.{Message}
 use Rattle.coap_wire.specs.Stream.{StreamFault}
 use Rattle.coap_conn.specs.declared.phase.Reject.{Reject}
@@ -20,7 +20,7 @@ use Rattle.coap_conn.specs.History.{History, IsHistory, standing_now, with_effec
 use Rattle.coap_conn.specs.LinkValue.{bytes_of}
 use Rattle.coap_conn.specs.Calls.{standing_due, link_after}
 use Rattle.coap_conn.specs.Calls as call
-use Rattle.coap_conn.proofs.LinkLemmas.{bytes_more, new_shown, after_link}
+use Rattle.coap_conn.proofs.LinkLemmas.{new_shown, after_link, history_more}
 use Rattle.coap_store.specs.Store.{StoreValue}
 use Rattle.coap_serve.specs.Configs.{ConfigValues}
 use Rattle.coap_serve.specs.values.Sessions.{link_sent}
@@ -58,14 +58,11 @@ was_live h k goes takes =
 -- ---- each part
 
 -- more is queued
-queued_more : (h : History) (ms : List Message) → IsHistory h → h.written ≤ length (bytes_of (h.queued ++ ms))
-queued_more h ms is = omega (arith, is, ap (λ (t : List ℕ). length t) (bytes_more h.queued ms), length-append (bytes_of h.queued) (bytes_of ms))
-
 effect_goes_on : (h : History) (e : Effect) → (takes_messages h.phase ≡ false → takes_messages e.phase ≡ false) → GoesOn h (with_effect h e)
-effect_goes_on h e over = record { role = refl; limits = refl; history = queued_more h e.queued; over = over }
+effect_goes_on h e over = record { role = refl; limits = refl; history = history_more h e.queued; over = over }
 
 heard_goes_on : (h : History) (m : Message) → takes_messages h.phase ≡ true → GoesOn h (heard h m)
-heard_goes_on h m takes = record { role = refl; limits = refl; history = queued_more h _; over = λ none. absurd cc }
+heard_goes_on h m takes = record { role = refl; limits = refl; history = history_more h _; over = λ none. absurd cc }
 
 sent_over : (s : Standing) (m less : Message) (r : Reply) → takes_messages s.phase ≡ false → takes_messages (send_as s m less r).phase ≡ false
 sent_over s m less reply.Whole e = e

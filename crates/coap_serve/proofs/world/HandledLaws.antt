@@ -29,7 +29,7 @@ use Rattle.coap_serve.proofs.world.HandlingLaws.{HasStopped, Rests, rests_self, 
 -- ---- what is no message and no fault
 
 -- a connection that takes messages has not stopped
-takes_no_stop : (p : Phase) (why : Reason) → takes_messages p ≡ true → p ≡ Stopped why → ⊥
+pub takes_no_stop : (p : Phase) (why : Reason) → takes_messages p ≡ true → p ≡ Stopped why → ⊥
 takes_no_stop p why does is = let bad : false ≡ true = sym (ap takes_messages is) ∙ does in cc
 
 end_stops : (cut : Bool) → StopsAtMost (Stopped (end_reason cut))
@@ -64,7 +64,7 @@ rests_agrees u s t is rests = record {
   stopped = λ fault e. rests.stopped (reject_reason (reject_of fault)) (is.stopped fault e);
 }
 
-no_fault : (u : Stream) (fault : StreamFault) → u.fault ≡ None → u.fault ≡ Some fault → ⊥
+pub no_fault : (u : Stream) (fault : StreamFault) → u.fault ≡ None → u.fault ≡ Some fault → ⊥
 no_fault u fault none some = let bad : ◌≡◌ {A = Option StreamFault} None (Some fault) = sym none ∙ some in cc
 
 silent_agrees : (limits : LimitValues) (M id : ℕ) (es : List Event) → taken_on id es ≡ [] → Agrees (stream_on M id es) (new_side limits)

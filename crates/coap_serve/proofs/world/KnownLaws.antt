@@ -69,7 +69,7 @@ digits_back n small = (decimal_is_IsNumeral n (omega arith)).1
 bytes_is : (xs ys : List ℕ) → same_bytes xs ys ≡ true → xs ≡ ys
 bytes_is xs ys e = (bytes_decides xs ys).0 e
 
-bytes_itself : (xs : List ℕ) → same_bytes xs xs ≡ true
+pub bytes_itself : (xs : List ℕ) → same_bytes xs xs ≡ true
 bytes_itself xs = (bytes_decides xs xs).1 refl
 
 -- moments are told apart by what they say

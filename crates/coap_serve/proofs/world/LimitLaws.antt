@@ -263,7 +263,7 @@ waiting_within c es id s ranges there =
 
 -- ---- the bytes that are kept of an unfinished frame
 
-kept_small_by : (M : ℕ) (rest : List ℕ) (takes : Bool) → 1 ≤ M → (takes ≡ true → length rest < M) → length (cond takes rest []) < M
+pub kept_small_by : (M : ℕ) (rest : List ℕ) (takes : Bool) → 1 ≤ M → (takes ≡ true → length rest < M) → length (cond takes rest []) < M
 kept_small_by M rest true enough go = go refl
 kept_small_by M rest false enough go = omega (arith, enough)
 

@@ -1,12 +1,10 @@
 -- The connections of a world by their numbers: what each change of the list leaves under a number.
-use Rattle.std.proofs.Common.{◌≡◌, ◌≢◌, ℕ, ◌≤◌, Bool, true, false, List, [], ◌∷◌, ◌++◌, length, map, Option, Some, None, refl, sym, ap, subst, ◌∙◌, ◌⊎◌, inl, inr, arith, not, filter, option_map, ◌==◌}
+use Rattle.std.proofs.Common.{◌≡◌, ◌≢◌, ℕ, ◌≤◌, Bool, true, false, List, [], ◌∷◌, ◌++◌, length, map, Some, None, refl, sym, ap, subst, ◌∙◌, ◌⊎◌, inl, inr, arith, not, filter, option_map, ◌==◌}
 use Rattle.std.specs.List.{AllByRecursion}
 use Rattle.std.proofs.lemmas.Bool.{eq-eqb, ne_eqb, eqb-true, eqb-false, cases_eq}
 use Rattle.coap_serve.specs.world.Sides.{Side}
 use Rattle.coap_serve.specs.world.World.{Place, side_of, changed_at}
-
-pub none_not_some : {A : Type 0} (x : A) → ◌≡◌ {A = Option A} None (Some x) → ⊥
-none_not_some x e = cc
+use Rattle.coap_wire.proofs.StreamSteps.{none_or_some}
 
 -- ---- the first connection, or a later one
 
@@ -20,7 +18,7 @@ later_there id p ps e = rw (ne_eqb p.id id e) refl
 
 -- a number that none has is not that of the first, and none of the others has it
 pub none_first : (id : ℕ) (p : Place) (ps : List Place) → side_of id (p ∷ ps) ≡ None → p.id ≢ id
-none_first id p ps none = λ (e : p.id ≡ id). none_not_some p.side (sym none ∙ first_there id p ps e)
+none_first id p ps none = λ (e : p.id ≡ id). none_or_some p.side (sym none ∙ first_there id p ps e)
 
 pub none_later : (id : ℕ) (p : Place) (ps : List Place) → side_of id (p ∷ ps) ≡ None → side_of id ps ≡ None
 none_later id p ps none = sym (later_there id p ps (none_first id p ps none)) ∙ none
@@ -112,7 +110,7 @@ changed_elsewhere id other f (p ∷ ps) apart =
 -- ---- a connection more, or less
 
 pub still_there : (id : ℕ) (s : Side) (ps qs : List Place) → side_of id ps ≡ Some s → side_of id (ps ++ qs) ≡ Some s
-still_there id s [] qs e = absurd (none_not_some s (sym (nobody id) ∙ e))
+still_there id s [] qs e = absurd (none_or_some s (sym (nobody id) ∙ e))
 still_there id s (p ∷ ps) qs e =
     elim (found id s p ps e) [
       | inl here ↦ first_there id p (ps ++ qs) here.0 ∙ ap (λ (t : Side). Some t) here.1
@@ -194,7 +192,7 @@ distinct_but id (p ∷ ps) distinct =
 
 -- it holds of the one that has a number
 pub of_number : (P : ℕ → Side → Type 0) (id : ℕ) (s : Side) (ps : List Place) → AllByRecursion (λ p. P p.id p.side) ps → side_of id ps ≡ Some s → P id s
-of_number P id s [] each e = absurd (none_not_some s (sym (nobody id) ∙ e))
+of_number P id s [] each e = absurd (none_or_some s (sym (nobody id) ∙ e))
 of_number P id s (p ∷ ps) each e =
     elim (found id s p ps e) [
       | inl here ↦ subst (λ (n : ℕ). P n s) here.0 (subst (P p.id) here.1 each.0)
@@ -206,7 +204,7 @@ pub of_each : (P : ℕ → Side → Type 0) (ps : List Place) → AreDistinct ps
 of_each P [] distinct holds = tt
 of_each P (p ∷ ps) distinct holds = (
   holds p.id p.side (first_there p.id p ps refl),
-  of_each P ps distinct.1 (λ id s e. holds id s (later_there id p ps (λ (same : p.id ≡ id). none_not_some s (sym distinct.0 ∙ ap (λ (n : ℕ). side_of n ps) same ∙ e)) ∙ e)),
+  of_each P ps distinct.1 (λ id s e. holds id s (later_there id p ps (λ (same : p.id ≡ id). none_or_some s (sym distinct.0 ∙ ap (λ (n : ℕ). side_of n ps) same ∙ e)) ∙ e)),
 )
 
 -- lists of which each place has it

@@ -36,6 +36,7 @@ pub record RefusesLast (v : ServerValue) (es : List Event) (id : ℕ) (piece : L
   pub all : piece ≡ take n piece ++ last ∷ behind
   pub quiet : beyond id (split v.config.limits.max_message (taken_on id es)) (split v.config.limits.max_message (taken_on id es ++ take n piece)) ≡ []
   pub message : Message
+  pub ends : beyond id (split v.config.limits.max_message (taken_on id es)) (split v.config.limits.max_message (taken_on id es ++ take (n + 1) piece)) ≡ world.Handled id message ∷ []
   pub one_more : split v.config.limits.max_message ((taken_on id es ++ take n piece) ++ last ∷ []) ≡ record { messages = (split v.config.limits.max_message (taken_on id es ++ take n piece)).messages ++ message ∷ []; rest = []; fault = None }
   pub stores : IsPut (change_made (world_after v.config es) id message)
 
@@ -102,6 +103,11 @@ module _ (M : ℕ) (bytes piece frame : List ℕ) (n : ℕ) (none : (split M byt
       split_more M bytes (take (n + 1) piece) none
       ∙ ap (stream.behind so_far.messages) (split_message M (so_far.rest ++ take (n + 1) piece) frame [] m whole read ∙ ap (with_message m) (split_unfinished M [] (unfinished_empty M)))
 
+  message_beyond : (m : Message) (id : ℕ) → message_of frame ≡ Ok m → beyond id so_far (split M (bytes ++ take (n + 1) piece)) ≡ world.Handled id m ∷ []
+  message_beyond m id read =
+      ap (beyond id so_far) (stream_behind m read)
+      ∙ ap (λ (ms : List Message). map (world.Handled id) ms ++ new_fault id so_far.fault None) (drop-append_seam so_far.messages (m ∷ []))
+
   message_more : (m : Message) (last : ℕ) → take (n + 1) piece ≡ take n piece ++ last ∷ [] → message_of frame ≡ Ok m
       → split M ((bytes ++ take n piece) ++ last ∷ []) ≡ record { messages = (split M (bytes ++ take n piece)).messages ++ m ∷ []; rest = []; fault = None }
   message_more m last with_last read =
@@ -153,6 +159,7 @@ refuses_there v es id piece n t shows there refuses =
       all = cut.all;
       quiet = nothing_beyond M bytes piece frame.0 n none frame.1 count id;
       message = by.message;
+      ends = message_beyond M bytes piece frame.0 n none frame.1 count by.message id by.reads;
       one_more = message_more M bytes piece frame.0 n none frame.1 count by.message cut.last cut.with_last by.reads;
       stores = put_shown (world_after c es) v.host rest id t by.message (host_shown v es shows) there does by.put;
     }

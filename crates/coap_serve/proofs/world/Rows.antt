@@ -8,8 +8,8 @@ use Rattle.coap_wire.specs.Uint.{bytes_of_uint}
 use Rattle.coap_wire.specs.Reading.{declared_of, message_of, one_byte_at, two_bytes_at, four_bytes_at, length_at, option_number_at, head_at, option_head_at, option_at, body_within, body_at}
 use Rattle.coap_wire.specs.Recognition.{kind_of, is_recognised, known_behind, first_critical_behind}
 use Rattle.coap_wire.specs.Beginning.{beginning}
-use Rattle.coap_wire.specs.Frames.{frames_of, frames_within}
-use Rattle.coap_wire.specs.Stream.{split}
+use Rattle.coap_wire.specs.Frames.{sized_frames, frames_within}
+use Rattle.coap_wire.specs.Stream.{sized_split, split}
 use Rattle.coap_frame.specs.Framing.{framing}
 use Rattle.coap_conn.specs.Announced.{announced}
 use Rattle.coap_conn.specs.Held.{due_index, first_due, without_due}
@@ -142,7 +142,7 @@ told_behind c events (call ∷ calls) =
 
 -- what bytes spell, and how a message is spelled
 bytes_computed : Unit {0}
-unfolding split frames_of frames_within framing beginning declared_of length_at one_byte_at two_bytes_at four_bytes_at message_of head_at option_number_at option_head_at option_at body_at body_within spelling bytes_of_uint
+unfolding split sized_split sized_frames frames_within framing beginning declared_of length_at one_byte_at two_bytes_at four_bytes_at message_of head_at option_number_at option_head_at option_at body_at body_within spelling bytes_of_uint
 bytes_computed = tt
 
 -- what a request is answered

@@ -1,14 +1,12 @@
 -- What enters an observer, and what leaves one entered, tells the state of its path.
 use Rattle.std.proofs.Common.{◌≡◌, ℕ, Bool, true, false, List, Option, Some, None, refl, sym, ap, subst, ◌∙◌, inl, inr, ◌⊎◌, nat_eq, if◌then◌else◌}
 use Rattle.std.specs.Option.{option_eq}
-use lib.Pointwise.{bytes_decides}
 use Rattle.coap_wire.specs.Message.{Message}
 use Rattle.coap_wire.specs.Codes as code
-use Rattle.coap_store.specs.Paths.{Path, same_bytes}
 use Rattle.coap_store.specs.Store.{Representation, StoreValue}
 use Rattle.coap_store.specs.State.{is_dynamic, place_of, state_of, Target, target_of}
 use Rattle.coap_store.specs.Requests.{path_of}
-use Rattle.coap_store.specs.Answer.{Answer, Response, only, etag_at, is_among, valid, content, stored_under, answer_at, removes_watch, finally, answer_of, unheld_by, prompt_answer}
+use Rattle.coap_store.specs.Answer.{Answer, Response, only, etag_at, is_among, valid, content, answer_at, removes_watch, finally, answer_of, unheld_by, prompt_answer}
 use Rattle.coap_store.specs.Messages.{response_with_observe}
 use Rattle.coap_store.specs.Notifications.{notification_at}
 use Rattle.coap_store.specs.declared.plan.Watch.TheVariants as watch
@@ -17,6 +15,8 @@ use Rattle.coap_store.specs.declared.place.Place.TheVariants.{Dynamic}
 use Rattle.coap_store.proofs.AnswerLaws.{answer_cases, get_cases, store_cases}
 use Rattle.coap_serve.specs.world.Observers.{Observer, entry_for, goes_on, notification, notification_message}
 use Rattle.coap_serve.specs.world.Told.{responds, etag_of_state, TellsState}
+use Rattle.coap_store.proofs.WatchLaws.{stored_unwatched}
+use Rattle.coap_serve.proofs.world.KnownLaws.{bytes_itself}
 
 -- ---- responses that tell a state
 
@@ -32,14 +32,11 @@ says_to o r a (inr e) = inr (ap (response_with_observe o.token true) e.0, e.1)
 pub says_tells : (o : Observer) (state : Option Representation) (r : Representation) (a : Response) → state ≡ Some r → SaysState (place_of o.path) r a → TellsState o state (response_with_observe o.token true a)
 says_tells o state r a there says = subst (λ told. TellsState o told (response_with_observe o.token true a)) (sym there) (says_to o r a says)
 
-itself : (token : List ℕ) → same_bytes token token ≡ true
-itself token = (bytes_decides token token).1 refl
-
 -- what tells a state is a response with the observer's token
 pub tells_responds : (o : Observer) (state : Option Representation) (m : Message) → TellsState o state m → responds o.token m ≡ true
 tells_responds o None m tells = absurd tells
-tells_responds o (Some r) m (inl e) = ap (responds o.token) e ∙ itself o.token
-tells_responds o (Some r) m (inr e) = ap (responds o.token) e.0 ∙ itself o.token
+tells_responds o (Some r) m (inl e) = ap (responds o.token) e ∙ bytes_itself o.token
+tells_responds o (Some r) m (inr e) = ap (responds o.token) e.0 ∙ bytes_itself o.token
 
 -- ---- answers
 
@@ -55,11 +52,6 @@ TellsWell place state a = a.watch ≡ watch.Add → IsTelling place state a
 
 unwatched : (place : Place) (state : Option Representation) (a : Answer) → a.watch ≡ watch.Nothing → TellsWell place state a
 unwatched place state a nothing e = absurd cc
-
-stored_unwatched : (key : Option Path) (state : Option Representation) (m : Message) → (stored_under key state m).watch ≡ watch.Nothing
-stored_unwatched None state m = refl
-stored_unwatched (Some path) None m = refl
-stored_unwatched (Some path) (Some r) m = refl
 
 -- an ETag is among others only where the state is stored
 valid_says : (place : Place) (r : Representation) (etags : List (List ℕ)) → is_among (etag_at place r) etags ≡ true → SaysState place r (valid place r)

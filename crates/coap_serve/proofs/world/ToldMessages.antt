@@ -102,7 +102,7 @@ queues_then P h k g one two = record {
 abbrev ArePlain : List Message → Type 0
 ArePlain ms = AllByRecursion IsPlain ms
 
-abort_plain : (limit : ℕ) (options : Option (List ℕ)) (why : Reason) → abort_text why ≡ options → ArePlain (abort_fitted limit (abort_of why))
+pub abort_plain : (limit : ℕ) (options : Option (List ℕ)) (why : Reason) → abort_text why ≡ options → ArePlain (abort_fitted limit (abort_of why))
 abort_plain limit None why e = rw e tt
 abort_plain limit (Some text) why e =
     rw e (fitted_plain (abort_with (abort_options (number_told why)) text) (without_payload (abort_with (abort_options (number_told why)) text)) (fit limit _ _) (refl, refl) (refl, refl))

@@ -8,7 +8,7 @@ use Rattle.coap_store.specs.Store.{Representation, StoreValue, found_in, put_in,
 use Rattle.coap_store.specs.State.{is_dynamic, place_of, key_for, stored_at, state_at, target_of}
 use Rattle.coap_store.specs.Requests.{path_of}
 use Rattle.coap_store.specs.Answer.{Answer, Change, Nothing, Put, Delete, changed, stored_under, deletion, answer_at, removes_watch, answer_of, prompt_answer}
-use Rattle.coap_store.specs.Refusals.{put_refusal}
+use Rattle.coap_store.specs.Refusals.{put_refusal, remove_refusal}
 use Rattle.coap_store.proofs.AnswerLaws.{answer_cases, get_cases, store_cases, CanStore, key_is, state_dynamic, change_finally, change_unheld}
 use Rattle.coap_serve.specs.Configs.{ConfigValues}
 use Rattle.coap_serve.specs.world.Sides.{Side, new_side, handles, asks_answer, side_after, change_after, side_faulted, side_written, side_ended, side_released, settled}
@@ -24,11 +24,11 @@ use Rattle.coap_serve.proofs.world.SettleLaws.{IsAtRest, at_rest, settled_rests}
 
 -- ---- the store refuses nothing that a message puts
 
--- what is put is not refused
-abbrev IsNotRefused : StoreValue → Change → Type 0
+-- what is put is not refused, nor what is removed
+abbrev pub IsNotRefused : StoreValue → Change → Type 0
 IsNotRefused s Nothing = Unit {0}
 IsNotRefused s (Put path format bytes) = put_refusal s path bytes ≡ None
-IsNotRefused s (Delete path) = Unit {0}
+IsNotRefused s (Delete path) = remove_refusal s path ≡ None
 
 -- the checks of a put are those of the request that makes it
 put_passes : (s : StoreValue) (now : ℕ) (path q : Path) (m : Message) → is_dynamic (place_of path) ≡ true → CanStore s (target_of s now path) m → key_for path ≡ Some q → put_refusal s q m.payload ≡ None
@@ -47,10 +47,17 @@ stored_passes s None state m passes = tt
 stored_passes s (Some path) None m passes = passes path refl
 stored_passes s (Some path) (Some r) m passes = passes path refl
 
-deletion_passes : (s : StoreValue) (key : Option Path) (state : Option Representation) → IsNotRefused s (deletion key state)
-deletion_passes s None state = tt
-deletion_passes s (Some path) None = tt
-deletion_passes s (Some path) (Some r) = tt
+deletion_by : (s : StoreValue) (now : ℕ) (path : Path) (key : Option Path) (state : Option Representation) → is_dynamic (place_of path) ≡ true → key_for path ≡ key → state_at s now (key_for path) (place_of path) ≡ state → IsNotRefused s (deletion key state)
+unfolding remove_refusal
+deletion_by s now path None state dynamic key found = tt
+deletion_by s now path (Some q) None dynamic key found = tt
+deletion_by s now path (Some q) (Some r) dynamic key found =
+    let place : is_dynamic (place_of q) ≡ true = sym (ap (λ (p : Path). is_dynamic (place_of p)) (key_is path q key).1) ∙ dynamic in
+    let there : found_in s.resources q ≡ Some r = sym (state_dynamic s now (key_for path) (place_of path) dynamic ∙ ap (stored_at s) key) ∙ found in
+    rw (place, there) refl
+
+deletion_passes : (s : StoreValue) (now : ℕ) (path : Path) → is_dynamic (place_of path) ≡ true → IsNotRefused s (deletion (target_of s now path).key (target_of s now path).state)
+deletion_passes s now path dynamic = deletion_by s now path (key_for path) (state_at s now (key_for path) (place_of path)) dynamic refl refl
 
 answer_passes : (s : StoreValue) (now : ℕ) (path : Path) (m : Message) → IsNotRefused s (answer_at s (target_of s now path) m).change
 answer_passes s now path m =
@@ -58,7 +65,7 @@ answer_passes s now path m =
     let P : Answer → Type 0 = λ a. IsNotRefused s a.change in
     answer_cases P s t m (λ c e. tt) (record {
       read = λ r is. get_cases P t.place r m (λ c e. tt) (record { valid = λ among. tt; late = tt; content = tt });
-      deleted = λ dynamic other. deletion_passes s t.key t.state;
+      deleted = λ dynamic other. deletion_passes s now path dynamic;
       stored = λ dynamic other. store_cases P s t m (λ c e. tt) tt (λ can. stored_passes s t.key t.state m (λ q key. put_passes s now path q m dynamic can key));
     })
 
@@ -78,22 +85,22 @@ on_passes : (w : World) (m : Message) (there : Option Side) → IsNotRefused w.s
 on_passes w m None = tt
 on_passes w m (Some s) = after_passes w.store w.now s m
 
-by_passes : (w : World) (s : Step) → IsNotRefused w.store (change_by w s)
+pub by_passes : (w : World) (s : Step) → IsNotRefused w.store (change_by w s)
 by_passes w (world.Handled id m) = on_passes w m (side_of id w.sides)
 by_passes w other = tt
 
 -- ---- what a connection has of a world
 
 -- the store, the moment, and the connection where it is there
-record Share : Type 0 where
-  store : StoreValue
-  now : ℕ
-  side : Option Side
+pub record Share : Type 0 where
+  pub store : StoreValue
+  pub now : ℕ
+  pub side : Option Side
 
-abbrev share : StoreValue → ℕ → Option Side → Share
+abbrev pub share : StoreValue → ℕ → Option Side → Share
 share store now side = record { store = store; now = now; side = side }
 
-abbrev share_of : ℕ → World → Share
+abbrev pub share_of : ℕ → World → Share
 share_of id w = share w.store w.now (side_of id w.sides)
 
 -- a test that says which of two worlds it is
@@ -107,7 +114,7 @@ share_either id false v w x first last = last
 
 -- ---- settling
 
-abbrev settled_share : Share → Share
+abbrev pub settled_share : Share → Share
 settled_share x = record x { side = option_map (settled x.store x.now) x.side }
 
 all_settled_share : (id : ℕ) (w : World) → share_of id (all_settled w) ≡ settled_share (share_of id w)
@@ -122,16 +129,16 @@ settled_again store now None = refl
 settled_again store now (Some s) = ap (λ (t : Side). Some t) (settled_same store now (settled store now s) (settled_rests store now s))
 
 -- settling changes nothing of it
-abbrev Rests : ℕ → World → Type 0
+abbrev pub Rests : ℕ → World → Type 0
 Rests id w = settled_share (share_of id w) ≡ share_of id w
 
 -- ---- steps
 
-step_share : (limits : LimitValues) (id : ℕ) (w : World) (s : Step) → share_of id (world.step limits w s) ≡ settled_share (share_of id (acted limits w s))
+pub step_share : (limits : LimitValues) (id : ℕ) (w : World) (s : Step) → share_of id (world.step limits w s) ≡ settled_share (share_of id (acted limits w s))
 unfolding world.step
 step_share limits id w s = all_settled_share id (acted limits w s)
 
-step_rests : (limits : LimitValues) (id : ℕ) (w : World) (s : Step) → Rests id (world.step limits w s)
+pub step_rests : (limits : LimitValues) (id : ℕ) (w : World) (s : Step) → Rests id (world.step limits w s)
 step_rests limits id w s =
     let did : Share = share_of id (acted limits w s) in
     ap settled_share (step_share limits id w s) ∙ ap (share did.store did.now) (settled_again did.store did.now did.side) ∙ sym (step_share limits id w s)
@@ -147,7 +154,7 @@ stored_on x m None = x.store
 stored_on x m (Some s) = changed x.store (change_after x.store x.now s m)
 
 -- what it makes of what the connection has of a world
-abbrev did : LimitValues → Step → Share → Share
+abbrev pub did : LimitValues → Step → Share → Share
 did limits (world.Opened id) x = cond (is_none x.side) (record x { side = Some (new_side limits) }) x
 did limits (world.Handled id m) x = record (with_side (λ s. side_after x.store x.now s m) x) { store = stored_on x m x.side }
 did limits (world.Faulted id fault) x = with_side (λ s. side_faulted s fault) x
@@ -194,7 +201,7 @@ changed_so id w f = ap (share w.store w.now) (changed_here id f w.sides)
 own : (P : ℕ → Type 0) (other id : ℕ) → (other == id) ≡ true → P id → P other
 own P other id same here = subst P (sym (eqb-true other id same)) here
 
-own_did : (limits : LimitValues) (id : ℕ) (w : World) (s : Step) → concerns id s ≡ true → DidSo limits id w s
+pub own_did : (limits : LimitValues) (id : ℕ) (w : World) (s : Step) → concerns id s ≡ true → DidSo limits id w s
 unfolding concerns acted
 own_did limits id w (world.Opened other) same = own (λ n. DidSo limits id w (world.Opened n)) other id same (opened_so limits id w)
 own_did limits id w (world.Handled other m) same = own (λ n. DidSo limits id w (world.Handled n m)) other id same (handled_so limits id w m)
@@ -225,7 +232,7 @@ changed_apart : (id other : ℕ) (w : World) (f : Side → Side) → (other == i
 changed_apart id other w f apart = ap (share w.store w.now) (changed_elsewhere other id f w.sides (eqb-false other id apart))
 
 -- only the store changes, and only as the step says
-other_did : (limits : LimitValues) (id : ℕ) (w : World) (s : Step) → concerns id s ≡ false → share_of id (acted limits w s) ≡ share (changed w.store (change_by w s)) w.now (side_of id w.sides)
+pub other_did : (limits : LimitValues) (id : ℕ) (w : World) (s : Step) → concerns id s ≡ false → share_of id (acted limits w s) ≡ share (changed w.store (change_by w s)) w.now (side_of id w.sides)
 unfolding concerns acted
 other_did limits id w (world.Opened other) apart =
     share_either id (is_none (side_of other w.sides)) (opened_world limits w other) w (share_of id w)
@@ -306,7 +313,7 @@ view_seen limits id w (s ∷ ss) = all_append (λ t. concerns id t ≡ true) (vi
 
 -- ---- from the first world on
 
-new_rests : (c : ConfigValues) (id : ℕ) → Rests id (new_world c)
+pub new_rests : (c : ConfigValues) (id : ℕ) → Rests id (new_world c)
 new_rests c id =
     let w : World = new_world c in
     ap (λ (there : Option Side). share w.store w.now (option_map (settled w.store w.now) there)) (nobody id) ∙ ap (share w.store w.now) (sym (nobody id))

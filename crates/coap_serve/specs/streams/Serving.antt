@@ -1,8 +1,9 @@
 -- A turn of a door: what happens in it, and that each connection has its part.
-use Rattle.std.specs.Prelude.{◌≡◌, ℕ, ◌+◌, Bool, true, false, List, [], ◌∷◌, ◌++◌, take, drop, slice_get, Option, Some, None, nat_eq}
+use Rattle.std.specs.Prelude.{◌≡◌, ℕ, ◌+◌, Bool, true, false, List, [], ◌∷◌, ◌++◌, take, drop, slice_get, Option, Some, None, Result, Ok, Err, is_none, nat_eq, if◌then◌else◌}
 use Rattle.std.specs.List.{AllByRecursion}
 use Rattle.indexmap.specs.IndexMap.{insert_entry}
 use Rattle.coap_serve.specs.script.Shown.{ShowsMore}
+use Rattle.coap_serve.specs.streams.Telling.{DoorCall, Asked}
 use Rattle.coap_serve.specs.streams.Turns.{IsServed, IsAtRest, IsInTurn, end_of}
 use Rattle.coap_serve.specs.values.Dues.{stamp_of}
 use Rattle.coap_serve.specs.values.ServerAnswers.{open_refusal}
@@ -11,6 +12,7 @@ use Rattle.coap_serve.specs.world.Events.{Event, Opened, Took, Wrote, Ticked, St
 use Rattle.coap_serve.specs.declared.door.peer.Course.{Course}
 use Rattle.coap_serve.specs.declared.door.peer.Course.TheVariants.{Open, Over}
 use Rattle.coap_serve.specs.declared.door.peer.Peer.{Peer}
+use Rattle.coap_serve.specs.declared.serve.IoFault.{IoFault}
 
 -- ---- what happens
 
@@ -93,9 +95,23 @@ abbrev pub AreOpened : {W : Type 0} → Bool → ServerValue → List (ℕ × Pe
 AreOpened true v es after left = HasOneMore v es after left
 AreOpened false v es after left = (after ≡ v) × (left ≡ es)
 
--- A turn of a server and the far ends of its connections: one more is opened or none, and then each has its part.
-pub record IsTurnOf {W : Type 0} (readable writable : W → Option Bool) (v : ServerValue) (es : List (ℕ × Peer W)) (after : ServerValue) (left : List (ℕ × Peer W)) : Type 0 where
+-- A door is asked for a wire once where one more connection may be opened, and hands one out or none; else it is not asked.
+abbrev pub asked_by : ServerValue → (hands_out : Bool) → List DoorCall
+asked_by v hands_out = if is_none (open_refusal v) then (Asked hands_out ∷ []) else []
+
+abbrev pub IsAskedOnce : (told : List DoorCall → Type 0) → ServerValue → Type 0
+IsAskedOnce told v = (hands_out : Bool) × told (asked_by v hands_out)
+
+-- a wire was handed out: memory may be refused for its connection
+abbrev pub is_handed_out : Result Bool IoFault → Bool
+is_handed_out (Ok opened) = opened
+is_handed_out (Err fault) = true
+
+-- A turn of a server and the far ends of its connections, where told says which calls its door had: it is asked once, where one more
+-- connection may be opened; one is opened for the wire that it hands out, or none; and then each has its part.
+pub record IsTurnOf {W : Type 0} (readable writable : W → Option Bool) (told : List DoorCall → Type 0) (v : ServerValue) (es : List (ℕ × Peer W)) (after : ServerValue) (left : List (ℕ × Peer W)) : Type 0 where
   pub opens : Bool
+  pub asked : told (asked_by v opens)
   pub server : ServerValue
   pub entries : List (ℕ × Peer W)
   pub opened : AreOpened opens v es server entries

@@ -95,6 +95,14 @@ pub record IsServedOnce (may_read may_write : Bool) (v : ServerValue) (id : ℕ)
   pub laid : IsLaidOut (is_heard may_read v id rest) rest heard bytes
   pub carried : IsCarriedOn (has_failed heard) may_write (server_heard v id heard) id bytes after left course
 
+-- A connection's part of a turn comes to nothing, whatever its wire does: its wire is neither read nor written, there is an outcome, and
+-- each leaves the server and what is left of its reads as they were, and the connection going on.
+pub record ComesToNothing (may_read may_write : Bool) (v : ServerValue) (id : ℕ) (rest : List ℕ) : Type 0 where
+  pub unread : is_heard may_read v id rest ≡ false
+  pub unwritten : waiting_once may_write id v ≡ []
+  pub there_is_one : IsServedOnce may_read may_write v id rest v rest Open
+  pub always : (after : ServerValue) (left : List ℕ) (course : Course) → IsServedOnce may_read may_write v id rest after left course → (after ≡ v) × (left ≡ rest) × (course ≡ Open)
+
 -- the same, for what its wire answers of itself
 pub record IsServed (readable writable : Option Bool) (v : ServerValue) (id : ℕ) (rest : List ℕ) (after : ServerValue) (left : List ℕ) (course : Course) : Type 0 where
   pub may_read : Bool

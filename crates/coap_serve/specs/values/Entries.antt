@@ -1,5 +1,5 @@
 -- How the code finds and changes the entries of a connection's observers, and what its framer becomes where it stops.
-use Rattle.std.specs.Prelude.{ℕ, Bool, ◌&&◌, List, [], ◌∷◌, length, Option, Some, None, option_map, suc, ◌==◌, if◌then◌else◌}
+use Rattle.std.specs.Prelude.{◌≡◌, ℕ, Bool, ◌&&◌, List, [], ◌∷◌, length, Option, Some, None, option_map, slice_get, suc, ◌==◌, if◌then◌else◌}
 use Rattle.coap_wire.specs.Message.{Message}
 use Rattle.coap_frame.specs.Framing.{FramerValue}
 use Rattle.coap_conn.specs.Phases.{takes_messages}
@@ -10,14 +10,20 @@ use Rattle.coap_conn.specs.Calls as call
 use Rattle.coap_store.specs.Messages.{response_with_observe}
 use Rattle.coap_store.specs.Notifications.{notification_of}
 use Rattle.coap_serve.specs.declared.host.Host.{Host}
+use Rattle.coap_serve.specs.declared.observers.Stale.{Stale}
 use Rattle.coap_serve.specs.world.Sides.{moment_after}
 use Rattle.coap_serve.specs.world.Observers.{has_place, is_whole, with_entry, goes_on, first_becomes}
-use Rattle.coap_serve.specs.values.Sessions.{ObserverValue, SessionValue, new_entry, answer_on, entry_left, is_stale, notification_on, session_settled}
+use Rattle.coap_serve.specs.values.Sessions.{ObserverValue, SessionValue, new_entry, answer_on, entry_left, mark_of, state_on, is_stale, notification_on, session_settled}
 
 -- the index of the first element of which this holds
 unfoldable pub first_index : {O : Type 0} → (O → Bool) → List O → Option ℕ
 first_index due [] = None
 first_index due (o ∷ os) = if due o then Some 0 else option_map (λ i. suc i) (first_index due os)
+
+-- the first observer that was told another state of its path than the one there is now, and the mark of the state now
+pub record IsFirstStale (host : Host) (observers : List ObserverValue) (found : Stale) : Type 0 where
+  pub first : first_index (is_stale host) observers ≡ Some found.index
+  pub mark : (o : ObserverValue) → slice_get observers found.index ≡ Some o → found.mark ≡ mark_of host.now (state_on host o.path)
 
 -- ---- a request (RFC 7641 section 4.1)
 

@@ -73,6 +73,10 @@ is_marked now mark (Some r) = mark_at now r == mark
 abbrev pub state_on : Host → Path → Option Representation
 state_on host path = state_of host.store host.now path
 
+-- the mark of the state of a path, where another one than this was told
+abbrev pub untold_mark : Host → Path → ℕ → Option ℕ
+untold_mark host path told = if is_marked host.now told (state_on host path) then None else Some (mark_of host.now (state_on host path))
+
 -- an observer is stale where the state now has another mark than the one that it was told
 unfoldable pub is_stale : Host → ObserverValue → Bool
 is_stale host o = not (is_marked host.now o.mark (state_on host o.path))

@@ -23,8 +23,8 @@ impl Agenda {
     ghost use Rattle.std.specs.Prelude.{◌≡◌};
     ghost use Rattle.coap_serve.specs.streams.Turns.{agenda_with, wait_of};
 
-    /// With one connection more, on which something can be done at once or not, and on which time alone may queue something at a moment,
-    /// if ever.
+    /// With one connection more, on which something can be done at once or not, and on which time alone may queue
+    /// something at a moment, if ever.
     pub(super) fn with(self, is_ready: bool, due: Option<u64>) -> Agenda
         ensures { result ≡ agenda_with self is_ready due }
     {
@@ -79,9 +79,13 @@ pub(super) fn pass_over<W: Ready>(peers: &Peers<W>, seen: Seen, stamp: Stamp) ->
     requires { seen.at ≤ length peers.now.entries }
     ensures from { seen.at ≤ result.at }
     ensures within { result.at ≤ length peers.now.entries }
-    ensures rest { AllByRecursion (IsAtRest stamp) (map (λ e. end_of W.readable W.writable e.1) (drop seen.at (take result.at peers.now.entries))) }
-    ensures agenda { result.agenda ≡ agenda_past seen.agenda (map (λ e. end_of W.readable W.writable e.1) (drop seen.at (take result.at peers.now.entries))) }
-    ensures next { IfSome (slice_get peers.now.entries result.at) (λ e. IsInTurn stamp (end_of W.readable W.writable e.1)) }
+    ensures rest { AllByRecursion (IsAtRest stamp) (map (λ e. end_of W.readable W.writable e.1)
+        (drop seen.at (take result.at peers.now.entries))) }
+    ensures agenda { result.agenda
+        ≡ agenda_past seen.agenda (map (λ e. end_of W.readable W.writable e.1)
+        (drop seen.at (take result.at peers.now.entries))) }
+    ensures next { IfSome (slice_get peers.now.entries result.at)
+        (λ e. IsInTurn stamp (end_of W.readable W.writable e.1)) }
 {
     let mut at = seen.at;
     let mut due = seen.agenda.due;
@@ -98,8 +102,8 @@ pub(super) fn pass_over<W: Ready>(peers: &Peers<W>, seen: Seen, stamp: Stamp) ->
     }
 }
 
-/// Whether serving the connection at an index, before and after which the server had these stamps, may concern those before it, which
-/// have had their part of the turn.
+/// Whether serving the connection at an index, before and after which the server had these stamps, may concern those
+/// before it, which have had their part of the turn.
 pub(super) fn concerns_others(at: usize, before: Stamp, after: Stamp) -> bool
     ensures { result ≡ (nat_lt 0 at && not (same_stamp after before)) }
 {

@@ -74,9 +74,9 @@ pub(super) enum Course {
     Over,
 }
 
-/// Serves a connection whose wire may be read or not, and written or not: reads once, where it may, all that was read before is taken
-/// and the connection takes bytes; lets it take what was read; and writes once what waits, where it may. Notes what it is to be served
-/// for next.
+/// Serves a connection whose wire may be read or not, and written or not: reads once, where it may, all that was read
+/// before is taken and the connection takes bytes; lets it take what was read; and writes once what waits, where it
+/// may. Notes what it is to be served for next.
 ///
 /// # Errors
 ///
@@ -88,7 +88,8 @@ pub(super) fn serve_peer<W: Wire>(
     may_read: bool,
     may_write: bool,
 ) -> Result<Course, IoFault>
-    ensures part { IfOk result (λ course. IsServedOnce may_read may_write server.old id peer.old.rest server.new peer.new.rest course) }
+    ensures part { IfOk result (λ course. IsServedOnce may_read may_write server.old id peer.old.rest server.new
+        peer.new.rest course) }
     ensures shows { HasServed server.old server.new }
     ensures wants { IfOk result (λ course. course ≡ Open → peer.new.wants ≡ wants_of server.new id peer.new.rest) }
     ensures fault { IfErr result IsMemory }
@@ -126,8 +127,9 @@ fn outcome(wrote: Got, is_over: bool) -> Course
     Course::Open
 }
 
-/// Reads once, where all that was read before is taken, the wire may be read and the connection takes bytes, and answers what came
-/// of it: `Later` too where nothing was read. The end of what the peer sends is told to the connection.
+/// Reads once, where all that was read before is taken, the wire may be read and the connection takes bytes, and
+/// answers what came of it: `Later` too where nothing was read. The end of what the peer sends is told to the
+/// connection.
 #[tactic(auto, using(crate::proofs::streams::ServingLemmas::none_served))]
 fn hear<W: Wire>(server: &mut Server, id: ConnId, peer: &mut Peer<W>, may_read: bool) -> Got
     ensures server { server.new ≡ server_heard server.old id result }
@@ -135,8 +137,10 @@ fn hear<W: Wire>(server: &mut Server, id: ConnId, peer: &mut Peer<W>, may_read: 
     ensures laid { IsLaidOut (is_heard may_read server.old id peer.old.rest) peer.old.rest result peer.new.rest }
     // The wire is not touched where it is not to be read.
     ensures passed { is_heard may_read server.old id peer.old.rest ≡ false → peer.new ≡ peer.old }
-    ensures read { is_heard may_read server.old id peer.old.rest ≡ true → AddsBytes (W.given peer.old.wire) (W.given peer.new.wire) peer.new.rest }
-    ensures wrote { is_heard may_read server.old id peer.old.rest ≡ true → AddsBytes (W.written peer.old.wire) (W.written peer.new.wire) [] }
+    ensures read { is_heard may_read server.old id peer.old.rest ≡ true →
+        AddsBytes (W.given peer.old.wire) (W.given peer.new.wire) peer.new.rest }
+    ensures wrote { is_heard may_read server.old id peer.old.rest ≡ true →
+        AddsBytes (W.written peer.old.wire) (W.written peer.new.wire) [] }
 {
     if !may_read || !peer.rest.is_empty() || !server.can_take(id) {
         return Got::Later;
@@ -150,8 +154,8 @@ fn hear<W: Wire>(server: &mut Server, id: ConnId, peer: &mut Peer<W>, may_read: 
     got
 }
 
-/// Lets a connection take what was read, message by message, until all is taken or it takes none. Where it takes no message any
-/// more, what is left is given up.
+/// Lets a connection take what was read, message by message, until all is taken or it takes none. Where it takes no
+/// message any more, what is left is given up.
 ///
 /// # Errors
 ///
@@ -174,28 +178,30 @@ fn take_rest(server: &mut Server, id: ConnId, rest: &mut Rest) -> Result<(), IoF
     Ok(())
 }
 
-/// Writes once what waits on a connection, where anything does and the wire may be written, and answers what came of it: `Later` too
-/// where nothing was written, and `Failed` for each answer that a write fails with.
-#[tactic(auto, using(crate::proofs::streams::ServingLemmas::none_served))]
+/// Writes once a front of what waits on a connection, where anything does and the wire may be written, and answers what
+/// came of it: `Later` too where nothing was written, and `Failed` for each answer that a write fails with.
+#[tactic(auto, using(crate::proofs::streams::ServingLemmas::none_served, crate::proofs::streams::NextPartLemmas::few_written))]
 fn write_once<W: Wire>(server: &mut Server, id: ConnId, wire: &mut W, may_write: bool) -> Got
     ensures server { server.new ≡ server_wrote server.old id result }
     ensures shows { HasServed server.old server.new }
     ensures within { IsWithin (length (waiting_once may_write id server.old)) result }
     ensures idle { waiting_once may_write id server.old ≡ [] → (wire.new ≡ wire.old) × (result ≡ Later) }
-    ensures wrote { waiting_once may_write id server.old ≢ [] → AddsBytes (W.written wire.old) (W.written wire.new) (bytes_passed (waiting_once may_write id server.old) result) }
+    ensures wrote { waiting_once may_write id server.old ≢ [] →
+        AddsBytes (W.written wire.old) (W.written wire.new)
+        (bytes_passed (waiting_once may_write id server.old) result) }
     ensures gave { waiting_once may_write id server.old ≢ [] → AddsBytes (W.given wire.old) (W.given wire.new) [] }
     ensures no_end { result ≢ End }
 {
     if !may_write {
         return Got::Later;
     }
-    let Some(waiting) = server.front(id) else {
+    let Some(part) = server.next_part(id) else {
         return Got::Later;
     };
-    if waiting.is_empty() {
+    if part.is_empty() {
         return Got::Later;
     }
-    match wire.write(waiting) {
+    match wire.write(part) {
         Got::Bytes(count) => {
             let Ok(()) = server.written(id, count) else {
                 unreachable!()

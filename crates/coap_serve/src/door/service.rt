@@ -14,8 +14,8 @@ use coap_store::{PathKey, StoreFault};
 use indexmap::IndexMap;
 use std::alloc::{AllocError, Global};
 
-/// A server with the wires of its connections, which a program holds, and serves turn by turn. What was noted of each connection is true,
-/// unless a turn was refused memory.
+/// A server with the wires of its connections, which a program holds, and serves turn by turn. What was noted of each
+/// connection is true, unless a turn was refused memory.
 #[derive(Drop)]
 pub struct Service<W> {
     server: Server,
@@ -30,7 +30,9 @@ impl<W: Wire + Ready + Drop> Service<W> {
     ghost use Rattle.coap_store.specs.Refusals.{RefusedOrMemory, put_refusal, remove_refusal};
     ghost use Rattle.coap_serve.specs.declared.serve.IoFault.TheVariants as fault;
     ghost use Rattle.coap_serve.specs.streams.Notes.{true_end};
-    ghost use Rattle.coap_serve.specs.streams.Serving.{HasTurned, IsTurnOf};
+    ghost use Rattle.coap_serve.specs.streams.Serving.{HasTurned, IsAskedOnce, IsTurnOf};
+    ghost use Rattle.coap_serve.specs.streams.DoorRun.{moved_to};
+    ghost use Rattle.coap_serve.specs.streams.Telling.{TellsMore};
     ghost use Rattle.coap_serve.specs.streams.Turns.{MayWait};
     ghost use Rattle.coap_serve.specs.streams.Wires.{IsMemory};
     ghost use Rattle.coap_serve.specs.values.Dues.{stamp_of};
@@ -72,7 +74,9 @@ impl<W: Wire + Ready + Drop> Service<W> {
     pub fn tick(&mut self, now: u64) -> Result<(), Backwards>
         ensures answer { is_ok result ≡ nat_le self.old.server.host.now now }
         ensures ok { OnOk result (self.new.server ≡ server_ticked self.old.server now) }
-        ensures shows { OnOk result ((events : List Event) → Shows self.old.server events → Shows self.new.server (events ++ Ticked now ∷ [])) }
+        ensures moved { self.new.server ≡ moved_to self.old.server now }
+        ensures shows { OnOk result ((events : List Event) → Shows self.old.server events →
+            Shows self.new.server (events ++ Ticked now ∷ [])) }
         ensures err { OnErr result (self.new.server ≡ self.old.server) }
         ensures peers { self.new.peers ≡ self.old.peers }
         ensures spent { self.new.is_spent ≡ self.old.is_spent }
@@ -94,7 +98,8 @@ impl<W: Wire + Ready + Drop> Service<W> {
         ensures answer { RefusedOrMemory result (put_refusal self.old.server.host.store path.now bytes.now) }
         ensures version { IfOk result (λ version. version ≡ self.old.server.host.store.versions + 1) }
         ensures ok { OnOk result (self.new.server ≡ server_put self.old.server path.now format bytes.now) }
-        ensures shows { OnOk result ((events : List Event) → Shows self.old.server events → Shows self.new.server (events ++ Stored path.now format bytes.now ∷ [])) }
+        ensures shows { OnOk result ((events : List Event) → Shows self.old.server events →
+            Shows self.new.server (events ++ Stored path.now format bytes.now ∷ [])) }
         ensures err { OnErr result (self.new.server ≡ self.old.server) }
         ensures peers { self.new.peers ≡ self.old.peers }
         ensures spent { self.new.is_spent ≡ self.old.is_spent }
@@ -110,7 +115,8 @@ impl<W: Wire + Ready + Drop> Service<W> {
     pub fn remove(&mut self, path: &PathKey) -> Result<(), StoreFault>
         ensures answer { RefusedBy result (remove_refusal self.old.server.host.store path.now) }
         ensures ok { OnOk result (self.new.server ≡ server_removed self.old.server path.now) }
-        ensures shows { OnOk result ((events : List Event) → Shows self.old.server events → Shows self.new.server (events ++ Removed path.now ∷ [])) }
+        ensures shows { OnOk result ((events : List Event) → Shows self.old.server events →
+            Shows self.new.server (events ++ Removed path.now ∷ [])) }
         ensures err { OnErr result (self.new.server ≡ self.old.server) }
         ensures peers { self.new.peers ≡ self.old.peers }
         ensures spent { self.new.is_spent ≡ self.old.is_spent }
@@ -118,8 +124,8 @@ impl<W: Wire + Ready + Drop> Service<W> {
         self.server.remove(path)
     }
 
-    /// One turn at a moment: opens one connection, where one more may be and the door hands out a wire, and serves each. Answers
-    /// how long the door may wait then.
+    /// One turn at a moment: opens one connection, where one more may be and the door hands out a wire, and serves
+    /// each. Answers how long the door may wait then.
     ///
     /// # Errors
     ///
@@ -128,10 +134,16 @@ impl<W: Wire + Ready + Drop> Service<W> {
     pub fn turn<D: Door<Wire = W>>(&mut self, door: &mut D) -> Result<Wait, IoFault>
         // Nothing happens to the server but that one connection is opened or none, and that connections are served.
         ensures shows { HasTurned self.old.server self.new.server }
+        // The door is asked once where one more connection may be opened, and not else.
+        ensures asks { self.old.is_spent ≡ false
+            → IsAskedOnce (TellsMore (D.calls door.old) (D.calls door.new)) self.old.server }
         // One connection is opened or none; then each in order has its part of the turn, but those at rest.
-        ensures turn { OnOk result (IsTurnOf W.readable W.writable self.old.server self.old.peers.entries self.new.server self.new.peers.entries) }
-        // The door waits only where nothing can be done that a connection is to be served for now, whatever was noted of it.
-        ensures waits { IfOk result (λ wait. MayWait wait (stamp_of self.new.server.host) (map (λ e. true_end W.readable W.writable self.new.server e) self.new.peers.entries)) }
+        ensures turn { OnOk result (IsTurnOf W.readable W.writable (TellsMore (D.calls door.old) (D.calls door.new))
+            self.old.server self.old.peers.entries self.new.server self.new.peers.entries) }
+        // The door waits only where nothing can be done that a connection is to be served for now, whatever was noted
+        // of it.
+        ensures waits { IfOk result (λ wait. MayWait wait (stamp_of self.new.server.host)
+            (map (λ e. true_end W.readable W.writable self.new.server e) self.new.peers.entries)) }
         ensures fault { IfErr result IsMemory }
         ensures ready { OnOk result (self.new.is_spent ≡ false) }
         ensures spent { OnErr result (self.new.is_spent ≡ true) }

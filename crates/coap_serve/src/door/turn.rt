@@ -4,7 +4,8 @@ ghost use Rattle.std.specs.Prelude.{◌≡◌, ◌<◌, ◌≤◌, ◌+◌, ◌-
 ghost use Rattle.std.specs.Map.{keys_of};
 ghost use Rattle.coap_serve.specs.declared.door.peer.Course.TheVariants.{Open};
 ghost use Rattle.coap_serve.specs.streams.Notes.{AreNoted, true_end};
-ghost use Rattle.coap_serve.specs.streams.Serving.{HasServed, HasTurned, HasGoneOn, AreServed, AreOpened, IsTurnOf};
+ghost use Rattle.coap_serve.specs.streams.Serving.{HasServed, HasTurned, HasGoneOn, AreServed, AreOpened, IsAskedOnce, IsTurnOf, asked_by, is_handed_out};
+ghost use Rattle.coap_serve.specs.streams.Telling.{TellsMore};
 ghost use Rattle.coap_serve.specs.streams.Turns.{IsServed, IsAgendaOf, MayWait, end_of, wait_of, wants_of};
 ghost use Rattle.coap_serve.specs.streams.Wires.{IsMemory};
 ghost use Rattle.coap_serve.specs.values.Dues.{stamp_of};
@@ -19,8 +20,8 @@ use crate::serve::IoFault;
 use crate::server::Server;
 use crate::wire::{Door, Ready, Wait, Wire};
 
-/// One turn at a moment: opens one connection, where one more may be and the door hands out a wire, and serves each. Answers
-/// how long the door may wait then.
+/// One turn at a moment: opens one connection, where one more may be and the door hands out a wire, and serves each.
+/// Answers how long the door may wait then.
 ///
 /// # Errors
 ///
@@ -32,11 +33,16 @@ pub(super) fn take_turn<D: Door>(
 ) -> Result<Wait, IoFault>
     requires { AreNoted server.old peers.old.entries }
     ensures shows { HasTurned server.old server.new }
-    ensures turn { OnOk result (IsTurnOf D.Wire.readable D.Wire.writable server.old peers.old.entries server.new peers.new.entries) }
+    // The door is asked once, where one more connection may be opened.
+    ensures asks { IsAskedOnce (TellsMore (D.calls door.old) (D.calls door.new)) server.old }
+    ensures turn { OnOk result (IsTurnOf D.Wire.readable D.Wire.writable
+        (TellsMore (D.calls door.old) (D.calls door.new)) server.old peers.old.entries server.new peers.new.entries) }
     ensures noted { OnOk result (AreNoted server.new peers.new.entries) }
     ensures settled { OnOk result (AreSettled server.new.host server.new.sessions) }
-    // The door waits only where nothing can be done that a connection is to be served for now, whatever was noted of it.
-    ensures waits { IfOk result (λ wait. MayWait wait (stamp_of server.new.host) (map (λ e. true_end D.Wire.readable D.Wire.writable server.new e) peers.new.entries)) }
+    // The door waits only where nothing can be done that a connection is to be served for now, whatever was noted of
+    // it.
+    ensures waits { IfOk result (λ wait. MayWait wait (stamp_of server.new.host)
+        (map (λ e. true_end D.Wire.readable D.Wire.writable server.new e) peers.new.entries)) }
     ensures fault { IfErr result IsMemory }
 {
     accept(server, peers, door)?;
@@ -59,9 +65,12 @@ fn accept<D: Door>(
     ensures shows { HasTurned server.old server.new }
     ensures noted { OnOk result (AreNoted server.new peers.new.entries) }
     ensures fault { IfErr result IsMemory }
-    // The door is not asked for a wire that no connection could be opened for.
-    ensures asks { is_none (open_refusal server.old) ≡ false → (door.new ≡ door.old) × (result ≡ Ok false) }
-    ensures opened { IfOk result (λ opened. AreOpened opened server.old peers.old.entries server.new peers.new.entries) }
+    // The door is asked once where one more connection may be opened, and not at all for a wire that none could be
+    // opened for.
+    ensures asks { TellsMore (D.calls door.old) (D.calls door.new) (asked_by server.old (is_handed_out result)) }
+    ensures passes { is_none (open_refusal server.old) ≡ false → (door.new ≡ door.old) × (result ≡ Ok false) }
+    ensures opened { IfOk result (λ opened. AreOpened opened server.old peers.old.entries server.new
+        peers.new.entries) }
 {
     if !server.can_open() {
         return Ok(false);
@@ -82,8 +91,8 @@ fn accept<D: Door>(
     Ok(true)
 }
 
-/// Serves each connection in order of its number but those that are at rest, and drops those that are over. Answers what they
-/// leave to be done.
+/// Serves each connection in order of its number but those that are at rest, and drops those that are over. Answers
+/// what they leave to be done.
 ///
 /// # Errors
 ///
@@ -95,11 +104,13 @@ fn serve_each<W: Wire + Ready + Drop>(
     requires { AreNoted server.old peers.old.entries }
     ensures shows { HasServed server.old server.new }
     // Each connection in order has its part, but those at rest.
-    ensures parts { OnOk result (AreServed W.readable W.writable server.old peers.old.entries server.new peers.new.entries) }
+    ensures parts { OnOk result (AreServed W.readable W.writable server.old peers.old.entries server.new
+        peers.new.entries) }
     ensures noted { OnOk result (AreNoted server.new peers.new.entries) }
     ensures settled { OnOk result (AreSettled server.new.host server.new.sessions) }
     // What is left to be done at once, and when: the door waits only where all were served after the last change.
-    ensures waits { IfOk result (λ agenda. MayWait (wait_of agenda) (stamp_of server.new.host) (map (λ e. end_of W.readable W.writable e.1) peers.new.entries)) }
+    ensures waits { IfOk result (λ agenda. MayWait (wait_of agenda) (stamp_of server.new.host)
+        (map (λ e. end_of W.readable W.writable e.1) peers.new.entries)) }
     ensures fault { IfErr result IsMemory }
 {
     let mut seen = pass_over(peers, Seen::none(), server.stamp());
@@ -125,12 +136,17 @@ fn serve_next<W: Wire + Ready + Drop>(
     requires noted { AreNoted server.old peers.old.entries }
     ensures shows { HasServed server.old server.new }
     // The connection has its part of the turn, and the others stand as before.
-    ensures part { IfOk result (λ later. HasGoneOn W.readable W.writable server.old peers.old.entries seen.at server.new peers.new.entries later.at) }
+    ensures part { IfOk result (λ later. HasGoneOn W.readable W.writable server.old peers.old.entries seen.at server.new
+        peers.new.entries later.at) }
     ensures noted { OnOk result (AreNoted server.new peers.new.entries) }
-    ensures agenda { IfOk result (λ later. IsAgendaOf seen.agenda (stamp_of server.old.host) (map (λ e. end_of W.readable W.writable e.1) (take seen.at peers.old.entries)) → IsAgendaOf later.agenda (stamp_of server.new.host) (map (λ e. end_of W.readable W.writable e.1) (take later.at peers.new.entries))) }
+    ensures agenda { IfOk result (λ later. IsAgendaOf seen.agenda (stamp_of server.old.host)
+        (map (λ e. end_of W.readable W.writable e.1) (take seen.at peers.old.entries)) →
+        IsAgendaOf later.agenda (stamp_of server.new.host)
+        (map (λ e. end_of W.readable W.writable e.1) (take later.at peers.new.entries))) }
     ensures within { IfOk result (λ later. later.at ≤ length peers.new.entries) }
     // One fewer is left.
-    ensures fewer { IfOk result (λ later. length peers.new.entries - later.at + 1 ≡ length peers.old.entries - seen.at) }
+    ensures fewer { IfOk result (λ later. length peers.new.entries - later.at + 1 ≡ length peers.old.entries -
+        seen.at) }
     ensures fault { IfErr result IsMemory }
 {
     let before = server.stamp();
@@ -166,8 +182,12 @@ fn serve_at<W: Wire + Ready>(
     requires settled { AreSettled server.old.host server.old.sessions }
     requires noted { AreNoted server.old peers.old.entries }
     ensures shows { HasServed server.old server.new }
-    ensures part { IfSome (slice_get peers.old.entries at) (λ was. IfSome (slice_get peers.new.entries at) (λ is. IfOk result (λ course. IsServed (W.readable was.1.wire) (W.writable was.1.wire) server.old was.0 was.1.rest server.new is.1.rest course))) }
-    ensures wants { IfSome (slice_get peers.new.entries at) (λ is. IfOk result (λ course. course ≡ Open → is.1.wants ≡ wants_of server.new is.0 is.1.rest)) }
+    ensures part { IfSome (slice_get peers.old.entries at)
+        (λ was. IfSome (slice_get peers.new.entries at)
+        (λ is. IfOk result (λ course. IsServed (W.readable was.1.wire) (W.writable was.1.wire) server.old was.0
+        was.1.rest server.new is.1.rest course))) }
+    ensures wants { IfSome (slice_get peers.new.entries at)
+        (λ is. IfOk result (λ course. course ≡ Open → is.1.wants ≡ wants_of server.new is.0 is.1.rest)) }
     // What was noted of the others still holds, and what was noted of it does where it goes on.
     ensures others { OnOk result (AreNoted server.new (remove peers.new.entries at)) }
     ensures noted { IfOk result (λ course. course ≡ Open → AreNoted server.new peers.new.entries) }
@@ -193,7 +213,8 @@ fn drop_at<W: Wire + Drop>(server: &mut Server, peers: &mut Peers<W>, at: usize)
     ensures noted { AreNoted server.new peers.new.entries }
     ensures peers { peers.new.entries ≡ remove peers.old.entries at }
     ensures host { server.new.host ≡ server.old.host }
-    ensures server { IfSome (slice_get (keys_of peers.old.entries) at) (λ id. server.new ≡ server_dropped server.old id) }
+    ensures server { IfSome (slice_get (keys_of peers.old.entries) at)
+        (λ id. server.new ≡ server_dropped server.old id) }
 {
     if let Some((id, _)) = peers.shift_remove_index(at) {
         let _ = server.drop_conn(id);

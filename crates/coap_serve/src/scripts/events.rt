@@ -200,7 +200,8 @@ pub(super) fn take_line(
     events: &mut Vec<Event>,
     line: &[u8],
 ) -> Result<bool, AllocError>
-    ensures { IfOk result (λ is_right. TakesLine is_right (map event_value events.old.items) (map event_value events.new.items) (lines.events_in line.now)) }
+    ensures { IfOk result (λ is_right. TakesLine is_right (map event_value events.old.items)
+        (map event_value events.new.items) (lines.events_in line.now)) }
 {
     if says_nothing(line) {
         return Ok(true);

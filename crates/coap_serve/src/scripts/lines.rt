@@ -1,5 +1,5 @@
-//! The lines that are written for events. Short ones are built without memory; each call for another one fails only where memory
-//! is refused for the line.
+//! The lines that are written for events. Short ones are built without memory; each call for another one fails only
+//! where memory is refused for the line.
 
 ghost use Rattle.std.specs.Prelude.{◌≡◌, ◌≤◌, ◌+◌, ◌++◌, IfOk, OnOk, codes, decimal, length, string_bytes};
 ghost use Rattle.arrayvec.specs.ArrayVec.{array_vec_len};
@@ -67,23 +67,42 @@ pub(crate) fn in_line(id: u64, taken: u64, stop: Option<u8>) -> ShortLine
     line
 }
 
-/// Bytes in hexadecimal, a hyphen for none.
-fn bytes_text(alloc: Global, bytes: &[u8]) -> Result<String, AllocError>
-    ensures { IfOk result (λ text. string_bytes text ≡ spec.bytes_text bytes.now) }
+/// The front of a line with bytes that were written to a connection.
+fn out_front(id: u64) -> ShortLine
+    ensures { result.items ≡ codes "out " ++ decimal id ++ codes " " }
 {
-    if bytes.is_empty() {
-        return String::from_str(alloc, "-");
-    }
-    hex::encode(alloc, bytes)
+    let mut line = ArrayVec::new();
+    append_text(&mut line, b"out ");
+    append_number(&mut line, id);
+    append_text(&mut line, b" ");
+    line
 }
 
-/// These bytes were written to a connection.
+/// Appends bytes in hexadecimal, a hyphen for none.
+fn append_bytes(line: &mut Vec<u8>, bytes: &[u8]) -> Result<(), AllocError>
+    ensures { OnOk result (line.new.items ≡ line.old.items ++ spec.bytes_text bytes.now) }
+{
+    if bytes.is_empty() {
+        return line.extend_from_slice(b"-");
+    }
+    let front = line.len();
+    line.resize(front.saturating_add(2 * bytes.len()), 0)?;
+    let Ok(()) = hex::encode_to_slice(bytes, &mut line[front..]) else {
+        unreachable!()
+    };
+    Ok(())
+}
+
+/// These bytes were written to a connection. The room of the line is reserved at once.
 pub(crate) fn out_line(alloc: Global, id: u64, bytes: &[u8]) -> Result<Vec<u8>, AllocError>
     ensures { IfOk result (λ line. line.items ≡ spec.out_line id bytes.now) }
 {
-    let text = bytes_text(alloc, bytes)?;
-    let line = format!(in alloc; "out {id} {text}\n")?;
-    Ok(line.into_bytes())
+    let room = bytes.len().saturating_mul(2).saturating_add(SHORT);
+    let mut line = Vec::with_capacity(alloc, room)?;
+    line.extend_from_slice(out_front(id).as_slice())?;
+    append_bytes(&mut line, bytes)?;
+    line.extend_from_slice(b"\n")?;
+    Ok(line)
 }
 
 /// The moment.
@@ -151,7 +170,8 @@ fn phase_text(alloc: Global, phase: Phase) -> Result<String, AllocError>
 
 /// The front of a status: the connection and its phase.
 fn status_front(alloc: Global, id: u64, phase: Phase) -> Result<String, AllocError>
-    ensures { IfOk result (λ text. string_bytes text ≡ codes "status " ++ decimal id ++ codes " " ++ spec.phase_text phase) }
+    ensures { IfOk result (λ text. string_bytes text ≡ codes "status " ++ decimal id ++ codes " " ++ spec.phase_text
+        phase) }
 {
     let phase = phase_text(alloc, phase)?;
     let front = format!(in alloc; "status {id} {phase}")?;
@@ -167,7 +187,8 @@ fn append(line: &mut String, text: &str, number: u64) -> Result<(), AllocError>
 
 /// The status of a connection.
 pub(crate) fn status_line(alloc: Global, id: u64, status: &Status) -> Result<Vec<u8>, AllocError>
-    ensures { IfOk result (λ line. line.items ≡ spec.status_line id status.now.phase status.now.kept status.now.waiting status.now.pending status.now.observers) }
+    ensures { IfOk result (λ line. line.items ≡ spec.status_line id status.now.phase status.now.kept status.now.waiting
+        status.now.pending status.now.observers) }
 {
     let mut line = status_front(alloc, id, status.phase)?;
     append(&mut line, " kept ", status.kept as u64)?;

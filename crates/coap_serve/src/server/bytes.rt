@@ -7,11 +7,12 @@ use crate::output::WriteFailed;
 use std::alloc::AllocError;
 
 impl Server {
-    ghost use Rattle.std.specs.Prelude.{◌≡◌, ◌+◌, ◌≤◌, ◌++◌, ◌∷◌, ⊤, List, [], length, take, true, false, is_err, IfOk, IfErr, OnOk, OnErr};
+    ghost use Rattle.std.specs.Prelude.{◌≡◌, ◌+◌, ◌≤◌, ◌++◌, ◌∷◌, ⊤, List, [], length, take, true, false, is_err, is_some, IfOk, IfErr, IfSome, OnOk, OnErr};
     ghost use Rattle.std.specs.Borrow.{sem, follows_so};
     ghost use Rattle.std.specs.Option.{option_copied};
     ghost use mathlib.Core.Option.{none};
     ghost use Rattle.coap_wire.specs.Refusal.{RefusedBy};
+    ghost use Rattle.coap_conn.specs.QueueValue.{IsNextPart};
     ghost use Rattle.coap_serve.specs.contracts.server.Server.{the_row};
     ghost use Rattle.coap_serve.specs.script.Events as event;
     ghost use Rattle.coap_serve.specs.script.PartlyFed.{IsPartlyFed};
@@ -24,9 +25,10 @@ impl Server {
     ghost use Rattle.coap_serve.specs.world.Events.{Event, Took, Wrote, takes};
     ghost use Rattle.coap_serve.specs.world.Handling.{handled_in};
     ghost use Rattle.coap_serve.specs.world.Shows.{Shows, ShowsRefused};
+    ghost use Rattle.coap_serve.specs.world.Memory.{IsRefusedFor};
 
-    /// Whether a connection takes bytes: it is there, has neither stopped nor been released, and has room in its queue for the
-    /// greatest message sent.
+    /// Whether a connection takes bytes: it is there, has neither stopped nor been released, and has room in its queue
+    /// for the greatest message sent.
     pub(crate) fn can_take(&self, id: ConnId) -> bool
         ensures { result ≡ can_take_on (session_of id self.now.sessions) }
     {
@@ -36,25 +38,32 @@ impl Server {
         self.sessions[at].takes()
     }
 
-    /// Takes bytes of what came on a connection: up to the end of the first message, to the byte of a fault, or all of them; none
-    /// where there is no room in its queue for the greatest message sent, or where it takes no message any more. The caller
-    /// offers the others again.
+    /// Takes bytes of what came on a connection: up to the end of the first message, to the byte of a fault, or all of
+    /// them; none where there is no room in its queue for the greatest message sent, or where it takes no message any
+    /// more. The caller offers the others again.
     ///
     /// # Errors
     ///
     /// `NoSuch` where no connection has the number: nothing has changed then. `Memory` where memory was refused for a
-    /// representation that the message stores: the bytes before its last one are taken then, and nothing of it was handled.
+    /// representation that the message stores: the bytes before its last one are taken then, and nothing of it was
+    /// handled.
     pub fn take(&mut self, id: ConnId, piece: &[u8]) -> Result<Taken, TakeFault>
         ensures within { IfOk result (λ t. t.bytes ≤ length piece.now) }
         ensures count { IfOk result (λ t. t.bytes ≡ count_taken self.old id piece.now) }
-        ensures takes { IfOk result (λ t. (events : List Event) → Shows self.old events → t.bytes ≡ takes self.old.config events id piece.now) }
+        ensures takes { IfOk result (λ t. (events : List Event) → Shows self.old events →
+            t.bytes ≡ takes self.old.config events id piece.now) }
         ensures handled { IfOk result (λ t. t.handled ≡ handled_by self.old id piece.now) }
-        ensures says { IfOk result (λ t. (events : List Event) → Shows self.old events → t.handled ≡ handled_in self.old.config events (Took id (take t.bytes piece.now)) id) }
+        ensures says { IfOk result (λ t. (events : List Event) → Shows self.old events →
+            t.handled ≡ handled_in self.old.config events (Took id (take t.bytes piece.now)) id) }
         ensures there { OnOk result (is_there (session_of id self.old.sessions) ≡ true) }
         ensures ok { OnOk result (self.new ≡ server_taken self.old id piece.now) }
-        ensures shows { IfOk result (λ t. (events : List Event) → Shows self.old events → Shows self.new (events ++ Took id (take t.bytes piece.now) ∷ [])) }
+        ensures shows { IfOk result (λ t. (events : List Event) → Shows self.old events →
+            Shows self.new (events ++ Took id (take t.bytes piece.now) ∷ [])) }
         ensures refused { IfErr result (λ fault. IsNotTaken self.old id piece.now fault self.new) }
-        ensures shows_refused { IfErr result (λ fault. (events : List Event) → Shows self.old events → ShowsRefused events id piece.now fault self.new) }
+        ensures shows_refused { IfErr result (λ fault. (events : List Event) → Shows self.old events →
+            ShowsRefused events id piece.now fault self.new) }
+        ensures refused_for { IfErr result (λ fault.
+            (events : List Event) → Shows self.old events → IsRefusedFor self.old.config events id piece.now fault) }
     {
         let Some(at) = find(&self.sessions, id) else {
             return Err(TakeFault::NoSuch);
@@ -104,22 +113,35 @@ impl Server {
 
     /// All bytes that wait on a connection, where one has the number.
     pub fn front<'a>(&'a mut self, id: ConnId) -> Option<&'a [u8]>
-        ensures* unchanged { sem 𝓛 (follows_so the_row the_row self.entry.ghost_name none (λ _ _. ⊤) (λ s. s ≡ self.old)) }
+        ensures* unchanged { sem 𝓛 (follows_so the_row the_row self.entry.ghost_name none (λ _ _. ⊤)
+            (λ s. s ≡ self.old)) }
         ensures front { option_copied result ≡ front_of self.old id }
     {
         let at = find(&self.sessions, id)?;
         Some(self.sessions[at].front())
     }
 
+    /// A front of the bytes that wait on a connection, where they lie, where one has the number: none of them only
+    /// where nothing waits.
+    pub fn next_part(&self, id: ConnId) -> Option<&[u8]>
+        ensures there { is_some result ≡ is_there (session_of id self.now.sessions) }
+        ensures part { IfSome result (λ part. IsNextPart (waiting_at id self.now) part.now) }
+    {
+        let at = find(&self.sessions, id)?;
+        Some(self.sessions[at].next_part())
+    }
+
     /// The first so many bytes of a connection were written, and wait no more.
     ///
     /// # Errors
     ///
-    /// In this order: `NoSuch` where no connection has the number, `TooMany` where fewer bytes wait. Nothing has changed then.
+    /// In this order: `NoSuch` where no connection has the number, `TooMany` where fewer bytes wait. Nothing has
+    /// changed then.
     pub fn written(&mut self, id: ConnId, count: usize) -> Result<(), WrittenFault>
         ensures answer { RefusedBy result (written_refusal self.old id count) }
         ensures ok { OnOk result (self.new ≡ server_written self.old id count) }
-        ensures shows { OnOk result ((events : List Event) → Shows self.old events → Shows self.new (events ++ Wrote id count ∷ [])) }
+        ensures shows { OnOk result ((events : List Event) → Shows self.old events →
+            Shows self.new (events ++ Wrote id count ∷ [])) }
         ensures err { OnErr result (self.new ≡ self.old) }
     {
         let Some(at) = find(&self.sessions, id) else {
@@ -132,8 +154,8 @@ impl Server {
         Ok(())
     }
 
-    /// Writes all that waits on a connection, where anything does, and settles then. Answers whether anything waited, how much was held
-    /// and how many observers there were, and why the connection takes no message any more.
+    /// Writes all that waits on a connection, where anything does, and settles then. Answers whether anything waited,
+    /// how much was held and how many observers there were, and why the connection takes no message any more.
     ///
     /// # Errors
     ///
@@ -144,10 +166,12 @@ impl Server {
         writer: &mut W,
     ) -> Result<Flushed, WriteFailed>
         requires { W.is_failed writer.old ≡ false }
-        ensures ok { IfOk result (λ f. IsFlushedOnce id self.old self.new (AddsBytes (W.written writer.old) (W.written writer.new)) f.waited) }
+        ensures ok { IfOk result (λ f. IsFlushedOnce id self.old self.new
+            (AddsBytes (W.written writer.old) (W.written writer.new)) f.waited) }
         ensures more { IfOk result (λ f. f.more ≡ more_at id self.old) }
         ensures stop { IfOk result (λ f. f.stop ≡ stop_on (session_of id self.new.sessions)) }
-        ensures part { OnErr result (WritesPart (W.written writer.old) (W.written writer.new) (waiting_at id self.old)) }
+        ensures part { OnErr result (WritesPart (W.written writer.old) (W.written writer.new)
+            (waiting_at id self.old)) }
         ensures failure { W.is_failed writer.new ≡ is_err result }
     {
         let Some(at) = find(&self.sessions, id) else {

@@ -25,7 +25,8 @@ impl Server {
         ensures settled { AreSettled self.old.host self.old.sessions }
         ensures answer { is_ok result ≡ nat_le self.old.host.now now }
         ensures ok { OnOk result (self.new ≡ server_ticked self.old now) }
-        ensures shows { OnOk result ((events : List Event) → Shows self.old events → Shows self.new (events ++ Ticked now ∷ [])) }
+        ensures shows { OnOk result ((events : List Event) → Shows self.old events →
+            Shows self.new (events ++ Ticked now ∷ [])) }
         ensures err { OnErr result (self.new ≡ self.old) }
     {
         if now < self.host.now {
@@ -54,7 +55,8 @@ impl Server {
         ensures answer { RefusedOrMemory result (put_refusal self.old.host.store path.now bytes.now) }
         ensures version { IfOk result (λ version. version ≡ self.old.host.store.versions + 1) }
         ensures ok { OnOk result (self.new ≡ server_put self.old path.now format bytes.now) }
-        ensures shows { OnOk result ((events : List Event) → Shows self.old events → Shows self.new (events ++ Stored path.now format bytes.now ∷ [])) }
+        ensures shows { OnOk result ((events : List Event) → Shows self.old events →
+            Shows self.new (events ++ Stored path.now format bytes.now ∷ [])) }
         ensures err { OnErr result (self.new ≡ self.old) }
     {
         let version = self.host.store.put(path, format, bytes)?;
@@ -71,7 +73,8 @@ impl Server {
         ensures settled { AreSettled self.old.host self.old.sessions }
         ensures answer { RefusedBy result (remove_refusal self.old.host.store path.now) }
         ensures ok { OnOk result (self.new ≡ server_removed self.old path.now) }
-        ensures shows { OnOk result ((events : List Event) → Shows self.old events → Shows self.new (events ++ Removed path.now ∷ [])) }
+        ensures shows { OnOk result ((events : List Event) → Shows self.old events →
+            Shows self.new (events ++ Removed path.now ∷ [])) }
         ensures err { OnErr result (self.new ≡ self.old) }
     {
         self.host.store.remove(path)?;

@@ -22,18 +22,20 @@ impl Server {
         self.sessions.len() < self.config.connections() && self.ids < u64::MAX
     }
 
-    /// Opens a connection, on which our Capabilities and Settings wait, and answers its number: one more than the last one.
+    /// Opens a connection, on which our Capabilities and Settings wait, and answers its number: one more than the last
+    /// one.
     ///
     /// # Errors
     ///
-    /// In this order: `Full` where as many connections are there as the configuration allows, `IdsSpent` where every number was
-    /// given, `Memory` where memory was refused. Nothing has changed then.
+    /// In this order: `Full` where as many connections are there as the configuration allows, `IdsSpent` where every
+    /// number was given, `Memory` where memory was refused. Nothing has changed then.
     pub fn open(&mut self) -> Result<ConnId, OpenFault>
         ensures answer { OpenedOrMemory result (open_refusal self.old) }
         ensures id { IfOk result (λ id. id ≡ self.old.ids + 1) }
         ensures ok { OnOk result (self.new ≡ server_opened self.old) }
         ensures ranges { OnOk result (AreInRange self.old.config.limits) }
-        ensures shows { IfOk result (λ id. (events : List Event) → Shows self.old events → Shows self.new (events ++ Opened id ∷ [])) }
+        ensures shows { IfOk result (λ id. (events : List Event) → Shows self.old events →
+            Shows self.new (events ++ Opened id ∷ [])) }
         ensures err { OnErr result (self.new ≡ self.old) }
     {
         if self.sessions.len() >= self.config.connections() {
@@ -61,7 +63,8 @@ impl Server {
     pub fn ended(&mut self, id: ConnId) -> Result<(), NoSuch>
         ensures answer { is_ok result ≡ is_there (session_of id self.old.sessions) }
         ensures ok { OnOk result (self.new ≡ server_ended self.old id) }
-        ensures shows { OnOk result ((events : List Event) → Shows self.old events → Shows self.new (events ++ Ended id ∷ [])) }
+        ensures shows { OnOk result ((events : List Event) → Shows self.old events →
+            Shows self.new (events ++ Ended id ∷ [])) }
         ensures err { OnErr result (self.new ≡ self.old) }
     {
         let Some(at) = find(&self.sessions, id) else {
@@ -75,12 +78,14 @@ impl Server {
     ///
     /// # Errors
     ///
-    /// In this order: `NoSuch` where no connection has the number, `NotOpen` where it is not open, `NoRoom` where fewer than 2
-    /// bytes are free in its queue, `PeerTooSmall` where less than 2 bytes may be sent. Nothing has changed then.
+    /// In this order: `NoSuch` where no connection has the number, `NotOpen` where it is not open, `NoRoom` where fewer
+    /// than 2 bytes are free in its queue, `PeerTooSmall` where less than 2 bytes may be sent. Nothing has changed
+    /// then.
     pub fn release(&mut self, id: ConnId) -> Result<(), ReleaseFault>
         ensures answer { RefusedBy result (released_refusal self.old id) }
         ensures ok { OnOk result (self.new ≡ server_released self.old id) }
-        ensures shows { OnOk result ((events : List Event) → Shows self.old events → Shows self.new (events ++ Released id ∷ [])) }
+        ensures shows { OnOk result ((events : List Event) → Shows self.old events →
+            Shows self.new (events ++ Released id ∷ [])) }
         ensures err { OnErr result (self.new ≡ self.old) }
     {
         let Some(at) = find(&self.sessions, id) else {
@@ -97,7 +102,8 @@ impl Server {
     pub fn drop_conn(&mut self, id: ConnId) -> Result<(), NoSuch>
         ensures answer { is_ok result ≡ is_there (session_of id self.old.sessions) }
         ensures ok { OnOk result (self.new ≡ server_dropped self.old id) }
-        ensures shows { OnOk result ((events : List Event) → Shows self.old events → Shows self.new (events ++ Dropped id ∷ [])) }
+        ensures shows { OnOk result ((events : List Event) → Shows self.old events →
+            Shows self.new (events ++ Dropped id ∷ [])) }
         ensures err { OnErr result (self.new ≡ self.old) }
     {
         let Some(at) = find(&self.sessions, id) else {

@@ -6,7 +6,7 @@ ghost use Rattle.coap_wire.specs.Refusal.{RefusedBy};
 ghost use Rattle.coap_serve.specs.streams.Device.{AddsBytes, WritesPart};
 ghost use Rattle.coap_serve.specs.values.Flushes.{IsFlushedAt};
 ghost use Rattle.coap_serve.specs.values.Sessions.{SessionValue, session_written, session_ended, session_released, session_settled};
-ghost use Rattle.coap_serve.specs.values.Servers.{LiesAt, session_of, changed_at, settled_entry};
+ghost use Rattle.coap_serve.specs.values.Servers.{LiesAt, session_of, changed_at, settled_entry, AreSettled};
 ghost use Rattle.coap_serve.specs.values.Causes.{AreSettledUntouched, AreOthersSettled};
 ghost use Rattle.coap_serve.specs.values.Entries.{settled_held};
 ghost use Rattle.coap_serve.specs.values.ServerAnswers.{released_refusal_on, handled_so};
@@ -36,12 +36,14 @@ pub(super) fn settle_touched(sessions: &mut Sessions, host: &Host, cause: Cause)
     }
 }
 
-/// Every connection settles where the one at an index changed the resource at a path with this hash, and else that one alone, where
-/// it holds something.
+/// Every connection settles where the one at an index changed the resource at a path with this hash, and else that one
+/// alone, where it holds something.
 pub(super) fn settle_after(changed: Option<u8>, sessions: &mut Sessions, at: usize, host: &Host)
     requires within { at < length sessions.old.entries }
     requires others { AreOthersSettled changed at host.now sessions.old.entries }
-    ensures { sessions.new.entries ≡ (if is_some changed then map (settled_entry host.entry.now) sessions.old.entries else changed_at at (settled_held host.entry.now) sessions.old.entries) }
+    ensures { sessions.new.entries
+        ≡ (if is_some changed then map (settled_entry host.entry.now) sessions.old.entries else changed_at at
+        (settled_held host.entry.now) sessions.old.entries) }
 {
     match changed {
         None => sessions[at].settle_held(host),
@@ -52,7 +54,8 @@ pub(super) fn settle_after(changed: Option<u8>, sessions: &mut Sessions, at: usi
     }
 }
 
-/// What was handled where a connection took bytes or not, handled a message or not, and then takes no message any more, if so.
+/// What was handled where a connection took bytes or not, handled a message or not, and then takes no message any more,
+/// if so.
 pub(super) fn what_was_handled(takes: bool, message: bool, stop: Option<Reason>) -> Handled
     ensures { result ≡ handled_so takes message stop }
 {
@@ -75,17 +78,18 @@ pub(super) fn what_was_handled(takes: bool, message: bool, stop: Option<Reason>)
 pub(super) fn written_at(sessions: &mut Sessions, at: usize, host: &Host, count: usize)
     requires within { at < length sessions.old.entries }
     requires waiting { IfSome (slice_get (values sessions.old) at) (λ s. count ≤ length s.link.waiting) }
-    ensures { sessions.new.entries ≡ changed_at at (λ s. session_settled host.entry.now (session_written s count)) sessions.old.entries }
+    requires settled { AreSettled host.now sessions.old.entries }
+    ensures { sessions.new.entries
+        ≡ changed_at at (λ s. session_settled host.entry.now (session_written s count)) sessions.old.entries }
 {
-    let session = &mut sessions[at];
-    session.written(count);
-    session.settle(host);
+    sessions[at].written_and_settled(host, count);
 }
 
 /// The input of the connection at an index ended. It settles.
 pub(super) fn end_at(sessions: &mut Sessions, at: usize, host: &Host)
     requires { at < length sessions.old.entries }
-    ensures { sessions.new.entries ≡ changed_at at (λ s. session_settled host.entry.now (session_ended s)) sessions.old.entries }
+    ensures { sessions.new.entries
+        ≡ changed_at at (λ s. session_settled host.entry.now (session_ended s)) sessions.old.entries }
 {
     let session = &mut sessions[at];
     session.end();
@@ -104,7 +108,8 @@ pub(super) fn release_at(
 ) -> Result<(), ReleaseFault>
     requires { at < length sessions.old.entries }
     ensures answer { RefusedBy result (released_refusal_on (slice_get (values sessions.old) at)) }
-    ensures ok { OnOk result (sessions.new.entries ≡ changed_at at (λ s. session_settled host.entry.now (session_released s)) sessions.old.entries) }
+    ensures ok { OnOk result (sessions.new.entries ≡ changed_at at
+        (λ s. session_settled host.entry.now (session_released s)) sessions.old.entries) }
     ensures err { OnErr result (sessions.new.entries ≡ sessions.old.entries) }
 {
     let session = &mut sessions[at];
@@ -113,7 +118,8 @@ pub(super) fn release_at(
     Ok(())
 }
 
-/// Writes all that waits on the connection at an index, where anything does, and answers whether it did. It settles then.
+/// Writes all that waits on the connection at an index, where anything does, and answers whether it did. It settles
+/// then.
 ///
 /// # Errors
 ///
@@ -126,8 +132,11 @@ pub(super) fn flush_at<W: Outlet>(
 ) -> Result<bool, WriteFailed>
     requires within { at < length sessions.old.entries }
     requires works { W.is_failed writer.old ≡ false }
-    ensures ok { IfOk result (λ waited. (s : SessionValue) → slice_get (values sessions.old) at ≡ Some s → IsFlushedAt at host.entry.now s sessions.old.entries sessions.new.entries (AddsBytes (W.written writer.old) (W.written writer.new)) waited) }
-    ensures part { OnErr result ((s : SessionValue) → slice_get (values sessions.old) at ≡ Some s → WritesPart (W.written writer.old) (W.written writer.new) s.link.waiting) }
+    ensures ok { IfOk result (λ waited. (s : SessionValue) → slice_get (values sessions.old) at ≡ Some s →
+        IsFlushedAt at host.entry.now s sessions.old.entries sessions.new.entries
+        (AddsBytes (W.written writer.old) (W.written writer.new)) waited) }
+    ensures part { OnErr result ((s : SessionValue) → slice_get (values sessions.old) at ≡ Some s →
+        WritesPart (W.written writer.old) (W.written writer.new) s.link.waiting) }
     ensures err { OnErr result (sessions.new.entries ≡ sessions.old.entries) }
     ensures failure { W.is_failed writer.new ≡ is_err result }
 {

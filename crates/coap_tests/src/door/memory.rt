@@ -1,5 +1,6 @@
-//! A door that is served while memory is refused. What the test allocates is what it serves, so `rt try --test --fail-alloc N` refuses each
-//! of these in turn: what was written until then is what is written without a refusal, and a run behind it goes as without one.
+//! A door that is served while memory is refused. What the test allocates is what it serves, so `rt try --test
+//! --fail-alloc N` refuses each of these in turn: what was written until then is what is written without a refusal, and
+//! a run behind it goes as without one.
 
 ghost use Rattle.std.specs.Prelude.{None, Some, true};
 
@@ -88,7 +89,8 @@ impl<'a> Door for Once<'a> {
     fn wait(&mut self, _wait: Wait, _opens: bool) {}
 }
 
-/// Serves one connection in forty turns, and tells how that ended. What is written is all of it, and a front of it where memory is refused.
+/// Serves one connection in forty turns, and tells how that ended. What is written is all of it, and a front of it
+/// where memory is refused.
 fn served(rt: &(impl Abort + AllocGlobal), config: Config) -> Result<(), IoFault> {
     let page = RefCell::new(Fixed::new(64, None));
     let mut door = Once {

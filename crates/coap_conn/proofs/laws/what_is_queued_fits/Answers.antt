@@ -1,4 +1,5 @@
 use Rattle.coap_conn.proofs.HistoryLaws.{new_fits, reaction_fits, sent_fits, stopped_fits, released_fits, due_fits, asked_fits, cancelled_fits}
+use Rattle.coap_conn.proofs.AnnounceLaws.{announcement_fits}
 use Rattle.coap_conn.proofs.laws.what_is_queued_fits.Goals as goal
 
 pub returns-clause-new : goal.returns-clause-new
@@ -24,3 +25,6 @@ returns-clause-asked c = asked_fits
 
 pub returns-clause-cancelled : goal.returns-clause-cancelled
 returns-clause-cancelled c = cancelled_fits
+
+pub returns-clause-announced : goal.returns-clause-announced
+returns-clause-announced c = announcement_fits

@@ -7,7 +7,7 @@ use Rattle.coap_conn.proofs.messages.announce.Goals as goal
 
 pub put-requires : goal.put-requires
 put-requires c =
-    let same : c.option.new.self ≡ own_csm c.args.max_message = search rules in
+    let same : c.csm_with-csm.result ≡ own_csm c.args.max_message = search rules in
     omega (arith, csm_small c.args.max_message, ap (λ (m : Message). length (spelling m)) same, c.requires)
 
 pub returns-clause-small : goal.returns-clause-small

@@ -1,6 +1,6 @@
 use Rattle.std.proofs.Common.{rules, ◌≡◌, arith, sym, ◌∙◌}
 use Rattle.coap_wire.specs.declared.frame.Declared.TheVariants.{Unknown}
-use Rattle.coap_frame.proofs.FillLemmas.{unknown_small}
+use Rattle.coap_wire.proofs.StreamSteps.{unknown_small}
 use Rattle.coap_frame.proofs.filling.fill_head.Goals as goal
 
 pub push_reserved-requires : goal.push_reserved-requires

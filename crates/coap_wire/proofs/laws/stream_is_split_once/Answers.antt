@@ -1,4 +1,4 @@
-use Rattle.std.proofs.Common.{sym}
+use Rattle.coap_wire.proofs.StreamSteps.{split_is}
 use Rattle.coap_wire.proofs.StreamLaws.{split_splits, splits_split}
 use Rattle.coap_wire.proofs.laws.stream_is_split_once.Goals as goal
 
@@ -6,4 +6,7 @@ pub returns-clause-has : goal.returns-clause-has
 returns-clause-has c = split_splits
 
 pub returns-clause-no_other : goal.returns-clause-no_other
-returns-clause-no_other c = λ M s other bytes splits. sym (splits_split M s other.messages other.rest other.fault bytes splits)
+returns-clause-no_other c = splits_split
+
+pub returns-clause-one_size : goal.returns-clause-one_size
+returns-clause-one_size c = split_is

@@ -17,6 +17,7 @@ returns-clause-shows g c = turned_further c.args.server.now c.accept.new.server 
 pub returns-clause-turn : goal.returns-clause-turn
 returns-clause-turn g c = record {
   opens = c.in_ok-accept.field-0;
+  asked = c.in_ok-accept.ensures.asks;
   server = c.accept.new.server;
   entries = c.accept.new.peers.entries;
   opened = c.in_ok-accept.ensures.opened;

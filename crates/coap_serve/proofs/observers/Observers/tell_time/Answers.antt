@@ -1,11 +1,5 @@
-use Rattle.std.proofs.Common.{ap, sym, ◌∙◌}
-use Rattle.std.specs.List.{list_any}
-use Rattle.coap_serve.specs.values.Sessions.{ObserversValue}
-use Rattle.coap_serve.specs.values.Dues.{tells_time as observes_time}
-use Rattle.coap_serve.proofs.values.CoverLemmas.{none_tells_time}
+use Rattle.std.proofs.Common.{sym, ◌∙◌}
 use Rattle.coap_serve.proofs.observers.Observers.tell_time.Goals as goal
 
-pub returns-else-may_have_built_in : goal.returns-else-may_have_built_in
-returns-else-may_have_built_in c =
-    c.if-may_have_built_in.false ∙ none_tells_time c.self.inside.paths _ c.self.invariant.covered (sym c.may_have_built_in.ensures ∙ c.if-may_have_built_in.false)
-    ∙ ap (λ (v : ObserversValue). list_any observes_time v.entries) c.self.view_is
+pub returns-else-may_tell_time : goal.returns-else-may_tell_time
+returns-else-may_tell_time c = c.if-may_tell_time.false ∙ sym (c.may_tell_time.ensures c.if-may_tell_time.false)

@@ -5,9 +5,10 @@ use Rattle.coap_serve.specs.script.Events.{Remove}
 use Rattle.coap_serve.specs.script.Replay.{event_ran, store_number}
 use Rattle.coap_serve.specs.script.Shown.{events_made}
 use Rattle.coap_serve.specs.world.Events.{Removed}
-use Rattle.coap_serve.proofs.scripting.ReplayLemmas.{allowed, denied, no_such, not_refused, unrun}
+use Rattle.coap_serve.proofs.scripting.ReplayLemmas.{allowed, denied, no_such, unrun}
 use Rattle.coap_serve.proofs.scripting.ShownLemmas.{shows_same, shows_as, made, unmade, nothing_made, run_refused}
 use Rattle.coap_serve.proofs.server.Server.run_remove.Goals as goal
+use Rattle.coap_conn.proofs.AskingLaws.{none_where}
 
 -- the store refuses
 refused : (c : goal.After-fault_line) → remove_refusal c.args.self.now.host.store c.args.path.now ≡ Some NoSuch
@@ -22,7 +23,7 @@ pub returns-in_err-line-clause-run : goal.returns-in_err-line-clause-run
 returns-in_err-line-clause-run c =
     let v = c.args.self.now in
     unrun v (Remove c.args.path.now c.args.text.now) v c.from_residual.result c.from_residual.ensures.0
-    (not_refused (remove_refusal v.host.store c.args.path.now) (sym c.can_remove.ensures ∙ c.if-not-can_remove.false), refl)
+    (none_where (remove_refusal v.host.store c.args.path.now) (sym c.can_remove.ensures ∙ c.if-not-can_remove.false), refl)
 
 pub returns-clause-run : goal.returns-clause-run
 unfolding event_ran

@@ -12,6 +12,7 @@ use Rattle.coap_serve.proofs.values.CauseLemmas.{hash_where_changed, others_sett
 use Rattle.coap_serve.proofs.values.TakenLemmas.{count_is, taken_value, taken_server, taken_lies, taken_handled, refuses_on, refused_value, refused_server}
 use Rattle.coap_serve.proofs.world.CallLaws.{take_takes, take_shows, refused_take_shows}
 use Rattle.coap_serve.proofs.world.HandlingLaws.{take_says}
+use Rattle.coap_serve.proofs.world.MemoryLaws.{take_refused_for}
 use Rattle.coap_serve.specs.declared.server.Taken.{Taken}
 use Rattle.coap_serve.specs.declared.server.TakeFault.TheVariants as taking
 use Rattle.coap_serve.proofs.server.Server.take.Goals.{After-what_was_handled}
@@ -93,3 +94,12 @@ returns-in-Ok-clause-shows c = take_shows (Ok (taken c)) c.args.self.now _ c.arg
 
 pub returns-in-Err-clause-shows_refused : goal.returns-in-Err-clause-shows_refused
 returns-in-Err-clause-shows_refused c = refused_take_shows (Err (taking.Memory c.in-Err.bytes)) c.args.self.now _ c.args.id c.args.piece.now (returns-in-Err-clause-refused c)
+
+pub returns-in-Err-clause-refused_for : goal.returns-in-Err-clause-refused_for
+returns-in-Err-clause-refused_for c = take_refused_for (Err (taking.Memory c.in-Err.bytes)) c.args.self.now _ c.args.id c.args.piece.now (returns-in-Err-clause-refused c)
+
+pub returns-in_default-clause-refused : goal.returns-in_default-clause-refused
+returns-in_default-clause-refused c = search rules
+
+pub returns-in_default-clause-refused_for : goal.returns-in_default-clause-refused_for
+returns-in_default-clause-refused_for c = take_refused_for (Err taking.NoSuch) c.args.self.now _ c.args.id c.args.piece.now (returns-in_default-clause-refused c)

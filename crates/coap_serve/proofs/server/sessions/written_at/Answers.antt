@@ -1,10 +1,13 @@
 use Rattle.std.proofs.Common.{ap, ◌∙◌}
 use Rattle.indexmap.specs.IndexMap.{set_value_at}
-use Rattle.coap_serve.specs.values.Sessions.{session_settled, session_written}
-use Rattle.coap_serve.proofs.values.ServerLemmas.{written_at_index}
+use Rattle.coap_serve.specs.values.Sessions.{IsSettled, session_settled, session_written}
+use Rattle.coap_serve.proofs.values.ServerLemmas.{written_at_index, one_of_all}
 use Rattle.coap_serve.proofs.server.sessions.written_at.Goals as goal
+
+pub written_and_settled-requires-clause-settled : goal.written_and_settled-requires-clause-settled
+written_and_settled-requires-clause-settled c = one_of_all (IsSettled c.args.host.now) c.args.at _ _ c.requires.settled c.index_mut.ensures.value
 
 pub returns : goal.returns
 returns c =
-    ap (set_value_at c.args.sessions.now.entries c.args.at) (c.settle.ensures.after ∙ ap (session_settled c.args.host.now) c.written.ensures)
-    ∙ written_at_index (λ s. session_settled c.args.host.now (session_written s c.args.count)) _ _ _ c.index_mut-session.ensures.value
+    ap (set_value_at c.args.sessions.now.entries c.args.at) c.written_and_settled.ensures
+    ∙ written_at_index (λ s. session_settled c.args.host.now (session_written s c.args.count)) _ _ _ c.index_mut.ensures.value

@@ -1,0 +1,11 @@
+use Rattle.coap_serve.proofs.streams.NextPartLemmas.{few_written, part_written}
+use Rattle.coap_serve.specs.declared.wire.Got.TheVariants.{Bytes}
+use Rattle.coap_client.proofs.run.Run.write.Goals as goal
+
+pub written-requires : goal.written-requires
+written-requires g c = few_written c.args.self.now.client.link.waiting c.next_part.result.now c.in-Bytes.count c.next_part.ensures c.in-Bytes.ensures.within.1
+
+pub returns-in-Bytes-clause-wrote : goal.returns-in-Bytes-clause-wrote
+returns-in-Bytes-clause-wrote g c =
+    part_written c.args.self.now.client.link.waiting c.next_part.result.now (Bytes c.in-Bytes.count) (g.W.Wire.written c.args.wire.now) (g.W.Wire.written c.write.new.self)
+    c.next_part.ensures c.in-Bytes.ensures.within c.in-Bytes.ensures.wrote

@@ -1,0 +1,88 @@
+-- A framer whose greatest frame is raised.
+use Rattle.std.proofs.Common.{◌≡◌, ℕ, ◌-◌, ◌<◌, ◌≤◌, Bool, true, false, List, [], length, Option, Some, None, refl, sym, ap, subst, ◌∙◌, arith, inl, inr, is_none, if◌then◌else◌}
+use Rattle.std.proofs.lemmas.Bool.{cases_lt, lt-ltb, le-ltb}
+use Rattle.coap_wire.specs.Reading.{declared_of}
+use Rattle.coap_wire.specs.Beginning.{Beginning, Unfinished, Faulty, beginning, size_bytes}
+use Rattle.coap_wire.specs.declared.frame.Declared.{Declared}
+use Rattle.coap_wire.specs.declared.frame.Declared.TheVariants.{Unknown, Size, BadToken}
+use Rattle.coap_wire.specs.declared.fault.FrameFault.TheVariants.{TokenLength}
+use Rattle.coap_wire.proofs.StreamSteps.{begin_unknown, begin_bad_token, begin_short, size_has_bytes, declared_some, unfinished_larger, unknown_not_size}
+use Rattle.coap_frame.specs.Framing.{FramerValue, IsFramer}
+use Rattle.coap_frame.specs.Raising.{raise_refusal, with_size, asked_for}
+use Rattle.coap_frame.specs.BufferViews.{framer_of, kept_in}
+use Rattle.coap_frame.specs.declared.framer.Held.{Held}
+use Rattle.coap_frame.specs.declared.framer.Held.TheVariants as held
+use Rattle.coap_frame.specs.declared.fault.RaiseFault.{RaiseFault}
+use Rattle.coap_frame.specs.declared.fault.RaiseFault.TheVariants.{Lower, TooLarge}
+use Rattle.coap_frame.proofs.FillLemmas.{told_unfinished}
+
+unfinished_by : (M N : ℕ) (s : List ℕ) (d : Declared) → beginning M s ≡ Unfinished → (size_bytes s - 1 < length s → M ≤ N) → declared_of s ≡ d → beginning N s ≡ Unfinished
+unfinished_by M N s Unknown u larger e = begin_unknown N s e
+unfinished_by M N s (Size n) u larger e =
+    let told = told_unfinished M s n u e in
+    let some = declared_some s (λ unknown. unknown_not_size n (sym unknown ∙ e)) in
+    let more : M ≤ N = larger (omega (arith, size_has_bytes s n e, some)) in
+    begin_short N s n e (omega (arith, told.0, more)) told.1
+unfinished_by M N s BadToken u larger e =
+    let bad : ◌≡◌ {A = Beginning} Unfinished (Faulty TokenLength) = sym u ∙ begin_bad_token M s e in
+    absurd cc
+
+-- What is unfinished is so with another size, which is no lower where the size is told.
+pub unfinished_with : (M N : ℕ) (s : List ℕ) → beginning M s ≡ Unfinished → (size_bytes s - 1 < length s → M ≤ N) → beginning N s ≡ Unfinished
+unfinished_with M N s u larger = unfinished_by M N s (declared_of s) u larger refl
+
+-- a size that is not refused
+pub raise_allowed : (max new : ℕ) → raise_refusal max new ≡ None → (max ≤ new) × (new ≤ 1048576)
+raise_allowed max new e =
+    elim (cases_lt new max) [
+      | inl low ↦ (
+          let is : raise_refusal max new ≡ Some Lower = rw (lt-ltb new max low) refl in
+          let bad : ◌≡◌ {A = Option RaiseFault} None (Some Lower) = sym e ∙ is in
+          absurd cc)
+      | inr fits ↦ elim (cases_lt 1048576 new) [
+        | inl high ↦ (
+            let is : raise_refusal max new ≡ Some TooLarge = rw (le-ltb new max fits, lt-ltb 1048576 new high) refl in
+            let bad : ◌≡◌ {A = Option RaiseFault} None (Some TooLarge) = sym e ∙ is in
+            absurd cc)
+        | inr small ↦ (fits, small)
+      ]
+    ]
+
+none_by : (o : Option RaiseFault) → is_none o ≡ true → o ≡ None
+none_by None e = refl
+none_by (Some fault) e = absurd cc
+
+pub allowed_by : (max new : ℕ) → is_none (raise_refusal max new) ≡ true → (max ≤ new) × (new ≤ 1048576)
+allowed_by max new e = raise_allowed max new (none_by (raise_refusal max new) e)
+
+-- a framer stays one
+pub raised_is_framer : (v : FramerValue) (new : ℕ) → IsFramer v → v.max ≤ new → new ≤ 1048576 → IsFramer (with_size v new)
+raised_is_framer v new is larger small = record {
+  low = omega (arith, is.low, larger);
+  high = small;
+  countable = is.countable;
+  unfinished = unfinished_larger v.max new v.kept larger is.unfinished;
+  whole = inl refl;
+}
+
+-- the framer that keeps in its buffer what it kept
+pub raised_holds : (max new copied : ℕ) (was now : Held) (bytes left : List ℕ) → IsFramer (framer_of max was bytes copied) → max ≤ new → new ≤ 1048576
+    → now ≡ held.Beginning → left ≡ kept_in was bytes → IsFramer (framer_of new now left copied)
+raised_holds max new copied was now bytes left is larger small begins keeps =
+    let begun : IsFramer (framer_of new held.Beginning (kept_in was bytes) copied) = raised_is_framer (framer_of max was bytes copied) new is larger small in
+    subst (λ (h : Held). IsFramer (framer_of new h left copied)) (sym begins)
+    (subst (λ (b : List ℕ). IsFramer (framer_of new held.Beginning b copied)) (sym keeps) begun)
+
+asked_by : (v : FramerValue) (new : ℕ) (allowed : Bool) → is_none (raise_refusal v.max new) ≡ allowed → IsFramer v → IsFramer (if allowed then with_size v new else v)
+asked_by v new true e is = let fits = allowed_by v.max new e in raised_is_framer v new is fits.0 fits.1
+asked_by v new false e is = is
+
+pub asked_is_framer : (v : FramerValue) (new : ℕ) → IsFramer v → IsFramer (asked_for v new)
+asked_is_framer v new is = asked_by v new (is_none (raise_refusal v.max new)) refl is
+
+copied_by : (v : FramerValue) (new : ℕ) (allowed : Bool) → (if allowed then with_size v new else v).copied ≡ v.copied
+copied_by v new true = refl
+copied_by v new false = refl
+
+pub asked_copied : (v : FramerValue) (new : ℕ) → (asked_for v new).copied ≡ v.copied
+asked_copied v new = copied_by v new (is_none (raise_refusal v.max new))

@@ -1,0 +1,37 @@
+use Rattle.std.proofs.Common.{ap, arith, ◌∙◌}
+use Rattle.std.proofs.lemmas.Result.{err_from_is_err_and}
+use Rattle.coap_serve.proofs.streams.DoorLemmas.{has_begun, turned_once_more, cut_in_a_turn, has_ended, ended_by_memory}
+use Rattle.coap_serve.proofs.door.serve_door.Goals as goal
+
+pub loop-turn-init : goal.loop-turn-init
+loop-turn-init g c =
+    has_begun g.D.Wire.Ready.readable g.D.Wire.Ready.writable c.args.config (g.C.Clock.moments c.args.clock.now) (g.D.Door.calls c.args.door.now)
+    c.in-Ok.service.server c.in-Ok.service.peers.entries c.in-Ok.service.is_spent c.in-Ok.ensures.value c.in-Ok.ensures.none c.in-Ok.ensures.ready
+
+pub loop-turn-preserved : goal.loop-turn-preserved
+loop-turn-preserved g c =
+    turned_once_more g.D.Wire.Ready.readable g.D.Wire.Ready.writable c.args.config
+    (g.C.Clock.moments c.args.clock.now) (g.C.Clock.moments c.loop-turn.clock) (g.C.Clock.moments c.now.new.self)
+    (g.D.Door.calls c.args.door.now) (g.D.Door.calls c.loop-turn.door) (g.D.Door.calls c.wait_behind.new.door) (g.D.Door.calls c.turn.new.door)
+    c.loop-turn.service.server c.loop-turn.service.peers.entries c.loop-turn.service.is_spent c.loop-turn.wait c.loop-turn.turn c.loop-turn.invariant
+    c.can_open.result c.can_open.ensures c.wait_behind.ensures c.now.result c.now.ensures c.tick.new.self.server c.tick.ensures.moved
+    c.tick.new.self.peers.entries c.turn.new.self.server c.turn.new.self.peers.entries c.turn.new.self.is_spent c.in_ok-wait.wait
+    (ap (λ peers. peers.entries) c.tick.ensures.peers) c.in_ok-wait.ensures.turn c.in_ok-wait.ensures.waits c.in_ok-wait.ensures.ready
+
+pub returns-in_err-wait-clause-run : goal.returns-in_err-wait-clause-run
+returns-in_err-wait-clause-run g c =
+    let p = err_from_is_err_and c.from_residual.result c.from_residual.ensures.1 in
+    rw (p.1, p.2)
+    (ended_by_memory g.D.Wire.Ready.readable g.D.Wire.Ready.writable c.args.config _ _ c.in_err-wait.field-0.0 c.in_err-wait.ensures.fault
+    (cut_in_a_turn g.D.Wire.Ready.readable g.D.Wire.Ready.writable c.args.config
+    (g.C.Clock.moments c.args.clock.now) (g.C.Clock.moments c.loop-turn.clock) (g.C.Clock.moments c.now.new.self)
+    (g.D.Door.calls c.args.door.now) (g.D.Door.calls c.loop-turn.door) (g.D.Door.calls c.wait_behind.new.door) (g.D.Door.calls c.turn.new.door)
+    c.loop-turn.service.server c.loop-turn.service.peers.entries c.loop-turn.service.is_spent c.loop-turn.wait c.loop-turn.turn c.loop-turn.invariant
+    c.can_open.result c.can_open.ensures c.wait_behind.ensures c.now.result c.now.ensures c.tick.new.self.server c.tick.ensures.moved
+    (c.turn.ensures.asks (c.tick.ensures.spent ∙ c.loop-turn.invariant.ready)) (omega (arith, c.loop-turn-test.true, c.turns-turn-end.ensures.value))))
+
+pub returns-clause-run : goal.returns-clause-run
+returns-clause-run g c =
+    has_ended g.D.Wire.Ready.readable g.D.Wire.Ready.writable c.args.config _ _
+    c.loop-turn.service.server c.loop-turn.service.peers.entries c.loop-turn.service.is_spent c.loop-turn.wait c.loop-turn.turn c.loop-turn.invariant
+    (omega (arith, c.loop-turn-test.false, c.turns-turn-end.ensures.value))

@@ -1,0 +1,14 @@
+-- What a plan asks of a server.
+use Rattle.std.specs.Prelude.{ℕ}
+use Rattle.coap_client.specs.declared.plan.ServerPlan.{ServerPlan}
+use Rattle.coap_serve.specs.Configs.{ConfigValues, config_of}
+use Rattle.coap_serve.specs.declared.config.Starts.{Starts}
+use Rattle.coap_serve.specs.views.ConfigViews.{start_values}
+
+-- the bytes of a representation, at most, which no option sets
+abbrev pub rep_max : ℕ
+rep_max = 65_000
+
+-- The configuration of a plan, with counts that begin where it is told: all else is the plan's own.
+abbrev pub planned : ServerPlan → Starts → ConfigValues
+planned plan starts = config_of plan.limits plan.connections plan.dynamic_max rep_max plan.turns (start_values starts)

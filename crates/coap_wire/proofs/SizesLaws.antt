@@ -1,0 +1,58 @@
+-- A stream that goes on while another size is in force.
+use Rattle.std.proofs.Common.{◌≡◌, ℕ, ◌+◌, ◌-◌, ◌<◌, ◌≤◌, List, [], ◌∷◌, ◌++◌, length, Option, Some, None, refl, sym, ap, ◌∙◌, arith, inl, inr}
+use Rattle.std.proofs.lemmas.Bool.{cases_lt, lt-ltb, le-ltb}
+use Rattle.coap_wire.specs.Beginning.{Unfinished, beginning}
+use Rattle.coap_wire.specs.Frames.{Sizes, always, sizes_first, sizes_behind, size_for, sizes_of_rest}
+use Rattle.coap_wire.specs.Stream.{StreamFault, Stream, sized_split, split, gone_on, split_on}
+use Rattle.coap_wire.proofs.StreamSteps.{AreAlikeBehind, split_alike, split_is, sized_goes_on, sized_rest, rest_within, unfinished_larger}
+
+-- ---- a size at the time of so many bytes
+
+module _ (n M : ℕ) (S : Sizes) where
+  pub first_in : (at : ℕ) → at < n → sizes_first n M S at ≡ M
+  first_in at h = rw (lt-ltb at n h) refl
+
+  pub first_past : (at : ℕ) → n ≤ at → sizes_first n M S at ≡ S (at - n)
+  first_past at h = rw (le-ltb at n h) refl
+
+  pub behind_first : sizes_behind n (sizes_first n M S) ≡ S
+  behind_first =
+      let point : (at : ℕ) → sizes_first n M S (n + at) ≡ S at = λ at.
+      let same : (n + at) - n ≡ at = omega arith in
+      first_past (n + at) (omega arith) ∙ ap S same in
+      λ i at. point at i
+
+pub first_none : (M : ℕ) (S : Sizes) → sizes_first 0 M S ≡ S
+first_none M S =
+    let point : (at : ℕ) → sizes_first 0 M S at ≡ S at = λ at.
+    let same : at - 0 ≡ at = omega arith in
+    first_past 0 M S at (omega arith) ∙ ap S same in
+    λ i at. point at i
+
+-- ---- a stream that goes on
+
+-- the rest with the size in force now is as it is with the sizes of its bytes
+went_by : (F : Sizes) (N : ℕ) (s more : List ℕ) (fault : Option StreamFault) → ((at : ℕ) → F at ≤ N) → ((at : ℕ) → length s ≤ at → F at ≡ N) → (sized_split F s).fault ≡ fault
+    → gone_on (sized_split F s) fault (sized_split (sizes_of_rest F s (sized_split F s).rest) ((sized_split F s).rest ++ more))
+    ≡ gone_on (sized_split F s) fault (split N ((sized_split F s).rest ++ more))
+went_by F N s more None most now none =
+    let before : Stream = sized_split F s in
+    let within : length before.rest ≤ length s = rest_within F s in
+    let R : Sizes = sizes_of_rest F s before.rest in
+    let place : (at : ℕ) → length before.rest ≤ at → length s ≤ (length s - length before.rest) + at = λ at h. omega (arith, h, within) in
+    let alike : AreAlikeBehind R (always N) before.rest = record {
+      unfinished = sized_rest F s none;
+      larger = most _;
+      same = λ at h. now _ (place at h);
+    } in
+    ap (gone_on before None) (split_alike R (always N) before.rest more alike ∙ sym (split_is N (before.rest ++ more)))
+went_by F N s more (Some fault) most now is = refl
+
+-- What is left of bytes goes on with more of them as with the size in force now, where no greater one was in force before.
+pub went_on : (F : Sizes) (N : ℕ) (s more : List ℕ) → ((at : ℕ) → F at ≤ N) → ((at : ℕ) → length s ≤ at → F at ≡ N)
+    → sized_split F (s ++ more) ≡ split_on N (sized_split F s) more
+went_on F N s more most now = sized_goes_on F s more ∙ went_by F N s more (sized_split F s).fault most now refl
+
+-- what is left is unfinished with the size in force now
+pub left_unfinished : (F : Sizes) (N : ℕ) (s : List ℕ) → ((at : ℕ) → F at ≤ N) → (sized_split F s).fault ≡ None → beginning N (sized_split F s).rest ≡ Unfinished
+left_unfinished F N s most none = unfinished_larger (size_for (sizes_of_rest F s (sized_split F s).rest) (sized_split F s).rest) N (sized_split F s).rest (most _) (sized_rest F s none)
