@@ -1,5 +1,5 @@
 -- A write of a front of what waits is a write of all that waits, as far as the wire takes it.
-use Rattle.std.proofs.Common.{◌≡◌, ℕ, ◌≤◌, Bool, true, List, length, take, Option, Some, None, refl, ap, subst, ◌∙◌, le_trans, arith}
+use Rattle.std.proofs.Common.{◌≡◌, ℕ, ◌≤◌, true, List, length, take, Option, Some, None, refl, ap, subst, ◌∙◌, le_trans, arith}
 use Rattle.std.proofs.lemmas.List.{take-take, length-take}
 use Rattle.coap_conn.specs.QueueValue.{IsNextPart}
 use Rattle.coap_serve.specs.streams.Device.{AddsBytes}

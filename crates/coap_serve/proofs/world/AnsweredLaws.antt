@@ -2,7 +2,6 @@
 use Rattle.std.proofs.Common.{◌≡◌, ℕ, ◌+◌, ◌≤◌, Bool, true, false, cond, not, ◌&&◌, ◌==◌, ◌/◌, List, [], ◌∷◌, ◌++◌, length, Option, Some, None, refl, sym, ap, subst, ◌∙◌, inl, inr, ◌⊎◌, arith, nat_lt, is_none, find}
 use Rattle.std.specs.List.{AllByRecursion, list_any}
 use Rattle.std.proofs.lemmas.Bool.{and_parts, and_left, and_right, both_ways, cond_both, eqb-true, ltb-false}
-use Rattle.std.proofs.lemmas.List.{append-nil}
 use lib.Pointwise.{bytes_decides}
 use Rattle.coap_wire.specs.Message.{Message}
 use Rattle.coap_wire.specs.Codes as code
@@ -18,13 +17,13 @@ use Rattle.coap_conn.specs.Limits.{LimitValues}
 use Rattle.coap_conn.specs.Phases.{stop_of, takes_messages, answers, is_open, is_waiting}
 use Rattle.coap_conn.specs.Reasons.{abort_of, abort_text}
 use Rattle.coap_conn.specs.Announced.{has_critical_option, bad_csm_option}
-use Rattle.coap_conn.specs.Fit.{fit, bare_response, bare_code, abort_fitted, without_options}
+use Rattle.coap_conn.specs.Fit.{fit, bare_response, abort_fitted, without_options}
 use Rattle.coap_conn.specs.Held.{HeldValue, Answer, Pong, due_index, first_due, without_due}
 use Rattle.coap_conn.specs.Outstanding.{OutstandingValue, is_asked, is_last, is_pinged, without_asked, without_pinged}
 use Rattle.coap_conn.specs.Verdicts.{VerdictValue, is_request}
 use Rattle.coap_conn.specs.Verdicts as verdict
-use Rattle.coap_conn.specs.Reaction.{Standing, Effect, Reaction, stay, stop, abort, aborts, send_as, send, holds, told_of, react, reaction_unless, live_reaction, open_reaction, csm_reaction, leaves, request_reaction, ping_reaction, late_pong, pong_reaction, release_reaction, answered, tells, is_reserved, is_signal, is_method, minds_critical_options, asks_custody, is_custody_pong, pong_with, pong_of}
-use Rattle.coap_conn.specs.History.{History, limit_now, standing_now, with_effect, after, may_hold}
+use Rattle.coap_conn.specs.Reaction.{Standing, Effect, Reaction, stay, stop, aborts, send_as, send, told_of, react, reaction_unless, live_reaction, open_reaction, csm_reaction, leaves, request_reaction, ping_reaction, pong_reaction, release_reaction, answered, tells, is_reserved, is_signal, is_method, minds_critical_options, asks_custody, is_custody_pong, pong_with, pong_of}
+use Rattle.coap_conn.specs.History.{History, standing_now, with_effect, after, may_hold}
 use Rattle.coap_conn.specs.Calls.{standing_due}
 use Rattle.coap_conn.specs.Calls as call
 use Rattle.coap_conn.proofs.HeldLaws.{due_pong}
@@ -34,18 +33,17 @@ use Rattle.coap_store.specs.Answer.{Response, held_response, answer_of, prompt_a
 use Rattle.coap_store.specs.Messages.{response_with_observe}
 use Rattle.coap_serve.specs.Configs.{ConfigValues}
 use Rattle.coap_serve.specs.world.Observers.{Observer, without_token, has_place, goes_on, notification}
-use Rattle.coap_serve.specs.world.Sides.{Side, has_room, handles, with_history, side_replied, held_for, moment_after, asks_answer, side_handled, side_after, side_faulted, side_written, side_ended, side_released, next_due, next_held, held_message, after_sent, notified, settled_so, settled_once}
+use Rattle.coap_serve.specs.world.Sides.{Side, has_room, handles, with_history, side_replied, held_for, moment_after, asks_answer, side_handled, side_after, next_due, next_held, held_message, after_sent, notified, settled_so, settled_once}
 use Rattle.coap_serve.specs.world.World.{side_of}
 use Rattle.coap_serve.specs.world.Events.{Event, world_after}
 use Rattle.coap_serve.specs.world.Told.{is_response, responds}
-use Rattle.coap_serve.specs.world.Custody.{asks_held}
 use Rattle.coap_serve.specs.world.Answered.{is_asking, FollowsAnswers}
-use Rattle.coap_serve.proofs.world.WalkLaws.{heard, sent, due_is, if_between, faulted_between, written_between, ended_between, released_between}
+use Rattle.coap_serve.proofs.world.WalkLaws.{heard, sent, due_is, faulted_between, written_between, ended_between, released_between}
 use Rattle.coap_serve.proofs.world.GoingOn.{Keeps, kept_after}
 use Rattle.coap_serve.proofs.world.SideLaws.{held_room}
-use Rattle.coap_serve.proofs.world.ToldMessages.{Queues, IsPlain, queues_none, reject_queues, end_queues, release_queues, abort_plain}
-use Rattle.coap_serve.proofs.world.CustodyLaws.{response_no_pong, bare_no_pong, asked_at_all, held_at_all, asked_open, IsNoPong}
-use Rattle.coap_serve.proofs.world.AnswerCounts.{one, count_more, Tally, AtMost, plus, asks_with, requests, responses, awaits, held_back, IsBehind, PongsBehind, pongs_more, pongs_then, pongs_other, pong_at, IsPongFor, HeldBehind, held_more, held_grows, held_last, due_moves, due_fewer, own_answers}
+use Rattle.coap_serve.proofs.world.ToldMessages.{Queues, IsPlain, reject_queues, end_queues, release_queues, abort_plain}
+use Rattle.coap_serve.proofs.world.CustodyLaws.{response_no_pong, bare_no_pong, held_at_all, asked_open, IsNoPong}
+use Rattle.coap_serve.proofs.world.AnswerCounts.{one, count_more, Tally, AtMost, plus, asks_with, requests, responses, awaits, held_back, IsBehind, PongsBehind, pongs_more, pongs_then, pongs_other, pong_at, HeldBehind, held_more, held_grows, held_last, due_moves, due_fewer, own_answers}
 use Rattle.coap_serve.proofs.world.AnswerCodes.{coded, prompt_coded, bare_coded}
 
 plain_no_pong : (ms : List Message) → AllByRecursion IsPlain ms → AllByRecursion IsNoPong ms

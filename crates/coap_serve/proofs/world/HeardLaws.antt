@@ -1,5 +1,5 @@
 -- Steps as they are heard leave the same world, and with the same bytes kept the same server.
-use Rattle.std.proofs.Common.{◌≡◌, ℕ, Bool, true, false, cond, ◌&&◌, List, [], ◌∷◌, map, Option, Some, None, refl, sym, ap, subst, ◌∙◌, ◌==◌}
+use Rattle.std.proofs.Common.{◌≡◌, ℕ, Bool, true, false, cond, ◌&&◌, List, [], ◌∷◌, map, Option, Some, refl, sym, ap, ◌∙◌, ◌==◌}
 use Rattle.std.specs.List.{AllByRecursion}
 use Rattle.std.proofs.lemmas.Bool.{eqb-true}
 use Rattle.coap_conn.specs.Limits.{LimitValues}
@@ -9,7 +9,6 @@ use Rattle.coap_conn.specs.Calls.{end_reason}
 use Rattle.coap_conn.specs.History.{standing_now, with_effect}
 use Rattle.coap_serve.specs.Configs.{ConfigValues}
 use Rattle.coap_serve.specs.values.Sessions.{SessionValue}
-use Rattle.coap_serve.specs.values.Servers.{ServerValue}
 use Rattle.coap_serve.specs.world.Sides.{Side, with_history, side_ended}
 use Rattle.coap_serve.specs.world.World.{Place, World, Step, new_world, side_of, changed_at, acted, all_settled, after_steps}
 use Rattle.coap_serve.specs.world.World as world

@@ -1,14 +1,14 @@
 -- What a connection sees of accepted events is accepted, and leaves the connection, the store and the moment what all events leave.
-use Rattle.std.proofs.Common.{◌≡◌, ◌≢◌, ℕ, ◌+◌, ◌<◌, ◌≤◌, Bool, true, false, cond, List, [], ◌∷◌, ◌++◌, length, map, drop, Option, Some, None, refl, sym, ap, subst, ◌∙◌, append_assoc, arith, is_none, ◌==◌, if◌then◌else◌}
+use Rattle.std.proofs.Common.{◌≡◌, ◌≢◌, ℕ, ◌<◌, ◌≤◌, Bool, true, false, cond, List, [], ◌∷◌, ◌++◌, length, map, drop, Option, Some, None, refl, sym, ap, subst, ◌∙◌, append_assoc, arith, is_none, ◌==◌, if◌then◌else◌}
 use Rattle.std.specs.List.{AllByRecursion}
 use Rattle.std.proofs.lemmas.Bool.{eq-eqb, ne_eqb, eqb-true, eqb-false}
-use Rattle.std.proofs.lemmas.List.{append-nil, map-append}
+use Rattle.std.proofs.lemmas.List.{append-nil}
 use Rattle.coap_wire.specs.Message.{Message}
 use Rattle.coap_wire.specs.Stream.{StreamFault, Stream, split, split_on}
 use Rattle.coap_conn.specs.Limits.{LimitValues}
 use Rattle.coap_conn.specs.History.{link_of}
 use Rattle.coap_conn.specs.Release.{release_refusal}
-use Rattle.coap_store.specs.Store.{StoreValue, put_in, removed_in}
+use Rattle.coap_store.specs.Store.{StoreValue, put_in}
 use Rattle.coap_store.specs.Refusals.{put_refusal, remove_refusal}
 use Rattle.coap_store.specs.Answer.{Change, Nothing, Put, Delete, changed}
 use Rattle.coap_serve.specs.Configs.{ConfigValues}
@@ -18,10 +18,10 @@ use Rattle.coap_serve.specs.world.World as world
 use Rattle.coap_serve.specs.world.Events.{Event, Opened, Took, Wrote, Ticked, Stored, Removed, Ended, Released, Dropped, taken_in, taken_on, stream_on, new_fault, beyond, steps_by, world_after, takes_of, takes, IfSide, IsAccepted, AreAccepted}
 use Rattle.coap_serve.specs.world.View.{change_by, concerns}
 use Rattle.coap_serve.specs.world.ViewEvents.{first_number, change_events, changes_of, if_own, view_event, view_behind, view_events}
-use Rattle.coap_serve.proofs.world.StepLaws.{taken_more, taken_then, taken_here, taken_elsewhere, stream_more, world_first, world_more, world_step, accepted_none, accepted_more, by_events}
+use Rattle.coap_serve.proofs.world.StepLaws.{taken_then, taken_here, taken_elsewhere, stream_more, world_first, world_more, world_step, accepted_none, accepted_more, by_events}
 use Rattle.coap_serve.proofs.world.PlaceLaws.{nobody}
 use Rattle.coap_serve.proofs.world.WorldLaws.{OpensNext, IsNumbered, number_given, opens, ids_grow}
-use Rattle.coap_serve.proofs.world.ReachedLaws.{IsReached, accepted_is}
+use Rattle.coap_serve.proofs.world.ReachedLaws.{accepted_is}
 use Rattle.coap_serve.proofs.world.ViewLaws.{IsNotRefused, by_passes, Share, share, share_of, settled_share, Rests, step_share, step_rests, did, own_did, other_did, new_rests}
 
 -- ---- lists

@@ -1,7 +1,8 @@
 -- What wires pass on, and how serving them ends.
-use Rattle.std.specs.Prelude.{◌≡◌, ℕ, ◌≤◌, Bool, List, [], take, Option, Some, None, Result, Ok, Err}
+use Rattle.std.specs.Prelude.{◌≡◌, ℕ, ◌≤◌, Bool, List, [], ◌∷◌, take, Option, Some, None, Result, Ok, Err}
 use Rattle.coap_serve.specs.declared.wire.Got.{Got}
 use Rattle.coap_serve.specs.declared.wire.Got.TheVariants.{Bytes, Later, End, Failed}
+use Rattle.coap_serve.specs.streams.Telling.{TellsMore}
 use Rattle.coap_serve.specs.declared.serve.IoFault.{IoFault}
 use Rattle.coap_serve.specs.declared.serve.IoFault.TheVariants as fault
 
@@ -25,6 +26,17 @@ count_passed (Bytes n) = n
 count_passed Later = 0
 count_passed End = 0
 count_passed Failed = 0
+
+-- what a write came to that was answered so: a wire that takes nothing more has failed
+abbrev pub write_outcome : Got → Got
+write_outcome (Bytes n) = Bytes n
+write_outcome Later = Later
+write_outcome End = Failed
+write_outcome Failed = Failed
+
+-- a wire was written once, and what it told of that comes to this
+pub data IsOneWrite (before after : Option (List Got)) (outcome : Got) : Type 0 where
+  Answered : (answer : Got) → TellsMore before after (answer ∷ []) → outcome ≡ write_outcome answer → IsOneWrite before after outcome
 
 -- what a wire answers of itself is what it tells, where it tells
 abbrev pub IsTold : (told : Option Bool) (answer : Bool) → Type 0

@@ -1,14 +1,15 @@
 //! The far end of a connection, and its part of a turn.
 
-ghost use Rattle.std.specs.Prelude.{◌≡◌, ◌≢◌, false, true, [], length, is_some, OnOk, OnErr, IfOk, IfErr};
+ghost use Rattle.std.specs.Prelude.{◌≡◌, ◌≢◌, false, true, [], ◌∷◌, length, is_some, OnOk, OnErr, IfOk, IfErr};
 ghost use Rattle.coap_serve.specs.declared.door.peer.Course.TheVariants.{Open};
 ghost use Rattle.coap_serve.specs.declared.wire.Got.TheVariants.{Later, End};
 ghost use Rattle.coap_serve.specs.script.PartlyFed.{IsPartlyFed};
 ghost use Rattle.coap_serve.specs.script.Replay.{fed};
 ghost use Rattle.coap_serve.specs.streams.Device.{AddsBytes};
 ghost use Rattle.coap_serve.specs.streams.Serving.{HasServed};
+ghost use Rattle.coap_serve.specs.streams.Telling.{TellsMore};
 ghost use Rattle.coap_serve.specs.streams.Turns.{IsServedOnce, IsLaidOut, is_heard, server_heard, server_wrote, waiting_once, rest_left, is_over_in, has_failed, course_of, wants_of};
-ghost use Rattle.coap_serve.specs.streams.Wires.{IsWithin, IsMemory, bytes_passed};
+ghost use Rattle.coap_serve.specs.streams.Wires.{IsWithin, IsMemory, IsOneWrite, bytes_passed};
 ghost use Rattle.coap_serve.specs.values.ServerAnswers.{stop_on};
 ghost use Rattle.coap_serve.specs.values.Servers.{session_of};
 
@@ -141,6 +142,9 @@ fn hear<W: Wire>(server: &mut Server, id: ConnId, peer: &mut Peer<W>, may_read: 
         AddsBytes (W.given peer.old.wire) (W.given peer.new.wire) peer.new.rest }
     ensures wrote { is_heard may_read server.old id peer.old.rest ≡ true →
         AddsBytes (W.written peer.old.wire) (W.written peer.new.wire) [] }
+    // Where it is to be read, it is read once.
+    ensures answered { is_heard may_read server.old id peer.old.rest ≡ true →
+        TellsMore (W.answers peer.old.wire) (W.answers peer.new.wire) (result ∷ []) }
 {
     if !may_read || !peer.rest.is_empty() || !server.can_take(id) {
         return Got::Later;
@@ -190,6 +194,9 @@ fn write_once<W: Wire>(server: &mut Server, id: ConnId, wire: &mut W, may_write:
         AddsBytes (W.written wire.old) (W.written wire.new)
         (bytes_passed (waiting_once may_write id server.old) result) }
     ensures gave { waiting_once may_write id server.old ≢ [] → AddsBytes (W.given wire.old) (W.given wire.new) [] }
+    // Where something waits and it may be written, it is written once.
+    ensures answered { waiting_once may_write id server.old ≢ [] →
+        IsOneWrite (W.answers wire.old) (W.answers wire.new) result }
     ensures no_end { result ≢ End }
 {
     if !may_write {

@@ -1,10 +1,11 @@
-use Rattle.std.proofs.Common.{rules, ◌≡◌, Bool, take, sym, subst}
+use Rattle.std.proofs.Common.{rules, Bool, take, refl, sym, subst}
 use Rattle.coap_serve.specs.streams.Device.{AddsBytes}
 use Rattle.coap_serve.specs.streams.Turns.{waiting_once}
+use Rattle.coap_serve.specs.streams.Wires.{Answered}
 use Rattle.coap_serve.specs.values.Flushes.{waiting_at}
 use Rattle.coap_serve.proofs.streams.NextPartLemmas.{none_refused, part_written}
 use Rattle.coap_serve.proofs.streams.ServingLemmas.{written_served}
-use Rattle.coap_serve.specs.declared.wire.Got.TheVariants.{Bytes}
+use Rattle.coap_serve.specs.declared.wire.Got.TheVariants.{Bytes, Later, End, Failed}
 use Rattle.coap_serve.proofs.door.peer.write_once.Goals as goal
 
 pub unreachable-requires : goal.unreachable-requires
@@ -21,3 +22,16 @@ returns-in-Ok-clause-wrote g c = λ _.
 
 pub returns-in-Ok-clause-shows : goal.returns-in-Ok-clause-shows
 returns-in-Ok-clause-shows g c = written_served c.args.server.now _ c.written.new.self c.args.id c.in-Bytes.count (search rules) c.in-Ok.ensures.shows
+
+-- it was written once, and what that was answered is what it comes to
+pub returns-in-Ok-clause-answered : goal.returns-in-Ok-clause-answered
+returns-in-Ok-clause-answered g c = λ _. Answered (Bytes c.in-Bytes.count) c.in-Bytes.ensures.answered refl
+
+pub returns-in-Later-clause-answered : goal.returns-in-Later-clause-answered
+returns-in-Later-clause-answered g c = λ _. Answered Later c.in-Later.ensures.answered refl
+
+pub returns-in-End-clause-answered : goal.returns-in-End-clause-answered
+returns-in-End-clause-answered g c = λ _. Answered End c.in-End.ensures.answered refl
+
+pub returns-in-Failed-clause-answered : goal.returns-in-Failed-clause-answered
+returns-in-Failed-clause-answered g c = λ _. Answered Failed c.in-Failed.ensures.answered refl
