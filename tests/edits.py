@@ -26,10 +26,10 @@ Edits of different functions go into one copy of the crate, a round, which is ch
 the crate's own check keeps in out/incremental, or, where there is none, a folder of this run, in which the crate's first round
 is proved from nothing, and the second one behind it. So a crate is proved once here, with the wrong bodies in it.
 An edit is refused where a goal of a function that it edits stays open. That the function calls one that is not proved does not
-count; nor does it count where nothing is open but what a file of its proof says with a name that the edit takes away, since that tells
-nothing of the contract: such an edit is told as NOT REFUSED. Where a function that nobody edited has an open goal of its own, the round is
-cut in two. An edit that no round refused is tried alone, and so is one of a constant, for which any function's goal counts. Rounds run side by side, one for each
-processor, those of the largest crates first.
+count; nor does it count where nothing is open but what a file of its proof says with a name that the edit takes away, since
+that tells nothing of the contract: such an edit is told as NOT REFUSED. Where a function that nobody edited has an open goal of
+its own, the round is cut in two. An edit that no round refused is tried alone, and so is one of a constant, for which any
+function's goal and any lemma counts. Rounds run side by side, one for each processor, those of the largest crates first.
 The libraries below a crate are taken from out/rlib, and proved where they are not there or older than their files.
 The last line is 'N passed, M failed', and the status 0 where M is 0.
 """
@@ -267,6 +267,11 @@ def check(name, kept, edits):
     return ran.stdout.splitlines()
 
 
+def is_real(line):
+    """Whether this tells of an error, and of none that is there only since something that it names is gone or was refused itself."""
+    return ": error: " in line and not GONE.search(line)
+
+
 def open_functions(lines):
     """The functions that have an open goal of their own, and those of which only a file of the proof names what is not there. A goal of a
     closure is its function's."""
@@ -277,7 +282,7 @@ def open_functions(lines):
             continue
         answers = "./proofs/" + at[2].replace("::", "/") + "/"
         said = [it for it in lines if it.startswith(answers) and ": error: " in it]
-        if "did not prove" in at[4] or any(not GONE.search(it) for it in said):
+        if "did not prove" in at[4] or any(map(is_real, said)):
             is_open.add(told(at[2].split("::")))
         elif said:
             cites.add(told(at[2].split("::")))
@@ -320,7 +325,8 @@ def try_round(name, kept, is_own, edits):
     if strange:
         return Outcome([], edits, f"the check names no function {strange[0]}")
     if edits[0].is_constant():
-        return Outcome(edits, []) if is_open else Outcome([], edits)
+        # what a constant is may be said by a lemma of its own
+        return Outcome(edits, []) if is_open or any(map(is_real, lines)) else Outcome([], edits)
     if (is_open | cites) - {it for edit in edits for it in edit.functions()}:
         return Outcome([], edits)
     refused = [it for it in edits if it.functions() & is_open]
