@@ -3,7 +3,7 @@
 
     tests/cuts.py [FILE..]
 
-A file is tests/rows/serve/NAME.rows. Every line must be as the file says, but for those of the two parts: their counts add up, and the
+A file is tests/rows/serve/NAME.rows or tests/rows/calls/NAME.rows. Every line must be as the file says, but for those of the two parts: their counts add up, and the
 last one tells the same stop. All cuts of an `in` are made in one run of the probe. A file with a line `cuts:`, which says why, is left
 out, and so are events that stand in one row with others. The last line is 'N passed, M failed' over the replays, and the status 0 where M
 is 0.
@@ -51,7 +51,9 @@ def replay(file, steps, at):
 
 
 def main(named):
-    files = [rows.read(pathlib.Path(it).resolve()) for it in named] or [rows.read(it) for it in sorted(rows.ROWS.glob("serve/*.rows"))]
+    files = [rows.read(pathlib.Path(it).resolve()) for it in named] or [
+        rows.read(it) for layer in ("serve", "calls") for it in sorted(rows.ROWS.glob(f"{layer}/*.rows"))
+    ]
     sections = [(file, list(serve.steps(opening, lines))) for file in files if not file.cuts for opening, lines in file.values]
     places = [(file, steps, at) for file, steps in sections for at in range(len(steps))]
     count = failed = 0

@@ -2,6 +2,7 @@
 of them it handled, `nothing`, a `message` or `stopped`; where memory was refused, `memory` and the bytes that it took before; or `nosuch`.
 `written CONNECTION COUNT` says that so many waiting bytes were written, and tells `ok`, `toomany` or `nosuch`.
 `part CONNECTION` tells a front of what waits, or `nosuch`.
+`announce CONNECTION SIZE` announces the greatest message that is taken from then on, and tells `ok` or why not, in one word.
 """
 
 from layers import serve
@@ -31,4 +32,6 @@ def struck(step, line, again, line_again):
 
 def refused(event, line, again):
     """The call that was refused memory, and what is left, of which this is made again."""
+    if event.startswith("announce "):
+        return "`Server::announce`", serve.AS_BEFORE
     return ("`Server::take`", serve.BUT_THE_LAST) if event.startswith("take ") else serve.refused(event, line, again)

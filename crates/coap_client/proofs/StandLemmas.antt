@@ -3,6 +3,7 @@ use Rattle.std.proofs.Common.{◌≡◌, ℕ, ◌≤◌, Bool, true, false, cond
 use Rattle.std.proofs.lemmas.List.{append-nil, length-take}
 use Rattle.coap_frame.specs.Framing.{framing}
 use Rattle.coap_conn.specs.Limits.{LimitValues}
+use Rattle.coap_conn.specs.LinkValue.{LinkValue}
 use Rattle.coap_conn.specs.declared.phase.RequestFault.{RequestFault}
 use Rattle.coap_serve.specs.declared.wire.Got.{Got}
 use Rattle.coap_serve.specs.declared.wire.Got.TheVariants.{Bytes, Later, End, Failed}
@@ -16,8 +17,7 @@ use Rattle.coap_client.specs.ClientWorld.{ClientCall, Sent, Cancelled, steps_by,
 use Rattle.coap_client.specs.RunSteps.{calls_read, client_read}
 use Rattle.coap_client.proofs.TakingLemmas.{limits_found}
 use Rattle.coap_client.proofs.ClientShown.{sent_shown, cancelled_shown, ended_shown}
-use Rattle.coap_serve.proofs.values.LinkLemmas.{limits_stay}
-use Rattle.coap_serve.proofs.values.SessionLemmas.{end_limits}
+use Rattle.coap_serve.proofs.values.LinkLemmas.{stays_so, end_sizes}
 
 -- ---- what is told
 
@@ -44,15 +44,15 @@ unfolding taking
 taking_limits v piece = limits_taken _ v _ (limits_found v (framing v.link.limits.max_message v.frame piece) (framing v.link.limits.max_message v.frame piece).finding)
 
 pub sent_limits : (v : ClientValue) (method : Method) (target : TargetValue) (extras : ExtrasValue) → (client_sent v method target extras).link.limits ≡ v.link.limits
-sent_limits v method target extras = limits_stay _ v.link _ refl
+sent_limits v method target extras = stays_so (λ (l : LinkValue). l.limits) _ v.link _ refl
 
 pub cancelled_limits : (v : ClientValue) (token : List ℕ) (target : TargetValue) (extras : ExtrasValue) → (client_cancelled v token target extras).link.limits ≡ v.link.limits
-cancelled_limits v token target extras = limits_stay _ v.link _ refl
+cancelled_limits v token target extras = stays_so (λ (l : LinkValue). l.limits) _ v.link _ refl
 
 pub read_limits : (v : ClientValue) (got : Got) → (client_read v got).link.limits ≡ v.link.limits
 read_limits v (Bytes n) = refl
 read_limits v Later = refl
-read_limits v End = end_limits v.link _
+read_limits v End = ap (λ (both : LimitValues × ℕ). both.0) (end_sizes v.link _)
 read_limits v Failed = refl
 
 -- ---- calls that are shown

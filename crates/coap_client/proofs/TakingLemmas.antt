@@ -20,7 +20,7 @@ use Rattle.coap_client.specs.declared.client.Client.TheInside.{Inside}
 use Rattle.coap_client.specs.declared.client.Heard.{Heard}
 use Rattle.coap_client.specs.declared.client.Heard.TheVariants as heard
 use Rattle.coap_client.proofs.TakeLemmas.{frame_is_back}
-use Rattle.coap_serve.proofs.values.LinkLemmas.{limits_stay}
+use Rattle.coap_serve.proofs.values.LinkLemmas.{stays_so}
 
 -- ---- what is told of a piece
 
@@ -81,13 +81,13 @@ module _ (v : FramerValue) (l : LinkValue) (piece : List ℕ) where
   kept_framed = kept_by (beginning v.max (v.kept ++ piece))
 
 limits_read : (w : ClientValue) (n : ℕ) (read : Result Message FormatFault) → (taking_read w n read).client.link.limits ≡ w.link.limits
-limits_read w n (Ok m) = limits_stay (takes_messages w.link.phase) w.link _ refl
-limits_read w n (Err e) = limits_stay (takes_messages w.link.phase) w.link _ refl
+limits_read w n (Ok m) = stays_so (λ (l : LinkValue). l.limits) (takes_messages w.link.phase) w.link _ refl
+limits_read w n (Err e) = stays_so (λ (l : LinkValue). l.limits) (takes_messages w.link.phase) w.link _ refl
 
 pub limits_found : (w : ClientValue) (f : Framing) (found : Finding) → (taking_found w f found).client.link.limits ≡ w.link.limits
 limits_found w f Nothing = refl
 limits_found w f (AFrame frame) = limits_read w f.taken (message_of frame)
-limits_found w f (AFault fault) = limits_stay (takes_messages w.link.phase) w.link _ refl
+limits_found w f (AFault fault) = stays_so (λ (l : LinkValue). l.limits) (takes_messages w.link.phase) w.link _ refl
 
 -- the end of the input leaves the limits
 -- ---- the client

@@ -103,7 +103,7 @@ impl Limits {
         })
     }
 
-    /// The bytes of the greatest message taken, which is our Max-Message-Size.
+    /// The bytes of the greatest message taken at first, which is the Max-Message-Size that we announce at open.
     pub fn max_message(&self) -> usize
         ensures value { result ≡ self.now.max_message }
         ensures ranges { AreInRange self.now }

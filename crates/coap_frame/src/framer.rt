@@ -14,7 +14,7 @@ use std::alloc::{AllocError, Global};
 use std::marker::Model;
 
 /// The greatest size that a framer is raised to.
-const GREATEST_SIZE: usize = 1_048_576;
+pub const GREATEST_SIZE: usize = 1_048_576;
 
 /// What a piece had.
 #[derive(Clone, Copy)]

@@ -2,11 +2,13 @@
 //! where the moment, the versions and the connections' numbers begin; and then the lines of a script, one a row, or
 //! some with `|` between them, whose lines are told so too. Where memory was refused, the lines before that are told,
 //! and the number of the event. Beside these lines `take CONNECTION BYTES` is one call, which tells the bytes that it
-//! took and what it handled, `written CONNECTION COUNT` another one, and `part CONNECTION` tells a front of what waits.
+//! took and what it handled, `written CONNECTION COUNT` and `announce CONNECTION SIZE` are others, and `part CONNECTION`
+//! tells a front of what waits.
 
 use crate::limits::{config_of, limits_of};
 use coap_serve::{
-    Config, Handled, ReplayFault, ScriptFault, Server, TakeFault, WriteOutlet, WrittenFault, script,
+    AnnounceFault, Config, Handled, ReplayFault, ScriptFault, Server, TakeFault, WriteOutlet,
+    WrittenFault, script,
 };
 use coap_told::{Told, next_number, read_hex};
 use std::alloc::{AllocError, Global};
@@ -68,6 +70,24 @@ fn written(server: &mut Server, text: &str, told: &mut Told) {
     });
 }
 
+/// Announces a size on a connection, and tells whether it did, or why it did not.
+fn announce(server: &mut Server, text: &str, told: &mut Told) {
+    let (id, rest) = next_number(text);
+    let (size, _) = next_number(rest);
+    told.word(
+        match server.announce(id as u64, size.min(4_294_967_295) as u32) {
+            Ok(()) => "ok",
+            Err(AnnounceFault::NoSuch) => "nosuch",
+            Err(AnnounceFault::NotOpen) => "notopen",
+            Err(AnnounceFault::Lower) => "lower",
+            Err(AnnounceFault::TooLarge) => "toolarge",
+            Err(AnnounceFault::NoRoom) => "noroom",
+            Err(AnnounceFault::Memory) => "memory",
+            Err(AnnounceFault::PeerTooSmall) => "peertoosmall",
+        },
+    );
+}
+
 /// Tells a front of what waits on a connection.
 fn part(server: &Server, text: &str, told: &mut Told) {
     let (id, _) = next_number(text);
@@ -90,6 +110,9 @@ pub(crate) fn play(
     }
     if let Some(text) = row.strip_prefix("written ") {
         return written(server, text, told);
+    }
+    if let Some(text) = row.strip_prefix("announce ") {
+        return announce(server, text, told);
     }
     if let Some(text) = row.strip_prefix("part ") {
         return part(server, text, told);

@@ -2,6 +2,7 @@ pub mod Rows
 mod Worked
 mod WorkedEvents
 mod WorkedMore
+mod WorkedSizes
 mod WorkedViews
 mod WorkedHeld
 mod WorkedCustody

@@ -30,10 +30,10 @@ ghost use Rattle.coap_serve.specs.declared.server.WrittenFault.TheVariants as wr
 ghost use Rattle.coap_serve.specs.declared.server.ReleaseFault.{ReleaseFault};
 ghost use Rattle.coap_serve.specs.declared.server.ReleaseFault.TheVariants as releasing;
 ghost use Rattle.coap_serve.specs.values.Dues.{WaitsForWhatIsDue, outlook_of, stamp_of};
-ghost use Rattle.coap_serve.specs.world.Sides.{Side, waiting_on, HearsAll, handles, asks_answer, held_for, moment_after, held_message, next_held, side_after, side_faulted, side_written, side_ended, side_released, settled_once};
+ghost use Rattle.coap_serve.specs.world.Sides.{Side, waiting_on, HearsAll, handles, asks_answer, held_for, moment_after, held_message, next_held, side_after, side_faulted, side_written, side_ended, side_released, side_announced, settled_once};
 ghost use Rattle.coap_serve.specs.world.Custody.{StandFor, QueuesCustody, IsFirstHeld, KeepsHeld, KeepsHeldOver};
 ghost use Rattle.coap_serve.specs.world.World.{World, Step, Opened, Ended, new_world, side_of, step, after_steps};
-ghost use Rattle.coap_serve.specs.world.Events.{Event, Took, stream_on, steps_of, world_after, AreAccepted};
+ghost use Rattle.coap_serve.specs.world.Events.{Event, Took, size_on, stream_on, steps_of, world_after, AreAccepted};
 ghost use Rattle.coap_serve.specs.world.Shows.{Shows, kept_on, server_of};
 ghost use Rattle.coap_serve.specs.world.Heard.{heard_step, steps_heard, kept_at};
 ghost use Rattle.coap_serve.specs.world.Answered.{FollowsAnswers};
@@ -115,10 +115,11 @@ pub fn each_message_taken_is_handled_once()
         s.history.phase ≡ Stopped (reject_reason (reject_of fault)) }
 {}
 
-/// Of the calls on a connection behind `open` a `take` alone may answer that memory was refused, and only for a message
-/// that is stored: all its bytes but the last are taken, and that one would end a message which stores a
-/// representation. So a `take` of any other message answers no Memory. `written` and `release` have other faults;
-/// `ended` and `drop_conn` have `NoSuch` alone, `front` and `status` none.
+/// Of the calls on a connection behind `open` only `take` and `announce` may answer that memory was refused. A `take`
+/// does so only for a message that is stored: all its bytes but the last are taken, and that one would end a message
+/// which stores a representation. So a `take` of any other message answers no Memory; `announce` does so only for the
+/// room of a greater message, as its own clause says. `written` and `release` have other faults; `ended` and
+/// `drop_conn` have `NoSuch` alone, `front` and `status` none.
 pub fn only_what_is_stored_wants_memory()
     ensures stored { (v after : ServerValue) (events : List Event) (id : ℕ) (piece : List ℕ) (bytes : ℕ) →
         Shows v events →
@@ -250,7 +251,7 @@ pub fn what_was_noted_holds()
 
 /// The limits are kept, after any events: on each connection no more bytes wait than the queue holds, and no more
 /// answers and Pongs are held and there are no more observers than the limits allow; and after events that were
-/// accepted, no more bytes are kept of an unfinished message than the greatest one has.
+/// accepted, fewer bytes are kept of an unfinished message than the greatest one has, as our end announced it last.
 pub fn limits_are_kept()
     ensures waiting { (c : ConfigValues) (events : List Event) (id : ℕ) (s : Side) → AreInRange c.limits →
         side_of id (world_after c events).sides ≡ Some s → length (waiting_on s) ≤ c.limits.queue }
@@ -260,7 +261,15 @@ pub fn limits_are_kept()
         side_of id (world_after c events).sides ≡ Some s → length s.history.held ≤ c.limits.pending }
     ensures kept { (c : ConfigValues) (events : List Event) (id : ℕ) (s : Side) → AreInRange c.limits →
         AreAccepted c events → side_of id (world_after c events).sides ≡ Some s →
-        length (kept_on s (stream_on c.limits.max_message id events).rest) ≤ c.limits.max_message }
+        length (kept_on s (stream_on c.limits.max_message id events).rest) < s.history.own_max }
+{}
+
+/// After events that were accepted, the greatest message that a connection takes is the one that was announced last on
+/// it, and at first that of the limits (RFC 8323 section 5.3.1).
+pub fn the_size_announced_last_is_in_force()
+    ensures { (c : ConfigValues) (events : List Event) (id : ℕ) (s : Side) → AreAccepted c events →
+        side_of id (world_after c events).sides ≡ Some s →
+        s.history.own_max ≡ size_on c.limits.max_message id events }
 {}
 
 /// Each observer was told what it holds, after any events: of all responses ever queued on the connection with its
@@ -298,6 +307,7 @@ pub fn custody_comes_last()
     ensures faulted { (s : Side) (fault : StreamFault) → QueuesCustody s (side_faulted s fault) → ⊥ }
     ensures ended { (s : Side) (cut : Bool) → QueuesCustody s (side_ended s cut) → ⊥ }
     ensures released { (s : Side) → QueuesCustody s (side_released s) → ⊥ }
+    ensures announced { (s : Side) (size : ℕ) → QueuesCustody s (side_announced s size) → ⊥ }
     ensures written { (s : Side) (n : ℕ) → QueuesCustody s (side_written s n) → ⊥ }
 {}
 
@@ -315,7 +325,7 @@ pub fn a_pong_with_custody_follows_all_answers()
 {}
 
 /// What is held is lost by nothing: it stays in its place over each message, which adds at most one entry behind it
-/// that it asks for, over a fault, the end of input, our Release and what was written, and while observers are told,
+/// that it asks for, over a fault, the end of input, our Release, an announcement and what was written, and while observers are told,
 /// unless the connection stops; and where something held is due first and there is room, exactly this is held no more:
 /// an answer is sent as it fits the peer, a Pong is queued with Custody as it fits. So, by `custody_comes_last`, an
 /// answer that is held before a Pong with Custody is queued before it, unless the connection stops.
@@ -325,6 +335,7 @@ pub fn what_is_held_is_sent()
     ensures faulted { (s : Side) (fault : StreamFault) → KeepsHeld s (side_faulted s fault) }
     ensures ended { (s : Side) (cut : Bool) → KeepsHeld s (side_ended s cut) }
     ensures released { (s : Side) → KeepsHeld s (side_released s) }
+    ensures announced { (s : Side) (size : ℕ) → KeepsHeld s (side_announced s size) }
     ensures written { (s : Side) (n : ℕ) → (side_written s n).history.held ≡ s.history.held }
     ensures told { (store : StoreValue) (now : ℕ) (s : Side) → next_held now s ≡ None →
         KeepsHeld s (settled_once store now s) }

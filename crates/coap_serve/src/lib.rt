@@ -32,7 +32,7 @@ pub use rest::Rest;
 pub use scripts::{ScriptFault, bytes_in, number_in, script, scripts_go_on_behind_whole_lines};
 pub use serve::{IoFault, Report, serve_one};
 pub use server::{
-    Backwards, ConnId, Handled, NoSuch, OpenFault, ReleaseFault, Server, Status, TakeFault, Taken,
-    WrittenFault,
+    AnnounceFault, Backwards, ConnId, Handled, NoSuch, OpenFault, ReleaseFault, Server, Status,
+    TakeFault, Taken, WrittenFault,
 };
 pub use wire::{Clock, Door, Got, Ready, Wait, Wire};

@@ -119,6 +119,32 @@ impl From<SendFault> for ReleaseFault {
     }
 }
 
+/// Why a size is not announced on a connection. The discriminants are the faults' numbers.
+#[derive(Clone, Copy, Debug, PartialEq, Eq, Error)]
+pub enum AnnounceFault {
+    /// No connection has this number.
+    #[error("no such connection")]
+    NoSuch = 1,
+    /// The connection is not open.
+    #[error("the connection is not open")]
+    NotOpen = 2,
+    /// The size is below the one that was announced last.
+    #[error("the size is below the one announced last")]
+    Lower = 3,
+    /// The size is above 1,048,576 bytes.
+    #[error("the size is above 1048576")]
+    TooLarge = 4,
+    /// The queue has no room for the greatest message sent.
+    #[error("no room in the queue")]
+    NoRoom = 5,
+    /// Memory was refused for the room of a greater message.
+    #[error("memory was refused")]
+    Memory = 6,
+    /// The peer takes no message as great as the announcement.
+    #[error("the peer takes no message as great as this one")]
+    PeerTooSmall = 7,
+}
+
 /// How a connection is.
 #[derive(Clone, Copy, PartialEq, Eq)]
 pub struct Status {

@@ -5,7 +5,7 @@ ghost use Rattle.coap_conn.specs.Phases.{IsLive};
 ghost use Rattle.coap_conn.specs.LinkValue.{IsReady};
 ghost use Rattle.coap_store.specs.Changes.{IsPut};
 ghost use Rattle.coap_serve.specs.values.Causes.{change_hash};
-ghost use Rattle.coap_serve.specs.values.Sessions.{change_by, host_changed, observers_on, session_handled, session_with};
+ghost use Rattle.coap_serve.specs.values.Sessions.{change_by, host_changed, observers_on, session_handled, session_with, sizes_of};
 ghost use Rattle.coap_serve.specs.values.Dues.{sooner as lesser};
 ghost use Rattle.coap_serve.specs.values.Entries.{framer_on};
 
@@ -13,8 +13,9 @@ use crate::answering::{answer, notify, send_due};
 use crate::cause::Cause;
 use crate::host::Host;
 use crate::observers::Observers;
+use crate::server::AnnounceFault;
 use coap_conn::{Limits, Link, Phase, Reject, Role, SendFault, Verdict};
-use coap_frame::Framer;
+use coap_frame::{Framer, GREATEST_SIZE};
 use coap_wire::{MessageRef, parse};
 use std::alloc::{AllocError, Global};
 use std::marker::Model;
@@ -66,7 +67,7 @@ impl Model for Session {
 }
 
 impl Session {
-    ghost use Rattle.std.specs.Prelude.{◌≡◌, ◌≤◌, ◌+◌, ◌||◌, ⊤, ℕ, None, false, length, take, is_some, IfOk, IfErr, OnOk, OnErr};
+    ghost use Rattle.std.specs.Prelude.{◌≡◌, ◌≤◌, ◌+◌, ◌||◌, ⊤, ℕ, Some, None, false, length, take, is_some, IfOk, IfErr, OnOk, OnErr};
     ghost use Rattle.std.specs.Borrow.{sem, follows_so};
     ghost use mathlib.Core.Option.{none};
     ghost use Rattle.coap_wire.specs.Refusal.{RefusedBy};
@@ -75,7 +76,8 @@ impl Session {
     ghost use Rattle.coap_conn.specs.QueueValue.{IsNextPart};
     ghost use Rattle.coap_conn.specs.Release.{release_refusal};
     ghost use Rattle.coap_serve.specs.values.Causes.{change_hash, IsUntouched};
-    ghost use Rattle.coap_serve.specs.values.Sessions.{new_session, session_takes, next_held_in, next_stale, session_notified, session_settled_once, taking, host_changed, session_written, session_ended, session_released, session_settled, IsSettled, RefusesPiece};
+    ghost use Rattle.coap_serve.specs.values.Sessions.{new_session, session_takes, next_held_in, next_stale, session_notified, session_settled_once, taking, host_changed, session_written, session_ended, session_released, session_announced, session_settled, IsSettled, RefusesPiece};
+    ghost use Rattle.coap_serve.specs.values.ServerAnswers.{IsAnnounced};
     ghost use Rattle.coap_serve.specs.values.Dues.{due_on, IsBefore, next_told as next_told_of};
     ghost use Rattle.coap_serve.specs.values.Entries.{settled_held};
     ghost use Rattle.coap_serve.specs.contracts.session.Session.{the_row};
@@ -310,6 +312,39 @@ impl Session {
         Ok(())
     }
 
+    /// Announces a size as the greatest message taken from now on, and keeps room for it (RFC 8323 section 5.3.1). What is
+    /// kept of a message stays.
+    ///
+    /// # Errors
+    ///
+    /// As `Server::announce` but `NoSuch`. Nothing has changed then.
+    pub(crate) fn announce(&mut self, size: u32) -> Result<(), AnnounceFault>
+        ensures answer { IsAnnounced size (Some self.old) result }
+        ensures after { OnOk result (self.new ≡ session_announced self.old size) }
+        ensures err { OnErr result (self.new ≡ self.old) }
+    {
+        let Phase::Open = self.link.phase() else {
+            return Err(AnnounceFault::NotOpen);
+        };
+        if (size as usize) < self.link.own_max() {
+            return Err(AnnounceFault::Lower);
+        }
+        if size as usize > GREATEST_SIZE {
+            return Err(AnnounceFault::TooLarge);
+        }
+        if !self.link.ready() {
+            return Err(AnnounceFault::NoRoom);
+        }
+        if !self.link.takes_announcement(size) {
+            return Err(AnnounceFault::PeerTooSmall);
+        }
+        let Ok(()) = self.framer.raise(size as usize) else {
+            return Err(AnnounceFault::Memory);
+        };
+        self.link.announce(size);
+        Ok(())
+    }
+
     /// The next moment, in seconds, at which time alone may queue something: until then an answer is held, or an
     /// observer of the moment is to be told it.
     pub(crate) fn due(&self, now: u64) -> Option<u64>
@@ -415,7 +450,7 @@ fn handle(
     ensures after { OnOk result ((frame : List ℕ) → session_with [] link.new observers.new.entries ≡ session_handled
         host.old (record { frame = frame; link = link.old; observers = observers.old.entries }) message.now) }
     ensures room { OnOk result (observers.new.room ≡ observers.old.room) }
-    ensures limits { OnOk result (link.new.limits ≡ link.old.limits) }
+    ensures sizes { OnOk result (sizes_of link.new ≡ sizes_of link.old) }
     ensures changed { IfOk result (λ changed. changed ≡ change_hash (change_by host.old link.old message.now)) }
     ensures host { OnOk result (host.new ≡ host_changed host.old (change_by host.old link.old message.now)) }
     ensures put { OnErr result (IsPut (change_by host.old link.old message.now)) }

@@ -29,6 +29,16 @@ first_none M S =
     first_past 0 M S at (omega arith) ∙ ap S same in
     λ i at. point at i
 
+-- the same size behind it is one for all time
+pub first_always : (n M : ℕ) → sizes_first n M (always M) ≡ always M
+first_always n M =
+    let point : (at : ℕ) → sizes_first n M (always M) at ≡ M = λ at.
+    elim (cases_lt at n) [
+      | inl within ↦ first_in n M (always M) at within
+      | inr past ↦ first_past n M (always M) at past
+    ] in
+    λ i at. point at i
+
 -- ---- a stream that goes on
 
 -- the rest with the size in force now is as it is with the sizes of its bytes

@@ -16,11 +16,11 @@ use Rattle.coap_serve.specs.values.Sessions.{SessionValue}
 use Rattle.coap_serve.specs.values.Servers.{ServerValue, session_of, server_taken_on, server_taken, count_on, count_taken}
 use Rattle.coap_serve.specs.world.Sides.{Side, handles}
 use Rattle.coap_serve.specs.world.World.{World, side_of}
-use Rattle.coap_serve.specs.world.Events.{Event, Took, taken_in, taken_on, stream_on, world_after, front_of, takes}
+use Rattle.coap_serve.specs.world.Events.{Event, Took, taken_in, taken_on, stream_on, world_after, front_of, takes, size_on}
 use Rattle.coap_serve.specs.world.Shows.{session_shown, server_shown, server_of, Shows}
-use Rattle.coap_serve.proofs.world.StepLaws.{taken_then, world_same}
-use Rattle.coap_serve.proofs.world.CutLaws.{cut_worlds, TookAlike, taken_twice}
-use Rattle.coap_serve.proofs.world.TookLaws.{Adds, rest_unfinished, adds_nothing, no_bytes_steps}
+use Rattle.coap_serve.proofs.world.StepLaws.{world_same, size_then, rest_unfinished, spelled_same}
+use Rattle.coap_serve.proofs.world.CutLaws.{cut_worlds, SpellAlike, stream_alike, spelled_twice}
+use Rattle.coap_serve.proofs.world.TookLaws.{Adds, adds_nothing, no_bytes_steps}
 use Rattle.coap_serve.proofs.world.ReachedLaws.{accepted_is, handling_goes_on, takes_there}
 use Rattle.coap_serve.proofs.world.ShowLaws.{session_there, side_there, takes_shown, shows_taken}
 use Rattle.coap_serve.proofs.streams.TakeLemmas.{config_stays}
@@ -28,11 +28,11 @@ use Rattle.coap_serve.proofs.scripting.ReplayLemmas.{stays_over}
 
 -- ---- servers that show the same
 
--- two lists of events took the same bytes
-streams_alike : (M : ℕ) (es fs : List Event) → TookAlike es fs → ◌≡◌ {A = ℕ → Stream} (λ id. stream_on M id es) (λ id. stream_on M id fs)
-streams_alike M es fs alike = λ i id. ap (split M) (alike id) i
+-- two lists of events spelled the same
+streams_alike : (M : ℕ) (es fs : List Event) → SpellAlike M es fs → ◌≡◌ {A = ℕ → Stream} (λ id. stream_on M id es) (λ id. stream_on M id fs)
+streams_alike M es fs alike = λ i id. stream_alike M id es fs alike i
 
-servers_alike : (c : ConfigValues) (es fs : List Event) → TookAlike es fs → world_after c es ≡ world_after c fs → server_of c es ≡ server_of c fs
+servers_alike : (c : ConfigValues) (es fs : List Event) → SpellAlike c.limits.max_message es fs → world_after c es ≡ world_after c fs → server_of c es ≡ server_of c fs
 unfolding server_of
 servers_alike c es fs alike same =
     let w : World = world_after c fs in
@@ -40,7 +40,7 @@ servers_alike c es fs alike same =
     ∙ ap (λ (streams : ℕ → Stream). record (server_shown c es w) { sessions = map (λ p. (p.id, session_shown (streams p.id).rest p.side)) w.sides }) (streams_alike c.limits.max_message es fs alike)
 
 -- a server is what the events that it shows leave
-shown_alike : (u v : ServerValue) (es fs : List Event) → u.config ≡ v.config → Shows u es → Shows v fs → TookAlike es fs → world_after v.config es ≡ world_after v.config fs → u ≡ v
+shown_alike : (u v : ServerValue) (es fs : List Event) → u.config ≡ v.config → Shows u es → Shows v fs → SpellAlike v.config.limits.max_message es fs → world_after v.config es ≡ world_after v.config fs → u ≡ v
 shown_alike u v es fs config first second alike same =
     first.same ∙ ap (λ (c : ConfigValues). server_of c es) config ∙ servers_alike v.config es fs alike same ∙ sym second.same
 
@@ -61,18 +61,21 @@ absent_stuck v id none = record { none = λ bytes. ap (count_on v bytes) none; s
 no_bytes_in : (id k : ℕ) → taken_in k (Took id []) ≡ []
 no_bytes_in id k = elim (id == k) as (λ b. ◌≡◌ {A = List ℕ} (if b then [] else []) []) [ true ↦ refl | false ↦ refl ]
 
-no_bytes_alike : (es : List Event) (id : ℕ) → TookAlike (es ++ Took id [] ∷ []) es
-no_bytes_alike es id k = taken_then k es (Took id []) ∙ ap (λ (bytes : List ℕ). taken_on k es ++ bytes) (no_bytes_in id k) ∙ append-nil (taken_on k es)
+no_bytes_alike : (M : ℕ) (es : List Event) (id : ℕ) → SpellAlike M (es ++ Took id [] ∷ []) es
+no_bytes_alike M es id k = spelled_same M k es (Took id []) (no_bytes_in id k) (λ N. refl)
 
 module _ (v : ServerValue) (es : List Event) (id : ℕ) (shows : Shows v es) (s : SessionValue) (at : session_of id v.sessions ≡ Some s) (t : Side) (there : side_of id (world_after v.config es).sides ≡ Some t) where
   abbrev M : ℕ
   M = v.config.limits.max_message
 
+  abbrev N : ℕ
+  N = size_on M id es
+
   abbrev rest : List ℕ
   rest = (stream_on M id es).rest
 
-  counts : (does : Bool) → handles t ≡ does → (bytes : List ℕ) → count_taken v id bytes ≡ cond does (front_of M rest bytes) 0
-  counts does is bytes = takes_shown v es id bytes shows ∙ takes_there v.config es id bytes t there ∙ ap (λ (b : Bool). cond b (front_of M rest bytes) 0) is
+  counts : (does : Bool) → handles t ≡ does → (bytes : List ℕ) → count_taken v id bytes ≡ cond does (front_of N rest bytes) 0
+  counts does is bytes = takes_shown v es id bytes shows ∙ takes_there v.config es id bytes t there ∙ ap (λ (b : Bool). cond b (front_of N rest bytes) 0) is
 
   stopped_stuck : handles t ≡ false → IsStuck v id
   stopped_stuck is = record {
@@ -80,7 +83,7 @@ module _ (v : ServerValue) (es : List Event) (id : ℕ) (shows : Shows v es) (s 
     stays = λ bytes.
         shown_alike (server_taken v id bytes) v (es ++ Took id [] ∷ []) es (config_stays v id bytes)
         (subst (λ (n : ℕ). Shows (server_taken v id bytes) (es ++ Took id (take n bytes) ∷ [])) (counts false is bytes) (shows_taken v es id bytes s shows at))
-        shows (no_bytes_alike es id) (world_same v.config es (Took id []) (no_bytes_steps M id es));
+        shows (no_bytes_alike M es id) (world_same v.config es (Took id []) (no_bytes_steps M id es));
   }
 
 -- ---- a take that takes some bytes
@@ -92,8 +95,8 @@ record Goes (v : ServerValue) (es : List Event) (id : ℕ) : Type 0 where
   pub there : side_of id (world_after v.config es).sides ≡ Some side
   pub handling : handles side ≡ true
   pub no_fault : (stream_on v.config.limits.max_message id es).fault ≡ None
-  pub unfinished : beginning v.config.limits.max_message (stream_on v.config.limits.max_message id es).rest ≡ Unfinished
-  pub counts : (bytes : List ℕ) → count_taken v id bytes ≡ front_of v.config.limits.max_message (stream_on v.config.limits.max_message id es).rest bytes
+  pub unfinished : beginning (size_on v.config.limits.max_message id es) (stream_on v.config.limits.max_message id es).rest ≡ Unfinished
+  pub counts : (bytes : List ℕ) → count_taken v id bytes ≡ front_of (size_on v.config.limits.max_message id es) (stream_on v.config.limits.max_message id es).rest bytes
 
 goes_there : (v : ServerValue) (es : List Event) (id : ℕ) → Shows v es → (s : SessionValue) → session_of id v.sessions ≡ Some s → (t : Side) → side_of id (world_after v.config es).sides ≡ Some t → handles t ≡ true → Goes v es id
 goes_there v es id shows s at t there does =
@@ -350,10 +353,10 @@ no_second_part v id xs =
 
 module _ (v : ServerValue) (es : List Event) (id : ℕ) (xs ys : List ℕ) (shows : Shows v es) (goes : Goes v es id) where
   abbrev most : ℕ
-  most = v.config.limits.max_message
+  most = size_on v.config.limits.max_message id es
 
   abbrev kept : List ℕ
-  kept = (stream_on most id es).rest
+  kept = (stream_on v.config.limits.max_message id es).rest
 
   abbrev whole_taken : ServerValue
   whole_taken = server_taken v id (xs ++ ys)
@@ -403,18 +406,20 @@ module _ (v : ServerValue) (es : List Event) (id : ℕ) (xs ys : List ℕ) (show
     part_shows : Shows part_taken fs
     part_shows = subst (λ (bytes : List ℕ). Shows part_taken (es ++ Took id bytes ∷ [])) (take_all (length xs) xs (omega arith)) (took_shows xs (length xs) part_count)
 
-    adds : Adds most id es xs (record { messages = []; rest = kept ++ xs; fault = None })
-    adds = adds_nothing most id es xs goes.no_fault (nothing_at most kept xs ys goes.unfinished xs still)
+    adds : Adds v.config.limits.max_message id es xs (record { messages = []; rest = kept ++ xs; fault = None })
+    adds = adds_nothing v.config.limits.max_message id es xs goes.no_fault (nothing_at most kept xs ys goes.unfinished xs still)
 
     there_still : side_of id (world_after v.config fs).sides ≡ Some goes.side
     there_still = ap (λ (w : World). side_of id w.sides) (world_same v.config es (Took id xs) adds.steps) ∙ goes.there
 
     next_counts : count_taken part_taken id ys ≡ front_of most (kept ++ xs) ys
     next_counts =
+        let M : ℕ = v.config.limits.max_message in
         takes_shown part_taken fs id ys part_shows
         ∙ ap (λ (c : ConfigValues). takes c fs id ys) (config_stays v id xs)
         ∙ takes_there v.config fs id ys goes.side there_still
-        ∙ ap (λ (b : Bool). cond b (front_of most (stream_on most id fs).rest ys) 0) goes.handling
+        ∙ ap (λ (b : Bool). cond b (front_of (size_on M id fs) (stream_on M id fs).rest ys) 0) goes.handling
+        ∙ ap (λ (N : ℕ). front_of N (stream_on M id fs).rest ys) (size_then M id es (Took id xs))
         ∙ ap (λ (s : Stream). front_of most s.rest ys) adds.stream
 
     later_parts : IsFedInParts v id xs ys
@@ -432,7 +437,7 @@ module _ (v : ServerValue) (es : List Event) (id : ℕ) (xs ys : List ℕ) (show
         let server_same : whole_taken ≡ next_taken =
         shown_alike whole_taken next_taken (es ++ Took id (xs ++ take n ys) ∷ []) (fs ++ Took id (take n ys) ∷ []) (config_stays v id (xs ++ ys) ∙ sym next_config)
         (subst (λ (bytes : List ℕ). Shows whole_taken (es ++ Took id bytes ∷ [])) (take-append-add xs ys n) (took_shows (xs ++ ys) (length xs + n) whole_count))
-        next_shows (taken_twice es id xs (take n ys)) (world_twice next_taken.config es id xs (take n ys)) in
+        next_shows (spelled_twice next_taken.config.limits.max_message es id xs (take n ys)) (world_twice next_taken.config es id xs (take n ys)) in
         let whole : fed v id (xs ++ ys) ≡ shifted (length xs + n) (fed next_taken id (drop n ys)) =
         fed_by v id (xs ++ ys) (length xs + n) whole_count (omega (arith, some)) longer
         ∙ ap (λ (w : ServerValue). shifted (length xs + n) (fed w id (drop (length xs + n) (xs ++ ys)))) server_same
@@ -449,15 +454,15 @@ module _ (v : ServerValue) (es : List Event) (id : ℕ) (xs ys : List ℕ) (show
 
 going_parts : (v : ServerValue) (es : List Event) (id : ℕ) (xs ys : List ℕ) → Shows v es → (goes : Goes v es id) → 0 < length xs
     → ((w : ServerValue) (fs : List Event) (zs : List ℕ) → Shows w fs → length zs < length xs → IsFedInParts w id zs ys)
-    → (b : Beginning) → beginning v.config.limits.max_message ((stream_on v.config.limits.max_message id es).rest ++ xs) ≡ b → IsFedInParts v id xs ys
+    → (b : Beginning) → beginning (size_on v.config.limits.max_message id es) ((stream_on v.config.limits.max_message id es).rest ++ xs) ≡ b → IsFedInParts v id xs ys
 going_parts v es id xs [] shows goes some again b is = no_second_part v id xs
 going_parts v es id xs (y ∷ ys) shows goes some again Unfinished is = later_parts v es id xs (y ∷ ys) shows goes is some (omega arith)
 going_parts v es id xs (y ∷ ys) shows goes some again (Whole frame left) is =
     let M : ℕ = v.config.limits.max_message in
-    found_parts v es id xs (y ∷ ys) shows goes some (frame_same M (stream_on M id es).rest xs (y ∷ ys) goes.unfinished frame left is) again
+    found_parts v es id xs (y ∷ ys) shows goes some (frame_same (size_on M id es) (stream_on M id es).rest xs (y ∷ ys) goes.unfinished frame left is) again
 going_parts v es id xs (y ∷ ys) shows goes some again (Faulty fault) is =
     let M : ℕ = v.config.limits.max_message in
-    found_parts v es id xs (y ∷ ys) shows goes some (fault_same M (stream_on M id es).rest xs (y ∷ ys) goes.unfinished fault is) again
+    found_parts v es id xs (y ∷ ys) shows goes some (fault_same (size_on M id es) (stream_on M id es).rest xs (y ∷ ys) goes.unfinished fault is) again
 
 parts_within : (few : ℕ) (v : ServerValue) (es : List Event) (id : ℕ) (xs ys : List ℕ) → Shows v es → length xs ≤ few → IsFedInParts v id xs ys
 parts_within few v es id [] ys shows within = no_first_part v id ys
@@ -468,7 +473,7 @@ parts_within (suc few) v es id (x ∷ xs) ys shows within =
       | inr goes ↦
           going_parts v es id (x ∷ xs) ys shows goes (omega arith)
           (λ w fs zs then_shows fewer. parts_within few w fs id zs ys then_shows (omega (arith, fewer, within)))
-          (beginning v.config.limits.max_message ((stream_on v.config.limits.max_message id es).rest ++ x ∷ xs)) refl
+          (beginning (size_on v.config.limits.max_message id es) ((stream_on v.config.limits.max_message id es).rest ++ x ∷ xs)) refl
     ]
 
 -- Bytes that are handed to a connection in two parts, one right behind the other, do what they do in one, and as many are taken.

@@ -1,6 +1,6 @@
 -- The end of input, and the beginning of a run.
 use Rattle.std.proofs.Common.{◌≡◌, ℕ, Bool, true, false, cond, List, [], ◌∷◌, ◌++◌, Option, Some, None, refl, sym, ap, subst, ◌∙◌}
-use Rattle.coap_wire.specs.Stream.{split}
+use Rattle.coap_wire.specs.Stream.{split, Stream}
 use Rattle.coap_conn.specs.Phases.{stop_of, takes_messages}
 use Rattle.coap_conn.specs.History.{History, with_effect, standing_now}
 use Rattle.coap_conn.specs.Calls.{end_reason}
@@ -68,7 +68,7 @@ module _ (c : ConfigValues) (v v1 : ServerValue) (bytes : List ℕ) (stands : St
   stopped : stop_of t.history.phase ≡ Some (end_reason (is_cut (stream_of c bytes).rest))
   stopped =
       ap stop_of ((settled_still w.store w.now (side_ended there.0 cut)).stopped (end_reason cut) (ended_side there.0 cut there.2)).0
-      ∙ ap (λ (taken : List ℕ). Some (end_reason (is_cut (split c.limits.max_message taken).rest))) (stands.taken going)
+      ∙ ap (λ (s : Stream × ℕ). Some (end_reason (is_cut s.0.rest))) (stands.spelled going)
 
   pub ended_stop : stop_on (session_of id v1.sessions) ≡ Some (end_reason (is_cut (stream_of c bytes).rest))
   ended_stop =
@@ -77,7 +77,7 @@ module _ (c : ConfigValues) (v v1 : ServerValue) (bytes : List ℕ) (stands : St
 
 -- the same where the number has a name
 pub end_stops : (c : ConfigValues) (v v1 : ServerValue) (id : ℕ) (bytes : List ℕ) → IsGoing c v id bytes → v1.config ≡ v.config → ((events : List Event) → Shows v events → Shows v1 (events ++ Ended id ∷ [])) → stop_on (session_of id v1.sessions) ≡ Some (end_reason (is_cut (stream_of c bytes).rest))
-end_stops c v v1 id bytes goes config shows =
+end_stops c v v1 _ bytes goes config shows =
     subst (λ (n : ℕ). ((events : List Event) → Shows v events → Shows v1 (events ++ Ended n ∷ [])) → stop_on (session_of n v1.sessions) ≡ Some (end_reason (is_cut (stream_of c bytes).rest))) (sym goes.number)
     (ended_stop c v v1 bytes goes.stands goes.going (config ∙ goes.stands.config)) shows
 

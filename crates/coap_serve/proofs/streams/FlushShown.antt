@@ -7,11 +7,11 @@ use Rattle.coap_serve.specs.values.Flushes.{Flush, waiting_in, waiting_at, more_
 use Rattle.coap_serve.specs.world.Sides.{Side, waiting_on, side_written, settled}
 use Rattle.coap_serve.specs.world.World.{World, side_of}
 use Rattle.coap_serve.specs.world.World as world
-use Rattle.coap_serve.specs.world.Events.{Event, Wrote, taken_on, stream_on, steps_by, world_after}
+use Rattle.coap_serve.specs.world.Events.{Event, Wrote, taken_on, stream_on, steps_by, world_after, spelled_on}
 use Rattle.coap_serve.specs.world.Shows.{Shows, session_shown}
 use Rattle.coap_serve.specs.streams.Output.{waiting_of, more_of, written_once, written_times, flushed}
 use Rattle.coap_serve.proofs.values.FlushLemmas.{no_turns, turn_more}
-use Rattle.coap_serve.proofs.world.StepLaws.{taken_then, world_step}
+use Rattle.coap_serve.proofs.world.StepLaws.{taken_then, world_step, spelled_same}
 use Rattle.coap_serve.proofs.world.HearingLaws.{world_hears}
 use Rattle.coap_serve.proofs.streams.FlushLaws.{flushed_so, flushed_early}
 use Rattle.coap_serve.proofs.world.ShowLaws.{side_there, shows_written}
@@ -30,7 +30,7 @@ pub record FlushShown (c : ConfigValues) (es : List Event) (id : ℕ) (s : Side)
   pub events : List Event
   pub shows : Shows after events
   pub world : world_after c events ≡ written_times c.limits id turns (world_after c es)
-  pub taken : taken_on id events ≡ taken_on id es
+  pub spelled : spelled_on c.limits.max_message id events ≡ spelled_on c.limits.max_message id es
   pub side : Side
   pub there : side_of id (world_after c events).sides ≡ Some side
   pub said : front_written side ≡ front_written s ++ text
@@ -39,7 +39,7 @@ pub record FlushShown (c : ConfigValues) (es : List Event) (id : ℕ) (s : Side)
 no_turn : (c : ConfigValues) (v : ServerValue) (es : List Event) (id : ℕ) (s : Side) → v.config ≡ c → Shows v es → side_of id (world_after c es).sides ≡ Some s → FlushShown c es id s 0 v []
 unfolding written_times
 no_turn c v es id s config shows is =
-    record { config = config; events = es; shows = shows; world = refl; taken = refl; side = s; there = is; said = sym (append-nil (front_written s)); handled = refl }
+    record { config = config; events = es; shows = shows; world = refl; spelled = refl; side = s; there = is; said = sym (append-nil (front_written s)); handled = refl }
 
 -- one turn more
 module _ (c : ConfigValues) (es : List Event) (id : ℕ) (s : Side) (turns : ℕ) (now : ServerValue) (text : List ℕ) (so_far : FlushShown c es id s turns now text) where
@@ -91,7 +91,7 @@ module _ (c : ConfigValues) (es : List Event) (id : ℕ) (s : Side) (turns : ℕ
     events = fs ++ Wrote id n ∷ [];
     shows = shows_written now fs id n _ so_far.shows session_is (omega (arith, ap (λ (b : List ℕ). length b) waits_shown));
     world = next_world;
-    taken = taken_then id fs (Wrote id n) ∙ append-nil (taken_on id fs) ∙ so_far.taken;
+    spelled = spelled_same c.limits.max_message id fs (Wrote id n) refl (λ N. refl) ∙ so_far.spelled;
     side = next;
     there = next_there;
     said = next_said;

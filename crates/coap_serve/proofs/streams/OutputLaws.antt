@@ -15,14 +15,14 @@ use Rattle.coap_serve.specs.Configs.{ConfigValues}
 use Rattle.coap_serve.specs.world.Sides.{Side, new_side, waiting_on, settled, settled_within}
 use Rattle.coap_serve.specs.world.World.{World, Step, new_world, side_of, acted, step}
 use Rattle.coap_serve.specs.world.World as world
-use Rattle.coap_serve.specs.world.Events.{Event, Opened, Took, taken_in, taken_on, stream_on, new_fault, beyond, steps_by, steps_behind, steps_of}
+use Rattle.coap_serve.specs.world.Events.{Event, Opened, Took, taken_in, taken_on, stream_on, new_fault, beyond, steps_by, steps_behind, steps_of, size_on}
 use Rattle.coap_serve.specs.streams.Output.{written_times, flushed, flushed_after, only_id, stream_of, steps_for, world_for, side_for, outcome_on, outcome, stdio_output}
 use Rattle.coap_serve.proofs.world.EntryLemmas.{all_append}
 use Rattle.coap_serve.proofs.world.PlaceLaws.{AreDistinct, first_there}
 use Rattle.coap_serve.proofs.world.AcrossLaws.{opened_world}
 use Rattle.coap_serve.proofs.world.WorldLaws.{step_distinct}
 use Rattle.coap_serve.proofs.world.HearingLaws.{AllHear, step_hears}
-use Rattle.coap_serve.proofs.world.StepLaws.{taken_here, steps_of_more, stream_more}
+use Rattle.coap_serve.proofs.world.StepLaws.{taken_here, steps_of_more, stream_more, stream_same, first_spelled}
 use Rattle.coap_serve.proofs.world.CutLaws.{cut_steps}
 use Rattle.coap_serve.proofs.streams.FlushLaws.{flushed_there, flushed_alone, flushed_empties, quiet_flush}
 use Rattle.coap_serve.proofs.streams.QueueLaws.{HasGrown, grown_self, grown_then, handled_grows, faulted_grows, flushed_grows}
@@ -63,22 +63,33 @@ beyond_are id before after =
 abbrev fed : ConfigValues → List ℕ → List Event
 fed c bytes = Opened (only_id c) ∷ Took (only_id c) bytes ∷ []
 
+pub no_bytes_spell : (c : ConfigValues) → stream_of c [] ≡ record { messages = []; rest = []; fault = None }
+no_bytes_spell c = split_unfinished c.limits.max_message [] (unfinished_empty c.limits.max_message)
+
+opened_stream : (c : ConfigValues) → stream_on c.limits.max_message (only_id c) (Opened (only_id c) ∷ []) ≡ stream_of c []
+opened_stream c =
+    stream_same c.limits.max_message (only_id c) [] (Opened (only_id c)) refl
+    ∙ ap (λ (s : Stream × ℕ). s.0) (first_spelled c.limits.max_message (only_id c)) ∙ sym (no_bytes_spell c)
+
 fed_stream : (c : ConfigValues) (bytes : List ℕ) → stream_on c.limits.max_message (only_id c) (fed c bytes) ≡ stream_of c bytes
-unfolding taken_on
+unfolding size_on
 fed_stream c bytes =
-    ap (split c.limits.max_message) (append-nil (taken_in (only_id c) (Took (only_id c) bytes)) ∙ taken_here (only_id c) bytes)
+    let M : ℕ = c.limits.max_message in
+    stream_more M (only_id c) (Opened (only_id c) ∷ []) bytes
+    ∙ ap (λ (s : Stream). split_on M s bytes) (opened_stream c) ∙ sym (split_goes_on M [] bytes)
 
 -- the steps of bytes: the connection is opened, and what they spell follows
 pub steps_are : (c : ConfigValues) (bytes : List ℕ) → steps_for c bytes ≡ world.Opened (only_id c) ∷ beyond (only_id c) (stream_of c []) (stream_of c bytes)
-unfolding steps_of steps_behind steps_by taken_on
+unfolding steps_of steps_behind steps_by
 steps_are c bytes =
     ap (λ (ss : List Step). world.Opened (only_id c) ∷ ss)
-    (append-nil (beyond (only_id c) (stream_of c []) (stream_on c.limits.max_message (only_id c) (fed c bytes)))
+    (append-nil (beyond (only_id c) (stream_on c.limits.max_message (only_id c) (Opened (only_id c) ∷ [])) (stream_on c.limits.max_message (only_id c) (fed c bytes)))
+    ∙ ap (λ (s : Stream). beyond (only_id c) s (stream_on c.limits.max_message (only_id c) (fed c bytes))) (opened_stream c)
     ∙ ap (beyond (only_id c) (stream_of c [])) (fed_stream c bytes))
 
 -- more bytes make more steps behind them
 pub steps_go_on : (c : ConfigValues) (xs ys : List ℕ) → steps_for c (xs ++ ys) ≡ steps_for c xs ++ beyond (only_id c) (stream_of c xs) (stream_of c (xs ++ ys))
-unfolding steps_by
+unfolding steps_by size_on
 steps_go_on c xs ys =
     let M : ℕ = c.limits.max_message in
     let id : ℕ = only_id c in
@@ -176,9 +187,6 @@ greeted_world c = flushed c.limits (only_id c) (step c.limits (new_world c) (wor
 pub world_for_is : (c : ConfigValues) (bytes : List ℕ) → world_for c bytes ≡ flushed_after c.limits (only_id c) (greeted_world c) (beyond (only_id c) (stream_of c []) (stream_of c bytes))
 unfolding world_for flushed_after
 world_for_is c bytes = ap (flushed_after c.limits (only_id c) (new_world c)) (steps_are c bytes)
-
-no_bytes_spell : (c : ConfigValues) → stream_of c [] ≡ record { messages = []; rest = []; fault = None }
-no_bytes_spell c = split_unfinished c.limits.max_message [] (unfinished_empty c.limits.max_message)
 
 -- that is the world of no bytes
 pub world_for_none : (c : ConfigValues) → world_for c [] ≡ greeted_world c

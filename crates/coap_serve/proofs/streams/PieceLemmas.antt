@@ -101,7 +101,7 @@ module _ (c : ConfigValues) (id : ℕ) (bytes piece : List ℕ) (v : ServerValue
             events = said.stands.events;
             shows = said.stands.shows;
             world = said.stands.world ∙ sym (stopped_output c (here ++ front) behind why over) ∙ ap (world_for c) (sym whole_bytes);
-            taken = λ none. let bad : ◌≡◌ {A = Option Reason} None (Some why) = sym none ∙ ap (λ (o : Outcome). o.stop) same ∙ over in absurd cc;
+            spelled = λ none. let bad : ◌≡◌ {A = Option Reason} None (Some why) = sym none ∙ ap (λ (o : Outcome). o.stop) same ∙ over in absurd cc;
           };
           text = so_far.text ++ said.text;
           says = ap (λ (o : Outcome). o.output) same ∙ ap (stdio_output c) (sym further_bytes) ∙ says_then c bytes so_far.taken front so_far.text said.text so_far.says said.says;

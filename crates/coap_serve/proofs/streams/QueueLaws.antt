@@ -8,6 +8,7 @@ use Rattle.coap_conn.specs.Fit.{bare_response}
 use Rattle.coap_conn.specs.Rejects.{reject_reason}
 use Rattle.coap_conn.specs.Reaction.{abort, send, react, pong_with}
 use Rattle.coap_conn.specs.History.{History, standing_now}
+use Rattle.coap_conn.specs.LinkValue.{own_csm}
 use Rattle.coap_conn.specs.Calls.{release}
 use Rattle.coap_store.specs.Store.{StoreValue}
 use Rattle.coap_store.specs.Messages.{response_with_observe}
@@ -41,6 +42,7 @@ all_queue = record {
   rejects = λ h fault takes room. ((abort (standing_now h) (reject_reason fault)).queued, refl);
   ends = λ h cut takes. ([], refl);
   releases = λ h opened none. (release ∷ [], refl);
+  announces = λ h size opened room fit. (own_csm size ∷ [], refl);
   writes = λ h n within. queues_self h;
 }
 

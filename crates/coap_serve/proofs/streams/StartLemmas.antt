@@ -11,15 +11,16 @@ use Rattle.coap_serve.specs.values.Flushes.{waiting_at, more_at, flush_turns, Is
 use Rattle.coap_serve.specs.world.Sides.{new_side}
 use Rattle.coap_serve.specs.world.World.{World, new_world, side_of, step}
 use Rattle.coap_serve.specs.world.World as world
-use Rattle.coap_serve.specs.world.Events.{Event, Opened, taken_on, steps_by, world_after}
+use Rattle.coap_serve.specs.world.Events.{Event, Opened, taken_on, steps_by, world_after, spelled_on}
 use Rattle.coap_serve.specs.world.Shows.{Shows}
 use Rattle.coap_serve.specs.streams.Device.{Told, HasGiven, AddsBytes, WritesPart}
-use Rattle.coap_serve.specs.streams.Output.{only_id, flushed, world_for, stdio_output}
+use Rattle.coap_serve.specs.streams.Output.{only_id, flushed, world_for, stdio_output, stream_of}
 use Rattle.coap_serve.specs.streams.StdioRun.{IsStdioRun}
 use Rattle.coap_serve.specs.streams.Standing.{Stands, IsGoing}
-use Rattle.coap_serve.proofs.world.StepLaws.{world_first, world_step}
+use Rattle.coap_wire.specs.Stream.{Stream}
+use Rattle.coap_serve.proofs.world.StepLaws.{world_first, world_step, spelled_same, first_spelled}
 use Rattle.coap_serve.proofs.streams.DeviceLemmas.{bytes_none, bytes_then, given_none}
-use Rattle.coap_serve.proofs.streams.OutputLaws.{opened_there, world_for_none, none_stops}
+use Rattle.coap_serve.proofs.streams.OutputLaws.{opened_there, world_for_none, none_stops, no_bytes_spell}
 use Rattle.coap_serve.proofs.streams.FlushShown.{FlushShown}
 use Rattle.coap_serve.proofs.streams.FlushShown as shown
 use Rattle.coap_serve.proofs.streams.TakeLemmas.{all_said, stands_behind, first_none, text_grows}
@@ -29,9 +30,10 @@ opened_one : (M id : ℕ) → steps_by M [] (Opened id) ≡ world.Opened id ∷ 
 unfolding steps_by
 opened_one M id = refl
 
-no_byte : (id : ℕ) → taken_on id (Opened id ∷ []) ≡ []
-unfolding taken_on
-no_byte id = refl
+nothing_yet : (c : ConfigValues) → spelled_on c.limits.max_message (only_id c) (Opened (only_id c) ∷ []) ≡ (stream_of c [], c.limits.max_message)
+nothing_yet c =
+    let M : ℕ = c.limits.max_message in
+    spelled_same M (only_id c) [] (Opened (only_id c)) refl (λ N. refl) ∙ first_spelled M (only_id c) ∙ ap (λ (s : Stream). (s, M)) (sym (no_bytes_spell c))
 
 module _ (c : ConfigValues) (v : ServerValue) (ranges : AreInRange c.limits) (config : v.config ≡ c) (shows : Shows v (Opened (only_id c) ∷ [])) where
   abbrev id : ℕ
@@ -61,7 +63,7 @@ module _ (c : ConfigValues) (v : ServerValue) (ranges : AreInRange c.limits) (co
     text_is = all_said c es (new_side c.limits) turns _ _ [] f ends
 
     stands_now : Stands c (flush_turns turns id v).server []
-    stands_now = stands_behind c es (new_side c.limits) turns _ _ [] f ends (no_byte id)
+    stands_now = stands_behind c es (new_side c.limits) turns _ _ [] f ends (nothing_yet c)
 
   -- what a run begins from
   pub goes_first : (after : ServerValue) (wrote : List ℕ → Type 0) → IsFlushed id v after wrote → IsGoing c after id []

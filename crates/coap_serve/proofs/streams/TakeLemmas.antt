@@ -4,7 +4,7 @@ use Rattle.std.proofs.lemmas.Bool.{le-leb}
 use Rattle.std.proofs.lemmas.Bool.{cases_eq}
 use Rattle.coap_wire.specs.Message.{Message}
 use Rattle.std.proofs.lemmas.List.{append-nil}
-use Rattle.coap_wire.specs.Stream.{Stream, split}
+use Rattle.coap_wire.specs.Stream.{Stream, split, split_on}
 use Rattle.coap_conn.specs.declared.reason.Reason.{Reason}
 use Rattle.coap_conn.specs.Limits.{LimitValues, AreInRange}
 use Rattle.coap_conn.specs.Phases.{stop_of}
@@ -23,16 +23,15 @@ use Rattle.coap_serve.specs.world.View.{change_made}
 use Rattle.coap_serve.proofs.world.RefusedLaws.{refuses_last}
 use Rattle.coap_serve.specs.world.Sides.{Side, waiting_on, has_room, handles}
 use Rattle.coap_serve.specs.world.World.{World, Step, side_of, step}
-use Rattle.coap_serve.specs.world.Events.{Event, Took, taken_on, stream_on, beyond, steps_by, world_after, front_of, takes}
+use Rattle.coap_serve.specs.world.Events.{Event, Took, taken_on, stream_on, beyond, steps_by, world_after, front_of, takes, size_on, spelled_on, taken_in, size_by}
 use Rattle.coap_serve.specs.world.Shows.{Shows, session_shown}
 use Rattle.coap_serve.specs.world.Handling.{handled_in, message_reason, count_of}
 use Rattle.coap_conn.specs.declared.reason.Reason.TheVariants as reason
 use Rattle.coap_serve.specs.declared.server.Handled.{Handled}
 use Rattle.coap_serve.specs.declared.server.Handled.TheVariants as handled
 use Rattle.coap_serve.proofs.values.FlushLemmas.{turn_more}
-use Rattle.coap_serve.proofs.world.StepLaws.{taken_then, taken_here, world_same, world_step}
+use Rattle.coap_serve.proofs.world.StepLaws.{taken_then, taken_here, world_same, world_step, rest_unfinished, spelled_then, spelled_by}
 use Rattle.coap_frame.proofs.FrontLaws.{some_in_front}
-use Rattle.coap_serve.proofs.world.TookLaws.{rest_unfinished}
 use Rattle.coap_serve.proofs.world.GoingOn.{side_is}
 use Rattle.coap_serve.proofs.world.ReachedLaws.{IsReached, accepted_is, takes_there, handling_goes_on}
 use Rattle.coap_serve.proofs.world.ShowLaws.{side_there}
@@ -43,6 +42,7 @@ use Rattle.coap_serve.proofs.streams.FlushLaws.{quiet_flush}
 use Rattle.coap_serve.proofs.streams.OutputLaws.{one_step_more, no_step_more, world_for_written, world_for_hears, output_of, stop_there}
 use Rattle.coap_serve.proofs.streams.FlushShown.{FlushShown, session_is}
 use Rattle.coap_serve.proofs.streams.FlushShown as shown
+use Rattle.coap_wire.proofs.StreamSteps.{split_goes_on}
 
 -- ---- some bytes are taken
 
@@ -120,8 +120,8 @@ module _ (c : ConfigValues) (es : List Event) (s : Side) (turns : ℕ) (after : 
       let none : waiting_on f.side ≡ [] = ap waiting_on (some_same f.side all.0 (sym side_is_there ∙ all.1)) ∙ all.2 in
       output_of c bytes f.side side_is_there ∙ sym (all_written f.side none) ∙ f.said
 
-  pub stands_behind : taken_on (only_id c) es ≡ bytes → Stands c after bytes
-  stands_behind taken = record { config = f.config; events = f.events; shows = f.shows; world = ends; taken = λ still. f.taken ∙ taken }
+  pub stands_behind : spelled_on c.limits.max_message (only_id c) es ≡ (stream_of c bytes, c.limits.max_message) → Stands c after bytes
+  stands_behind spelled = record { config = f.config; events = f.events; shows = f.shows; world = ends; spelled = λ still. f.spelled ∙ spelled }
 
 -- where nothing stops a connection it takes messages
 pub takes_where_going : (stop : Option Reason) → stop ≡ None → is_none stop ≡ true
@@ -150,7 +150,7 @@ module _ (v : ServerValue) (bytes piece : List ℕ) (stands : Stands v.config v 
   reached = accepted_is c es stands.shows.accepted
 
   stream_before : stream_on c.limits.max_message id es ≡ stream_of c bytes
-  stream_before = ap (split c.limits.max_message) (stands.taken going)
+  stream_before = ap (λ (s : Stream × ℕ). s.0) (stands.spelled going)
 
   -- ---- some bytes of the piece are taken
 
@@ -166,8 +166,8 @@ module _ (v : ServerValue) (bytes piece : List ℕ) (stands : Stands v.config v 
   takes_some some =
       let M : ℕ = c.limits.max_message in
       let unfinished = rest_unfinished M id es (handling_goes_on c es id s reached there handling) in
-      let front = some_in_front M (stream_on M id es).rest piece unfinished some in
-      omega (arith, front, takes_there c es id piece s there ∙ ap (λ (b : Bool). cond b (front_of M (stream_on M id es).rest piece) 0) handling)
+      let front = some_in_front (size_on M id es) (stream_on M id es).rest piece unfinished some in
+      omega (arith, front, takes_there c es id piece s there ∙ ap (λ (b : Bool). cond b (front_of (size_on M id es) (stream_on M id es).rest piece) 0) handling)
 
   -- ---- memory is refused
 
@@ -183,8 +183,10 @@ module _ (v : ServerValue) (bytes piece : List ℕ) (stands : Stands v.config v 
       let M : ℕ = c.limits.max_message in
       let front : List ℕ = take n piece in
       let last = refuses_last v es id piece n _ stands.shows session_there (refuses_there v piece n (session_of id v.sessions) _ session_there refused) in
-      let bytes_are : taken_on id es ≡ bytes = stands.taken going in
-      let quiet : beyond id (stream_of c bytes) (stream_of c (bytes ++ front)) ≡ [] = subst (λ (b : List ℕ). beyond id (split M b) (split M (b ++ front)) ≡ []) bytes_are last.quiet in
+      let spelled = stands.spelled going in
+      let further : split_on M (stream_of c bytes) front ≡ stream_of c (bytes ++ front) = sym (split_goes_on M bytes front) in
+      let quiet : beyond id (stream_of c bytes) (stream_of c (bytes ++ front)) ≡ [] =
+      subst (λ (s : Stream). beyond id (stream_of c bytes) s ≡ []) further (subst (λ (s : Stream × ℕ). beyond id s.0 (split_on s.1 s.0 front) ≡ []) spelled last.quiet) in
       let same : world_for c (bytes ++ front) ≡ world_for c bytes = no_step_more c bytes front quiet in
       let world_is : world_after c es ≡ world_for c (bytes ++ front) = stands.world ∙ sym same in
       record {
@@ -194,7 +196,9 @@ module _ (v : ServerValue) (bytes piece : List ℕ) (stands : Stands v.config v 
         refused = record {
           no_stop = ap (λ (w : World). (outcome_on (side_of id w.sides)).stop) same ∙ going;
           message = last.message;
-          one_more = subst (λ (b : List ℕ). split M ((b ++ front) ++ last.last ∷ []) ≡ record { messages = (split M (b ++ front)).messages ++ last.message ∷ []; rest = []; fault = None }) bytes_are last.one_more;
+          one_more = split_goes_on M (bytes ++ front) (last.last ∷ [])
+              ∙ subst (λ (s : Stream). split_on M s (last.last ∷ []) ≡ record { messages = s.messages ++ last.message ∷ []; rest = []; fault = None }) further
+              (subst (λ (s : Stream × ℕ). split_on s.1 (split_on s.1 s.0 front) (last.last ∷ []) ≡ record { messages = (split_on s.1 s.0 front).messages ++ last.message ∷ []; rest = []; fault = None }) spelled last.one_more);
           stores = subst (λ (w : World). IsPut (change_made w id last.message)) world_is last.stores;
         };
         says = ap (λ (w : World). (outcome_on (side_of id w.sides)).output) same ∙ sym (append-nil (stdio_output c bytes));
@@ -218,11 +222,16 @@ module _ (v : ServerValue) (bytes piece : List ℕ) (stands : Stands v.config v 
     abbrev w1 : World
     w1 = world_after c fs
 
-    taken_all : taken_on id fs ≡ bytes ++ T
-    taken_all = taken_then id es (Took id T) ∙ ap (λ (b : List ℕ). taken_on id es ++ b) (taken_here id T) ∙ ap (λ (b : List ℕ). b ++ T) (stands.taken going)
+    spelled_after : spelled_on c.limits.max_message id fs ≡ (stream_of c (bytes ++ T), c.limits.max_message)
+    spelled_after =
+        let M : ℕ = c.limits.max_message in
+        let further : split_on M (stream_of c bytes) (taken_in id (Took id T)) ≡ stream_of c (bytes ++ T) = ap (split_on M (stream_of c bytes)) (taken_here id T) ∙ sym (split_goes_on M bytes T) in
+        spelled_then M id es (Took id T)
+        ∙ ap (λ (s : Stream × ℕ). spelled_by s (taken_in id (Took id T)) (size_by id (Took id T))) (stands.spelled going)
+        ∙ ap (λ (s : Stream). (s, M)) further
 
     stream_after : stream_on c.limits.max_message id fs ≡ stream_of c (bytes ++ T)
-    stream_after = ap (split c.limits.max_message) taken_all
+    stream_after = ap (λ (s : Stream × ℕ). s.0) spelled_after
 
     steps_are : steps_by c.limits.max_message es (Took id T) ≡ beyond id (stream_of c bytes) (stream_of c (bytes ++ T))
     unfolding steps_by
@@ -294,7 +303,7 @@ module _ (v : ServerValue) (bytes piece : List ℕ) (stands : Stands v.config v 
       messages_are = messages_of c (bytes ++ T) f.side then_there ∙ ap (λ (ms : List Message). length ms) f.handled ∙ counted_before
 
       stands_now : Stands c (flush_turns turns id v1).server (bytes ++ T)
-      stands_now = stands_behind c fs s1 turns _ _ (bytes ++ T) f ends taken_all
+      stands_now = stands_behind c fs s1 turns _ _ (bytes ++ T) f ends spelled_after
 
       stop_is : stop_on (session_of id (flush_turns turns id v1).server.sessions) ≡ (outcome c (bytes ++ T)).stop
       stop_is =

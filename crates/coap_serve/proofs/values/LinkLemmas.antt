@@ -7,25 +7,33 @@ use Rattle.coap_wire.specs.Message.{Message}
 use Rattle.coap_wire.specs.Beginning.{Beginning, Unfinished, Whole, beginning}
 use Rattle.coap_wire.proofs.StreamSteps.{whole_parts, whole_itself, whole_more}
 use Rattle.coap_conn.specs.declared.phase.Reject.{Reject}
-use Rattle.coap_conn.specs.Phases.{takes_messages, answers}
+use Rattle.coap_conn.specs.Phases.{takes_messages, answers, is_open}
 use Rattle.coap_conn.specs.LinkValue.{LinkValue}
 use Rattle.coap_conn.specs.Calls.{link_after}
 use Rattle.coap_conn.specs.Calls as call
+use Rattle.coap_serve.specs.values.Sessions.{sizes_of}
 
--- ---- limits stay
+-- ---- limits and sizes stay
 
-pub limits_stay : (does : Bool) (l now : LinkValue) → now.limits ≡ l.limits → (cond does now l).limits ≡ l.limits
-limits_stay true l now same = same
-limits_stay false l now same = refl
+-- what a link has stays where nothing changes, or what changes leaves it
+pub stays_so : {A : Type 0} (part : LinkValue → A) (does : Bool) (l now : LinkValue) → part now ≡ part l → part (cond does now l) ≡ part l
+stays_so part true l now same = same
+stays_so part false l now same = refl
 
-pub reject_limits : (l : LinkValue) (fault : Reject) → (link_after l (call.Reject fault)).limits ≡ l.limits
-reject_limits l fault = limits_stay (takes_messages l.phase) l _ refl
+pub reject_sizes : (l : LinkValue) (fault : Reject) → sizes_of (link_after l (call.Reject fault)) ≡ sizes_of l
+reject_sizes l fault = stays_so sizes_of (takes_messages l.phase) l _ refl
 
-pub message_limits : (l : LinkValue) (m : Message) → (link_after l (call.Handle m)).limits ≡ l.limits
-message_limits l m = limits_stay (takes_messages l.phase) l _ refl
+pub message_sizes : (l : LinkValue) (m : Message) → sizes_of (link_after l (call.Handle m)) ≡ sizes_of l
+message_sizes l m = stays_so sizes_of (takes_messages l.phase) l _ refl
 
-pub reply_limits : (l : LinkValue) (m : Message) → (link_after l (call.Reply m)).limits ≡ l.limits
-reply_limits l m = limits_stay (answers l.phase) l _ refl
+pub reply_sizes : (l : LinkValue) (m : Message) → sizes_of (link_after l (call.Reply m)) ≡ sizes_of l
+reply_sizes l m = stays_so sizes_of (answers l.phase) l _ refl
+
+pub end_sizes : (l : LinkValue) (cut : Bool) → sizes_of (link_after l (call.End cut)) ≡ sizes_of l
+end_sizes l cut = stays_so sizes_of (takes_messages l.phase) l _ refl
+
+pub release_sizes : (l : LinkValue) → sizes_of (link_after l call.Release) ≡ sizes_of l
+release_sizes l = stays_so sizes_of (is_open l.phase) l _ refl
 
 -- ---- where a frame ends in its piece
 

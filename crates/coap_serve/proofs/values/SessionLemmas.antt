@@ -7,6 +7,8 @@ use Rattle.coap_wire.specs.Reading.{message_of}
 use Rattle.coap_wire.specs.Beginning.{Beginning, Unfinished, Whole, Faulty, beginning}
 use Rattle.coap_frame.specs.Framing.{FramerValue, IsFramer, Framing, Nothing, AFrame, MayUnread, framing_at, framing, framing_of, framer_after, without_last}
 use Rattle.coap_frame.specs.Given.{taken_of, unread_after}
+use Rattle.coap_frame.specs.Raising.{raise_refusal, with_size}
+use Rattle.coap_frame.proofs.RaiseLemmas.{raise_allowed, raised_is_framer}
 use Rattle.coap_frame.proofs.FramingLemmas.{empty_framer, framing_is_framer, unread_is_framer}
 use Rattle.coap_frame.proofs.GivenLaws.{taken_within, unread_allowed, unread_one_less, unread_nothing}
 use Rattle.coap_conn.specs.declared.phase.Verdict.{Verdict}
@@ -14,11 +16,10 @@ use Rattle.coap_conn.specs.declared.phase.Verdict.TheVariants as told
 use Rattle.coap_conn.specs.Limits.{LimitValues, AreInRange}
 use Rattle.coap_conn.specs.LinkViews.{verdict_value}
 use Rattle.coap_conn.specs.Held.{HeldValue, Answer, Pong, first_due}
-use Rattle.coap_conn.specs.LinkValue.{LinkValue, IsReady, free_in, standing_in, link_with}
-use Rattle.coap_conn.specs.Calls.{link_after, end_reason, release}
+use Rattle.coap_conn.specs.Fit.{fits}
+use Rattle.coap_conn.specs.LinkValue.{LinkValue, IsReady, free_in, limit_in, bytes_of, own_csm}
+use Rattle.coap_conn.specs.Calls.{link_after, may_announce}
 use Rattle.coap_conn.specs.Calls as call
-use Rattle.coap_conn.specs.declared.reason.Reason.TheVariants.{ReleasedHere}
-use Rattle.coap_conn.specs.Reaction.{stop}
 use Rattle.coap_conn.specs.Phases.{is_open, takes_messages}
 use Rattle.coap_conn.specs.Verdicts.{is_request}
 use Rattle.coap_store.specs.Answer as answer
@@ -26,11 +27,11 @@ use Rattle.coap_store.specs.Changes.{IsPut}
 use Rattle.coap_serve.specs.declared.host.Host.{Host}
 use Rattle.coap_serve.specs.declared.session.Session.TheInside.{Inside}
 use Rattle.coap_serve.specs.world.Sides.{held_message}
-use Rattle.coap_serve.specs.values.Sessions.{ObserverValue, ObserversValue, SessionValue, is_stale, session_ready, session_takes, session_max, observers_on, frame_on, session_with, without_entry, answer_on, hold_on, held_in, session_replied, asks_this, session_handled, change_by, Taking, taking_read, taking_found, taking, RefusesPiece, notification_on, session_notified, next_held_in, next_stale, link_sent, session_settled_so, session_settled_once, IsSettled}
+use Rattle.coap_serve.specs.values.Sessions.{ObserverValue, ObserversValue, SessionValue, is_stale, session_ready, session_takes, session_max, sizes_of, observers_on, frame_on, session_with, without_entry, answer_on, hold_on, held_in, session_replied, asks_this, session_handled, change_by, Taking, taking_read, taking_found, taking, RefusesPiece, notification_on, session_notified, next_held_in, next_stale, link_sent, session_settled_so, session_settled_once, IsSettled}
 use Rattle.coap_serve.specs.values.Entries.{first_index, link_replied, entries_replied, entries_notified, framer_on}
 use Rattle.coap_serve.specs.views.SessionViews.{IsSession, session_value}
 use Rattle.coap_serve.proofs.values.LinkLemmas.{ends_in}
-use Rattle.coap_serve.proofs.values.LinkLemmas.{message_limits, reply_limits}
+use Rattle.coap_serve.proofs.values.LinkLemmas.{message_sizes, reply_sizes}
 use Rattle.coap_serve.proofs.values.EntryLemmas.{is_first}
 
 -- ---- what a stop gives up
@@ -45,22 +46,32 @@ open_or_none : (l : LinkValue) (os : List ObserverValue) → (is_open l.phase �
 open_or_none l os = elim (is_open l.phase) as (λ b. (b ≡ true) ⊎ ((if b then os else []) ≡ [])) [ true ↦ inl refl | false ↦ inr refl ]
 
 -- a session whose fields were changed, and which then gave up what a stop gives up
-pub given_up : (s : Inside) (l : LinkValue) (f g : FramerValue) (o p : ObserversValue) → IsSession s → l.limits ≡ s.link.limits → f.max ≡ s.framer.max → IsFramer f → o.room ≡ s.observers.room → g ≡ framer_on l f → p ≡ record o { entries = observers_on l o.entries }
+pub given_up : (s : Inside) (l : LinkValue) (f g : FramerValue) (o p : ObserversValue) → IsSession s → sizes_of l ≡ sizes_of s.link → f.max ≡ s.framer.max → IsFramer f → o.room ≡ s.observers.room → g ≡ framer_on l f → p ≡ record o { entries = observers_on l o.entries }
     → IsSession (record { framer = g; link = l; observers = p })
-given_up s l f g o p is limits max framer room g_is p_is =
+given_up s l f g o p is sizes max framer room g_is p_is =
+    let limits : l.limits ≡ s.link.limits = ap (λ (both : LimitValues × ℕ). both.0) sizes in
     record {
       ranges = subst AreInRange (sym limits) is.ranges;
-      greatest = ap (λ (k : FramerValue). k.max) g_is ∙ max_stays l f ∙ max ∙ is.greatest ∙ ap (λ (k : LimitValues). k.max_message) (sym limits);
+      greatest = ap (λ (k : FramerValue). k.max) g_is ∙ max_stays l f ∙ max ∙ is.greatest ∙ ap (λ (both : LimitValues × ℕ). both.1) (sym sizes);
       framer = subst IsFramer (sym g_is) (framer_stays l f framer);
       room = ap (λ (k : ObserversValue). k.room) p_is ∙ room ∙ is.room ∙ ap (λ (k : LimitValues). k.observers) (sym limits);
       open_only = subst (λ (k : ObserversValue). (is_open l.phase ≡ true) ⊎ (k.entries ≡ [])) (sym p_is) (open_or_none l o.entries);
     }
 
-pub end_limits : (l : LinkValue) (cut : Bool) → (link_after l (call.End cut)).limits ≡ l.limits
-end_limits l cut = elim (takes_messages l.phase) as (λ b. (if b then link_with l (stop (standing_in l) (end_reason cut) []) else l).limits ≡ l.limits) [ true ↦ refl | false ↦ refl ]
-
-pub release_limits : (l : LinkValue) → (link_after l call.Release).limits ≡ l.limits
-release_limits l = elim (is_open l.phase) as (λ b. (if b then link_with l (stop (standing_in l) ReleasedHere (release ∷ [])) else l).limits ≡ l.limits) [ true ↦ refl | false ↦ refl ]
+-- a session that takes messages of another size from then on
+pub announced_session : (s : Inside) (size : ℕ) (f : FramerValue) (l : LinkValue) → IsSession s → is_open s.link.phase ≡ true → fits (limit_in s.link) (own_csm size) ≡ true → raise_refusal s.framer.max size ≡ None
+    → f ≡ with_size s.framer size → l ≡ link_after s.link (call.Announce size) → IsSession (record { framer = f; link = l; observers = s.observers })
+announced_session s size f l is opened fit allowed f_is l_is =
+    let now : LinkValue = record s.link { waiting = s.link.waiting ++ bytes_of (own_csm size ∷ []); own_max = size } in
+    let may : may_announce s.link size ≡ true = rw (opened, fit) refl in
+    let larger = raise_allowed s.framer.max size allowed in
+    subst (λ (k : LinkValue). IsSession (record { framer = f; link = k; observers = s.observers })) (sym (l_is ∙ ap (λ (b : Bool). if b then now else s.link) may)) (record {
+      ranges = is.ranges;
+      greatest = ap (λ (k : FramerValue). k.max) f_is;
+      framer = subst IsFramer (sym f_is) (raised_is_framer s.framer size is.framer larger.0 larger.1);
+      room = is.room;
+      open_only = is.open_only;
+    })
 
 -- ---- a message
 
@@ -81,7 +92,7 @@ request_handled host v m l after room o p asks is room_is after_is p_is =
     let others : List ObserverValue = without_entry m.token v.observers in
     let first : LinkValue = link_after v.link (call.Handle m) in
     let hold : Option ℕ = hold_on host m in
-    let rooms : room ≡ first.limits.observers = room_is ∙ ap (λ (k : LimitValues). k.observers) (sym (message_limits v.link m)) in
+    let rooms : room ≡ first.limits.observers = room_is ∙ ap (λ (both : LimitValues × ℕ). both.0.observers) (sym (message_sizes v.link m)) in
     ap (λ (k : LinkValue). session_with [] k p.entries) after_is
     ∙ ap (λ (k : ObserversValue). session_with [] (link_replied host l room others m (held_in l hold)) k.entries) p_is
     ∙ ap (λ (k : LinkValue). session_with [] (link_replied host k room others m (held_in k hold)) (entries_replied host k room others m (held_in k hold))) is
@@ -243,8 +254,8 @@ module _ (host : Host) (s : Inside) (index : ℕ) (l : LinkValue) (o : Observers
   pub next_found : true ≡ is_some (next_stale host (session_value s))
   next_found = ap (λ (e : Option ObserverValue). is_some e) (sym next_is)
 
-  pub notified_limits : l.limits ≡ s.link.limits
-  notified_limits = ap (λ (k : LinkValue). k.limits) (is.link there.0 there.1) ∙ reply_limits s.link (notification_on host there.0)
+  pub notified_sizes : sizes_of l ≡ sizes_of s.link
+  notified_sizes = ap sizes_of (is.link there.0 there.1) ∙ reply_sizes s.link (notification_on host there.0)
 
   pub notified_room : o.room ≡ s.observers.room
   notified_room = ap (λ (k : ObserversValue). k.room) (is.entries there.0 there.1)
@@ -261,9 +272,9 @@ module _ (host : Host) (s : Inside) (index : ℕ) (l : LinkValue) (o : Observers
 
 -- ---- what is held
 
-pub sent_limits : (l : LinkValue) (now : ℕ) (e : HeldValue) → (link_sent l now e).limits ≡ l.limits
-sent_limits l now (Answer token moment) = reply_limits (link_after l (call.Due now)) (held_message token)
-sent_limits l now (Pong token) = refl
+sent_sizes : (l : LinkValue) (now : ℕ) (e : HeldValue) → sizes_of (link_sent l now e) ≡ sizes_of l
+sent_sizes l now (Answer token moment) = reply_sizes (link_after l (call.Due now)) (held_message token)
+sent_sizes l now (Pong token) = refl
 
 there_is : {A : Type 0} (o : Option A) → is_some o ≡ true → (x : A) × (o ≡ Some x)
 there_is None e = absurd cc
@@ -289,8 +300,8 @@ module _ (host : Host) (s : Inside) (l : LinkValue) (is : IsSent host s l) where
   pub held_found : true ≡ (is_some (next_held_in host.now (session_value s)) || is_some (next_stale host (session_value s)))
   held_found = ap (λ (e : Option HeldValue). is_some e || is_some (next_stale host (session_value s))) (sym held_is)
 
-  pub due_limits : l.limits ≡ s.link.limits
-  due_limits = ap (λ (k : LinkValue). k.limits) (is.link due.0 due.1) ∙ sent_limits s.link host.now due.0
+  pub due_sizes : sizes_of l ≡ sizes_of s.link
+  due_sizes = ap sizes_of (is.link due.0 due.1) ∙ sent_sizes s.link host.now due.0
 
   pub sent_once : (g : FramerValue) (p : ObserversValue) → g ≡ framer_on l s.framer → p ≡ record s.observers { entries = observers_on l s.observers.entries } → record { frame = g.kept; link = l; observers = p.entries } ≡ session_settled_once host (session_value s)
   unfolding session_settled_once

@@ -10,12 +10,12 @@ use Rattle.coap_conn.specs.History.{History, new_history}
 use Rattle.coap_store.specs.Store.{StoreValue}
 use Rattle.coap_store.specs.Refusals.{put_refusal}
 use Rattle.coap_serve.specs.Configs.{ConfigValues}
-use Rattle.coap_serve.specs.world.Sides.{Side, new_side, side_after, side_faulted, side_written, side_ended, side_released, settled_once, settled_within, settled}
+use Rattle.coap_serve.specs.world.Sides.{Side, new_side, side_after, side_faulted, side_written, side_ended, side_released, side_announced, settled_once, settled_within, settled}
 use Rattle.coap_serve.specs.world.World.{Place, World, Step, new_world, side_of, changed_at, stored_after, ticks, acted, settled_place, all_settled, after_steps}
 use Rattle.coap_serve.specs.world.World as world
 use Rattle.coap_serve.specs.world.Events.{Event, steps_of, world_after}
 use Rattle.coap_serve.proofs.world.PlaceLaws.{found, nobody, all_there, changed_here, changed_elsewhere, still_there, new_there, but, dropped_here, dropped_elsewhere}
-use Rattle.coap_serve.proofs.world.WalkLaws.{Composes, Between, Hears, Replies, Holds, LetsGo, Pongs, Rejects, Ends, Releases, Writes, once_between, after_between, faulted_between, written_between, ended_between, released_between}
+use Rattle.coap_serve.proofs.world.WalkLaws.{Composes, Between, Hears, Replies, Holds, LetsGo, Pongs, Rejects, Ends, Releases, Announces, Writes, once_between, after_between, faulted_between, written_between, ended_between, released_between, announced_between}
 use Rattle.coap_wire.proofs.StreamSteps.{none_or_some}
 
 -- ---- settling
@@ -43,6 +43,7 @@ pub record HoldsOf (R : Side → Side → Type 0) (w : World) (st : Step) (id : 
   pub written : (s : Side) (n : ℕ) → R s (side_written s n)
   pub ended : (s : Side) (cut : Bool) → R s (side_ended s cut)
   pub released : (s : Side) → R s (side_released s)
+  pub announced : (size : ℕ) → st ≡ world.Announced id size → (s : Side) → R s (side_announced s size)
   pub told : GoesOnSettling R
 
 -- it holds of the connection before a step and the one after it, or of a new one where the step opened it
@@ -114,6 +115,8 @@ module _ (R : Side → Side → Type 0) (limits : LimitValues) (w : World) (st :
   acted_across (world.Removed path) is t e = same_across t e
   acted_across (world.Ended at cut) is t e = changed_across at (λ s. side_ended s cut) t (λ here s. holds.ended s cut) e
   acted_across (world.Released at) is t e = changed_across at side_released t (λ here s. holds.released s) e
+  acted_across (world.Announced at size) is t e =
+      changed_across at (λ s. side_announced s size) t (λ here s. holds.announced size (is ∙ ap (λ (n : ℕ). world.Announced n size) here) s) e
   acted_across (world.Dropped at) is t e = dropped_across at t e
 
   settles_across : (store : StoreValue) (now : ℕ) (s t : Side) → settled store now s ≡ t → HoldsFrom R limits w st id s → HoldsFrom R limits w st id t
@@ -155,6 +158,11 @@ pub ended_there : (limits : LimitValues) (w : World) (id : ℕ) (cut : Bool) (s 
 unfolding world.step acted
 ended_there limits w id cut s there = settles_there id w.store w.now (λ u. side_ended u cut) w.sides s there
 
+pub announced_there : (limits : LimitValues) (w : World) (id size : ℕ) (s : Side) → side_of id w.sides ≡ Some s
+    → side_of id (world.step limits w (world.Announced id size)).sides ≡ Some (settled w.store w.now (side_announced s size))
+unfolding world.step acted
+announced_there limits w id size s there = settles_there id w.store w.now (λ u. side_announced u size) w.sides s there
+
 -- ---- a relation between histories
 
 -- each part of what happens keeps it
@@ -168,6 +176,7 @@ pub record KeepsAll (R : History → History → Type 0) : Type 0 where
   pub rejects : Rejects R
   pub ends : Ends R
   pub releases : Releases R
+  pub announces : Announces R
   pub writes : Writes R
 
 module _ (R : History → History → Type 0) (keeps : KeepsAll R) where
@@ -188,6 +197,7 @@ module _ (R : History → History → Type 0) (keeps : KeepsAll R) where
     written = written_between R keeps.composes.same keeps.writes;
     ended = ended_between R keeps.composes.same keeps.ends;
     released = released_between R keeps.composes.same keeps.releases;
+    announced = λ size is s. announced_between R keeps.composes.same keeps.announces s size;
     told = λ store now s t is. keeps.composes.then s.history t.history _ is (once_all store now t);
   }
 

@@ -24,6 +24,7 @@ use Rattle.coap_conn.specs.Verdicts.{VerdictValue, is_request}
 use Rattle.coap_conn.specs.Verdicts as verdict
 use Rattle.coap_conn.specs.Reaction.{Standing, Effect, Reaction, stay, stop, aborts, send_as, send, told_of, react, reaction_unless, live_reaction, open_reaction, csm_reaction, leaves, request_reaction, ping_reaction, pong_reaction, release_reaction, answered, tells, is_reserved, is_signal, is_method, minds_critical_options, asks_custody, is_custody_pong, pong_with, pong_of}
 use Rattle.coap_conn.specs.History.{History, standing_now, with_effect, after, may_hold}
+use Rattle.coap_conn.specs.LinkValue.{own_csm}
 use Rattle.coap_conn.specs.Calls.{standing_due}
 use Rattle.coap_conn.specs.Calls as call
 use Rattle.coap_conn.proofs.HeldLaws.{due_pong}
@@ -38,7 +39,7 @@ use Rattle.coap_serve.specs.world.World.{side_of}
 use Rattle.coap_serve.specs.world.Events.{Event, world_after}
 use Rattle.coap_serve.specs.world.Told.{is_response, responds}
 use Rattle.coap_serve.specs.world.Answered.{is_asking, FollowsAnswers}
-use Rattle.coap_serve.proofs.world.WalkLaws.{heard, sent, due_is, faulted_between, written_between, ended_between, released_between}
+use Rattle.coap_serve.proofs.world.WalkLaws.{heard, sent, due_is, Announces, faulted_between, written_between, ended_between, released_between, announced_between}
 use Rattle.coap_serve.proofs.world.GoingOn.{Keeps, kept_after}
 use Rattle.coap_serve.proofs.world.SideLaws.{held_room}
 use Rattle.coap_serve.proofs.world.ToldMessages.{Queues, IsPlain, reject_queues, end_queues, release_queues, abort_plain}
@@ -508,6 +509,17 @@ once_follows store now s is = so_follows store now s (next_held now s) refl is
 
 -- ---- what a connection keeps
 
+-- our Capabilities and Settings are neither a response nor a Pong
+announced_follows : Announces (λ h k. Follows h → Follows k)
+announced_follows h size opened room fit is =
+    let more : List Message = own_csm size ∷ [] in
+    record {
+      pongs = pongs_then h.handled nothing (plus nothing (responses h.queued)) h.queued more (λ t. omega arith) is.pongs (λ custody. absurd cc, tt);
+      held = held_grows h.handled (plus nothing (responses h.queued)) (plus nothing (responses (h.queued ++ more))) h.held (λ t. omega (arith, more_answered h.queued more t)) is.held;
+      all = λ takes t. omega (arith, is.all takes t, more_answered h.queued more t);
+      quiet = is.quiet;
+    }
+
 follows_keeps : (limits : LimitValues) → Keeps limits (λ s. Follows s.history)
 follows_keeps limits = record {
   first = record { pongs = (λ custody. absurd cc, tt); held = tt; all = λ takes t. omega arith; quiet = λ off. refl };
@@ -516,6 +528,7 @@ follows_keeps limits = record {
   written = written_between (λ h k. Follows h → Follows k) (λ h is. is) (λ h n within is. record { pongs = is.pongs; held = is.held; all = is.all; quiet = is.quiet });
   ended = ended_between (λ h k. Follows h → Follows k) (λ h is. is) (λ h cut takes. stopped_follows h _ (end_queues h cut takes) refl refl refl);
   released = released_between (λ h k. Follows h → Follows k) (λ h is. is) (λ h opened none. stopped_follows h _ (release_queues h opened none) refl refl refl);
+  announced = announced_between (λ h k. Follows h → Follows k) (λ h is. is) announced_follows;
   told = once_follows;
 }
 

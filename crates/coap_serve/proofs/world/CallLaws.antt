@@ -1,16 +1,20 @@
 -- What the clauses of each call of a server say of its value shows the call's event.
-use Rattle.std.proofs.Common.{◌≡◌, ℕ, ◌+◌, ◌<◌, ◌^◌, Bool, true, false, List, [], ◌∷◌, ◌++◌, length, take, Option, Some, None, Result, Ok, Err, refl, sym, subst, ◌∙◌, arith, is_ok, nat_le, nat_lt, option_map, IfOk, IfErr, OnOk, if◌then◌else◌}
-use Rattle.std.proofs.lemmas.Bool.{leb-true, leb-false, ltb-false}
+use Rattle.std.proofs.Common.{◌≡◌, ℕ, ◌+◌, ◌<◌, ◌^◌, Bool, true, false, List, [], ◌∷◌, ◌++◌, length, take, Option, Some, None, Result, Ok, Err, refl, sym, subst, ◌∙◌, arith, is_ok, nat_le, nat_lt, option_map, IfOk, IfErr, OnOk, if◌then◌else◌, ◌&&◌}
+use Rattle.std.proofs.lemmas.Bool.{leb-true, leb-false, le-leb, ltb-false}
 use Rattle.coap_wire.specs.Refusal.{RefusedBy}
 use Rattle.coap_conn.specs.declared.phase.SendFault.{SendFault}
+use Rattle.coap_frame.specs.Raising.{greatest_size}
+use Rattle.coap_conn.specs.Phases.{is_open}
+use Rattle.coap_conn.specs.Fit.{fits}
+use Rattle.coap_conn.specs.LinkValue.{limit_in, own_csm}
 use Rattle.coap_conn.specs.Release.{release_refusal}
 use Rattle.coap_store.specs.Paths.{Path}
 use Rattle.coap_store.specs.Refusals.{RefusedOrMemory, put_refusal, remove_refusal}
 use Rattle.coap_store.specs.declared.fault.StoreFault.{StoreFault}
 use Rattle.coap_serve.specs.Configs.{ConfigValues}
-use Rattle.coap_serve.specs.values.Sessions.{SessionValue}
-use Rattle.coap_serve.specs.values.Servers.{ServerValue, new_server, session_of, is_there, server_opened, count_taken, server_taken, server_written, server_ticked, server_put, server_removed, server_ended, server_released, server_dropped}
-use Rattle.coap_serve.specs.values.ServerAnswers.{OpenedOrMemory, open_refusal, written_refusal, written_refusal_on, released_refusal, released_refusal_on, release_fault, RefusesPieceOn, IsNotTaken}
+use Rattle.coap_serve.specs.values.Sessions.{SessionValue, session_ready, session_raises}
+use Rattle.coap_serve.specs.values.Servers.{ServerValue, new_server, session_of, is_there, server_opened, count_taken, server_taken, server_written, server_ticked, server_put, server_removed, server_ended, server_released, server_announced, server_dropped}
+use Rattle.coap_serve.specs.values.ServerAnswers.{OpenedOrMemory, open_refusal, written_refusal, written_refusal_on, released_refusal, released_refusal_on, release_fault, session_refusal, announced_refusal_on, IsAnnounced, RefusesPieceOn, IsNotTaken}
 use Rattle.coap_serve.specs.declared.server.Taken.{Taken}
 use Rattle.coap_serve.specs.declared.server.OpenFault.{OpenFault}
 use Rattle.coap_serve.specs.declared.server.OpenFault.TheVariants as opening
@@ -19,9 +23,11 @@ use Rattle.coap_serve.specs.declared.server.TakeFault.TheVariants as taken
 use Rattle.coap_serve.specs.declared.server.WrittenFault.{WrittenFault}
 use Rattle.coap_serve.specs.declared.server.WrittenFault.TheVariants as writing
 use Rattle.coap_serve.specs.declared.server.ReleaseFault.{ReleaseFault}
-use Rattle.coap_serve.specs.world.Events.{Event, Opened, Took, Wrote, Ticked, Stored, Removed, Ended, Released, Dropped, takes}
+use Rattle.coap_serve.specs.declared.server.AnnounceFault.{AnnounceFault}
+use Rattle.coap_serve.specs.declared.server.AnnounceFault.TheVariants as announcing
+use Rattle.coap_serve.specs.world.Events.{Event, Opened, Took, Wrote, Ticked, Stored, Removed, Ended, Released, Announced, Dropped, takes}
 use Rattle.coap_serve.specs.world.Shows.{Shows, ShowsRefused}
-use Rattle.coap_serve.proofs.world.ShowLaws.{shows_new, shows_opened, shows_written, shows_ticked, shows_put, shows_removed, shows_ended, shows_released, shows_dropped, shows_taken, takes_shown, shows_refused_take}
+use Rattle.coap_serve.proofs.world.ShowLaws.{shows_new, shows_opened, shows_written, shows_ticked, shows_put, shows_removed, shows_ended, shows_released, shows_announced, shows_dropped, shows_taken, takes_shown, shows_refused_take}
 
 -- where nothing is refused, a check does not hold, and nothing behind it is refused
 passed : {F : Type 0} (holds : Bool) (fault : F) (rest : Option F) → (if holds then Some fault else rest) ≡ None → (holds ≡ false) × (rest ≡ None)
@@ -114,6 +120,26 @@ not_refused (Some f) none = absurd cc
 released_by : (v : ServerValue) (es : List Event) (id : ℕ) (s : Option SessionValue) → session_of id v.sessions ≡ s → released_refusal_on s ≡ None → Shows v es → Shows (server_released v id) (es ++ Released id ∷ [])
 released_by v es id None at none shows = absurd cc
 released_by v es id (Some s) at none shows = shows_released v es id s shows at (not_refused (release_refusal s.link) none)
+
+-- what nothing refuses may be announced
+raises_by : (s : SessionValue) (size : ℕ) (opened lower above ready fit : Bool) → nat_lt size s.link.own_max ≡ lower → nat_lt greatest_size size ≡ above
+    → (if opened then (if lower then Some announcing.Lower else (if above then Some announcing.TooLarge else (if ready then (if fit then None else Some announcing.PeerTooSmall) else Some announcing.NoRoom))) else Some announcing.NotOpen) ≡ None
+    → (nat_le s.link.own_max size && nat_le size greatest_size) && (ready && (opened && fit)) ≡ true
+raises_by s size true false false true true lower above none = rw (le-leb s.link.own_max size (ltb-false size s.link.own_max lower), le-leb size greatest_size (ltb-false greatest_size size above)) refl
+raises_by s size opened b d ready fit lower above none = absurd cc
+
+raises_where_free : (s : SessionValue) (size : ℕ) → session_refusal s size ≡ None → session_raises s size ≡ true
+raises_where_free s size none =
+    raises_by s size (is_open s.link.phase) (nat_lt size s.link.own_max) (nat_lt greatest_size size) (session_ready s) (fits (limit_in s.link) (own_csm size)) refl refl none
+
+announced_by : (v : ServerValue) (es : List Event) (id size : ℕ) (s : Option SessionValue) → session_of id v.sessions ≡ s → announced_refusal_on size s ≡ None → Shows v es → Shows (server_announced v id size) (es ++ Announced id size ∷ [])
+announced_by v es id size None at none shows = absurd cc
+announced_by v es id size (Some s) at none shows = shows_announced v es id size s shows at (raises_where_free s size none)
+
+pub announce_shows : {T : Type 0} (r : Result T AnnounceFault) (v new : ServerValue) (id size : ℕ) → IsAnnounced size (session_of id v.sessions) r → OnOk r (new ≡ server_announced v id size)
+    → OnOk r ((es : List Event) → Shows v es → Shows new (es ++ Announced id size ∷ []))
+announce_shows (Ok x) v new id size none is = λ es shows. shown_as (server_announced v id size) new (es ++ Announced id size ∷ []) is (announced_by v es id size (session_of id v.sessions) refl none shows)
+announce_shows (Err e) v new id size none is = tt
 
 pub release_shows : {T : Type 0} (r : Result T ReleaseFault) (v new : ServerValue) (id : ℕ) → RefusedBy r (released_refusal v id) → OnOk r (new ≡ server_released v id)
     → OnOk r ((es : List Event) → Shows v es → Shows new (es ++ Released id ∷ []))

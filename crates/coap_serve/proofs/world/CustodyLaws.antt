@@ -29,14 +29,14 @@ use Rattle.coap_store.specs.Messages.{option_at, number_at, each_at, empty_at, o
 use Rattle.coap_store.proofs.HoldLaws.{held_of}
 use Rattle.coap_serve.specs.Configs.{ConfigValues}
 use Rattle.coap_serve.specs.world.Observers.{Observer, without_token, has_place}
-use Rattle.coap_serve.specs.world.Sides.{Side, has_room, handles, with_history, side_replied, held_for, moment_after, asks_answer, side_handled, side_after, side_faulted, side_written, side_ended, side_released, next_held, held_message, settled_so, settled_once}
+use Rattle.coap_serve.specs.world.Sides.{Side, has_room, handles, with_history, side_replied, held_for, moment_after, asks_answer, side_handled, side_after, side_faulted, side_written, side_ended, side_released, side_announced, next_held, held_message, settled_so, settled_once}
 use Rattle.coap_serve.specs.world.World.{side_of}
 use Rattle.coap_serve.specs.world.Events.{Event, world_after}
 use Rattle.coap_serve.specs.world.Custody.{asks_held, StandFor, QueuesCustody, IsFirstHeld}
 use Rattle.coap_serve.proofs.world.EntryLemmas.{all_append}
-use Rattle.coap_serve.proofs.world.WalkLaws.{said_request, sent, without_first, Hears, Replies, Holds, Pongs, if_between, after_between, faulted_between, written_between, ended_between, released_between, once_between}
+use Rattle.coap_serve.proofs.world.WalkLaws.{said_request, sent, without_first, Hears, Replies, Holds, Pongs, if_between, after_between, faulted_between, written_between, ended_between, released_between, announced_between, once_between}
 use Rattle.coap_serve.proofs.world.GoingOn.{Keeps, kept_after}
-use Rattle.coap_serve.proofs.world.ToldMessages.{Queues, queues_none, queues_effect, queues_to, queues_then, heard_queues, IsPlain, reject_queues, end_queues, release_queues, holding_queues, queues_as, written_queues, react_so}
+use Rattle.coap_serve.proofs.world.ToldMessages.{Queues, queues_none, queues_effect, queues_to, queues_then, heard_queues, IsPlain, reject_queues, end_queues, release_queues, holding_queues, queues_as, written_queues, react_so, announcing_queues}
 
 -- the second of two tests
 or_later : (a b : Bool) → b ≡ true → (a || b) ≡ true
@@ -166,6 +166,9 @@ ended_no_custody s cut = no_custody s (side_ended s cut) (ended_between (Queues 
 
 pub released_no_custody : (s : Side) → QueuesCustody s (side_released s) → ⊥
 released_no_custody s = no_custody s (side_released s) (released_between (Queues IsPlain) (queues_none IsPlain) release_queues s)
+
+pub announced_no_custody : (s : Side) (size : ℕ) → QueuesCustody s (side_announced s size) → ⊥
+announced_no_custody s size = no_custody s (side_announced s size) (announced_between (Queues IsPlain) (queues_none IsPlain) (λ h n opened room fit. announcing_queues h n) s size)
 
 pub written_no_custody : (s : Side) (n : ℕ) → QueuesCustody s (side_written s n) → ⊥
 written_no_custody s n = no_custody s (side_written s n) (written_between (Queues IsPlain) (queues_none IsPlain) (λ h k within. written_queues IsPlain h k) s n)
@@ -347,6 +350,7 @@ stands_keeps limits = record {
   written = written_between (λ h k. Stands h → Stands k) (λ h stand. stand) (λ h n within stand. stand);
   ended = ended_between (λ h k. Stands h → Stands k) (λ h stand. stand) (λ h cut takes stand. stand_none h.handled);
   released = released_between (λ h k. Stands h → Stands k) (λ h stand. stand) (λ h opened none stand. stand_none h.handled);
+  announced = λ s size. announced_between (λ h k. Stands h → Stands k) (λ h stand. stand) (λ h n opened room fit stand. stand) s size;
   told = once_between (λ h k. Stands h → Stands k) (λ h k. Stands h → Stands k) (λ h stand. stand) (λ h k g one two stand. two (one stand)) reply_stands
       (λ h now. stand_due h.handled now h.held)
       (λ h now token due room stand. sent_so (without_first h now) (pong_with true token) (pong_with false token) (stand_due h.handled now h.held stand));

@@ -2,27 +2,28 @@
 use Rattle.std.proofs.Common.{◌≡◌, ℕ, Bool, true, false, List, [], ◌∷◌, ◌++◌, length, map, Option, Some, None, refl, sym, ap, subst, ◌∙◌, append_assoc, arith, ◌==◌, if◌then◌else◌}
 use Rattle.std.proofs.lemmas.List.{append-nil, map-append, drop-append-le, drop_all}
 use Rattle.coap_wire.specs.Message.{Message}
-use Rattle.coap_wire.specs.Stream.{StreamFault, Stream, split, gone_on, split_on}
+use Rattle.coap_wire.specs.Frames.{Sizes}
+use Rattle.coap_wire.specs.Stream.{StreamFault, Stream, sized_split, split, gone_on, split_on}
 use Rattle.coap_serve.specs.Configs.{ConfigValues}
 use Rattle.coap_serve.specs.world.Sides.{is_cut}
 use Rattle.coap_serve.specs.world.World.{Step, new_world, after_steps}
 use Rattle.coap_serve.specs.world.World as step
-use Rattle.coap_serve.specs.world.Events.{Event, Opened, Took, Wrote, Ticked, Stored, Removed, Ended, Released, Dropped, taken_on, stream_on, new_fault, beyond, steps_by, steps_behind, steps_of, world_after}
-use Rattle.coap_serve.proofs.world.StepLaws.{taken_more, behind_more, stream_more}
+use Rattle.coap_serve.specs.world.Events.{Event, Opened, Took, Wrote, Ticked, Stored, Removed, Ended, Released, Announced, Dropped, taken_in, taken_on, size_by, size_on, sizes_on, stream_on, spelled_on, new_fault, beyond, steps_by, steps_behind, steps_of, world_after}
+use Rattle.coap_serve.proofs.world.StepLaws.{taken_then, behind_more, size_then, sizes_then, stream_more, spelled_by, spelled_then}
 
--- ---- only what was taken matters
+-- ---- only what was spelled matters
 
--- two lists of events took the same bytes
-abbrev pub TookAlike : List Event → List Event → Type 0
-TookAlike es fs = (id : ℕ) → taken_on id es ≡ taken_on id fs
+-- the same was spelled in two lists of events, and the same sizes are in force behind them
+abbrev pub SpellAlike : ℕ → List Event → List Event → Type 0
+SpellAlike M es fs = (id : ℕ) → spelled_on M id es ≡ spelled_on M id fs
 
-alike_by : (M : ℕ) (es fs : List Event) (e : Event) → TookAlike es fs → TookAlike (es ++ e ∷ []) (fs ++ e ∷ [])
-alike_by M es fs e alike id = taken_more id es (e ∷ []) ∙ ap (λ (xs : List ℕ). xs ++ taken_on id (e ∷ [])) (alike id) ∙ sym (taken_more id fs (e ∷ []))
+alike_by : (M : ℕ) (es fs : List Event) (e : Event) → SpellAlike M es fs → SpellAlike M (es ++ e ∷ []) (fs ++ e ∷ [])
+alike_by M es fs e alike id = spelled_then M id es e ∙ ap (λ (s : Stream × ℕ). spelled_by s (taken_in id e) (size_by id e)) (alike id) ∙ sym (spelled_then M id fs e)
 
-stream_alike : (M id : ℕ) (es fs : List Event) → TookAlike es fs → stream_on M id es ≡ stream_on M id fs
-stream_alike M id es fs alike = ap (split M) (alike id)
+pub stream_alike : (M id : ℕ) (es fs : List Event) → SpellAlike M es fs → stream_on M id es ≡ stream_on M id fs
+stream_alike M id es fs alike = ap (λ (s : Stream × ℕ). s.0) (alike id)
 
-by_alike : (M : ℕ) (es fs : List Event) (e : Event) → TookAlike es fs → steps_by M es e ≡ steps_by M fs e
+by_alike : (M : ℕ) (es fs : List Event) (e : Event) → SpellAlike M es fs → steps_by M es e ≡ steps_by M fs e
 unfolding steps_by
 by_alike M es fs (Opened id) alike = refl
 by_alike M es fs (Took id bytes) alike =
@@ -34,9 +35,10 @@ by_alike M es fs (Stored path format bytes) alike = refl
 by_alike M es fs (Removed path) alike = refl
 by_alike M es fs (Ended id) alike = ap (λ (s : Stream). step.Ended id (is_cut s.rest) ∷ []) (stream_alike M id es fs alike)
 by_alike M es fs (Released id) alike = refl
+by_alike M es fs (Announced id size) alike = refl
 by_alike M es fs (Dropped id) alike = refl
 
-behind_alike : (M : ℕ) (es fs gs : List Event) → TookAlike es fs → steps_behind M es gs ≡ steps_behind M fs gs
+behind_alike : (M : ℕ) (es fs gs : List Event) → SpellAlike M es fs → steps_behind M es gs ≡ steps_behind M fs gs
 unfolding steps_behind
 behind_alike M es fs [] alike = refl
 behind_alike M es fs (g ∷ gs) alike =
@@ -88,34 +90,43 @@ beyond_parts M id before (Some fault) xs ys is =
 
 -- ---- a piece in two parts
 
-both_taken : (here : Bool) (xs ys : List ℕ) → (if here then xs ++ ys else []) ++ [] ≡ ((if here then xs else []) ++ []) ++ ((if here then ys else []) ++ [])
-both_taken true xs ys = append-nil (xs ++ ys) ∙ sym (ap (λ (zs : List ℕ). zs ++ (ys ++ [])) (append-nil xs) ∙ ap (λ (zs : List ℕ). xs ++ zs) (append-nil ys))
+both_taken : (here : Bool) (xs ys : List ℕ) → (if here then xs ++ ys else []) ≡ (if here then xs else []) ++ (if here then ys else [])
+both_taken true xs ys = refl
 both_taken false xs ys = refl
 
-taken_both : (id other : ℕ) (xs ys : List ℕ) → taken_on id (Took other (xs ++ ys) ∷ []) ≡ taken_on id (Took other xs ∷ []) ++ taken_on id (Took other ys ∷ [])
-unfolding taken_on
-taken_both id other xs ys = both_taken (other == id) xs ys
-
-pub taken_twice : (es : List Event) (other : ℕ) (xs ys : List ℕ) → TookAlike (es ++ Took other (xs ++ ys) ∷ []) ((es ++ Took other xs ∷ []) ++ Took other ys ∷ [])
-taken_twice es other xs ys id =
-    taken_more id es (Took other (xs ++ ys) ∷ [])
-    ∙ ap (λ (zs : List ℕ). taken_on id es ++ zs) (taken_both id other xs ys)
-    ∙ sym (append_assoc (taken_on id es) (taken_on id (Took other xs ∷ [])) (taken_on id (Took other ys ∷ [])))
-    ∙ sym (taken_more id (es ++ Took other xs ∷ []) (Took other ys ∷ []) ∙ ap (λ (zs : List ℕ). zs ++ taken_on id (Took other ys ∷ [])) (taken_more id es (Took other xs ∷ [])))
+pub spelled_twice : (M : ℕ) (es : List Event) (other : ℕ) (xs ys : List ℕ) → SpellAlike M (es ++ Took other (xs ++ ys) ∷ []) ((es ++ Took other xs ∷ []) ++ Took other ys ∷ [])
+spelled_twice M es other xs ys id =
+    let whole : List Event = es ++ Took other (xs ++ ys) ∷ [] in
+    let half : List Event = es ++ Took other xs ∷ [] in
+    let twice : List Event = half ++ Took other ys ∷ [] in
+    let sizes : sizes_on M id whole ≡ sizes_on M id twice = sizes_then M id es (Took other (xs ++ ys)) (λ N. refl) ∙ sym (sizes_then M id half (Took other ys) (λ N. refl) ∙ sizes_then M id es (Took other xs) (λ N. refl)) in
+    let taken : taken_on id whole ≡ taken_on id twice =
+    taken_then id es (Took other (xs ++ ys))
+    ∙ ap (λ (zs : List ℕ). taken_on id es ++ zs) (both_taken (other == id) xs ys)
+    ∙ sym (append_assoc (taken_on id es) (taken_in id (Took other xs)) (taken_in id (Took other ys)))
+    ∙ sym (taken_then id half (Took other ys) ∙ ap (λ (zs : List ℕ). zs ++ taken_in id (Took other ys)) (taken_then id es (Took other xs))) in
+    let size : size_on M id whole ≡ size_on M id twice = size_then M id es (Took other (xs ++ ys)) ∙ sym (size_then M id half (Took other ys) ∙ size_then M id es (Took other xs)) in
+    ap (λ (S : Sizes). (sized_split S (taken_on id whole), size_on M id whole)) sizes
+    ∙ ap (λ (b : List ℕ). (sized_split (sizes_on M id twice) b, size_on M id whole)) taken
+    ∙ ap (λ (N : ℕ). (stream_on M id twice, N)) size
 
 -- the steps of a piece are those of its parts
 by_parts : (M : ℕ) (es : List Event) (id : ℕ) (xs ys : List ℕ) → steps_by M es (Took id (xs ++ ys)) ≡ steps_by M es (Took id xs) ++ steps_by M (es ++ Took id xs ∷ []) (Took id ys)
 unfolding steps_by
 by_parts M es id xs ys =
     let before : Stream = stream_on M id es in
+    let N : ℕ = size_on M id es in
     let half = stream_more M id es xs in
-    let whole : stream_on M id (es ++ Took id (xs ++ ys) ∷ []) ≡ split_on M (split_on M before xs) ys =
-    stream_alike M id _ _ (taken_twice es id xs ys) ∙ stream_more M id (es ++ Took id xs ∷ []) ys ∙ ap (λ (s : Stream). split_on M s ys) half in
+    let behind_half : stream_on M id ((es ++ Took id xs ∷ []) ++ Took id ys ∷ []) ≡ split_on N (split_on N before xs) ys =
+    stream_more M id (es ++ Took id xs ∷ []) ys
+    ∙ ap (λ (n : ℕ). split_on n (stream_on M id (es ++ Took id xs ∷ [])) ys) (size_then M id es (Took id xs))
+    ∙ ap (λ (s : Stream). split_on N s ys) half in
+    let whole : stream_on M id (es ++ Took id (xs ++ ys) ∷ []) ≡ split_on N (split_on N before xs) ys = stream_alike M id _ _ (spelled_twice M es id xs ys) ∙ behind_half in
     ap (beyond id before) whole
-    ∙ beyond_parts M id before before.fault xs ys refl
+    ∙ beyond_parts N id before before.fault xs ys refl
     ∙ sym (
     ap (λ (s : Stream). beyond id before s ++ beyond id s (stream_on M id ((es ++ Took id xs ∷ []) ++ Took id ys ∷ []))) half
-    ∙ ap (λ (s : Stream). beyond id before (split_on M before xs) ++ beyond id (split_on M before xs) s) (stream_more M id (es ++ Took id xs ∷ []) ys ∙ ap (λ (s : Stream). split_on M s ys) half))
+    ∙ ap (λ (s : Stream). beyond id before (split_on N before xs) ++ beyond id (split_on N before xs) s) behind_half)
 
 -- ---- the law
 
@@ -126,7 +137,7 @@ cut_steps M es fs id xs ys =
     behind_more M [] es (Took id (xs ++ ys) ∷ fs)
     ∙ ap (λ (ss : List Step). steps_behind M [] es ++ ss) (
     ap (λ (ss : List Step). ss ++ steps_behind M (es ++ Took id (xs ++ ys) ∷ []) fs) (by_parts M es id xs ys)
-    ∙ ap (λ (ss : List Step). (steps_by M es (Took id xs) ++ steps_by M half (Took id ys)) ++ ss) (behind_alike M _ _ fs (taken_twice es id xs ys))
+    ∙ ap (λ (ss : List Step). (steps_by M es (Took id xs) ++ steps_by M half (Took id ys)) ++ ss) (behind_alike M _ _ fs (spelled_twice M es id xs ys))
     ∙ append_assoc (steps_by M es (Took id xs)) (steps_by M half (Took id ys)) (steps_behind M (half ++ Took id ys ∷ []) fs))
     ∙ sym (behind_more M [] es (Took id xs ∷ Took id ys ∷ fs))
 

@@ -1,9 +1,10 @@
 -- What a step queues on a connection stands behind what was queued, and fits the greatest message that may be sent then.
-use Rattle.std.proofs.Common.{◌≡◌, ℕ, Bool, true, false, cond, List, [], ◌∷◌, ◌++◌, Option, Some, None, refl, sym, ap, subst, ◌∙◌, append_assoc, inl, inr, ◌==◌}
+use Rattle.std.proofs.Common.{◌≡◌, ℕ, Bool, true, false, cond, List, [], ◌∷◌, ◌++◌, length, Option, Some, None, refl, sym, ap, subst, ◌∙◌, append_assoc, inl, inr, ◌==◌}
 use Rattle.std.specs.Prelude.{unwrap_or}
-use Rattle.std.proofs.lemmas.Bool.{cond_both, both_ways, eqb-true}
+use Rattle.std.proofs.lemmas.Bool.{cond_both, both_ways, eqb-true, leb-true}
 use Rattle.std.proofs.lemmas.List.{append-nil}
 use Rattle.coap_wire.specs.Message.{Message}
+use Rattle.coap_wire.specs.Spelling.{spelling}
 use Rattle.coap_wire.specs.Codes as code
 use Rattle.coap_conn.specs.declared.phase.Role.TheVariants.{Server}
 use Rattle.coap_conn.specs.declared.reason.Reason.{Reason}
@@ -16,6 +17,7 @@ use Rattle.coap_conn.specs.Held.{HeldValue, without_due}
 use Rattle.coap_conn.specs.Reaction.{Standing, Effect, Reaction, stop, abort, send, aborts, react, reaction_unless, live_reaction, open_reaction, csm_reaction, is_reserved, pong_with}
 use Rattle.coap_conn.specs.Rejects.{reject_reason}
 use Rattle.coap_conn.specs.History.{History, limit_now, standing_now, with_effect, link_of}
+use Rattle.coap_conn.specs.LinkValue.{own_csm}
 use Rattle.coap_conn.specs.Calls.{end_reason, release}
 use Rattle.coap_conn.proofs.LinkLemmas.{announced_more}
 use Rattle.coap_conn.proofs.HistoryLaws.{new_fits, reaction_fits, sent_fits, stopped_fits, released_fits}
@@ -25,7 +27,7 @@ use Rattle.coap_serve.specs.world.Sides.{Side, new_side, settled_once}
 use Rattle.coap_serve.specs.world.World.{World, Step, side_of}
 use Rattle.coap_serve.specs.world.World as world
 use Rattle.coap_serve.proofs.world.EntryLemmas.{all_append}
-use Rattle.coap_serve.proofs.world.WalkLaws.{release_fits, holding, without_first, Hears, Replies, Pongs, Between, once_between, after_between, faulted_between, written_between, ended_between, released_between}
+use Rattle.coap_serve.proofs.world.WalkLaws.{release_fits, holding, without_first, Hears, Replies, Pongs, Between, once_between, after_between, faulted_between, written_between, ended_between, released_between, announced_between}
 use Rattle.coap_serve.proofs.world.AcrossLaws.{some_same, HoldsOf, HoldsFrom, step_across}
 use Rattle.coap_wire.proofs.StreamSteps.{none_or_some}
 
@@ -139,6 +141,9 @@ evenly_of w st id none = record {
   written = written_between GrowsEvenly evenly_self (λ h n within. record { grows = record { more = []; queued = sym (append-nil h.queued); fit = tt }; same = refl });
   ended = ended_between GrowsEvenly evenly_self (λ h cut takes. effect_evenly h (stop (standing_now h) (end_reason cut) []) tt);
   released = released_between GrowsEvenly evenly_self (λ h opened none. effect_evenly h (stop (standing_now h) reason.ReleasedHere (release ∷ [])) (released_fits h (release_fits (link_of h) none).1));
+  announced = λ size is s.
+      announced_between GrowsEvenly evenly_self
+      (λ h n opened room fit. record { grows = record { more = own_csm n ∷ []; queued = refl; fit = (leb-true (length (spelling (own_csm n))) (limit_now h) fit, tt) }; same = refl }) s size;
   told = λ store now s t is. evenly_then s.history t.history _ is (once_evenly store now t);
 }
 
@@ -151,6 +156,7 @@ grows_of w st id = record {
   written = λ s n. ((evenly_of w (world.Written id n) id (λ m other. cc)).written s n).grows;
   ended = λ s cut. ((evenly_of w (world.Ended id cut) id (λ m other. cc)).ended s cut).grows;
   released = λ s. ((evenly_of w (world.Released id) id (λ m other. cc)).released s).grows;
+  announced = λ size is s. ((evenly_of w (world.Announced id size) id (λ m other. cc)).announced size refl s).grows;
   told = λ store now s t is. grows_then s.history t.history _ is (once_evenly store now t);
 }
 

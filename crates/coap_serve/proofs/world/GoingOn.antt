@@ -1,6 +1,6 @@
 -- A history that another one goes on to: one of the same connection, which takes no message any more once it does not. What each call
 -- keeps of a history, and the link that shows the history after it.
-use Rattle.std.proofs.Common.{◌≡◌, ℕ, ◌≤◌, Bool, true, false, cond, ◌&&◌, List, length, Option, Some, None, refl, ap, ◌∙◌, arith}
+use Rattle.std.proofs.Common.{◌≡◌, ℕ, ◌≤◌, Bool, true, false, cond, ◌&&◌, List, [], ◌∷◌, length, Option, Some, None, refl, ap, ◌∙◌, arith}
 use Rattle.std.proofs.lemmas.Bool.{both_ways, and_parts}
 use Rattle.std.proofs.lemmas.List.{length-drop}
 use Rattle.coap_wire.specs.Message.{Message}
@@ -17,14 +17,14 @@ use Rattle.coap_conn.specs.Held as held
 use Rattle.coap_conn.specs.Reaction.{Standing, Effect, send_as, pong_with, due_effect}
 use Rattle.coap_conn.specs.Rejects.{reject_of}
 use Rattle.coap_conn.specs.History.{History, IsHistory, standing_now, with_effect, after, may_hold, link_of}
-use Rattle.coap_conn.specs.LinkValue.{bytes_of}
+use Rattle.coap_conn.specs.LinkValue.{bytes_of, own_csm}
 use Rattle.coap_conn.specs.Calls.{standing_due, link_after}
 use Rattle.coap_conn.specs.Calls as call
 use Rattle.coap_conn.proofs.LinkLemmas.{new_shown, after_link, history_more}
 use Rattle.coap_store.specs.Store.{StoreValue}
 use Rattle.coap_serve.specs.Configs.{ConfigValues}
 use Rattle.coap_serve.specs.values.Sessions.{link_sent}
-use Rattle.coap_serve.specs.world.Sides.{Side, new_side, handles, has_room, with_history, side_after, side_faulted, side_written, side_ended, side_released, held_message, after_sent, settled_once, settled}
+use Rattle.coap_serve.specs.world.Sides.{Side, new_side, handles, has_room, with_history, side_after, side_faulted, side_written, side_ended, side_released, side_announced, held_message, after_sent, settled_once, settled}
 use Rattle.coap_serve.specs.world.World.{World, Step, side_of}
 use Rattle.coap_serve.specs.world.Events.{Event, world_after}
 use Rattle.coap_serve.proofs.world.WalkLaws.{heard, sent, holding, without_first, Between, if_between, settled_between}
@@ -89,6 +89,7 @@ all_go_on = record {
   rejects = λ h fault takes room. effect_goes_on h _ (λ none. refl);
   ends = λ h cut takes. effect_goes_on h _ (λ none. refl);
   releases = λ h opened none. effect_goes_on h _ (λ none. refl);
+  announces = λ h size opened room fits. record { role = refl; limits = refl; history = history_more h (own_csm size ∷ []); over = λ e. e };
   writes = written_goes_on;
 }
 
@@ -164,6 +165,7 @@ sides_hold limits w st id = let goes : HoldsOf (Between GoesOn) w st id = all_ac
   written = λ s n. follower_is limits s _ (goes.written s n);
   ended = λ s cut. follower_is limits s _ (goes.ended s cut);
   released = λ s. follower_is limits s _ (goes.released s);
+  announced = λ size at s. follower_is limits s _ (goes.announced size at s);
   told = λ store now s t before is. follower_is limits t _ (goes.told store now t t (goes.same t)) (before is);
 }
 
@@ -182,6 +184,7 @@ pub record Keeps (limits : LimitValues) (P : Side → Type 0) : Type 0 where
   pub written : (s : Side) (n : ℕ) → P s → P (side_written s n)
   pub ended : (s : Side) (cut : Bool) → P s → P (side_ended s cut)
   pub released : (s : Side) → P s → P (side_released s)
+  pub announced : (s : Side) (size : ℕ) → P s → P (side_announced s size)
   pub told : (store : StoreValue) (now : ℕ) (s : Side) → P s → P (settled_once store now s)
 
 keeps_hold : (limits : LimitValues) (P : Side → Type 0) → Keeps limits P → (w : World) (st : Step) (id : ℕ) → HoldsOf (λ s t. IsSide limits s × P s → IsSide limits t × P t) w st id
@@ -192,6 +195,7 @@ keeps_hold limits P keeps w st id = let is : HoldsOf (λ s t. IsSide limits s �
   written = λ s n of. (is.written s n of.0, keeps.written s n of.1);
   ended = λ s cut of. (is.ended s cut of.0, keeps.ended s cut of.1);
   released = λ s of. (is.released s of.0, keeps.released s of.1);
+  announced = λ size at s of. (is.announced size at s of.0, keeps.announced s size of.1);
   told = λ store now s t before of. (is.told store now t t (λ same. same) (before of).0, keeps.told store now t (before of).1);
 }
 

@@ -15,14 +15,14 @@ use Rattle.coap_serve.specs.Configs.{ConfigValues}
 use Rattle.coap_serve.specs.world.Sides.{Side, new_side}
 use Rattle.coap_serve.specs.world.World.{World, Step, side_of}
 use Rattle.coap_serve.specs.world.World as world
-use Rattle.coap_serve.specs.world.Events.{Event, taken_in, taken_on, stream_on, steps_by, world_after, takes, IfSide, IsAccepted, AreAccepted}
+use Rattle.coap_serve.specs.world.Events.{Event, taken_in, taken_on, stream_on, spelled_on, steps_by, world_after, takes, IfSide, IsAccepted, AreAccepted}
 use Rattle.coap_serve.specs.world.Events as event
-use Rattle.coap_serve.proofs.world.StepLaws.{world_first, world_same, world_step, by_events, stream_same, stream_elsewhere}
+use Rattle.coap_serve.proofs.world.StepLaws.{nothing_spelled, world_first, world_same, world_step, by_events, stream_same, stream_elsewhere}
 use Rattle.coap_serve.proofs.world.PlaceLaws.{nobody}
 use Rattle.coap_serve.proofs.world.WorldLaws.{OpensNext}
 use Rattle.coap_serve.proofs.world.ReachedLaws.{IsReached, accepted_is}
 use Rattle.coap_serve.proofs.world.ToldMessages.{StopsAtMost}
-use Rattle.coap_serve.proofs.world.WalkLaws.{Between, written_between, ended_between, released_between}
+use Rattle.coap_serve.proofs.world.WalkLaws.{Between, written_between, ended_between, released_between, announced_between}
 use Rattle.coap_serve.proofs.world.AcrossLaws.{some_same, HoldsOf, HoldsFrom, step_across}
 use Rattle.coap_serve.proofs.world.HandlingLaws.{HasStopped, Rests, rests_self, rests_then, open_no_stop, once_rests, TakesSo, NoStep, OneMessage, OneFault, Became, Stayed, Heard, Rejected, accepted_so, took_became}
 
@@ -49,6 +49,8 @@ rests_of w st id away = record {
   written = written_between Rests rests_self (λ h n within. record { handled = refl; stopped = λ why is. is; stops = λ is. is });
   ended = ended_between Rests rests_self (λ h cut takes. record { handled = refl; stopped = λ why is. absurd (takes_no_stop h.phase why takes is.0); stops = λ is. end_stops cut });
   released = released_between Rests rests_self (λ h opened none. record { handled = refl; stopped = λ why is. absurd (open_no_stop h.phase why opened is.0); stops = λ is. refl });
+  announced = λ size is s.
+      announced_between Rests rests_self (λ h n opened room fit. record { handled = refl; stopped = λ why stopped. absurd (open_no_stop h.phase why opened stopped.0); stops = λ stops. stops }) s size;
   told = λ store now s t is. rests_then s.history t.history _ is (once_rests store now t);
 }
 
@@ -67,9 +69,9 @@ rests_agrees u s t is rests = record {
 pub no_fault : (u : Stream) (fault : StreamFault) → u.fault ≡ None → u.fault ≡ Some fault → ⊥
 no_fault u fault none some = let bad : ◌≡◌ {A = Option StreamFault} None (Some fault) = sym none ∙ some in cc
 
-silent_agrees : (limits : LimitValues) (M id : ℕ) (es : List Event) → taken_on id es ≡ [] → Agrees (stream_on M id es) (new_side limits)
+silent_agrees : (limits : LimitValues) (M id : ℕ) (es : List Event) → spelled_on M id es ≡ nothing_spelled M → Agrees (stream_on M id es) (new_side limits)
 silent_agrees limits M id es none =
-    let empty : stream_on M id es ≡ record { messages = []; rest = []; fault = None } = ap (split M) none ∙ split_unfinished M [] (unfinished_empty M) in
+    let empty : stream_on M id es ≡ record { messages = []; rest = []; fault = None } = ap (λ (s : Stream × ℕ). s.0) none in
     record {
       handled = ap (λ (u : Stream). u.messages) (sym empty);
       stopped = λ fault e. absurd (no_fault (stream_on M id es) fault (ap (λ (u : Stream). u.fault) empty) e);
@@ -157,6 +159,7 @@ module _ (c : ConfigValues) (es : List Event) (id : ℕ) (is : IsReached c es) (
   event_agrees (event.Removed path) all = bare_agrees (event.Removed path) (world.Removed path) refl tt (record { message = λ m e. cc; fault = λ f e. cc }) refl
   event_agrees (event.Ended n) all = bare_agrees (event.Ended n) _ refl tt (record { message = λ m e. cc; fault = λ f e. cc }) refl
   event_agrees (event.Released n) all = bare_agrees (event.Released n) (world.Released n) refl tt (record { message = λ m e. cc; fault = λ f e. cc }) refl
+  event_agrees (event.Announced n size) all = bare_agrees (event.Announced n size) (world.Announced n size) refl tt (record { message = λ m e. cc; fault = λ f e. cc }) refl
   event_agrees (event.Dropped n) all = bare_agrees (event.Dropped n) (world.Dropped n) refl tt (record { message = λ m e. cc; fault = λ f e. cc }) refl
 
 pub handled_agrees : (c : ConfigValues) (es : List Event) (id : ℕ) (s : Side) → AreAccepted c es → side_of id (world_after c es).sides ≡ Some s → Agrees (stream_on c.limits.max_message id es) s

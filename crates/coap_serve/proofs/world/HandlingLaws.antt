@@ -37,7 +37,7 @@ use Rattle.coap_serve.specs.world.Observers.{without_token}
 use Rattle.coap_serve.specs.world.Sides.{Side, handles, has_room, with_history, moment_after, held_for, side_replied, asks_answer, side_handled, side_after, side_faulted, settled_once, settled}
 use Rattle.coap_serve.specs.world.World.{World, Step, side_of}
 use Rattle.coap_serve.specs.world.World as world
-use Rattle.coap_serve.specs.world.Events.{Event, Took, stream_on, beyond, steps_by, world_after, front_of, takes, IfSide, IsAccepted, AreAccepted}
+use Rattle.coap_serve.specs.world.Events.{Event, Took, stream_on, beyond, steps_by, world_after, front_of, takes, IfSide, IsAccepted, AreAccepted, size_on}
 use Rattle.coap_serve.specs.world.Shows.{session_shown, Shows}
 use Rattle.coap_serve.specs.world.Handling.{handled_since, handled_between, handled_in, message_reason, count_of}
 use Rattle.coap_serve.proofs.world.StepLaws.{world_same, world_step}
@@ -211,28 +211,28 @@ module _ (c : ConfigValues) (es : List Event) (id : ℕ) (piece : List ℕ) (s :
   abbrev so_far : List ℕ
   so_far = (stream_on c.limits.max_message id es).rest
 
+  abbrev in_force : ℕ
+  in_force = size_on c.limits.max_message id es
+
   -- what is taken of the piece
   abbrev pub bytes_taken : List ℕ
   bytes_taken = take (takes c es id piece) piece
 
   abbrev front_there : List ℕ
-  front_there = take (front_of most so_far piece) piece
+  front_there = take (front_of in_force so_far piece) piece
 
   abbrev session_then : SessionValue
   session_then = session_shown so_far s
-
-  side_limits : s.history.limits.max_message ≡ most
-  side_limits = ap (λ l. l.max_message) (side_is c es id s there).same_limits
 
   module _ (host : Host) (does : handles s ≡ true) where
     no_fault : (stream_on c.limits.max_message id es).fault ≡ None
     no_fault = handling_goes_on c es id s is there does
 
-    frame_so : (frame : List ℕ) (read : Result Message FormatFault) → (framing most so_far piece).finding ≡ AFrame frame → message_of frame ≡ read → TakesSo most id es front_there s (taking_read host session_then (framing most so_far piece).taken read).handled
+    frame_so : (frame : List ℕ) (read : Result Message FormatFault) → (framing in_force so_far piece).finding ≡ AFrame frame → message_of frame ≡ read → TakesSo most id es front_there s (taking_read host session_then (framing in_force so_far piece).taken read).handled
     frame_so frame (Ok m) e reads = OneMessage refl does m (piece_adds_message most id es piece no_fault frame m e reads)
     frame_so frame (Err f) e reads = OneFault refl does Format frame (piece_adds_bad most id es piece no_fault frame f e reads)
 
-    found_so : (found : Finding) → (framing most so_far piece).finding ≡ found → TakesSo most id es front_there s (taking_found host session_then (framing most so_far piece) found).handled
+    found_so : (found : Finding) → (framing in_force so_far piece).finding ≡ found → TakesSo most id es front_there s (taking_found host session_then (framing in_force so_far piece) found).handled
     found_so Nothing e =
         let adds = piece_adds_nothing most id es piece no_fault e in
         NoStep refl adds.steps (ap (λ (u : Stream). u.messages) adds.stream ∙ append-nil (stream_on most id es).messages) (ap (λ (u : Stream). u.fault) adds.stream ∙ sym no_fault)
@@ -241,13 +241,13 @@ module _ (c : ConfigValues) (es : List Event) (id : ℕ) (piece : List ℕ) (s :
 
     handling_so : TakesSo most id es bytes_taken s (taking host session_then piece).handled
     handling_so =
-        let bytes : bytes_taken ≡ front_there = ap (λ (n : ℕ). take n piece) (takes_there c es id piece s there ∙ ap (λ (b : Bool). cond b (front_of most so_far piece) 0) does) in
+        let bytes : bytes_taken ≡ front_there = ap (λ (n : ℕ). take n piece) (takes_there c es id piece s there ∙ ap (λ (b : Bool). cond b (front_of in_force so_far piece) 0) does) in
         subst (λ (b : List ℕ). TakesSo most id es b s (taking host session_then piece).handled) (sym bytes)
-        (subst (λ (k : Taking). TakesSo most id es front_there s k.handled) (sym (taking_front host most so_far piece s side_limits does)) (found_so (framing most so_far piece).finding refl))
+        (subst (λ (k : Taking). TakesSo most id es front_there s k.handled) (sym (taking_front host in_force so_far piece s (is.sizes id s there) does)) (found_so (framing in_force so_far piece).finding refl))
 
   stopped_so : (host : Host) → handles s ≡ false → TakesSo most id es bytes_taken s (taking host session_then piece).handled
   stopped_so host stopped =
-      let bytes : bytes_taken ≡ [] = ap (λ (n : ℕ). take n piece) (takes_there c es id piece s there ∙ ap (λ (b : Bool). cond b (front_of most so_far piece) 0) stopped) in
+      let bytes : bytes_taken ≡ [] = ap (λ (n : ℕ). take n piece) (takes_there c es id piece s there ∙ ap (λ (b : Bool). cond b (front_of in_force so_far piece) 0) stopped) in
       subst (λ (b : List ℕ). TakesSo most id es b s (taking host session_then piece).handled) (sym bytes)
       (NoStep (ap (λ (k : Taking). k.handled) (taking_stopped host session_then piece stopped)) (no_bytes_steps most id es) (ap (λ (u : Stream). u.messages) (no_bytes_stream most id es)) (ap (λ (u : Stream). u.fault) (no_bytes_stream most id es)))
 

@@ -71,6 +71,7 @@ heard_acted limits w (world.Stored path format bytes) distinct = refl
 heard_acted limits w (world.Removed path) distinct = refl
 heard_acted limits w (world.Ended id cut) distinct = ended_acted limits w id cut distinct
 heard_acted limits w (world.Released id) distinct = refl
+heard_acted limits w (world.Announced id size) distinct = refl
 heard_acted limits w (world.Dropped id) distinct = refl
 
 one_heard : (limits : LimitValues) (w : World) (s : Step) → AreDistinct w.sides → world.step limits w (heard_step w s) ≡ world.step limits w s

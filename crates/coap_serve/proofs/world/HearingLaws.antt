@@ -8,14 +8,14 @@ use Rattle.coap_store.specs.Store.{StoreValue, found_in}
 use Rattle.coap_store.specs.Answer.{Change, Put, Delete, changed}
 use Rattle.coap_store.specs.Refusals.{put_refusal}
 use Rattle.coap_serve.specs.Configs.{ConfigValues}
-use Rattle.coap_serve.specs.world.Sides.{Side, new_side, side_after, change_after, side_faulted, side_written, side_ended, side_released, HearsAll}
-use Rattle.coap_serve.specs.world.World.{Place, World, new_world, side_of, changed_at, stored_after, Step, Opened, Handled, Faulted, Written, Ticked, Stored, Removed, Ended, Released, Dropped, ticks, acted, settled_place, all_settled, step, after_steps}
+use Rattle.coap_serve.specs.world.Sides.{Side, new_side, side_after, change_after, side_faulted, side_written, side_ended, side_released, side_announced, HearsAll}
+use Rattle.coap_serve.specs.world.World.{Place, World, new_world, side_of, changed_at, stored_after, Step, Opened, Handled, Faulted, Written, Ticked, Stored, Removed, Ended, Released, Announced, Dropped, ticks, acted, settled_place, all_settled, step, after_steps}
 use Rattle.coap_serve.specs.world.Events.{Event, steps_of, world_after}
 use Rattle.coap_serve.proofs.world.KnownLaws.{IsVersioned, still_versioned}
 use Rattle.coap_serve.proofs.world.EntryLemmas.{all_to, all_append, all_filter, all_map}
 use Rattle.coap_serve.proofs.world.SideLaws.{IsKnownSide}
 use Rattle.coap_serve.proofs.world.SettleLaws.{settled_known, settled_hears}
-use Rattle.coap_serve.proofs.world.KeptLaws.{new_known, still_known_side, after_known, faulted_known, written_known, ended_known, released_known}
+use Rattle.coap_serve.proofs.world.KeptLaws.{new_known, still_known_side, after_known, faulted_known, written_known, ended_known, released_known, announced_known}
 
 -- ---- what is known of a world
 
@@ -82,6 +82,7 @@ acted_known limits w (Stored path format bytes) known =
 acted_known limits w (Removed path) known = changed_known w (Delete path) known
 acted_known limits w (Ended id cut) known = on_side_known w id (λ s. side_ended s cut) (λ s. ended_known w.store s cut) known
 acted_known limits w (Released id) known = on_side_known w id side_released (released_known w.store) known
+acted_known limits w (Announced id size) known = on_side_known w id (λ s. side_announced s size) (λ s. announced_known w.store s size) known
 acted_known limits w (Dropped id) known = record {
   versioned = known.versioned;
   moment = known.moment;

@@ -22,12 +22,12 @@ use Rattle.coap_store.specs.Store.{StoreValue}
 use Rattle.coap_store.specs.Answer.{asks_late, answer_of}
 use Rattle.coap_store.proofs.HoldLaws.{held_of}
 use Rattle.coap_serve.specs.world.Observers.{Observer, without_token, notification, notification_message}
-use Rattle.coap_serve.specs.world.Sides.{Side, handles, with_history, moment_after, held_for, side_replied, asks_answer, side_handled, side_after, side_faulted, side_written, side_ended, side_released, next_due, notified, next_held, held_message, after_sent, settled_so, settled_once}
+use Rattle.coap_serve.specs.world.Sides.{Side, handles, with_history, moment_after, held_for, side_replied, asks_answer, side_handled, side_after, side_faulted, side_written, side_ended, side_released, side_announced, next_due, notified, next_held, held_message, after_sent, settled_so, settled_once}
 use Rattle.coap_serve.specs.world.Custody.{asks_held, KeepsHeld, AddsAsked, KeepsHeldOver}
 use Rattle.coap_serve.proofs.world.SideLaws.{held_room}
 use Rattle.coap_serve.proofs.world.CustodyLaws.{asked_at_all, asked_same, sent_when_due}
 use Rattle.coap_serve.proofs.world.ToldMessages.{react_so}
-use Rattle.coap_serve.proofs.world.WalkLaws.{due_is, faulted_between, written_between, ended_between, released_between}
+use Rattle.coap_serve.proofs.world.WalkLaws.{due_is, faulted_between, written_between, ended_between, released_between, announced_between}
 
 -- ---- what leaves what is held as it is
 
@@ -138,6 +138,9 @@ ended_keeps s cut = left_kept s (side_ended s cut) (ended_between Leaves (λ h. 
 
 pub released_keeps : (s : Side) → KeepsHeld s (side_released s)
 released_keeps s = left_kept s (side_released s) (released_between Leaves (λ h. inl refl) (λ h opened none. inr (ReleasedHere, refl)) s)
+
+pub announced_keeps : (s : Side) (size : ℕ) → KeepsHeld s (side_announced s size)
+announced_keeps s size = left_kept s (side_announced s size) (announced_between Leaves (λ h. inl refl) (λ h n opened room fit. inl refl) s size)
 
 pub written_same : (s : Side) (n : ℕ) → (side_written s n).history.held ≡ s.history.held
 written_same s n = written_between (λ h k. k.held ≡ h.held) (λ h. refl) (λ h n within. refl) s n

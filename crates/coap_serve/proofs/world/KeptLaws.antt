@@ -14,10 +14,10 @@ use Rattle.coap_store.specs.Answer.{Change, answer_of, prompt_answer, changed}
 use Rattle.coap_store.specs.Messages.{response_with_observe}
 use Rattle.coap_store.specs.declared.plan.Watch.TheVariants as watch
 use Rattle.coap_serve.specs.world.Observers.{Observer, without_token, asks_entry, has_place, entry_for, is_whole, with_entry}
-use Rattle.coap_serve.specs.world.Sides.{Side, new_side, handles, with_history, side_answered, moment_after, held_for, side_replied, asks_answer, side_handled, side_after, side_faulted, side_written, side_ended, side_released}
+use Rattle.coap_serve.specs.world.Sides.{Side, new_side, handles, with_history, side_answered, moment_after, held_for, side_replied, asks_answer, side_handled, side_after, side_faulted, side_written, side_ended, side_released, side_announced}
 use Rattle.coap_serve.proofs.world.KnownLaws.{IsKnown, IsVersioned, still_known, entry_known}
 use Rattle.coap_serve.proofs.world.EntryLemmas.{all_to, all_filter, all_if, all_entered}
-use Rattle.coap_serve.proofs.world.WalkLaws.{written_between, ended_between, released_between, observers_faulted, observers_written, observers_ended, observers_released}
+use Rattle.coap_serve.proofs.world.WalkLaws.{written_between, ended_between, released_between, announced_between, observers_faulted, observers_written, observers_ended, observers_released, observers_announced}
 use Rattle.coap_serve.proofs.world.AcrossLaws.{faulted_all}
 use Rattle.coap_serve.proofs.world.GoingOn.{GoesOn, as_before, all_go_on, message_goes_on, reply_goes_on, written_goes_on, hold_goes_on}
 use Rattle.coap_serve.proofs.values.AnsweringLemmas.{asks_to_enter}
@@ -54,6 +54,10 @@ ended_known store s cut known =
 pub released_known : (store : StoreValue) (s : Side) → IsKnownSide store s → IsKnownSide store (side_released s)
 released_known store s known =
     record { is_history = (released_between GoesOn as_before all_go_on.releases s).history known.is_history; told = observers_released (AreKnown store) tt s known.told }
+
+pub announced_known : (store : StoreValue) (s : Side) (size : ℕ) → IsKnownSide store s → IsKnownSide store (side_announced s size)
+announced_known store s size known =
+    record { is_history = (announced_between GoesOn as_before all_go_on.announces s size).history known.is_history; told = observers_announced (AreKnown store) tt s size known.told }
 
 -- the other entries
 others_known : (store : StoreValue) (token : List ℕ) (os : List Observer) → AreKnown store os → AreKnown store (without_token token os)

@@ -18,7 +18,7 @@ use Rattle.coap_conn.specs.Held.{HeldValue, Answer, first_due, without_due}
 use Rattle.coap_conn.specs.Reaction.{Standing, send_as, send, react, pong_with}
 use Rattle.coap_conn.specs.Rejects.{reject_reason}
 use Rattle.coap_conn.specs.History.{History, IsHistory, limit_now, standing_now, after, link_of}
-use Rattle.coap_conn.specs.LinkValue.{bytes_of, free_in}
+use Rattle.coap_conn.specs.LinkValue.{bytes_of, own_csm, free_in}
 use Rattle.coap_conn.specs.Calls.{release}
 use Rattle.coap_conn.specs.Calls as call
 use Rattle.coap_conn.proofs.LinkLemmas.{waiting_more}
@@ -33,14 +33,14 @@ use Rattle.coap_serve.specs.Configs.{ConfigValues}
 use Rattle.coap_serve.specs.world.Observers.{Observer, is_due, without_token, has_place, asks_entry, entry_for, is_whole, with_entry, goes_on, notification, notification_message, left_of, first_becomes}
 use Rattle.coap_serve.specs.world.Sides.{Side, new_side, waiting_on, handles, kept_open, with_history, side_answered, moment_after, held_for, side_replied, asks_answer, side_handled, side_after, next_due, notified, next_held, after_sent, settled_so, settled_once}
 use Rattle.coap_serve.specs.world.World.{side_of}
-use Rattle.coap_serve.specs.world.Events.{Event, stream_on, world_after, AreAccepted}
+use Rattle.coap_serve.specs.world.Events.{Event, stream_on, world_after, AreAccepted, size_on}
 use Rattle.coap_serve.specs.world.Shows.{kept_on}
-use Rattle.coap_serve.proofs.world.WalkLaws.{observers_faulted, observers_written, observers_ended, observers_released, release_fits, room_in, heard, sent, without_first}
+use Rattle.coap_serve.proofs.world.WalkLaws.{observers_faulted, observers_written, observers_ended, observers_released, observers_announced, release_fits, room_in, heard, sent, without_first}
 use Rattle.coap_serve.proofs.world.AcrossLaws.{KeepsAll, keeping, kept_history}
 use Rattle.coap_serve.proofs.world.GoingOn.{GoesOn, all_go_on, sent_goes_so, message_goes_on, IsSide, side_is, Keeps, kept_after}
 use Rattle.coap_serve.proofs.world.ToldMessages.{abort_one, react_so}
-use Rattle.coap_serve.proofs.world.TookLaws.{rest_unfinished}
-use Rattle.coap_serve.proofs.world.ReachedLaws.{accepted_is}
+use Rattle.coap_serve.proofs.world.ReachedLaws.{accepted_is, IsReached}
+use Rattle.coap_serve.proofs.world.StepLaws.{rest_unfinished, size_grows}
 
 -- ---- observers
 
@@ -124,6 +124,7 @@ few_keeps limits = let few : List Observer → Type 0 = λ os. length os ≤ lim
   written = observers_written few (omega arith);
   ended = observers_ended few (omega arith);
   released = observers_released few (omega arith);
+  announced = observers_announced few (omega arith);
   told = λ store now s few. once_few limits.observers store now s (next_held now s) few;
 }
 
@@ -165,6 +166,7 @@ all_hold_few = record {
   rejects = λ h fault takes room few. omega arith;
   ends = λ h cut takes few. omega arith;
   releases = λ h opened none few. omega arith;
+  announces = λ h size opened room fit few. few;
   writes = λ h n within few. few;
 }
 
@@ -250,6 +252,8 @@ all_wait = record {
   ends = λ h cut takes. waits_by h _ (all_go_on.ends h cut takes) (λ w. omega (arith, w.few, queued_waits h [] w.is));
   releases = λ h opened none.
       waits_by h _ (all_go_on.releases h opened none) (λ w. omega (arith, w.few, queued_waits h (release ∷ []) w.is, release_bytes_small, (release_fits (link_of h) none).0));
+  announces = λ h size opened room fit.
+      waits_by h _ (all_go_on.announces h size opened room fit) (added_fits h (own_csm size ∷ []) room (omega arith) (leb-true (length (spelling (own_csm size))) (limit_now h) fit, tt));
   writes = λ h n within. waits_by h _ (all_go_on.writes h n within) (λ w. omega (arith, w.few, written_waits h n));
 }
 
@@ -268,9 +272,15 @@ kept_small_by M rest true enough go = go refl
 kept_small_by M rest false enough go = omega (arith, enough)
 
 -- fewer than the greatest message taken has
-pub kept_within : (c : ConfigValues) (es : List Event) (id : ℕ) (s : Side) → AreInRange c.limits → AreAccepted c es → side_of id (world_after c es).sides ≡ Some s → length (kept_on s (stream_on c.limits.max_message id es).rest) < c.limits.max_message
+pub kept_within : (c : ConfigValues) (es : List Event) (id : ℕ) (s : Side) → AreInRange c.limits → AreAccepted c es → side_of id (world_after c es).sides ≡ Some s → length (kept_on s (stream_on c.limits.max_message id es).rest) < s.history.own_max
 kept_within c es id s ranges accepted there =
     let M : ℕ = c.limits.max_message in
-    let low : 1152 ≤ M = ranges.message_low in
-    kept_small_by M (stream_on M id es).rest (takes_messages s.history.phase) (omega (arith, low))
-    (λ takes. unfinished_below M (stream_on M id es).rest (omega (arith, low)) (rest_unfinished M id es ((accepted_is c es accepted).goes_on id s there takes)))
+    let N : ℕ = size_on M id es in
+    let is : IsReached c es = accepted_is c es accepted in
+    let low : 1152 ≤ N = omega (arith, ranges.message_low, size_grows M id es) in
+    omega (
+      arith,
+      is.sizes id s there,
+      kept_small_by N (stream_on M id es).rest (takes_messages s.history.phase) (omega (arith, low))
+          (λ takes. unfinished_below N (stream_on M id es).rest (omega (arith, low)) (rest_unfinished M id es (is.goes_on id s there takes))),
+    )

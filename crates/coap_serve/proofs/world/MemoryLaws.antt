@@ -1,7 +1,7 @@
 -- Where a take is refused memory, the events say for which message: the one that the next byte of the piece would end.
 use Rattle.std.proofs.Common.{◌≡◌, ℕ, ◌+◌, List, [], ◌∷◌, ◌++◌, take, Option, Some, None, Result, Ok, Err, refl, sym, ap, subst, ◌∙◌, option_map, IfErr, inl, inr, ◌⊎◌}
 use Rattle.std.specs.List.{AllByRecursion}
-use Rattle.coap_wire.specs.Stream.{split}
+use Rattle.coap_wire.specs.Stream.{split, split_on}
 use Rattle.coap_store.specs.Changes.{IsPut}
 use Rattle.coap_serve.specs.Configs.{ConfigValues}
 use Rattle.coap_serve.specs.values.Sessions.{SessionValue, RefusesPiece}
@@ -17,18 +17,17 @@ use Rattle.coap_serve.specs.declared.server.ReleaseFault.TheVariants as releasin
 use Rattle.coap_serve.specs.world.Sides.{Side}
 use Rattle.coap_serve.specs.world.World.{Handled, side_of}
 use Rattle.coap_serve.specs.world.View.{change_by}
-use Rattle.coap_serve.specs.world.Events.{Event, Took, taken_on, stream_on, beyond, steps_by, takes, world_after}
+use Rattle.coap_serve.specs.world.Events.{Event, Took, taken_on, stream_on, beyond, steps_by, takes, world_after, size_on}
 use Rattle.coap_serve.specs.world.Shows.{session_shown, Shows}
 use Rattle.coap_serve.specs.world.Memory.{IsRefusedStored, IsRefusedFor, StoresNothing}
-use Rattle.coap_serve.proofs.world.StepLaws.{taken_then, taken_here}
+use Rattle.coap_serve.proofs.world.StepLaws.{taken_then, taken_here, stream_more}
 use Rattle.coap_serve.proofs.world.ShowLaws.{sessions_shown, takes_shown}
 use Rattle.coap_serve.proofs.world.RefusedLaws.{refuses_last}
 
 -- the steps of taken bytes are what the stream has beyond the one before
-took_beyond : (M id : ℕ) (es : List Event) (bytes : List ℕ) → steps_by M es (Took id bytes) ≡ beyond id (split M (taken_on id es)) (split M (taken_on id es ++ bytes))
+took_beyond : (M id : ℕ) (es : List Event) (bytes : List ℕ) → steps_by M es (Took id bytes) ≡ beyond id (stream_on M id es) (split_on (size_on M id es) (stream_on M id es) bytes)
 unfolding steps_by
-took_beyond M id es bytes =
-    ap (λ (t : List ℕ). beyond id (stream_on M id es) (split M t)) (taken_then id es (Took id bytes) ∙ ap (λ (t : List ℕ). taken_on id es ++ t) (taken_here id bytes))
+took_beyond M id es bytes = ap (beyond id (stream_on M id es)) (stream_more M id es bytes)
 
 -- how many bytes are taken on a connection that is there
 count_there : (v : ServerValue) (id : ℕ) (piece : List ℕ) (s : SessionValue) → session_of id v.sessions ≡ Some s → count_taken v id piece ≡ count_on v piece (Some s)

@@ -1,78 +1,86 @@
 -- What holds of the world after any accepted events: each number is given once, and the stream of a connection that takes
 -- messages has no fault.
-use Rattle.std.proofs.Common.{◌≡◌, ℕ, ◌+◌, ◌<◌, ◌≤◌, Bool, true, false, cond, List, [], ◌∷◌, ◌++◌, length, take, Option, Some, None, Result, Ok, Err, refl, sym, ap, subst, ◌∙◌, inl, inr, arith}
-use Rattle.std.proofs.lemmas.Bool.{cases_eq, and_parts}
+use Rattle.std.proofs.Common.{◌≡◌, ◌≢◌, ℕ, ◌+◌, ◌<◌, ◌≤◌, Bool, true, false, cond, List, [], ◌∷◌, ◌++◌, length, take, Option, Some, None, Result, Ok, Err, refl, sym, ap, subst, ◌∙◌, inl, inr, arith, ◌&&◌, nat_le, nat_lt, if◌then◌else◌}
+use Rattle.std.proofs.lemmas.Bool.{cases_eq, and_parts, leb-true, ltb-false}
 use Rattle.std.proofs.lemmas.List.{nil_from_length}
 use Rattle.coap_wire.specs.Message.{Message}
 use Rattle.coap_wire.specs.Reading.{message_of}
 use Rattle.coap_wire.specs.declared.fault.FormatFault.{FormatFault}
-use Rattle.coap_wire.specs.Stream.{StreamFault, Stream, split}
-use Rattle.coap_wire.proofs.StreamSteps.{unfinished_empty, split_unfinished}
+use Rattle.coap_wire.specs.Stream.{StreamFault, Stream}
 use Rattle.coap_frame.specs.Framing.{Finding, Nothing, AFrame, AFault, framing}
+use Rattle.coap_frame.specs.Raising.{greatest_size}
 use Rattle.coap_conn.specs.Phases.{takes_messages}
+use Rattle.coap_conn.specs.History.{History, after, link_of}
+use Rattle.coap_conn.specs.Calls.{may_announce}
+use Rattle.coap_conn.specs.Calls as call
+use Rattle.coap_store.specs.Store.{StoreValue}
 use Rattle.coap_serve.specs.Configs.{ConfigValues}
-use Rattle.coap_serve.specs.world.Sides.{Side, has_room, handles}
+use Rattle.coap_serve.specs.world.Sides.{Side, has_room, handles, with_history, may_raise, side_announced, settled_once, settled}
 use Rattle.coap_serve.specs.world.World.{World, Step, new_world, side_of}
 use Rattle.coap_serve.specs.world.World as world
-use Rattle.coap_serve.specs.world.Events.{Event, taken_in, taken_on, stream_on, steps_by, world_after, front_of, takes_of, takes, IfSide, IsAccepted, AreAccepted}
+use Rattle.coap_serve.specs.world.Events.{Event, taken_in, size_on, stream_on, spelled_on, steps_by, world_after, front_of, takes_of, takes, IfSide, IsAccepted, AreAccepted}
 use Rattle.coap_serve.specs.world.Events as event
-use Rattle.coap_serve.proofs.world.StepLaws.{taken_then, world_first, world_same, world_step, by_events, stream_same, taken_elsewhere, stream_elsewhere}
+use Rattle.coap_serve.proofs.world.StepLaws.{world_first, world_same, world_step, by_events, stream_same, size_then, size_stays, announced_here, announced_elsewhere, nothing_spelled, first_spelled, spelled_same, taken_elsewhere, stream_elsewhere}
 use Rattle.coap_serve.proofs.world.TookLaws.{Adds, adds_nothing, adds_message, adds_bad, adds_fault, no_bytes_stream, no_bytes_steps, piece_whole}
-use Rattle.coap_serve.proofs.world.AcrossLaws.{HoldsFrom, step_across, all_across}
+use Rattle.coap_serve.proofs.world.AcrossLaws.{some_same, HoldsOf, HoldsFrom, step_across, announced_there, all_across}
 use Rattle.coap_serve.proofs.world.GoingOn.{GoesOn, all_go_on, was_live}
-use Rattle.coap_serve.proofs.world.WalkLaws.{Between}
+use Rattle.coap_serve.proofs.world.WalkLaws.{announcing, Between, once_between, settled_between, after_between, faulted_between, written_between, ended_between, released_between}
+use Rattle.coap_serve.proofs.world.PlaceLaws.{nobody}
+use Rattle.coap_wire.proofs.StreamSteps.{none_or_some}
 use Rattle.coap_serve.proofs.world.WorldLaws.{OpensNext, IsGivenNumber, IsNumbered, new_world_numbered, number_given, step_numbered, ids_grow, faulted_is_stopped}
 
 -- where a connection takes messages, its stream has no fault
 abbrev pub HaveNoFault : ConfigValues → List Event → World → Type 0
 HaveNoFault c es w = (id : ℕ) (s : Side) → side_of id w.sides ≡ Some s → takes_messages s.history.phase ≡ true → (stream_on c.limits.max_message id es).fault ≡ None
 
--- no byte was taken on a connection that is still to come
-abbrev pub IsSilent : List Event → World → Type 0
-IsSilent es w = (id : ℕ) → w.ids < id → taken_on id es ≡ []
+-- nothing was spelled on a connection that is still to come
+abbrev pub IsSilent : ConfigValues → List Event → World → Type 0
+IsSilent c es w = (id : ℕ) → w.ids < id → spelled_on c.limits.max_message id es ≡ nothing_spelled c.limits.max_message
+
+-- each connection takes messages of the size that was announced last on it
+abbrev pub HaveSizes : ConfigValues → List Event → World → Type 0
+HaveSizes c es w = (id : ℕ) (s : Side) → side_of id w.sides ≡ Some s → s.history.own_max ≡ size_on c.limits.max_message id es
 
 -- accepted events lead to a world so
 pub record IsReached (c : ConfigValues) (es : List Event) : Type 0 where
   pub numbered : IsNumbered c (world_after c es)
-  pub silent : IsSilent es (world_after c es)
+  pub silent : IsSilent c es (world_after c es)
   pub goes_on : HaveNoFault c es (world_after c es)
+  pub sizes : HaveSizes c es (world_after c es)
 
 -- the same, where this is the world
 record LeadsTo (c : ConfigValues) (es : List Event) (w : World) : Type 0 where
   numbered : IsNumbered c w
-  silent : IsSilent es w
+  silent : IsSilent c es w
   goes_on : HaveNoFault c es w
+  sizes : HaveSizes c es w
 
 reached : (c : ConfigValues) (es : List Event) (w : World) → world_after c es ≡ w → LeadsTo c es w → IsReached c es
 reached c es w is leads =
     let here : LeadsTo c es (world_after c es) = subst (LeadsTo c es) (sym is) leads in
-    record { numbered = here.numbered; silent = here.silent; goes_on = here.goes_on }
+    record { numbered = here.numbered; silent = here.silent; goes_on = here.goes_on; sizes = here.sizes }
 
 -- ---- at first
 
-nothing_taken_yet : (id : ℕ) → taken_on id [] ≡ []
-unfolding taken_on
-nothing_taken_yet id = refl
-
--- where no byte was taken, there is no fault
-silent_stream : (M id : ℕ) (es : List Event) → taken_on id es ≡ [] → (stream_on M id es).fault ≡ None
-silent_stream M id es none = ap (λ (s : List ℕ). (split M s).fault) none ∙ ap (λ (s : Stream). s.fault) (split_unfinished M [] (unfinished_empty M))
+-- where nothing was spelled, there is no fault
+silent_stream : (M id : ℕ) (es : List Event) → spelled_on M id es ≡ nothing_spelled M → (stream_on M id es).fault ≡ None
+silent_stream M id es none = ap (λ (s : Stream × ℕ). s.0.fault) none
 
 first_reached : (c : ConfigValues) → IsReached c []
 first_reached c = reached c [] (new_world c) (world_first c) (record {
   numbered = new_world_numbered c;
-  silent = λ id h. nothing_taken_yet id;
-  goes_on = λ id s e takes. silent_stream c.limits.max_message id [] (nothing_taken_yet id);
+  silent = λ id h. first_spelled c.limits.max_message id;
+  goes_on = λ id s e takes. silent_stream c.limits.max_message id [] (first_spelled c.limits.max_message id);
+  sizes = λ id s e. absurd (none_or_some s (sym (nobody id) ∙ e));
 })
 
--- ---- an event that makes a step
+-- ---- a step
 
--- an event behind which nothing was taken on numbers that were not given is silent too
-silent_more : (c : ConfigValues) (es : List Event) (e : Event) (w : World) → IsReached c es → (world_after c es).ids ≤ w.ids → ((id : ℕ) → (world_after c es).ids < id → taken_in id e ≡ []) → IsSilent (es ++ e ∷ []) w
+-- an event behind which nothing was spelled on numbers that were not given is silent too
+silent_more : (c : ConfigValues) (es : List Event) (e : Event) (w : World) → IsReached c es → (world_after c es).ids ≤ w.ids → ((id : ℕ) → (world_after c es).ids < id → (taken_in id e ≡ []) × size_stays id e) → IsSilent c (es ++ e ∷ []) w
 silent_more c es e w before grow none id h =
-    taken_then id es e
-    ∙ ap (λ (t : List ℕ). t ++ taken_in id e) (before.silent id (omega (arith, h, grow)))
-    ∙ none id (omega (arith, h, grow))
+    let quiet = none id (omega (arith, h, grow)) in
+    spelled_same c.limits.max_message id es e quiet.0 quiet.1 ∙ before.silent id (omega (arith, h, grow))
 
 -- the stream of a connection that takes messages after a step had no fault before it
 from_live : (c : ConfigValues) (es : List Event) (s : Step) (id : ℕ) (t : Side) → IsReached c es → OpensNext c (world_after c es) s → HoldsFrom (Between GoesOn) c.limits (world_after c es) s id t → takes_messages t.history.phase ≡ true → (stream_on c.limits.max_message id es).fault ≡ None
@@ -84,15 +92,65 @@ from_live c es s id t before next (inr new) takes =
 step_live : (c : ConfigValues) (es : List Event) (s : Step) (id : ℕ) (t : Side) → IsReached c es → OpensNext c (world_after c es) s → side_of id (world.step c.limits (world_after c es) s).sides ≡ Some t → takes_messages t.history.phase ≡ true → (stream_on c.limits.max_message id es).fault ≡ None
 step_live c es s id t before next e takes = from_live c es s id t before next (step_across (Between GoesOn) c.limits (world_after c es) s id (all_across GoesOn all_go_on (world_after c es) s id) t e) takes
 
--- an event with no bytes that makes one step
-step_reached : (c : ConfigValues) (es : List Event) (e : Event) (s : Step) → IsReached c es → steps_by c.limits.max_message es e ≡ s ∷ [] → OpensNext c (world_after c es) s → ((id : ℕ) → taken_in id e ≡ []) → IsReached c (es ++ e ∷ [])
-step_reached c es e s before one next none =
+-- ---- the sizes in force
+
+-- only an announcement changes the size
+abbrev SameSize : History → History → Type 0
+SameSize h k = k.own_max ≡ h.own_max
+
+once_size : (store : StoreValue) (now : ℕ) (s : Side) → Between SameSize s (settled_once store now s)
+once_size = once_between SameSize SameSize (λ h. refl) (λ h k g one two. two ∙ one) (λ h token observe r does room. refl) (λ h now. refl) (λ h now token due room. refl)
+
+settled_size : (store : StoreValue) (now : ℕ) (s : Side) → Between SameSize s (settled store now s)
+settled_size = settled_between SameSize (record { same = λ h. refl; then = λ h k g one two. two ∙ one }) (λ h token observe r does room. refl) (λ h now. refl) (λ h now token due room. refl)
+
+-- it is none of the connection's announcements
+abbrev IsUnannounced : Step → ℕ → Type 0
+IsUnannounced st id = (size : ℕ) → st ≡ world.Announced id size → ⊥
+
+size_kept : (w : World) (st : Step) (id : ℕ) → IsUnannounced st id → HoldsOf (Between SameSize) w st id
+size_kept w st id none = record {
+  same = λ s. refl;
+  handled = λ m is s.
+      after_between SameSize SameSize (λ h. refl) (λ h k g one two. two ∙ one) (λ h n takes room. refl) (λ h. refl) (λ h token observe r does room. refl) (λ h token moment opened may. refl) w.store w.now s m;
+  faulted = λ fault is s. faulted_between SameSize (λ h. refl) (λ h r takes room. refl) s fault;
+  written = written_between SameSize (λ h. refl) (λ h n within. refl);
+  ended = ended_between SameSize (λ h. refl) (λ h cut takes. refl);
+  released = released_between SameSize (λ h. refl) (λ h opened may. refl);
+  announced = λ size is. absurd (none size is);
+  told = λ store now s t is. once_size store now t ∙ is;
+}
+
+sized_from : (c : ConfigValues) (es : List Event) (st : Step) (id : ℕ) (t : Side) → IsReached c es → OpensNext c (world_after c es) st → HoldsFrom (Between SameSize) c.limits (world_after c es) st id t → t.history.own_max ≡ size_on c.limits.max_message id es
+sized_from c es st id t before next (inl old) = old.2 ∙ before.sizes id old.0 old.1
+sized_from c es st id t before next (inr new) =
+    let opened : (id ≡ (world_after c es).ids + 1) × (length (world_after c es).sides < c.connections) = subst (OpensNext c (world_after c es)) new.1 next in
+    new.2 ∙ sym (ap (λ (s : Stream × ℕ). s.1) (before.silent id (omega (arith, opened.0))))
+
+step_sized : (c : ConfigValues) (es : List Event) (st : Step) (id : ℕ) (t : Side) → IsReached c es → OpensNext c (world_after c es) st → IsUnannounced st id → side_of id (world.step c.limits (world_after c es) st).sides ≡ Some t → t.history.own_max ≡ size_on c.limits.max_message id es
+step_sized c es st id t before next none there =
+    sized_from c es st id t before next (step_across (Between SameSize) c.limits (world_after c es) st id (size_kept (world_after c es) st id none) t there)
+
+-- ---- an event that makes one step
+
+-- an event with no bytes
+step_reached : (c : ConfigValues) (es : List Event) (e : Event) (s : Step) → IsReached c es → steps_by c.limits.max_message es e ≡ s ∷ [] → OpensNext c (world_after c es) s → ((id : ℕ) → taken_in id e ≡ []) → ((id : ℕ) → (world_after c es).ids < id → size_stays id e)
+    → HaveSizes c (es ++ e ∷ []) (world.step c.limits (world_after c es) s) → IsReached c (es ++ e ∷ [])
+step_reached c es e s before one next none stays sizes =
     let w : World = world_after c es in
     reached c (es ++ e ∷ []) (world.step c.limits w s) (world_step c es e s one) (record {
       numbered = step_numbered c w s before.numbered next;
-      silent = silent_more c es e (world.step c.limits w s) before (ids_grow c w s next) (λ id h. none id);
+      silent = silent_more c es e (world.step c.limits w s) before (ids_grow c w s next) (λ id h. (none id, stays id h));
       goes_on = λ id t there takes. ap (λ (u : Stream). u.fault) (stream_same c.limits.max_message id es e (none id)) ∙ step_live c es s id t before next there takes;
+      sizes = sizes;
     })
+
+-- and announces nothing
+plain_reached : (c : ConfigValues) (es : List Event) (e : Event) (s : Step) → IsReached c es → steps_by c.limits.max_message es e ≡ s ∷ [] → OpensNext c (world_after c es) s → ((id : ℕ) → taken_in id e ≡ []) → ((id : ℕ) → size_stays id e) → ((id : ℕ) → IsUnannounced s id) → IsReached c (es ++ e ∷ [])
+plain_reached c es e s before one next none stays quiet =
+    let M : ℕ = c.limits.max_message in
+    step_reached c es e s before one next none (λ id h. stays id)
+    (λ id t there. step_sized c es s id t before next (quiet id) there ∙ sym (size_then M id es e ∙ stays id (size_on M id es)))
 
 -- ---- a take
 
@@ -111,16 +169,18 @@ module _ (c : ConfigValues) (es : List Event) (id : ℕ) (bytes : List ℕ) (s :
   take_reached : (w : World) → world_after c (es ++ event.Took id bytes ∷ []) ≡ w → IsNumbered c w → (world_after c es).ids ≤ w.ids
       → ((t : Side) → side_of id w.sides ≡ Some t → takes_messages t.history.phase ≡ true → (then_on id).fault ≡ None)
       → ((n : ℕ) (t : Side) → side_of n w.sides ≡ Some t → takes_messages t.history.phase ≡ true → (stream_on most n es).fault ≡ None)
+      → HaveSizes c es w
       → IsReached c (es ++ event.Took id bytes ∷ [])
-  take_reached w is numbered grow own others =
+  take_reached w is numbered grow own others sizes =
       let given : IsGivenNumber c (world_after c es).ids id = number_given c (world_after c es) id s before.numbered there in
       reached c (es ++ event.Took id bytes ∷ []) w is (record {
         numbered = numbered;
-        silent = silent_more c es (event.Took id bytes) w before grow (λ n h. taken_elsewhere n id bytes (λ (same : id ≡ n). omega (arith, given.within, h, same)));
+        silent = silent_more c es (event.Took id bytes) w before grow (λ n h. (taken_elsewhere n id bytes (λ (same : id ≡ n). omega (arith, given.within, h, same)), λ M. refl));
         goes_on = λ n t at takes. elim (cases_eq id n) [
           | inl same ↦ subst (λ (k : ℕ). (then_on k).fault ≡ None) same (own t (ap (λ (k : ℕ). side_of k w.sides) same ∙ at) takes)
           | inr apart ↦ ap (λ (u : Stream). u.fault) (stream_elsewhere most n id es bytes apart) ∙ others n t at takes
         ];
+        sizes = λ n t at. sizes n t at ∙ sym (size_then most n es (event.Took id bytes));
       })
 
   -- one that makes no step
@@ -128,16 +188,16 @@ module _ (c : ConfigValues) (es : List Event) (id : ℕ) (bytes : List ℕ) (s :
   quiet_reached none own =
       take_reached (world_after c es) (world_same c es (event.Took id bytes) none) before.numbered (omega arith)
       (λ t at takes. own (let same : Some t ≡ Some s = sym at ∙ there in let is : t ≡ s = cc in ap (λ (u : Side). takes_messages u.history.phase) (sym is) ∙ takes))
-      before.goes_on
+      before.goes_on before.sizes
 
   -- one that makes a step
-  stepped_reached : (st : Step) → steps_by most es (event.Took id bytes) ≡ st ∷ [] → OpensNext c (world_after c es) st
+  stepped_reached : (st : Step) → steps_by most es (event.Took id bytes) ≡ st ∷ [] → OpensNext c (world_after c es) st → ((n : ℕ) → IsUnannounced st n)
       → ((t : Side) → side_of id (world.step c.limits (world_after c es) st).sides ≡ Some t → takes_messages t.history.phase ≡ true → (then_on id).fault ≡ None)
       → IsReached c (es ++ event.Took id bytes ∷ [])
-  stepped_reached st one next own =
+  stepped_reached st one next quiet own =
       take_reached (world.step c.limits (world_after c es) st) (world_step c es (event.Took id bytes) st one)
       (step_numbered c (world_after c es) st before.numbered next) (ids_grow c (world_after c es) st next)
-      own (λ n t at takes. step_live c es st n t before next at takes)
+      own (λ n t at takes. step_live c es st n t before next at takes) (λ n t at. step_sized c es st n t before next (quiet n) at)
 
   fault_of : (added : Stream) → Adds most id es bytes added → (then_on id).fault ≡ added.fault
   fault_of added adds = ap (λ (u : Stream). u.fault) adds.stream
@@ -146,20 +206,20 @@ module _ (c : ConfigValues) (es : List Event) (id : ℕ) (bytes : List ℕ) (s :
   nothing_reached rest adds = quiet_reached adds.steps (λ takes. fault_of _ adds)
 
   message_reached : (m : Message) → Adds most id es bytes (record { messages = m ∷ []; rest = []; fault = None }) → IsReached c (es ++ event.Took id bytes ∷ [])
-  message_reached m adds = stepped_reached (world.Handled id m) adds.steps tt (λ t at takes. fault_of _ adds)
+  message_reached m adds = stepped_reached (world.Handled id m) adds.steps tt (λ n size is. cc) (λ t at takes. fault_of _ adds)
 
   fault_reached : (rest : List ℕ) (fault : StreamFault) → handles s ≡ true → Adds most id es bytes (record { messages = []; rest = rest; fault = Some fault }) → IsReached c (es ++ event.Took id bytes ∷ [])
   fault_reached rest fault does adds =
-      stepped_reached (world.Faulted id fault) adds.steps tt
+      stepped_reached (world.Faulted id fault) adds.steps tt (λ n size is. cc)
       (λ t at takes. absurd (let bad : true ≡ false = sym takes ∙ faulted_is_stopped c.limits (world_after c es) id fault s t there does at in cc))
 
   -- a frame with what it spells
-  frame_reached : (frame : List ℕ) (read : Result Message FormatFault) → handles s ≡ true → (stream_on most id es).fault ≡ None → (framing most (stream_on most id es).rest bytes).finding ≡ AFrame frame → (framing most (stream_on most id es).rest bytes).taken ≡ length bytes → message_of frame ≡ read
+  frame_reached : (frame : List ℕ) (read : Result Message FormatFault) → handles s ≡ true → (stream_on most id es).fault ≡ None → (framing (size_on most id es) (stream_on most id es).rest bytes).finding ≡ AFrame frame → (framing (size_on most id es) (stream_on most id es).rest bytes).taken ≡ length bytes → message_of frame ≡ read
       → IsReached c (es ++ event.Took id bytes ∷ [])
   frame_reached frame (Ok m) does none e all is = message_reached m (adds_message most id es bytes none frame m e all is)
   frame_reached frame (Err f) does none e all is = fault_reached frame _ does (adds_bad most id es bytes none frame f e all is)
 
-  found_reached : (found : Finding) → handles s ≡ true → (stream_on most id es).fault ≡ None → (framing most (stream_on most id es).rest bytes).finding ≡ found → (framing most (stream_on most id es).rest bytes).taken ≡ length bytes
+  found_reached : (found : Finding) → handles s ≡ true → (stream_on most id es).fault ≡ None → (framing (size_on most id es) (stream_on most id es).rest bytes).finding ≡ found → (framing (size_on most id es) (stream_on most id es).rest bytes).taken ≡ length bytes
       → IsReached c (es ++ event.Took id bytes ∷ [])
   found_reached Nothing does none e all = nothing_reached _ (adds_nothing most id es bytes none e)
   found_reached (AFrame frame) does none e all = frame_reached frame (message_of frame) does none e all refl
@@ -172,14 +232,14 @@ module _ (c : ConfigValues) (es : List Event) (id : ℕ) (bytes : List ℕ) (s :
       (λ takes. ap (λ (b : List ℕ). (stream_on most id (es ++ event.Took id b ∷ [])).fault) none ∙ ap (λ (u : Stream). u.fault) (no_bytes_stream most id es) ∙ before.goes_on id s there takes)
 
   -- all bytes of what the connection takes
-  whole_reached : (does : Bool) → handles s ≡ does → cond does (front_of most (stream_on most id es).rest bytes) 0 ≡ length bytes → IsReached c (es ++ event.Took id bytes ∷ [])
-  whole_reached true e all = found_reached (framing most (stream_on most id es).rest bytes).finding e (handling_goes_on c es id s before there e) refl all
+  whole_reached : (does : Bool) → handles s ≡ does → cond does (front_of (size_on most id es) (stream_on most id es).rest bytes) 0 ≡ length bytes → IsReached c (es ++ event.Took id bytes ∷ [])
+  whole_reached true e all = found_reached (framing (size_on most id es) (stream_on most id es).rest bytes).finding e (handling_goes_on c es id s before there e) refl all
   whole_reached false e all = no_bytes_reached (nil_from_length bytes (sym all))
 
 -- what is taken of a piece, where this connection is there
-pub takes_there : (c : ConfigValues) (es : List Event) (id : ℕ) (piece : List ℕ) (s : Side) → side_of id (world_after c es).sides ≡ Some s → takes c es id piece ≡ cond (handles s) (front_of c.limits.max_message (stream_on c.limits.max_message id es).rest piece) 0
+pub takes_there : (c : ConfigValues) (es : List Event) (id : ℕ) (piece : List ℕ) (s : Side) → side_of id (world_after c es).sides ≡ Some s → takes c es id piece ≡ cond (handles s) (front_of (size_on c.limits.max_message id es) (stream_on c.limits.max_message id es).rest piece) 0
 unfolding takes
-takes_there c es id piece s there = ap (takes_of c.limits.max_message (stream_on c.limits.max_message id es).rest piece) there
+takes_there c es id piece s there = ap (takes_of (size_on c.limits.max_message id es) (stream_on c.limits.max_message id es).rest piece) there
 
 took_reached : (c : ConfigValues) (es : List Event) (id : ℕ) (bytes : List ℕ) (there : Option Side) → side_of id (world_after c es).sides ≡ there → IsReached c es → IfSide there (λ s. takes c es id bytes ≡ length bytes) → IsReached c (es ++ event.Took id bytes ∷ [])
 took_reached c es id bytes None e before all = absurd all
@@ -187,17 +247,62 @@ took_reached c es id bytes (Some s) e before all = whole_reached c es id bytes s
 
 -- ---- any event
 
+-- a connection that is there is none that is still to come
+given_apart : (P : Side → Type 0) (c : ConfigValues) (es : List Event) (id k : ℕ) (there : Option Side) → side_of id (world_after c es).sides ≡ there → IsReached c es → (world_after c es).ids < k → IfSide there P → id ≢ k
+given_apart P c es id k None at before h holds same = holds
+given_apart P c es id k (Some s) at before h holds same = omega (arith, (number_given c (world_after c es) id s before.numbered at).within, h, same)
+
+-- a size that may be announced is the one in force then
+announced_size : (s : Side) (size : ℕ) → may_raise s size ≡ true → (side_announced s size).history.own_max ≡ size
+unfolding side_announced
+announced_size s size may =
+    let room = and_parts (has_room s) (may_announce (link_of s.history) size) (and_parts (nat_le s.history.own_max size && nat_le size greatest_size) (has_room s && may_announce (link_of s.history) size) may).1 in
+    ap (λ (b : Bool). (cond b (with_history s (after s.history (call.Announce size))) s).history.own_max) may
+    ∙ ap (λ (b : Bool). (cond b (announcing s.history size) s.history).own_max) room.1
+
+raised_to : (N size : ℕ) (greater : Bool) → nat_lt N size ≡ greater → N ≤ size → (if greater then size else N) ≡ size
+raised_to N size true is within = refl
+raised_to N size false is within = omega (arith, ltb-false N size is, within)
+
+announced_sizes : (c : ConfigValues) (es : List Event) (id size : ℕ) (s : Side) → side_of id (world_after c es).sides ≡ Some s → IsReached c es → may_raise s size ≡ true → HaveSizes c (es ++ event.Announced id size ∷ []) (world.step c.limits (world_after c es) (world.Announced id size))
+announced_sizes c es id size s there before may k t at =
+    let w : World = world_after c es in
+    let M : ℕ = c.limits.max_message in
+    let e : Event = event.Announced id size in
+    elim (cases_eq id k) [
+      | inl same ↦
+          let there_now : side_of id (world.step c.limits w (world.Announced id size)).sides ≡ Some t = ap (λ (n : ℕ). side_of n (world.step c.limits w (world.Announced id size)).sides) same ∙ at in
+          let now : settled w.store w.now (side_announced s size) ≡ t = some_same _ t (sym (announced_there c.limits w id size s there) ∙ there_now) in
+          let own : t.history.own_max ≡ size = ap (λ (u : Side). u.history.own_max) (sym now) ∙ settled_size w.store w.now (side_announced s size) ∙ announced_size s size may in
+          let lower : s.history.own_max ≤ size = leb-true s.history.own_max size (and_parts (nat_le s.history.own_max size) (nat_le size greatest_size) (and_parts (nat_le s.history.own_max size && nat_le size greatest_size) (has_room s && may_announce (link_of s.history) size) may).0).0 in
+          let N : ℕ = size_on M id es in
+          let risen : size_on M id (es ++ e ∷ []) ≡ size = size_then M id es e ∙ announced_here id size N ∙ raised_to N size (nat_lt N size) refl (subst (λ (n : ℕ). n ≤ size) (before.sizes id s there) lower) in
+          own ∙ sym (ap (λ (n : ℕ). size_on M n (es ++ e ∷ [])) (sym same) ∙ risen)
+      | inr apart ↦
+          step_sized c es (world.Announced id size) k t before tt (λ other is. apart (let here : id ≡ k = cc in here)) at
+          ∙ sym (size_then M k es e ∙ announced_elsewhere k id size apart (size_on M k es))
+    ]
+
+announced_by : (c : ConfigValues) (es : List Event) (id size : ℕ) (there : Option Side) → side_of id (world_after c es).sides ≡ there → IsReached c es → IfSide there (λ s. may_raise s size ≡ true)
+    → HaveSizes c (es ++ event.Announced id size ∷ []) (world.step c.limits (world_after c es) (world.Announced id size))
+announced_by c es id size None at before holds = absurd holds
+announced_by c es id size (Some s) at before holds = announced_sizes c es id size s at before holds
+
 event_reached : (c : ConfigValues) (es : List Event) (e : Event) → IsReached c es → IsAccepted c es e → IsReached c (es ++ e ∷ [])
 unfolding IsAccepted steps_by
-event_reached c es (event.Opened id) before is = step_reached c es (event.Opened id) (world.Opened id) before refl (is.0, is.2) (λ n. refl)
+event_reached c es (event.Opened id) before is = plain_reached c es (event.Opened id) (world.Opened id) before refl (is.0, is.2) (λ n. refl) (λ k N. refl) (λ k size is. cc)
 event_reached c es (event.Took id bytes) before is = took_reached c es id bytes (side_of id (world_after c es).sides) refl before is
-event_reached c es (event.Wrote id n) before is = step_reached c es (event.Wrote id n) (world.Written id n) before refl tt (λ k. refl)
-event_reached c es (event.Ticked now) before is = step_reached c es (event.Ticked now) (world.Ticked now) before refl tt (λ k. refl)
-event_reached c es (event.Stored path format bytes) before is = step_reached c es (event.Stored path format bytes) (world.Stored path format bytes) before refl tt (λ k. refl)
-event_reached c es (event.Removed path) before is = step_reached c es (event.Removed path) (world.Removed path) before refl tt (λ k. refl)
-event_reached c es (event.Ended id) before is = step_reached c es (event.Ended id) _ before refl tt (λ k. refl)
-event_reached c es (event.Released id) before is = step_reached c es (event.Released id) (world.Released id) before refl tt (λ k. refl)
-event_reached c es (event.Dropped id) before is = step_reached c es (event.Dropped id) (world.Dropped id) before refl tt (λ k. refl)
+event_reached c es (event.Wrote id n) before is = plain_reached c es (event.Wrote id n) (world.Written id n) before refl tt (λ k. refl) (λ k N. refl) (λ k size is. cc)
+event_reached c es (event.Ticked now) before is = plain_reached c es (event.Ticked now) (world.Ticked now) before refl tt (λ k. refl) (λ k N. refl) (λ k size is. cc)
+event_reached c es (event.Stored path format bytes) before is = plain_reached c es (event.Stored path format bytes) (world.Stored path format bytes) before refl tt (λ k. refl) (λ k N. refl) (λ k size is. cc)
+event_reached c es (event.Removed path) before is = plain_reached c es (event.Removed path) (world.Removed path) before refl tt (λ k. refl) (λ k N. refl) (λ k size is. cc)
+event_reached c es (event.Ended id) before is = plain_reached c es (event.Ended id) _ before refl tt (λ k. refl) (λ k N. refl) (λ k size is. cc)
+event_reached c es (event.Released id) before is = plain_reached c es (event.Released id) (world.Released id) before refl tt (λ k. refl) (λ k N. refl) (λ k size is. cc)
+event_reached c es (event.Announced id size) before is =
+    step_reached c es (event.Announced id size) (world.Announced id size) before refl tt (λ k. refl)
+    (λ k h N. announced_elsewhere k id size (given_apart _ c es id k (side_of id (world_after c es).sides) refl before h is) N)
+    (announced_by c es id size (side_of id (world_after c es).sides) refl before is)
+event_reached c es (event.Dropped id) before is = plain_reached c es (event.Dropped id) (world.Dropped id) before refl tt (λ k. refl) (λ k N. refl) (λ k size is. cc)
 
 -- each list of accepted events leads to such a world
 pub accepted_is : (c : ConfigValues) (es : List Event) → AreAccepted c es → IsReached c es
@@ -213,19 +318,19 @@ module _ (c : ConfigValues) (es : List Event) (id : ℕ) (piece : List ℕ) (s :
   abbrev pub so_far : Stream
   so_far = stream_on c.limits.max_message id es
 
-  takes_handling : (bytes : List ℕ) → takes c es id bytes ≡ front_of c.limits.max_message so_far.rest bytes
-  takes_handling bytes = takes_there c es id bytes s there ∙ ap (λ (does : Bool). cond does (front_of c.limits.max_message so_far.rest bytes) 0) handling
+  takes_handling : (bytes : List ℕ) → takes c es id bytes ≡ front_of (size_on c.limits.max_message id es) so_far.rest bytes
+  takes_handling bytes = takes_there c es id bytes s there ∙ ap (λ (does : Bool). cond does (front_of (size_on c.limits.max_message id es) so_far.rest bytes) 0) handling
 
   -- what a connection that handles messages takes of a piece
-  pub front_accepted : so_far.fault ≡ None → IsAccepted c es (event.Took id (take (front_of c.limits.max_message so_far.rest piece) piece))
+  pub front_accepted : so_far.fault ≡ None → IsAccepted c es (event.Took id (take (front_of (size_on c.limits.max_message id es) so_far.rest piece) piece))
   front_accepted none = takes_accepted c es id _ s there (takes_handling _ ∙ piece_whole c.limits.max_message id es piece none)
 
 -- where none is taken, no byte is
 pub nothing_accepted : (c : ConfigValues) (es : List Event) (id : ℕ) (s : Side) → side_of id (world_after c es).sides ≡ Some s → handles s ≡ false → IsAccepted c es (event.Took id [])
 nothing_accepted c es id s there stopped =
-    takes_accepted c es id [] s there (takes_there c es id [] s there ∙ ap (λ (does : Bool). cond does (front_of c.limits.max_message (stream_on c.limits.max_message id es).rest []) 0) stopped)
+    takes_accepted c es id [] s there (takes_there c es id [] s there ∙ ap (λ (does : Bool). cond does (front_of (size_on c.limits.max_message id es) (stream_on c.limits.max_message id es).rest []) 0) stopped)
 
-piece_by : (c : ConfigValues) (es : List Event) (id : ℕ) (piece : List ℕ) (s : Side) (does : Bool) → IsReached c es → side_of id (world_after c es).sides ≡ Some s → handles s ≡ does → IsAccepted c es (event.Took id (take (cond does (front_of c.limits.max_message (stream_on c.limits.max_message id es).rest piece) 0) piece))
+piece_by : (c : ConfigValues) (es : List Event) (id : ℕ) (piece : List ℕ) (s : Side) (does : Bool) → IsReached c es → side_of id (world_after c es).sides ≡ Some s → handles s ≡ does → IsAccepted c es (event.Took id (take (cond does (front_of (size_on c.limits.max_message id es) (stream_on c.limits.max_message id es).rest piece) 0) piece))
 piece_by c es id piece s true is there e = front_accepted c es id piece s there e (handling_goes_on c es id s is there e)
 piece_by c es id piece s false is there e = nothing_accepted c es id s there e
 

@@ -1,13 +1,13 @@
 -- The last byte of a message for which memory is refused: the bytes before it make no step, and with it comes one message more,
 -- which stores a representation.
-use Rattle.std.proofs.Common.{◌≡◌, ℕ, ◌+◌, ◌-◌, ◌≤◌, Bool, true, List, [], ◌∷◌, ◌++◌, length, map, take, drop, Some, None, Result, Ok, Err, refl, sym, ap, subst, ◌∙◌, append_assoc, take-take, arith, if◌then◌else◌}
+use Rattle.std.proofs.Common.{◌≡◌, ℕ, ◌+◌, ◌-◌, ◌≤◌, Bool, true, List, [], ◌∷◌, ◌++◌, length, map, take, drop, Some, None, Result, Ok, Err, refl, sym, ap, subst, ◌∙◌, append_assoc, take-take, arith, if◌then◌else◌, Option}
 use Rattle.std.proofs.lemmas.List.{append-nil, length-append, length-drop, length-take-le, take-append-drop, take_at}
 use Rattle.std.proofs.Math.Seq.{drop-append_seam}
 use Rattle.coap_wire.specs.Message.{Message}
 use Rattle.coap_wire.specs.Reading.{message_of}
 use Rattle.coap_wire.specs.declared.fault.FormatFault.{FormatFault}
 use Rattle.coap_wire.specs.Beginning.{Unfinished, Whole, beginning}
-use Rattle.coap_wire.specs.Stream.{Stream, with_message, split}
+use Rattle.coap_wire.specs.Stream.{Stream, with_message, split, split_on, StreamFault, gone_on}
 use Rattle.coap_wire.specs.Stream as stream
 use Rattle.coap_wire.proofs.StreamSteps.{unfinished_empty, split_unfinished, split_message, split_more, split_rest}
 use Rattle.coap_frame.specs.Framing.{Finding, AFrame, framing, without_last}
@@ -20,24 +20,30 @@ use Rattle.coap_serve.specs.values.Servers.{ServerValue, session_of}
 use Rattle.coap_serve.specs.world.Sides.{Side, handles}
 use Rattle.coap_serve.specs.world.World.{World, side_of}
 use Rattle.coap_serve.specs.world.World as world
-use Rattle.coap_serve.specs.world.Events.{Event, taken_on, stream_on, new_fault, beyond, world_after, front_of}
+use Rattle.coap_serve.specs.world.Events.{Event, taken_on, stream_on, new_fault, beyond, world_after, front_of, size_on}
 use Rattle.coap_serve.specs.world.View.{change_on, change_made}
 use Rattle.coap_serve.specs.world.Shows.{session_shown, Shows}
 use Rattle.coap_serve.proofs.world.TookLaws.{frame_itself, but_last_unfinished}
 use Rattle.coap_serve.proofs.world.ReachedLaws.{IsReached, accepted_is, handling_goes_on}
 use Rattle.coap_serve.proofs.world.SideLaws.{host_of, change_shown}
-use Rattle.coap_serve.proofs.world.ShownLemmas.{taking_front, taking_count, put_has_frame, side_limits}
+use Rattle.coap_serve.proofs.world.ShownLemmas.{taking_front, taking_count, put_has_frame}
 use Rattle.coap_serve.proofs.world.ShowLaws.{session_there, host_shown}
+use Rattle.coap_serve.proofs.world.StepLaws.{rest_unfinished}
+
+-- what a connection has spelled, gone on with more bytes
+abbrev gone_on_with : ConfigValues → List Event → ℕ → List ℕ → Stream
+gone_on_with c es id more = split_on (size_on c.limits.max_message id es) (stream_on c.limits.max_message id es) more
 
 -- Memory was refused for the message whose last byte stands behind the first n bytes of a piece.
 pub record RefusesLast (v : ServerValue) (es : List Event) (id : ℕ) (piece : List ℕ) (n : ℕ) : Type 0 where
   pub last : ℕ
   pub behind : List ℕ
   pub all : piece ≡ take n piece ++ last ∷ behind
-  pub quiet : beyond id (split v.config.limits.max_message (taken_on id es)) (split v.config.limits.max_message (taken_on id es ++ take n piece)) ≡ []
+  pub quiet : beyond id (stream_on v.config.limits.max_message id es) (gone_on_with v.config es id (take n piece)) ≡ []
   pub message : Message
-  pub ends : beyond id (split v.config.limits.max_message (taken_on id es)) (split v.config.limits.max_message (taken_on id es ++ take (n + 1) piece)) ≡ world.Handled id message ∷ []
-  pub one_more : split v.config.limits.max_message ((taken_on id es ++ take n piece) ++ last ∷ []) ≡ record { messages = (split v.config.limits.max_message (taken_on id es ++ take n piece)).messages ++ message ∷ []; rest = []; fault = None }
+  pub ends : beyond id (stream_on v.config.limits.max_message id es) (gone_on_with v.config es id (take (n + 1) piece)) ≡ world.Handled id message ∷ []
+  pub one_more : split_on (size_on v.config.limits.max_message id es) (gone_on_with v.config es id (take n piece)) (last ∷ [])
+      ≡ record { messages = (gone_on_with v.config es id (take n piece)).messages ++ message ∷ []; rest = []; fault = None }
   pub stores : IsPut (change_made (world_after v.config es) id message)
 
 -- ---- where the piece is cut
@@ -64,13 +70,10 @@ cut_by piece n (last ∷ behind) within e =
 
 -- ---- what the bytes spell
 
--- bytes with no fault, and a piece that ends a frame at its first n + 1 bytes
-module _ (M : ℕ) (bytes piece frame : List ℕ) (n : ℕ) (none : (split M bytes).fault ≡ None) (is : (framing M (split M bytes).rest piece).finding ≡ AFrame frame) (count : front_of M (split M bytes).rest piece ≡ n + 1) where
-  abbrev so_far : Stream
-  so_far = split M bytes
-
-  unfinished : beginning M so_far.rest ≡ Unfinished
-  unfinished = split_rest M bytes none
+-- a stream with no fault, and a piece that ends a frame at its first n + 1 bytes
+module _ (M : ℕ) (so_far : Stream) (piece frame : List ℕ) (n : ℕ) (none : so_far.fault ≡ None) (unfinished : beginning M so_far.rest ≡ Unfinished) (is : (framing M so_far.rest piece).finding ≡ AFrame frame) (count : front_of M so_far.rest piece ≡ n + 1) where
+  goes_on : (more : List ℕ) → split_on M so_far more ≡ stream.behind so_far.messages (split M (so_far.rest ++ more))
+  goes_on more = ap (λ (f : Option StreamFault). gone_on so_far f (split M (so_far.rest ++ more))) none
 
   within : n + 1 ≤ length piece
   within = subst (λ (k : ℕ). k ≤ length piece) count (taken_within M so_far.rest piece unfinished)
@@ -81,39 +84,43 @@ module _ (M : ℕ) (bytes piece frame : List ℕ) (n : ℕ) (none : (split M byt
       ap (λ (k : ℕ). without_last (take k piece)) count ∙ ap (λ (k : ℕ). take k (take (n + 1) piece)) one_less ∙ take-take n (n + 1) piece (omega arith)
 
   -- the first n bytes add to the rest alone
-  stream_before : split M (bytes ++ take n piece) ≡ stream.behind so_far.messages (record { messages = []; rest = so_far.rest ++ take n piece; fault = None })
+  stream_before : split_on M so_far (take n piece) ≡ stream.behind so_far.messages (record { messages = []; rest = so_far.rest ++ take n piece; fault = None })
   stream_before =
       let open_still : beginning M (so_far.rest ++ take n piece) ≡ Unfinished =
       ap (λ (s : List ℕ). beginning M (so_far.rest ++ s)) (sym but_last) ∙ but_last_unfinished M so_far.rest piece frame unfinished is in
-      split_more M bytes (take n piece) none ∙ ap (stream.behind so_far.messages) (split_unfinished M (so_far.rest ++ take n piece) open_still)
+      goes_on (take n piece) ∙ ap (stream.behind so_far.messages) (split_unfinished M (so_far.rest ++ take n piece) open_still)
 
-  messages_before : (split M (bytes ++ take n piece)).messages ≡ so_far.messages
+  messages_before : (split_on M so_far (take n piece)).messages ≡ so_far.messages
   messages_before = ap (λ (s : Stream). s.messages) stream_before ∙ append-nil so_far.messages
 
-  nothing_beyond : (id : ℕ) → beyond id so_far (split M (bytes ++ take n piece)) ≡ []
+  nothing_beyond : (id : ℕ) → beyond id so_far (split_on M so_far (take n piece)) ≡ []
   nothing_beyond id =
       ap (beyond id so_far) stream_before
       ∙ ap (λ (ms : List Message). map (world.Handled id) ms ++ new_fault id so_far.fault None) (drop-append_seam so_far.messages [])
 
   -- one byte more makes the frame whole
-  stream_behind : (m : Message) → message_of frame ≡ Ok m → split M (bytes ++ take (n + 1) piece) ≡ stream.behind so_far.messages (record { messages = m ∷ []; rest = []; fault = None })
-  stream_behind m read =
+  last_spells : (m : Message) → message_of frame ≡ Ok m → split M (so_far.rest ++ take (n + 1) piece) ≡ record { messages = m ∷ []; rest = []; fault = None }
+  last_spells m read =
       let frame_is : frame ≡ so_far.rest ++ take (n + 1) piece = frame_taken M so_far.rest piece frame unfinished is ∙ ap (λ (k : ℕ). so_far.rest ++ take k piece) count in
       let whole : beginning M (so_far.rest ++ take (n + 1) piece) ≡ Whole frame [] = ap (beginning M) (sym frame_is) ∙ frame_itself M so_far.rest piece frame unfinished is in
-      split_more M bytes (take (n + 1) piece) none
-      ∙ ap (stream.behind so_far.messages) (split_message M (so_far.rest ++ take (n + 1) piece) frame [] m whole read ∙ ap (with_message m) (split_unfinished M [] (unfinished_empty M)))
+      split_message M (so_far.rest ++ take (n + 1) piece) frame [] m whole read ∙ ap (with_message m) (split_unfinished M [] (unfinished_empty M))
 
-  message_beyond : (m : Message) (id : ℕ) → message_of frame ≡ Ok m → beyond id so_far (split M (bytes ++ take (n + 1) piece)) ≡ world.Handled id m ∷ []
+  stream_behind : (m : Message) → message_of frame ≡ Ok m → split_on M so_far (take (n + 1) piece) ≡ stream.behind so_far.messages (record { messages = m ∷ []; rest = []; fault = None })
+  stream_behind m read = goes_on (take (n + 1) piece) ∙ ap (stream.behind so_far.messages) (last_spells m read)
+
+  message_beyond : (m : Message) (id : ℕ) → message_of frame ≡ Ok m → beyond id so_far (split_on M so_far (take (n + 1) piece)) ≡ world.Handled id m ∷ []
   message_beyond m id read =
       ap (beyond id so_far) (stream_behind m read)
       ∙ ap (λ (ms : List Message). map (world.Handled id) ms ++ new_fault id so_far.fault None) (drop-append_seam so_far.messages (m ∷ []))
 
   message_more : (m : Message) (last : ℕ) → take (n + 1) piece ≡ take n piece ++ last ∷ [] → message_of frame ≡ Ok m
-      → split M ((bytes ++ take n piece) ++ last ∷ []) ≡ record { messages = (split M (bytes ++ take n piece)).messages ++ m ∷ []; rest = []; fault = None }
+      → split_on M (split_on M so_far (take n piece)) (last ∷ []) ≡ record { messages = (split_on M so_far (take n piece)).messages ++ m ∷ []; rest = []; fault = None }
   message_more m last with_last read =
-      ap (split M) (append_assoc bytes (take n piece) (last ∷ []) ∙ ap (λ (s : List ℕ). bytes ++ s) (sym with_last))
-      ∙ stream_behind m read
-      ∙ ap (λ (ms : List Message). record { messages = ms ++ m ∷ []; rest = []; fault = None }) (sym messages_before)
+      let half : Stream = stream.behind so_far.messages (record { messages = []; rest = so_far.rest ++ take n piece; fault = None }) in
+      ap (λ (s : Stream). split_on M s (last ∷ [])) stream_before
+      ∙ ap (λ (b : List ℕ). stream.behind half.messages (split M b)) (append_assoc so_far.rest (take n piece) (last ∷ []) ∙ ap (λ (b : List ℕ). so_far.rest ++ b) (sym with_last))
+      ∙ ap (stream.behind half.messages) (last_spells m read)
+      ∙ ap (λ (ms : List Message). record { messages = ms ++ m ∷ []; rest = []; fault = None }) (sym (ap (λ (s : Stream). s.messages) stream_before))
 
 -- ---- what the message stores
 
@@ -141,26 +148,28 @@ refuses_there : (v : ServerValue) (es : List Event) (id : ℕ) (piece : List ℕ
 refuses_there v es id piece n t shows there refuses =
     let c : ConfigValues = v.config in
     let M : ℕ = c.limits.max_message in
-    let bytes : List ℕ = taken_on id es in
-    let rest : List ℕ = (split M bytes).rest in
+    let N : ℕ = size_on M id es in
+    let so_far : Stream = stream_on M id es in
+    let rest : List ℕ = so_far.rest in
     let s : SessionValue = session_shown rest t in
     let is : IsReached c es = accepted_is c es shows.accepted in
     let does : handles t ≡ true = refuses.takes in
-    let most : t.history.limits.max_message ≡ M = side_limits c es id piece t shows.moment is there in
-    let none : (split M bytes).fault ≡ None = handling_goes_on c es id t is there does in
-    let put = subst (λ (k : Taking). IsPut k.change) (taking_front v.host M rest piece t most does) refuses.stores in
-    let frame = put_has_frame v.host s (framing M rest piece) (framing M rest piece).finding put in
-    let count : front_of M rest piece ≡ n + 1 = sym (taking_count v.host M rest piece t most ∙ ap (λ (b : Bool). if b then front_of M rest piece else 0) does) ∙ refuses.last in
-    let by = stores_by v.host s (framing M rest piece).taken (message_of frame.0) (subst (λ (f : Finding). IsPut (taking_found v.host s (framing M rest piece) f).change) frame.1 put) in
-    let cut = cut_by piece n (drop n piece) (within M bytes piece frame.0 n none frame.1 count) refl in
+    let most : t.history.own_max ≡ N = is.sizes id t there in
+    let none : so_far.fault ≡ None = handling_goes_on c es id t is there does in
+    let unfinished : beginning N rest ≡ Unfinished = rest_unfinished M id es none in
+    let put = subst (λ (k : Taking). IsPut k.change) (taking_front v.host N rest piece t most does) refuses.stores in
+    let frame = put_has_frame v.host s (framing N rest piece) (framing N rest piece).finding put in
+    let count : front_of N rest piece ≡ n + 1 = sym (taking_count v.host N rest piece t most ∙ ap (λ (b : Bool). if b then front_of N rest piece else 0) does) ∙ refuses.last in
+    let by = stores_by v.host s (framing N rest piece).taken (message_of frame.0) (subst (λ (f : Finding). IsPut (taking_found v.host s (framing N rest piece) f).change) frame.1 put) in
+    let cut = cut_by piece n (drop n piece) (within N so_far piece frame.0 n none unfinished frame.1 count) refl in
     record {
       last = cut.last;
       behind = cut.behind;
       all = cut.all;
-      quiet = nothing_beyond M bytes piece frame.0 n none frame.1 count id;
+      quiet = nothing_beyond N so_far piece frame.0 n none unfinished frame.1 count id;
       message = by.message;
-      ends = message_beyond M bytes piece frame.0 n none frame.1 count by.message id by.reads;
-      one_more = message_more M bytes piece frame.0 n none frame.1 count by.message cut.last cut.with_last by.reads;
+      ends = message_beyond N so_far piece frame.0 n none unfinished frame.1 count by.message id by.reads;
+      one_more = message_more N so_far piece frame.0 n none unfinished frame.1 count by.message cut.last cut.with_last by.reads;
       stores = put_shown (world_after c es) v.host rest id t by.message (host_shown v es shows) there does by.put;
     }
 

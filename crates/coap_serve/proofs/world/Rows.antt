@@ -25,9 +25,9 @@ use Rattle.coap_store.specs.Notifications.{notification_at}
 use Rattle.coap_store.specs.Refusals.{put_refusal}
 use Rattle.coap_serve.specs.Configs.{ConfigValues}
 use Rattle.coap_serve.specs.world.Observers.{is_due, without_token, first_becomes}
-use Rattle.coap_serve.specs.world.Sides.{Side, waiting_on, side_after, change_after, side_faulted, side_written, side_ended, side_released, settled_once, settled_within, settled}
+use Rattle.coap_serve.specs.world.Sides.{Side, waiting_on, side_after, change_after, side_faulted, side_written, side_ended, side_released, settled_once, settled_within, settled, side_announced}
 use Rattle.coap_serve.specs.world.World.{side_of, acted, step, after_steps}
-use Rattle.coap_serve.specs.world.Events.{Event, taken_on, stream_on, steps_by, steps_behind, steps_of, world_after, takes}
+use Rattle.coap_serve.specs.world.Events.{Event, taken_on, size_on, sizes_on, stream_on, steps_by, steps_behind, steps_of, world_after, takes}
 use Rattle.coap_serve.specs.world.Events as event
 
 -- ---- bytes by their hexadecimal digits
@@ -58,6 +58,7 @@ pub data Call : Type 0 where
   Tick : (now : ℕ) → Call
   End : (id : ℕ) → Call
   Release : (id : ℕ) → Call
+  Announce : (id size : ℕ) → Call
   Drop : (id : ℕ) → Call
   Look : (id : ℕ) → Call
 
@@ -112,6 +113,7 @@ events_by c events (Remove path) = event.Removed path ∷ []
 events_by c events (Tick now) = event.Ticked now ∷ []
 events_by c events (End id) = event.Ended id ∷ []
 events_by c events (Release id) = event.Released id ∷ []
+events_by c events (Announce id size) = event.Announced id size ∷ []
 events_by c events (Drop id) = event.Dropped id ∷ []
 events_by c events (Look id) = []
 
@@ -130,6 +132,7 @@ told_by c events new (Remove path) = Done
 told_by c events new (Tick now) = Done
 told_by c events new (End id) = Done
 told_by c events new (Release id) = Done
+told_by c events new (Announce id size) = Done
 told_by c events new (Drop id) = Done
 told_by c events new (Look id) = look_at (length (stream_on c.limits.max_message id events).rest) (side_after_events c events id)
 
@@ -152,7 +155,7 @@ answers_computed = tt
 
 -- what happens on a connection, and to a server
 worlds_computed : Unit {0}
-unfolding announced react live_reaction due_index first_due without_due is_due without_token first_becomes side_after change_after side_faulted side_written side_ended side_released settled_once settled_within settled side_of acted step after_steps taken_on steps_by steps_behind steps_of world_after takes
+unfolding announced react live_reaction due_index first_due without_due is_due without_token first_becomes side_after change_after side_faulted side_written side_ended side_released side_announced settled_once settled_within settled side_of acted step after_steps taken_on size_on sizes_on steps_by steps_behind steps_of world_after takes
 worlds_computed = tt
 
 -- ---- what rows say

@@ -18,19 +18,19 @@ use Rattle.coap_store.specs.Changes.{IsPut}
 use Rattle.coap_serve.specs.Configs.{ConfigValues}
 use Rattle.coap_serve.specs.declared.host.Host.{Host}
 use Rattle.coap_serve.specs.world.Sides.{is_cut}
-use Rattle.coap_serve.specs.values.Sessions.{SessionValue, RefusesPiece, new_session, session_written, session_ended, session_released}
-use Rattle.coap_serve.specs.values.Servers.{ServerValue, session_of, server_settled, new_server, server_opened, server_taken_on, server_taken, count_on, count_taken, server_written, server_ticked, server_put, server_removed, server_ended, server_released, server_dropped}
-use Rattle.coap_serve.specs.world.Sides.{Side, new_side, handles, waiting_on, side_written, side_ended, side_released, HearsAll}
+use Rattle.coap_serve.specs.values.Sessions.{SessionValue, RefusesPiece, new_session, session_written, session_ended, session_released, session_announced, session_raises}
+use Rattle.coap_serve.specs.values.Servers.{ServerValue, session_of, server_settled, new_server, server_opened, server_taken_on, server_taken, count_on, count_taken, server_written, server_ticked, server_put, server_removed, server_ended, server_released, server_announced, server_dropped}
+use Rattle.coap_serve.specs.world.Sides.{Side, new_side, handles, waiting_on, side_written, side_ended, side_released, may_raise, side_announced, HearsAll}
 use Rattle.coap_serve.specs.world.World.{Place, World, side_of, ticks, acted}
 use Rattle.coap_serve.specs.world.World as world
-use Rattle.coap_serve.specs.world.Events.{Event, Opened, Took, Wrote, Ticked, Stored, Removed, Ended, Released, Dropped, taken_on, stream_on, steps_by, world_after, front_of, takes_of, takes, IfSide, IsAccepted, AreAccepted}
+use Rattle.coap_serve.specs.world.Events.{Event, Opened, Took, Wrote, Ticked, Stored, Removed, Ended, Released, Dropped, taken_on, stream_on, steps_by, world_after, front_of, takes_of, takes, IfSide, IsAccepted, AreAccepted, Announced, size_on}
 use Rattle.coap_serve.specs.world.Shows.{session_shown, place_shown, server_shown, server_of, Shows}
 use Rattle.coap_serve.proofs.world.StepLaws.{world_first, accepted_none, accepted_more, stream_same}
 use Rattle.coap_serve.proofs.world.PlaceLaws.{of_number}
 use Rattle.coap_serve.proofs.world.GoingOn.{side_is}
 use Rattle.coap_serve.proofs.world.WorldLaws.{opens}
 use Rattle.coap_serve.proofs.world.ReachedLaws.{IsReached, accepted_is, takes_there, piece_accepted}
-use Rattle.coap_serve.proofs.world.SideLaws.{host_of, written_shown, ended_shown, released_shown}
+use Rattle.coap_serve.proofs.world.SideLaws.{host_of, written_shown, ended_shown, released_shown, announced_shown}
 use Rattle.coap_serve.proofs.world.HearingLaws.{world_hears}
 use Rattle.coap_serve.proofs.world.ShownLemmas.{session_found, dropped_shown, bare_step_server, changed_server, known_there, taking_front, taking_count, put_has_frame, server_takes, but_last_front}
 
@@ -175,6 +175,29 @@ shows_released v es id s shows e none =
       moment = shows.moment;
     }
 
+-- an announcement
+server_did_announce : (c : ConfigValues) (es : List Event) (id size : ℕ) (t : Side) → c.starts.moment ≤ 18446744073709551615 → side_of id (world_after c es).sides ≡ Some t → may_raise t size ≡ true → server_announced (server_of c es) id size ≡ server_of c (es ++ Announced id size ∷ [])
+unfolding server_of acted steps_by
+server_did_announce c es id size t small there none =
+    let M : ℕ = c.limits.max_message in
+    sym (changed_server c es (Announced id size) (world.Announced id size) id t (λ u. side_announced u size) (λ v. session_announced v size) (world_after c es).store small refl refl there
+    (λ k apart. stream_same M k es (Announced id size) refl)
+    (ap (λ (u : Stream). session_shown u.rest (side_announced t size)) (stream_same M id es (Announced id size) refl) ∙ announced_shown (stream_on M id es).rest t size (known_there c es id t small there).is_history none))
+
+announced_accepted : (c : ConfigValues) (es : List Event) (id size : ℕ) (t : Side) → side_of id (world_after c es).sides ≡ Some t → may_raise t size ≡ true → IsAccepted c es (Announced id size)
+unfolding IsAccepted
+announced_accepted c es id size t there none = subst (λ (o : Option Side). IfSide o (λ s. may_raise s size ≡ true)) (sym there) none
+
+pub shows_announced : (v : ServerValue) (es : List Event) (id size : ℕ) (s : SessionValue) → Shows v es → session_of id v.sessions ≡ Some s → session_raises s size ≡ true → Shows (server_announced v id size) (es ++ Announced id size ∷ [])
+shows_announced v es id size s shows e none =
+    let at = session_there v es id s shows e in
+    let may : may_raise at.side size ≡ true = subst (λ (u : SessionValue). session_raises u size ≡ true) at.shown none in
+    record {
+      accepted = accepted_more v.config es (Announced id size) shows.accepted (announced_accepted v.config es id size at.side at.there may);
+      same = ap (λ (u : ServerValue). server_announced u id size) shows.same ∙ server_did_announce v.config es id size at.side shows.moment at.there may;
+      moment = shows.moment;
+    }
+
 -- a connection goes
 server_did_drop : (c : ConfigValues) (es : List Event) (id : ℕ) → c.starts.moment ≤ 18446744073709551615 → server_dropped (server_of c es) id ≡ server_of c (es ++ Dropped id ∷ [])
 unfolding server_of acted steps_by
@@ -266,10 +289,6 @@ new_side_shown : (limits : LimitValues) → session_shown [] (new_side limits) �
 new_side_shown limits =
     ap (λ (l : LinkValue). record { frame = []; link = l; observers = [] }) (sym (new_shown Server limits 0 (new_link Server limits 0) refl).same)
 
--- on which no byte was taken yet
-silent_rest : (M id : ℕ) (es : List Event) → taken_on id es ≡ [] → (stream_on M id es).rest ≡ []
-silent_rest M id es none = ap (λ (s : List ℕ). (split M s).rest) none ∙ ap (λ (s : Stream). s.rest) (split_unfinished M [] (unfinished_empty M))
-
 server_did_open : (c : ConfigValues) (es : List Event) (id : ℕ) → c.starts.moment ≤ 18446744073709551615 → IsReached c es → id ≡ (world_after c es).ids + 1
     → server_settled (record (server_of c es) { ids = id; sessions = (server_of c es).sessions ++ (id, new_session c.limits) ∷ [] }) ≡ server_of c (es ++ Opened id ∷ [])
 unfolding server_of steps_by
@@ -278,7 +297,7 @@ server_did_open c es id small is next =
     let M : ℕ = c.limits.max_message in
     let new : Place = record { id = id; side = new_side c.limits } in
     let shown : session_shown (stream_on M id es).rest (new_side c.limits) ≡ new_session c.limits =
-    ap (λ (rest : List ℕ). session_shown rest (new_side c.limits)) (silent_rest M id es (is.silent id (omega (arith, next)))) ∙ new_side_shown c.limits in
+    ap (λ (rest : List ℕ). session_shown rest (new_side c.limits)) (ap (λ (s : Stream × ℕ). s.0.rest) (is.silent id (omega (arith, next)))) ∙ new_side_shown c.limits in
     sym (bare_step_server c es (Opened id) (world.Opened id) small refl (λ k. refl)
     ∙ ap (λ (u : World). server_settled (server_shown c es u)) (opens c w id is.numbered next)
     ∙ ap (λ (os : List (ℕ × SessionValue)). server_settled (record (server_shown c es w) { ids = id; sessions = os }))
@@ -301,22 +320,18 @@ shows_opened v es shows left room =
 
 -- ---- bytes that are taken
 
--- the greatest message of a connection is that of the configuration
-most_of : (c : ConfigValues) (es : List Event) (id : ℕ) (t : Side) → side_of id (world_after c es).sides ≡ Some t → t.history.limits.max_message ≡ c.limits.max_message
-most_of c es id t there = ap (λ (l : LimitValues). l.max_message) (side_is c es id t there).same_limits
+takes_by : (c : ConfigValues) (es : List Event) (id : ℕ) (piece : List ℕ) (side : Option Side) → IsReached c es → side_of id (world_after c es).sides ≡ side
+    → count_on (server_of c es) piece (option_map (session_shown (stream_on c.limits.max_message id es).rest) side) ≡ takes_of (size_on c.limits.max_message id es) (stream_on c.limits.max_message id es).rest piece side
+takes_by c es id piece None is e = refl
+takes_by c es id piece (Some t) is e = taking_count (server_of c es).host (size_on c.limits.max_message id es) (stream_on c.limits.max_message id es).rest piece t (is.sizes id t e)
 
-takes_by : (c : ConfigValues) (es : List Event) (id : ℕ) (piece : List ℕ) (side : Option Side) → side_of id (world_after c es).sides ≡ side
-    → count_on (server_of c es) piece (option_map (session_shown (stream_on c.limits.max_message id es).rest) side) ≡ takes_of c.limits.max_message (stream_on c.limits.max_message id es).rest piece side
-takes_by c es id piece None e = refl
-takes_by c es id piece (Some t) e = taking_count (server_of c es).host c.limits.max_message (stream_on c.limits.max_message id es).rest piece t (most_of c es id t e)
-
-server_takes_so_many : (c : ConfigValues) (es : List Event) (id : ℕ) (piece : List ℕ) → count_taken (server_of c es) id piece ≡ takes c es id piece
+server_takes_so_many : (c : ConfigValues) (es : List Event) (id : ℕ) (piece : List ℕ) → IsReached c es → count_taken (server_of c es) id piece ≡ takes c es id piece
 unfolding count_taken takes
-server_takes_so_many c es id piece = ap (count_on (server_of c es) piece) (sides_shown c es id) ∙ takes_by c es id piece (side_of id (world_after c es).sides) refl
+server_takes_so_many c es id piece is = ap (count_on (server_of c es) piece) (sides_shown c es id) ∙ takes_by c es id piece (side_of id (world_after c es).sides) is refl
 
 -- how many bytes of a piece a server takes is a function of the events alone
 pub takes_shown : (v : ServerValue) (es : List Event) (id : ℕ) (piece : List ℕ) → Shows v es → count_taken v id piece ≡ takes v.config es id piece
-takes_shown v es id piece shows = ap (λ (u : ServerValue). count_taken u id piece) shows.same ∙ server_takes_so_many v.config es id piece
+takes_shown v es id piece shows = ap (λ (u : ServerValue). count_taken u id piece) shows.same ∙ server_takes_so_many v.config es id piece (accepted_is v.config es shows.accepted)
 
 server_took : (c : ConfigValues) (es : List Event) (id : ℕ) (piece : List ℕ) (t : Side) → c.starts.moment ≤ 18446744073709551615 → IsReached c es → side_of id (world_after c es).sides ≡ Some t
     → server_taken (server_of c es) id piece ≡ server_of c (es ++ Took id (take (takes c es id piece) piece) ∷ [])
@@ -327,7 +342,7 @@ server_took c es id piece t small is there =
     let host : Host = host_of (world_after c es).store (world_after c es).now in
     ap (server_taken_on (server_shown c es (world_after c es)) id piece) (sides_shown c es id ∙ ap (option_map (session_shown rest)) there)
     ∙ server_takes c es id piece t small is there
-    ∙ ap (λ (n : ℕ). server_of c (es ++ Took id (take n piece) ∷ [])) (taking_count host M rest piece t (most_of c es id t there) ∙ sym (takes_there c es id piece t there))
+    ∙ ap (λ (n : ℕ). server_of c (es ++ Took id (take n piece) ∷ [])) (taking_count host (size_on M id es) rest piece t (is.sizes id t there) ∙ sym (takes_there c es id piece t there))
 
 -- a server that is the one after accepted events shows them
 shows_as : (c : ConfigValues) (v : ServerValue) (es : List Event) → v ≡ server_of c es → AreAccepted c es → c.starts.moment ≤ 18446744073709551615 → Shows v es
@@ -357,13 +372,14 @@ refused_take v es id piece n s shows e refuses =
     let is : IsReached c es = accepted_is c es shows.accepted in
     let refuses_shown : RefusesPiece v.host (session_shown rest at.side) piece n = subst (λ (u : SessionValue). RefusesPiece v.host u piece n) at.shown refuses in
     let does : handles at.side ≡ true = refuses_shown.takes in
-    let most : at.side.history.limits.max_message ≡ M = most_of c es id at.side at.there in
-    let found = taking_front v.host M rest piece at.side most does in
-    let frame = put_has_frame v.host (session_shown rest at.side) (framing M rest piece) (framing M rest piece).finding (subst (λ k. IsPut k.change) found refuses_shown.stores) in
-    let all : front_of M rest piece ≡ n + 1 = sym (taking_count v.host M rest piece at.side most ∙ ap (λ (b : Bool). if b then front_of M rest piece else 0) does) ∙ refuses_shown.last in
+    let N : ℕ = size_on M id es in
+    let most : at.side.history.own_max ≡ N = is.sizes id at.side at.there in
+    let found = taking_front v.host N rest piece at.side most does in
+    let frame = put_has_frame v.host (session_shown rest at.side) (framing N rest piece) (framing N rest piece).finding (subst (λ k. IsPut k.change) found refuses_shown.stores) in
+    let all : front_of N rest piece ≡ n + 1 = sym (taking_count v.host N rest piece at.side most ∙ ap (λ (b : Bool). if b then front_of N rest piece else 0) does) ∙ refuses_shown.last in
     takes_shown v es id (take n piece) shows
     ∙ takes_there c es id (take n piece) at.side at.there
-    ∙ ap (λ (b : Bool). if b then front_of M rest (take n piece) else 0) does
+    ∙ ap (λ (b : Bool). if b then front_of N rest (take n piece) else 0) does
     ∙ but_last_front c es id piece at.side shows.moment is at.there n frame.0 does frame.1 all
 
 -- and leaves a server that shows that they were

@@ -24,11 +24,11 @@ use Rattle.coap_serve.specs.world.Observers.{Observer, is_due}
 use Rattle.coap_serve.specs.world.Sides.{Side, has_room, handles, side_after, side_faulted, next_due, settled, HearsAll}
 use Rattle.coap_serve.specs.world.World.{Place, World, Step, side_of, changed_at, on_side, stored_after, acted, settled_place, all_settled}
 use Rattle.coap_serve.specs.world.World as world
-use Rattle.coap_serve.specs.world.Events.{Event, Took, taken_in, stream_on, steps_by, world_after, front_of}
+use Rattle.coap_serve.specs.world.Events.{Event, Took, taken_in, stream_on, steps_by, world_after, front_of, size_on}
 use Rattle.coap_serve.specs.world.Shows.{session_shown, place_shown, server_shown, server_of}
-use Rattle.coap_serve.proofs.world.StepLaws.{world_same, world_step, streams_same, stream_elsewhere}
+use Rattle.coap_serve.proofs.world.StepLaws.{world_same, world_step, streams_same, stream_elsewhere, rest_unfinished}
 use Rattle.coap_frame.proofs.FrontLaws.{nothing_kept, front_framing}
-use Rattle.coap_serve.proofs.world.TookLaws.{rest_unfinished, Adds, no_bytes_stream, no_bytes_steps, piece_adds_nothing, piece_adds_message, piece_adds_bad, piece_adds_fault, but_last_whole}
+use Rattle.coap_serve.proofs.world.TookLaws.{Adds, no_bytes_stream, no_bytes_steps, piece_adds_nothing, piece_adds_message, piece_adds_bad, piece_adds_fault, but_last_whole}
 use Rattle.coap_serve.proofs.world.PlaceLaws.{but, AreDistinct, of_number, of_each}
 use Rattle.coap_serve.proofs.world.AcrossLaws.{some_same}
 use Rattle.coap_serve.proofs.world.GoingOn.{side_is}
@@ -219,7 +219,7 @@ taking_stopped host s piece stopped =
     ap (λ (b : Bool). if b then taking_found host s f f.finding else record { count = 0; handled = false; session = s; change = store_change.Nothing }) stopped
 
 -- a connection that handles messages takes what is left of the bytes so far and the piece spell
-pub taking_front : (host : Host) (M : ℕ) (rest piece : List ℕ) (t : Side) → t.history.limits.max_message ≡ M → handles t ≡ true
+pub taking_front : (host : Host) (M : ℕ) (rest piece : List ℕ) (t : Side) → t.history.own_max ≡ M → handles t ≡ true
     → taking host (session_shown rest t) piece ≡ taking_found host (session_shown rest t) (framing M rest piece) (framing M rest piece).finding
 unfolding taking
 taking_front host M rest piece t most does =
@@ -238,7 +238,7 @@ count_found host s f (AFrame frame) = count_read host s f.taken (message_of fram
 count_found host s f (AFault fault) = refl
 
 -- and so many bytes of it
-pub taking_count : (host : Host) (M : ℕ) (rest piece : List ℕ) (t : Side) → t.history.limits.max_message ≡ M → (taking host (session_shown rest t) piece).count ≡ (if handles t then front_of M rest piece else 0)
+pub taking_count : (host : Host) (M : ℕ) (rest piece : List ℕ) (t : Side) → t.history.own_max ≡ M → (taking host (session_shown rest t) piece).count ≡ (if handles t then front_of M rest piece else 0)
 taking_count host M rest piece t most =
     let s : SessionValue = session_shown rest t in
     elim (handles t) as (λ b. handles t ≡ b → (taking host s piece).count ≡ (if b then front_of M rest piece else 0)) [
@@ -267,18 +267,19 @@ module _ (c : ConfigValues) (es : List Event) (id : ℕ) (piece : List ℕ) (t :
   abbrev pub host_then : Host
   host_then = host_of (world_after c es).store (world_after c es).now
 
+  -- the size in force
+  abbrev in_force : ℕ
+  in_force = size_on c.limits.max_message id es
+
   abbrev found_there : Framing
-  found_there = framing most so_far piece
+  found_there = framing in_force so_far piece
 
   abbrev front_there : List ℕ
-  front_there = take (front_of most so_far piece) piece
+  front_there = take (front_of in_force so_far piece) piece
 
   -- the server that took so is the one after the bytes taken
   abbrev pub TakesAs : Taking → Type 0
   TakesAs k = server_taken_so (server_of c es) id k ≡ server_of c (es ++ Took id (take k.count piece) ∷ [])
-
-  pub side_limits : t.history.limits.max_message ≡ most
-  side_limits = ap (λ l. l.max_message) (side_is c es id t there).same_limits
 
   elsewhere : (bytes : List ℕ) → OthersSame most id es (es ++ Took id bytes ∷ [])
   elsewhere bytes k apart = stream_elsewhere most k id es bytes apart
@@ -297,9 +298,9 @@ module _ (c : ConfigValues) (es : List Event) (id : ℕ) (piece : List ℕ) (t :
     unfolding server_of
     nothing_takes e =
         let adds = piece_adds_nothing most id es piece no_fault e in
-        let same : framing most so_far front_there ≡ found_there = front_framing most so_far piece (rest_unfinished most id es no_fault) in
+        let same : framing in_force so_far front_there ≡ found_there = front_framing in_force so_far piece (rest_unfinished most id es no_fault) in
         let kept : found_there.kept ≡ so_far ++ front_there =
-        ap (λ (f : Framing). f.kept) (sym same) ∙ nothing_kept most so_far front_there (ap (λ (f : Framing). f.finding) same ∙ e) in
+        ap (λ (f : Framing). f.kept) (sym same) ∙ nothing_kept in_force so_far front_there (ap (λ (f : Framing). f.finding) same ∙ e) in
         sym (quiet_server c es (Took id front_there) id t (λ v. record session_then { frame = found_there.kept }) small adds.steps there (elsewhere front_there)
         (ap (λ (u : Stream). session_shown u.rest t) adds.stream
         ∙ ap (λ (b : Bool). record session_then { frame = if b then so_far ++ front_there else [] }) (handles_parts t does).0
@@ -338,15 +339,15 @@ module _ (c : ConfigValues) (es : List Event) (id : ℕ) (piece : List ℕ) (t :
   pub server_takes : TakesAs (taking host_then session_then piece)
   server_takes =
       elim (handles t) as (λ b. handles t ≡ b → TakesAs (taking host_then session_then piece)) [
-        | true ↦ λ does. subst TakesAs (sym (taking_front host_then most so_far piece t side_limits does)) (found_takes does found_there.finding refl)
+        | true ↦ λ does. subst TakesAs (sym (taking_front host_then in_force so_far piece t (is.sizes id t there) does)) (found_takes does found_there.finding refl)
         | false ↦ λ stopped. subst TakesAs (sym (taking_stopped host_then session_then piece stopped)) stopped_takes
       ] refl
 
   -- all but the last byte of a frame are taken whole
-  pub but_last_front : (n : ℕ) (frame : List ℕ) → handles t ≡ true → found_there.finding ≡ AFrame frame → front_of most so_far piece ≡ n + 1 → front_of most so_far (take n piece) ≡ n
+  pub but_last_front : (n : ℕ) (frame : List ℕ) → handles t ≡ true → found_there.finding ≡ AFrame frame → front_of in_force so_far piece ≡ n + 1 → front_of in_force so_far (take n piece) ≡ n
   but_last_front n frame does e all =
       let none = handling_goes_on c es id t is there does in
-      let within : n + 1 ≤ length piece = subst (λ (k : ℕ). k ≤ length piece) all (taken_within most so_far piece (rest_unfinished most id es none)) in
+      let within : n + 1 ≤ length piece = subst (λ (k : ℕ). k ≤ length piece) all (taken_within in_force so_far piece (rest_unfinished most id es none)) in
       let count : length (take (n + 1) piece) - 1 ≡ n = omega (arith, length-take-le (n + 1) piece within) in
       let front : without_last front_there ≡ take n piece = ap (λ (k : ℕ). without_last (take k piece)) all ∙ ap (λ (k : ℕ). take k (take (n + 1) piece)) count ∙ take-take n (n + 1) piece (omega arith) in
-      subst (λ (bytes : List ℕ). front_of most so_far bytes ≡ length bytes) front (but_last_whole most id es piece none frame e) ∙ length-take-le n piece (omega (arith, within))
+      subst (λ (bytes : List ℕ). front_of in_force so_far bytes ≡ length bytes) front (but_last_whole most id es piece none frame e) ∙ length-take-le n piece (omega (arith, within))

@@ -14,7 +14,7 @@ use Rattle.coap_conn.specs.Held.{HeldValue, first_due, without_due}
 use Rattle.coap_conn.specs.Held as held
 use Rattle.coap_conn.specs.Reaction.{send}
 use Rattle.coap_conn.specs.History.{History, IsHistory, limit_now, standing_now, with_effect, after, link_of}
-use Rattle.coap_conn.specs.Calls.{standing_due, link_after}
+use Rattle.coap_conn.specs.Calls.{standing_due, link_after, may_announce}
 use Rattle.coap_conn.specs.Calls as call
 use Rattle.coap_conn.specs.LinkValue.{LinkValue}
 use Rattle.coap_conn.proofs.HeldLaws.{due_fewer}
@@ -24,8 +24,8 @@ use Rattle.coap_store.specs.Answer.{Answer, Nothing, answer_of, prompt_answer}
 use Rattle.coap_store.specs.Messages.{response_with_observe}
 use Rattle.coap_store.specs.declared.plan.Watch.TheVariants as watch
 use Rattle.coap_serve.specs.declared.host.Host.{Host}
-use Rattle.coap_serve.specs.world.Sides.{is_cut}
-use Rattle.coap_serve.specs.values.Sessions.{ObserverValue, session_with, new_entry, session_answered, session_answered_as, held_in, session_replied, session_handled, change_by, session_rejected, session_written, session_ended, session_released, without_entry}
+use Rattle.coap_serve.specs.world.Sides.{is_cut, side_announced, may_raise}
+use Rattle.coap_serve.specs.values.Sessions.{ObserverValue, session_with, new_entry, session_answered, session_answered_as, held_in, session_replied, session_handled, change_by, session_rejected, session_written, session_ended, session_released, without_entry, session_announced}
 use Rattle.coap_serve.specs.world.Observers.{Observer, without_token, asks_entry, has_place, entry_for, is_whole, with_entry}
 use Rattle.coap_serve.specs.world.Sides.{Side, handles, waiting_on, has_room, side_with, with_history, answered_among, side_answered, moment_after, held_for, side_replied, asks_answer, side_handled, side_after, change_after, side_faulted, side_written, side_ended, side_released, next_due, notified, next_held, held_message, after_sent, settled_so, settled_once}
 use Rattle.coap_serve.specs.world.Shows.{observer_shown, kept_on, session_shown}
@@ -35,6 +35,7 @@ use Rattle.coap_serve.proofs.world.KnownLaws.{IsKnown, IsVersioned, IsWatchable,
 use Rattle.coap_serve.proofs.world.EntryLemmas.{all_if, without_shown, entered_shown}
 use Rattle.coap_serve.proofs.world.GoingOn.{GoesOn, end_goes_on, release_goes_on, message_goes_on, rejected_over}
 use Rattle.coap_conn.proofs.LinkLemmas.{after_link}
+use Rattle.coap_serve.proofs.world.WalkLaws.{if_between}
 
 -- what a host holds
 abbrev pub host_of : StoreValue → ℕ → Host
@@ -118,6 +119,9 @@ pub ended_shown : (rest : List ℕ) (s : Side) → IsHistory s.history → sessi
 unfolding side_ended
 ended_shown rest s is = ended_by rest s (takes_messages s.history.phase) is refl
 
+announce_over : (h : History) (size : ℕ) → takes_messages h.phase ≡ false → takes_messages (after h (call.Announce size)).phase ≡ false
+announce_over h size over = if_between (λ g k. takes_messages g.phase ≡ false → takes_messages k.phase ≡ false) (may_announce (link_of h) size) h _ (λ e. e) (λ may e. e) over
+
 pub released_shown : (rest : List ℕ) (s : Side) → IsHistory s.history → release_refusal (link_of s.history) ≡ None → session_shown rest (side_released s) ≡ session_released (session_shown rest s)
 unfolding side_released
 released_shown rest s is none =
@@ -127,6 +131,16 @@ released_shown rest s is none =
     ∙ shown_with rest h s.observers
     ∙ kept_frame s rest (link_of h) vs (release_goes_on s.history).over
     ∙ ap (λ l. session_with (kept_on s rest) l vs) (after_link s.history call.Release tt is)
+
+pub announced_shown : (rest : List ℕ) (s : Side) (size : ℕ) → IsHistory s.history → may_raise s size ≡ true → session_shown rest (side_announced s size) ≡ session_announced (session_shown rest s) size
+unfolding side_announced
+announced_shown rest s size is may =
+    let h = after s.history (call.Announce size) in
+    let vs = map observer_shown s.observers in
+    ap (session_shown rest) (cond-true (may_raise s size) (with_history s h) s may)
+    ∙ shown_with rest h s.observers
+    ∙ kept_frame s rest (link_of h) vs (announce_over s.history size)
+    ∙ ap (λ l. session_with (kept_on s rest) l vs) (after_link s.history (call.Announce size) tt is)
 
 -- ---- a message
 

@@ -25,7 +25,7 @@ use Rattle.coap_store.specs.Messages.{response_with_observe}
 use Rattle.coap_store.specs.declared.plan.Watch.TheVariants as watch
 use Rattle.coap_serve.specs.Configs.{ConfigValues}
 use Rattle.coap_serve.specs.world.Observers.{Observer, is_due, without_token, has_place, asks_entry, entry_for, is_whole, with_entry, goes_on, notification, notification_message, left_of, first_becomes}
-use Rattle.coap_serve.specs.world.Sides.{Side, waiting_on, has_room, handles, side_with, with_history, side_answered, side_replied, held_for, moment_after, asks_answer, side_handled, side_after, side_faulted, side_written, side_ended, side_released, next_due, notified, held_message, after_sent, settled_once}
+use Rattle.coap_serve.specs.world.Sides.{Side, waiting_on, has_room, handles, side_with, with_history, side_answered, side_replied, held_for, moment_after, asks_answer, side_handled, side_after, side_faulted, side_written, side_ended, side_released, may_raise, side_announced, next_due, notified, held_message, after_sent, settled_once}
 use Rattle.coap_serve.specs.world.World.{side_of}
 use Rattle.coap_serve.specs.world.Events.{Event, world_after}
 use Rattle.coap_serve.specs.world.Told.{responds, is_response, TellsState, asked_late, WasToldLast, HaveOwnTokens}
@@ -35,10 +35,11 @@ use Rattle.coap_serve.proofs.values.AnsweringLemmas.{asks_to_enter}
 use Rattle.coap_serve.proofs.world.SideLaws.{replied_cases, settled_cases, held_room}
 use Rattle.coap_serve.proofs.world.WalkLaws.{if_between, ended_between}
 use Rattle.coap_serve.proofs.world.GoingOn.{IsSide, Keeps, kept_after}
-use Rattle.coap_serve.proofs.world.ToldMessages.{other_bytes, last_is, last_stays, Queues, queues_none, queues_to, IsNoResponse, IsPlain, message_queues, reject_queues, end_queues, release_queues, holding_queues, due_queues, reply_queues, whole_last}
+use Rattle.coap_serve.proofs.world.ToldMessages.{other_bytes, last_is, last_stays, Queues, queues_none, queues_to, IsNoResponse, IsPlain, message_queues, reject_queues, end_queues, release_queues, holding_queues, due_queues, reply_queues, whole_last, announcing_queues}
 use Rattle.coap_serve.proofs.world.SettleLaws.{next_found}
 use Rattle.coap_serve.proofs.world.CustodyLaws.{Stands, stand_asked, stands_keeps}
 use Rattle.coap_serve.proofs.world.ToldAnswers.{tells_responds, entry_tells, notification_tells}
+use Rattle.coap_conn.specs.Calls.{may_announce}
 
 -- ---- what is told stays told
 
@@ -333,6 +334,13 @@ released_told s are =
     if_told (is_none (release_refusal (link_of h))) s (with_history s (after h call.Release)) are
     (λ does. plain_side s (after h call.Release) (if_between (Queues IsPlain) (is_open h.phase) h _ (queues_none IsPlain h) (λ opened. release_queues h opened does)) are)
 
+announced_told : (s : Side) (size : ℕ) → IsTold s → IsTold (side_announced s size)
+unfolding side_announced
+announced_told s size are =
+    let h : History = s.history in
+    if_told (may_raise s size) s (with_history s (after h (call.Announce size))) are
+    (λ does. plain_side s (after h (call.Announce size)) (if_between (Queues IsPlain) (may_announce (link_of h) size) h _ (queues_none IsPlain h) (λ may. announcing_queues h size)) are)
+
 told_keeps : (limits : LimitValues) → Keeps limits IsToldSide
 told_keeps limits = let stands : Keeps limits (λ s. Stands s.history) = stands_keeps limits in record {
   first = record { stand = stands.first; are = record { own = tt; told = tt } };
@@ -341,6 +349,7 @@ told_keeps limits = let stands : Keeps limits (λ s. Stands s.history) = stands_
   written = λ s n of. record { stand = stands.written s n of.stand; are = written_told s n of.are };
   ended = λ s cut of. record { stand = stands.ended s cut of.stand; are = ended_told s cut of.are };
   released = λ s of. record { stand = stands.released s of.stand; are = released_told s of.are };
+  announced = λ s size of. record { stand = stands.announced s size of.stand; are = announced_told s size of.are };
   told = λ store now s of. record { stand = stands.told store now s of.stand; are = once_told store now s of.stand of.are };
 }
 

@@ -24,6 +24,7 @@ use Rattle.coap_conn.specs.Outstanding.{OutstandingValue, is_asked, is_last, is_
 use Rattle.coap_conn.specs.Reaction.{Standing, Effect, Reaction, stay, stop, abort, send_as, send, holds, react, reaction_unless, live_reaction, open_reaction, csm_reaction, request_reaction, ping_reaction, pong_reaction, answered, due_effect, is_reserved, is_signal, is_method, minds_critical_options, asks_custody, is_custody_pong, pong_with, pong_of, not_implemented}
 use Rattle.coap_conn.specs.Rejects.{reject_reason}
 use Rattle.coap_conn.specs.History.{History, limit_now, standing_now, with_effect, after}
+use Rattle.coap_conn.specs.LinkValue.{own_csm}
 use Rattle.coap_conn.specs.Calls.{end_reason, release, standing_due}
 use Rattle.coap_conn.specs.Calls as call
 use Rattle.coap_store.specs.Paths.{same_bytes}
@@ -31,7 +32,7 @@ use Rattle.coap_serve.specs.world.Observers.{is_whole}
 use Rattle.coap_serve.specs.world.Handling.{message_reason}
 use Rattle.coap_serve.specs.world.Told.{is_response, responds, last_response}
 use Rattle.coap_serve.proofs.world.EntryLemmas.{all_to, all_append}
-use Rattle.coap_serve.proofs.world.WalkLaws.{holding, Rejects, Ends, Releases}
+use Rattle.coap_serve.proofs.world.WalkLaws.{holding, announcing, Rejects, Ends, Releases}
 
 -- ---- tokens
 
@@ -241,6 +242,9 @@ end_queues h cut takes = queues_effect IsPlain h (stop (standing_now h) (end_rea
 
 pub release_queues : Releases (Queues IsPlain)
 release_queues h opened none = queues_effect IsPlain h (stop (standing_now h) reason.ReleasedHere (release ∷ [])) true ((refl, refl), tt)
+
+pub announcing_queues : (h : History) (size : ℕ) → Queues IsPlain h (announcing h size)
+announcing_queues h size = record { more = own_csm size ∷ []; same = refl; such = ((refl, refl), tt); heard = []; handled = sym (append-nil h.handled) }
 
 -- a write queues nothing
 pub written_queues : (P : Message → Type 0) (h : History) (n : ℕ) → Queues P h (after h (call.Written n))

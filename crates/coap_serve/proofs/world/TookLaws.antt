@@ -7,14 +7,14 @@ use Rattle.coap_wire.specs.declared.fault.FormatFault.{FormatFault}
 use Rattle.coap_wire.specs.declared.fault.FrameFault.{FrameFault}
 use Rattle.coap_wire.specs.Beginning.{Unfinished, Whole, beginning, fault_bytes}
 use Rattle.coap_wire.specs.Stream.{StreamFault, OfFrame, Format, Stream, with_message, split, behind, gone_on}
-use Rattle.coap_wire.proofs.StreamSteps.{unfinished_empty, whole_itself, split_rest, split_unfinished, split_faulty, split_message, split_bad}
+use Rattle.coap_wire.proofs.StreamSteps.{unfinished_empty, whole_itself, split_unfinished, split_faulty, split_message, split_bad}
 use Rattle.coap_frame.specs.Framing.{Finding, Nothing, AFrame, AFault, Framing, framing_at, framing, without_last}
 use Rattle.coap_frame.proofs.FramingLemmas.{front_unfinished}
 use Rattle.coap_frame.proofs.GivenLaws.{frame_taken, fault_taken, last_of_second, takes_a_byte}
 use Rattle.coap_frame.proofs.FrontLaws.{nothing_finished, frame_first, frame_alone, front_framing, front_whole}
 use Rattle.coap_serve.specs.world.World as step
-use Rattle.coap_serve.specs.world.Events.{Event, Took, taken_on, stream_on, new_fault, beyond, steps_by, front_of}
-use Rattle.coap_serve.proofs.world.StepLaws.{stream_same, taken_here, stream_more}
+use Rattle.coap_serve.specs.world.Events.{Event, Took, size_on, stream_on, new_fault, beyond, steps_by, front_of}
+use Rattle.coap_serve.proofs.world.StepLaws.{stream_same, taken_here, stream_more, rest_unfinished}
 
 -- ---- what a take adds
 
@@ -30,16 +30,16 @@ beyond_added id before after added none is =
     ∙ ap (λ (ms : List Message). map (step.Handled id) ms ++ new_fault id before.fault added.fault) (drop-append_seam before.messages added.messages)
     ∙ ap (λ (f : Option StreamFault). map (step.Handled id) added.messages ++ new_fault id f added.fault) none
 
--- the rest of a stream with no fault is unfinished
-pub rest_unfinished : (M id : ℕ) (es : List Event) → (stream_on M id es).fault ≡ None → beginning M (stream_on M id es).rest ≡ Unfinished
-rest_unfinished M id es none = split_rest M (taken_on id es) none
-
 module _ (M id : ℕ) (es : List Event) (bytes : List ℕ) (none : (stream_on M id es).fault ≡ None) where
-  stream_added : stream_on M id (es ++ Took id bytes ∷ []) ≡ behind (stream_on M id es).messages (split M ((stream_on M id es).rest ++ bytes))
-  stream_added = stream_more M id es bytes ∙ ap (λ (f : Option StreamFault). gone_on (stream_on M id es) f (split M ((stream_on M id es).rest ++ bytes))) none
+  -- the size in force
+  abbrev N : ℕ
+  N = size_on M id es
+
+  stream_added : stream_on M id (es ++ Took id bytes ∷ []) ≡ behind (stream_on M id es).messages (split N ((stream_on M id es).rest ++ bytes))
+  stream_added = stream_more M id es bytes ∙ ap (λ (f : Option StreamFault). gone_on (stream_on M id es) f (split N ((stream_on M id es).rest ++ bytes))) none
 
   -- a take adds what its bytes spell behind the rest so far
-  pub adds : (added : Stream) → split M ((stream_on M id es).rest ++ bytes) ≡ added → Adds M id es bytes added
+  pub adds : (added : Stream) → split N ((stream_on M id es).rest ++ bytes) ≡ added → Adds M id es bytes added
   unfolding steps_by
   adds added is =
       let after : stream_on M id (es ++ Took id bytes ∷ []) ≡ behind (stream_on M id es).messages added = stream_added ∙ ap (behind (stream_on M id es).messages) is in
@@ -47,22 +47,22 @@ module _ (M id : ℕ) (es : List Event) (bytes : List ℕ) (none : (stream_on M 
 
   -- what is found of the bytes
   abbrev pub found : Framing
-  found = framing M (stream_on M id es).rest bytes
+  found = framing N (stream_on M id es).rest bytes
 
   pub adds_nothing : found.finding ≡ Nothing → Adds M id es bytes (record { messages = []; rest = (stream_on M id es).rest ++ bytes; fault = None })
-  adds_nothing e = adds _ (split_unfinished M ((stream_on M id es).rest ++ bytes) (nothing_finished M (stream_on M id es).rest bytes e))
+  adds_nothing e = adds _ (split_unfinished N ((stream_on M id es).rest ++ bytes) (nothing_finished N (stream_on M id es).rest bytes e))
 
   pub adds_message : (frame : List ℕ) (m : Message) → found.finding ≡ AFrame frame → found.taken ≡ length bytes → message_of frame ≡ Ok m → Adds M id es bytes (record { messages = m ∷ []; rest = []; fault = None })
   adds_message frame m e all read =
-      adds _ (split_message M ((stream_on M id es).rest ++ bytes) frame [] m (frame_alone M (stream_on M id es).rest bytes frame (rest_unfinished M id es none) e all) read
-      ∙ ap (with_message m) (split_unfinished M [] (unfinished_empty M)))
+      adds _ (split_message N ((stream_on M id es).rest ++ bytes) frame [] m (frame_alone N (stream_on M id es).rest bytes frame (rest_unfinished M id es none) e all) read
+      ∙ ap (with_message m) (split_unfinished N [] (unfinished_empty N)))
 
   pub adds_bad : (frame : List ℕ) (f : FormatFault) → found.finding ≡ AFrame frame → found.taken ≡ length bytes → message_of frame ≡ Err f → Adds M id es bytes (record { messages = []; rest = frame; fault = Some Format })
   adds_bad frame f e all read =
-      adds _ (split_bad M ((stream_on M id es).rest ++ bytes) frame [] f (frame_alone M (stream_on M id es).rest bytes frame (rest_unfinished M id es none) e all) read)
+      adds _ (split_bad N ((stream_on M id es).rest ++ bytes) frame [] f (frame_alone N (stream_on M id es).rest bytes frame (rest_unfinished M id es none) e all) read)
 
   pub adds_fault : (fault : FrameFault) → found.finding ≡ AFault fault → Adds M id es bytes (record { messages = []; rest = fault_bytes fault ((stream_on M id es).rest ++ bytes); fault = Some (OfFrame fault) })
-  adds_fault fault e = adds _ (split_faulty M ((stream_on M id es).rest ++ bytes) fault (fault_taken M (stream_on M id es).rest bytes fault (rest_unfinished M id es none) e).0)
+  adds_fault fault e = adds _ (split_faulty N ((stream_on M id es).rest ++ bytes) fault (fault_taken N (stream_on M id es).rest bytes fault (rest_unfinished M id es none) e).0)
 
 -- ---- no bytes
 
@@ -107,32 +107,35 @@ module _ (M : ℕ) (kept piece frame : List ℕ) (u : beginning M kept ≡ Unfin
 -- ---- what is taken of a piece on a connection
 
 module _ (M id : ℕ) (es : List Event) (piece : List ℕ) (none : (stream_on M id es).fault ≡ None) where
+  abbrev in_force : ℕ
+  in_force = size_on M id es
+
   -- the bytes kept of an unfinished frame
   abbrev pub kept_so_far : List ℕ
   kept_so_far = (stream_on M id es).rest
 
   -- the bytes taken of the piece
   abbrev pub piece_front : List ℕ
-  piece_front = take (front_of M kept_so_far piece) piece
+  piece_front = take (front_of in_force kept_so_far piece) piece
 
-  piece_found : (finding : Finding) → (framing M kept_so_far piece).finding ≡ finding → (framing M kept_so_far piece_front).finding ≡ finding
-  piece_found finding e = ap (λ (f : Framing). f.finding) (front_framing M kept_so_far piece (rest_unfinished M id es none)) ∙ e
+  piece_found : (finding : Finding) → (framing in_force kept_so_far piece).finding ≡ finding → (framing in_force kept_so_far piece_front).finding ≡ finding
+  piece_found finding e = ap (λ (f : Framing). f.finding) (front_framing in_force kept_so_far piece (rest_unfinished M id es none)) ∙ e
 
-  pub piece_whole : (framing M kept_so_far piece_front).taken ≡ length piece_front
-  piece_whole = front_whole M kept_so_far piece (rest_unfinished M id es none)
+  pub piece_whole : (framing in_force kept_so_far piece_front).taken ≡ length piece_front
+  piece_whole = front_whole in_force kept_so_far piece (rest_unfinished M id es none)
 
-  pub piece_adds_nothing : (framing M kept_so_far piece).finding ≡ Nothing → Adds M id es piece_front (record { messages = []; rest = kept_so_far ++ piece_front; fault = None })
+  pub piece_adds_nothing : (framing in_force kept_so_far piece).finding ≡ Nothing → Adds M id es piece_front (record { messages = []; rest = kept_so_far ++ piece_front; fault = None })
   piece_adds_nothing e = adds_nothing M id es piece_front none (piece_found Nothing e)
 
-  pub piece_adds_message : (frame : List ℕ) (m : Message) → (framing M kept_so_far piece).finding ≡ AFrame frame → message_of frame ≡ Ok m → Adds M id es piece_front (record { messages = m ∷ []; rest = []; fault = None })
+  pub piece_adds_message : (frame : List ℕ) (m : Message) → (framing in_force kept_so_far piece).finding ≡ AFrame frame → message_of frame ≡ Ok m → Adds M id es piece_front (record { messages = m ∷ []; rest = []; fault = None })
   piece_adds_message frame m e read = adds_message M id es piece_front none frame m (piece_found (AFrame frame) e) piece_whole read
 
-  pub piece_adds_bad : (frame : List ℕ) (f : FormatFault) → (framing M kept_so_far piece).finding ≡ AFrame frame → message_of frame ≡ Err f → Adds M id es piece_front (record { messages = []; rest = frame; fault = Some Format })
+  pub piece_adds_bad : (frame : List ℕ) (f : FormatFault) → (framing in_force kept_so_far piece).finding ≡ AFrame frame → message_of frame ≡ Err f → Adds M id es piece_front (record { messages = []; rest = frame; fault = Some Format })
   piece_adds_bad frame f e read = adds_bad M id es piece_front none frame f (piece_found (AFrame frame) e) piece_whole read
 
-  pub piece_adds_fault : (fault : FrameFault) → (framing M kept_so_far piece).finding ≡ AFault fault → Adds M id es piece_front (record { messages = []; rest = fault_bytes fault (kept_so_far ++ piece_front); fault = Some (OfFrame fault) })
+  pub piece_adds_fault : (fault : FrameFault) → (framing in_force kept_so_far piece).finding ≡ AFault fault → Adds M id es piece_front (record { messages = []; rest = fault_bytes fault (kept_so_far ++ piece_front); fault = Some (OfFrame fault) })
   piece_adds_fault fault e = adds_fault M id es piece_front none fault (piece_found (AFault fault) e)
 
   -- all bytes but the last are taken
-  pub but_last_whole : (frame : List ℕ) → (framing M kept_so_far piece).finding ≡ AFrame frame → (framing M kept_so_far (without_last piece_front)).taken ≡ length (without_last piece_front)
-  but_last_whole frame e = ap (λ (f : Framing). f.taken) (but_last M kept_so_far piece frame (rest_unfinished M id es none) e)
+  pub but_last_whole : (frame : List ℕ) → (framing in_force kept_so_far piece).finding ≡ AFrame frame → (framing in_force kept_so_far (without_last piece_front)).taken ≡ length (without_last piece_front)
+  but_last_whole frame e = ap (λ (f : Framing). f.taken) (but_last in_force kept_so_far piece frame (rest_unfinished M id es none) e)

@@ -4,7 +4,7 @@ use Rattle.std.specs.List.{AllByRecursion}
 use Rattle.std.proofs.lemmas.Bool.{eq-eqb, ne_eqb, eqb-true, eqb-false}
 use Rattle.std.proofs.lemmas.List.{append-nil}
 use Rattle.coap_wire.specs.Message.{Message}
-use Rattle.coap_wire.specs.Stream.{StreamFault, Stream, split, split_on}
+use Rattle.coap_wire.specs.Stream.{StreamFault, Stream, split_on}
 use Rattle.coap_conn.specs.Limits.{LimitValues}
 use Rattle.coap_conn.specs.History.{link_of}
 use Rattle.coap_conn.specs.Release.{release_refusal}
@@ -12,13 +12,13 @@ use Rattle.coap_store.specs.Store.{StoreValue, put_in}
 use Rattle.coap_store.specs.Refusals.{put_refusal, remove_refusal}
 use Rattle.coap_store.specs.Answer.{Change, Nothing, Put, Delete, changed}
 use Rattle.coap_serve.specs.Configs.{ConfigValues}
-use Rattle.coap_serve.specs.world.Sides.{Side, waiting_on, is_cut}
+use Rattle.coap_serve.specs.world.Sides.{Side, waiting_on, is_cut, may_raise}
 use Rattle.coap_serve.specs.world.World.{World, Step, side_of, ticks, acted, all_settled, after_steps}
 use Rattle.coap_serve.specs.world.World as world
-use Rattle.coap_serve.specs.world.Events.{Event, Opened, Took, Wrote, Ticked, Stored, Removed, Ended, Released, Dropped, taken_in, taken_on, stream_on, new_fault, beyond, steps_by, world_after, takes_of, takes, IfSide, IsAccepted, AreAccepted}
+use Rattle.coap_serve.specs.world.Events.{Event, Opened, Took, Wrote, Ticked, Stored, Removed, Ended, Released, Announced, Dropped, taken_in, size_by, size_on, stream_on, spelled_on, new_fault, beyond, steps_by, world_after, takes_of, takes, IfSide, IsAccepted, AreAccepted}
 use Rattle.coap_serve.specs.world.View.{change_by, concerns}
 use Rattle.coap_serve.specs.world.ViewEvents.{first_number, change_events, changes_of, if_own, view_event, view_behind, view_events}
-use Rattle.coap_serve.proofs.world.StepLaws.{taken_then, taken_here, taken_elsewhere, stream_more, world_first, world_more, world_step, accepted_none, accepted_more, by_events}
+use Rattle.coap_serve.proofs.world.StepLaws.{taken_here, taken_elsewhere, stream_more, size_stays, announced_here, announced_elsewhere, spelled_by, spelled_then, spelled_same, first_spelled, each_beyond, world_first, world_more, world_step, accepted_none, accepted_more, by_events}
 use Rattle.coap_serve.proofs.world.PlaceLaws.{nobody}
 use Rattle.coap_serve.proofs.world.WorldLaws.{OpensNext, IsNumbered, number_given, opens, ids_grow}
 use Rattle.coap_serve.proofs.world.ReachedLaws.{accepted_is}
@@ -38,16 +38,6 @@ view_then : (c : ConfigValues) (id : ℕ) (es : List Event) (e : Event) → view
 unfolding view_events
 view_then c id es e = view_more c id [] es e
 
--- what holds of each step that taken bytes make
-each_beyond : (P : Step → Type 0) (id : ℕ) (before after : Stream) → ((m : Message) → P (world.Handled id m)) → ((fault : StreamFault) → P (world.Faulted id fault)) → AllByRecursion P (beyond id before after)
-each_beyond P id before after handled faulted = by (drop (length before.messages) after.messages) before.fault after.fault
-  where
-    by : (ms : List Message) (f g : Option StreamFault) → AllByRecursion P (map (world.Handled id) ms ++ new_fault id f g)
-    by [] f None = tt
-    by [] None (Some g) = (faulted g, tt)
-    by [] (Some f) (Some g) = tt
-    by (m ∷ ms) f g = (handled m, by ms f g)
-
 -- ---- a step under another number
 
 abbrev renamed : ℕ → Step → Step
@@ -60,6 +50,7 @@ renamed n (world.Stored path format bytes) = world.Stored path format bytes
 renamed n (world.Removed path) = world.Removed path
 renamed n (world.Ended id cut) = world.Ended n cut
 renamed n (world.Released id) = world.Released n
+renamed n (world.Announced id size) = world.Announced n size
 renamed n (world.Dropped id) = world.Dropped n
 
 renamed_did : (limits : LimitValues) (n : ℕ) (s : Step) (x : Share) → did limits (renamed n s) x ≡ did limits s x
@@ -72,6 +63,7 @@ renamed_did limits n (world.Stored path format bytes) x = refl
 renamed_did limits n (world.Removed path) x = refl
 renamed_did limits n (world.Ended id cut) x = refl
 renamed_did limits n (world.Released id) x = refl
+renamed_did limits n (world.Announced id size) x = refl
 renamed_did limits n (world.Dropped id) x = refl
 
 renamed_own : (n : ℕ) (s : Step) → concerns n (renamed n s) ≡ true
@@ -85,6 +77,7 @@ renamed_own n (world.Stored path format bytes) = refl
 renamed_own n (world.Removed path) = refl
 renamed_own n (world.Ended id cut) = eq-eqb n n refl
 renamed_own n (world.Released id) = eq-eqb n n refl
+renamed_own n (world.Announced id size) = eq-eqb n n refl
 renamed_own n (world.Dropped id) = eq-eqb n n refl
 
 beyond_renamed : (id n : ℕ) (before after : Stream) → beyond n before after ≡ map (renamed n) (beyond id before after)
@@ -136,6 +129,7 @@ fresh_acted c w (world.Faulted id fault) none is = absurd none
 fresh_acted c w (world.Written id k) none is = absurd none
 fresh_acted c w (world.Ended id cut) none is = absurd none
 fresh_acted c w (world.Released id) none is = absurd none
+fresh_acted c w (world.Announced id size) none is = absurd none
 fresh_acted c w (world.Dropped id) none is = absurd none
 
 fresh_step : (c : ConfigValues) (w : World) (s : Step) → OfNone s → IsFresh c w → IsFresh c (world.step c.limits w s)
@@ -155,20 +149,20 @@ module _ (c : ConfigValues) (id : ℕ) where
   M = c.limits.max_message
 
   -- these events are a view of what led to a world: where the connection is still to come, nobody is there
-  record IsView (w : World) (taken : List ℕ) (ids : ℕ) (vs : List Event) : Type 0 where
+  record IsView (w : World) (spelled : Stream × ℕ) (ids : ℕ) (vs : List Event) : Type 0 where
     alike : share_of id w ≡ share_of n (world_after c vs)
-    bytes : taken ≡ taken_on n vs
+    spells : spelled ≡ spelled_on M n vs
     accepted : AreAccepted c vs
     fresh : ids < id → IsFresh c (world_after c vs)
 
   -- one event more, that makes one step
-  module _ (w : World) (taken : List ℕ) (ids : ℕ) (vs : List Event) (is : IsView w taken ids vs) where
-    view_stored : (w' : World) (e : Event) (s : Step) → steps_by M vs e ≡ s ∷ [] → OfNone s → taken_in n e ≡ [] → IsAccepted c vs e → share_of id w' ≡ share_of n (world.step c.limits (world_after c vs) s) → IsView w' taken ids (vs ++ e ∷ [])
-    view_stored w' e s one none quiet ok same =
+  module _ (w : World) (spelled : Stream × ℕ) (ids : ℕ) (vs : List Event) (is : IsView w spelled ids vs) where
+    view_stored : (w' : World) (e : Event) (s : Step) → steps_by M vs e ≡ s ∷ [] → OfNone s → taken_in n e ≡ [] → size_stays n e → IsAccepted c vs e → share_of id w' ≡ share_of n (world.step c.limits (world_after c vs) s) → IsView w' spelled ids (vs ++ e ∷ [])
+    view_stored w' e s one none quiet stays ok same =
         let stepped : world_after c (vs ++ e ∷ []) ≡ world.step c.limits (world_after c vs) s = world_step c vs e s one in
         record {
           alike = same ∙ ap (share_of n) (sym stepped);
-          bytes = is.bytes ∙ sym (append-nil (taken_on n vs)) ∙ ap (λ (t : List ℕ). taken_on n vs ++ t) (sym quiet) ∙ sym (taken_then n vs e);
+          spells = is.spells ∙ sym (spelled_same M n vs e quiet stays);
           accepted = accepted_more c vs e is.accepted ok;
           fresh = λ low. subst (IsFresh c) (sym stepped) (fresh_step c (world_after c vs) s none (is.fresh low));
         }
@@ -181,34 +175,34 @@ module _ (c : ConfigValues) (id : ℕ) where
     stored_alike s x own makes =
         ap settled_share (sym makes ∙ ap (did c.limits s) is.alike ∙ sym (own_did c.limits n (world_after c vs) s own)) ∙ sym (step_share c.limits n (world_after c vs) s)
 
-    view_change : (w' : World) (change : Change) → Rests id w → IsNotRefused w.store change → share_of id w' ≡ settled_share (share (changed w.store change) w.now (side_of id w.sides)) → IsView w' taken ids (vs ++ change_events change)
+    view_change : (w' : World) (change : Change) → Rests id w → IsNotRefused w.store change → share_of id w' ≡ settled_share (share (changed w.store change) w.now (side_of id w.sides)) → IsView w' spelled ids (vs ++ change_events change)
     unfolding steps_by concerns IsAccepted
     view_change w' Nothing rests passes same =
-        subst (IsView w' taken ids) (sym (append-nil vs)) (record { alike = same ∙ rests ∙ is.alike; bytes = is.bytes; accepted = is.accepted; fresh = is.fresh })
+        subst (IsView w' spelled ids) (sym (append-nil vs)) (record { alike = same ∙ rests ∙ is.alike; spells = is.spells; accepted = is.accepted; fresh = is.fresh })
     view_change w' (Put path format bytes) rests passes same =
-        view_stored w' (Stored path format bytes) (world.Stored path format bytes) refl tt refl
+        view_stored w' (Stored path format bytes) (world.Stored path format bytes) refl tt refl (λ N. refl)
         (subst (λ (s : StoreValue). put_refusal s path bytes ≡ None) same_store passes)
         (same ∙ stored_alike (world.Stored path format bytes) _ refl (ap (λ (r : Option _). cond (is_none r) (share (put_in w.store path format bytes) w.now (side_of id w.sides)) (share_of id w)) passes))
     view_change w' (Delete path) rests passes same =
-        view_stored w' (Removed path) (world.Removed path) refl tt refl (subst (λ (s : StoreValue). remove_refusal s path ≡ None) same_store passes) (same ∙ stored_alike (world.Removed path) _ refl refl)
+        view_stored w' (Removed path) (world.Removed path) refl tt refl (λ N. refl) (subst (λ (s : StoreValue). remove_refusal s path ≡ None) same_store passes) (same ∙ stored_alike (world.Removed path) _ refl refl)
 
     -- a step of another connection
-    view_other : (s : Step) → concerns id s ≡ false → Rests id w → IsView (world.step c.limits w s) taken ids (vs ++ change_events (change_by w s))
+    view_other : (s : Step) → concerns id s ≡ false → Rests id w → IsView (world.step c.limits w s) spelled ids (vs ++ change_events (change_by w s))
     view_other s apart rests =
         view_change (world.step c.limits w s) (change_by w s) rests (by_passes w s) (step_share c.limits id w s ∙ ap settled_share (other_did c.limits id w s apart))
 
   -- steps of another connection
-  view_others : (ss : List Step) (w : World) (taken : List ℕ) (ids : ℕ) (vs : List Event) → AllByRecursion (λ s. concerns id s ≡ false) ss → Rests id w → IsView w taken ids vs → IsView (after_steps c.limits w ss) taken ids (vs ++ changes_of c.limits w ss)
+  view_others : (ss : List Step) (w : World) (spelled : Stream × ℕ) (ids : ℕ) (vs : List Event) → AllByRecursion (λ s. concerns id s ≡ false) ss → Rests id w → IsView w spelled ids vs → IsView (after_steps c.limits w ss) spelled ids (vs ++ changes_of c.limits w ss)
   unfolding after_steps changes_of
-  view_others [] w taken ids vs each rests is = subst (IsView w taken ids) (sym (append-nil vs)) is
-  view_others (s ∷ ss) w taken ids vs each rests is =
-      subst (IsView (after_steps c.limits (world.step c.limits w s) ss) taken ids) (append_assoc vs (change_events (change_by w s)) (changes_of c.limits (world.step c.limits w s) ss))
-      (view_others ss (world.step c.limits w s) taken ids (vs ++ change_events (change_by w s)) each.1 (step_rests c.limits id w s) (view_other w taken ids vs is s each.0 rests))
+  view_others [] w spelled ids vs each rests is = subst (IsView w spelled ids) (sym (append-nil vs)) is
+  view_others (s ∷ ss) w spelled ids vs each rests is =
+      subst (IsView (after_steps c.limits (world.step c.limits w s) ss) spelled ids) (append_assoc vs (change_events (change_by w s)) (changes_of c.limits (world.step c.limits w s) ss))
+      (view_others ss (world.step c.limits w s) spelled ids (vs ++ change_events (change_by w s)) each.1 (step_rests c.limits id w s) (view_other w spelled ids vs is s each.0 rests))
 
   -- ---- one event more
 
   abbrev Sees : List Event → List Event → Type 0
-  Sees es vs = IsView (world_after c es) (taken_on id es) (world_after c es).ids vs × Rests id (world_after c es)
+  Sees es vs = IsView (world_after c es) (spelled_on M id es) (world_after c es).ids vs × Rests id (world_after c es)
 
   rests_more : (ss : List Step) (w : World) → Rests id w → Rests id (after_steps c.limits w ss)
   unfolding after_steps
@@ -235,25 +229,38 @@ module _ (c : ConfigValues) (id : ℕ) where
     rest_after = subst (Rests id) (sym (world_more c es e)) (rests_more made w sees.1)
 
     -- an event of another connection
-    unseen : AllByRecursion (λ s. concerns id s ≡ false) made → w.ids ≤ (after_steps c.limits w made).ids → taken_in id e ≡ [] → Sees (es ++ e ∷ []) (vs ++ changes_of c.limits w made)
-    unseen each grow quiet =
-        let is = view_others made w (taken_on id es) w.ids vs each sees.1 sees.0 in (
+    unseen : AllByRecursion (λ s. concerns id s ≡ false) made → w.ids ≤ (after_steps c.limits w made).ids → taken_in id e ≡ [] → size_stays id e → Sees (es ++ e ∷ []) (vs ++ changes_of c.limits w made)
+    unseen each grow quiet stays =
+        let is = view_others made w (spelled_on M id es) w.ids vs each sees.1 sees.0 in (
           record {
             alike = ap (share_of id) (world_more c es e) ∙ is.alike;
-            bytes = taken_then id es e ∙ ap (λ (t : List ℕ). taken_on id es ++ t) quiet ∙ append-nil (taken_on id es) ∙ is.bytes;
+            spells = spelled_same M id es e quiet stays ∙ is.spells;
             accepted = is.accepted;
             fresh = λ low. is.fresh (omega (arith, low, grow, ap (λ (v : World). v.ids) (world_more c es e)));
           },
           rest_after,
         )
 
+    -- the same bytes and the same size are taken and announced
+    abbrev SpellSame : Event → Type 0
+    SpellSame e' = (taken_in id e ≡ taken_in n e') × ((N : ℕ) → size_by id e N ≡ size_by n e' N)
+
+    spells_on : (e' : Event) → SpellSame e' → spelled_on M id (es ++ e ∷ []) ≡ spelled_on M n (vs ++ e' ∷ [])
+    spells_on e' same =
+        let s : Stream × ℕ = spelled_on M n vs in
+        spelled_then M id es e
+        ∙ ap (λ (t : Stream × ℕ). spelled_by t (taken_in id e) (size_by id e)) sees.0.spells
+        ∙ ap (λ (bytes : List ℕ). spelled_by s bytes (size_by id e)) same.0
+        ∙ ap (λ (N : ℕ). (split_on s.1 s.0 (taken_in n e'), N)) (same.1 s.1)
+        ∙ sym (spelled_then M n vs e')
+
     -- an event of the connection itself
-    seen : (e' : Event) → steps_by M vs e' ≡ map (renamed n) made → AllByRecursion (λ s. concerns id s ≡ true) made → taken_in id e ≡ taken_in n e' → IsAccepted c vs e' → ((after_steps c.limits w made).ids < id → IsFresh c (world_after c (vs ++ e' ∷ []))) → Sees (es ++ e ∷ []) (vs ++ e' ∷ [])
+    seen : (e' : Event) → steps_by M vs e' ≡ map (renamed n) made → AllByRecursion (λ s. concerns id s ≡ true) made → SpellSame e' → IsAccepted c vs e' → ((after_steps c.limits w made).ids < id → IsFresh c (world_after c (vs ++ e' ∷ []))) → Sees (es ++ e ∷ []) (vs ++ e' ∷ [])
     seen e' makes each bytes ok fresh = (
       record {
         alike = ap (share_of id) (world_more c es e) ∙ own_steps c.limits id n made w (world_after c vs) each sees.0.alike
             ∙ ap (λ (ss : List Step). share_of n (after_steps c.limits (world_after c vs) ss)) (sym makes) ∙ ap (share_of n) (sym (world_more c vs e'));
-        bytes = taken_then id es e ∙ ap (λ (t : List ℕ). t ++ taken_in id e) sees.0.bytes ∙ ap (λ (t : List ℕ). taken_on n vs ++ t) bytes ∙ sym (taken_then n vs e');
+        spells = spells_on e' bytes;
         accepted = accepted_more c vs e' sees.0.accepted ok;
         fresh = λ low. fresh (omega (arith, low, ap (λ (v : World). v.ids) (world_more c es e)));
       },
@@ -265,7 +272,7 @@ module _ (c : ConfigValues) (id : ℕ) where
     was_given P None at holds = absurd holds
     was_given P (Some s) at holds = (number_given c w id s (accepted_is c es all).numbered at).within
 
-    own : (e' : Event) (P : Side → Type 0) → steps_by M vs e' ≡ map (renamed n) made → AllByRecursion (λ s. concerns id s ≡ true) made → AllByRecursion OpensSo made → taken_in id e ≡ taken_in n e' → IsAccepted c vs e' → IfSide (side_of id w.sides) P → Sees (es ++ e ∷ []) (vs ++ e' ∷ [])
+    own : (e' : Event) (P : Side → Type 0) → steps_by M vs e' ≡ map (renamed n) made → AllByRecursion (λ s. concerns id s ≡ true) made → AllByRecursion OpensSo made → SpellSame e' → IsAccepted c vs e' → IfSide (side_of id w.sides) P → Sees (es ++ e ∷ []) (vs ++ e' ∷ [])
     own e' P makes each opening bytes ok holds =
         seen e' makes each bytes ok (λ low. absurd (omega (arith, low, was_given P (side_of id w.sides) refl holds, ids_more made w opening)))
 
@@ -292,20 +299,25 @@ module _ (c : ConfigValues) (id : ℕ) where
     same_stored = ap (λ (x : Share). x.store) sees.0.alike
 
     same_stream : stream_on M id es ≡ stream_on M n vs
-    same_stream = ap (split M) sees.0.bytes
+    same_stream = ap (λ (s : Stream × ℕ). s.0) sees.0.spells
+
+    same_size : size_on M id es ≡ size_on M n vs
+    same_size = ap (λ (s : Stream × ℕ). s.1) sees.0.spells
 
     takes_alike : (bytes : List ℕ) → takes c es id bytes ≡ takes c vs n bytes
     unfolding takes
-    takes_alike bytes = ap (λ (s : Stream). takes_of M s.rest bytes (side_of id (world_after c es).sides)) same_stream ∙ ap (takes_of M (stream_on M n vs).rest bytes) same_side
+    takes_alike bytes =
+        ap (λ (s : Stream × ℕ). takes_of s.1 s.0.rest bytes (side_of id (world_after c es).sides)) sees.0.spells
+        ∙ ap (takes_of (size_on M n vs) (stream_on M n vs).rest bytes) same_side
 
     -- nothing that is seen
-    blind : (e : Event) (s : Step) → steps_by M es e ≡ s ∷ [] → concerns id s ≡ false → change_by (world_after c es) s ≡ Nothing → OpensNext c (world_after c es) s → taken_in id e ≡ [] → Sees (es ++ e ∷ []) (vs ++ [])
+    blind : (e : Event) (s : Step) → steps_by M es e ≡ s ∷ [] → concerns id s ≡ false → change_by (world_after c es) s ≡ Nothing → OpensNext c (world_after c es) s → taken_in id e ≡ [] → size_stays id e → Sees (es ++ e ∷ []) (vs ++ [])
     unfolding changes_of after_steps
-    blind e s one apart still opening quiet =
+    blind e s one apart still opening quiet stays =
         let each = subst (AllByRecursion (λ t. concerns id t ≡ false)) (sym one) (apart, tt) in
         let grow = subst (λ (ss : List Step). (world_after c es).ids ≤ (after_steps c.limits (world_after c es) ss).ids) (sym one) (ids_grow c (world_after c es) s opening) in
         let none : changes_of c.limits (world_after c es) (steps_by M es e) ≡ [] = ap (changes_of c.limits (world_after c es)) one ∙ ap (λ (ch : Change). change_events ch ++ []) still in
-        subst (λ (cs : List Event). Sees (es ++ e ∷ []) (vs ++ cs)) none (unseen es vs all sees e each grow quiet)
+        subst (λ (cs : List Event). Sees (es ++ e ∷ []) (vs ++ cs)) none (unseen es vs all sees e each grow quiet stays)
 
     -- the connection is opened
     opened_here : IsAccepted c es (Opened id) → Sees (es ++ Opened id ∷ []) (vs ++ Opened n ∷ [])
@@ -314,7 +326,7 @@ module _ (c : ConfigValues) (id : ℕ) where
         let fresh : IsFresh c v = sees.0.fresh (omega (arith, ok.0)) in
         let numbered : IsNumbered c (world_after c es) = (accepted_is c es all).numbered in
         let given : (world.step c.limits (world_after c es) (world.Opened id)).ids ≡ id = ap (λ (u : World). u.ids) (opens c (world_after c es) id numbered ok.0) in
-        seen es vs all sees (Opened id) (Opened n) refl (eq-eqb id id refl, tt) refl
+        seen es vs all sees (Opened id) (Opened n) refl (eq-eqb id id refl, tt) (refl, λ N. refl)
         (omega (arith, fresh.ids), omega (arith, numbered.low, ok.0, ok.1), omega (arith, ok.2, ap (λ (ps : List world.Place). length ps) fresh.empty))
         (λ low. absurd (omega (arith, low, given)))
 
@@ -333,13 +345,13 @@ module _ (c : ConfigValues) (id : ℕ) where
         let after : Stream = stream_on M id (es ++ Took id bytes ∷ []) in
         let makes : steps_by M vs (Took n bytes) ≡ map (renamed n) (steps_by M es (Took id bytes)) =
         ap (beyond n (stream_on M n vs)) (stream_more M n vs bytes)
-        ∙ ap (λ (s : Stream). beyond n s (split_on M s bytes)) (sym same_stream)
+        ∙ ap (λ (s : Stream × ℕ). beyond n s.0 (split_on s.1 s.0 bytes)) (sym sees.0.spells)
         ∙ ap (beyond n before) (sym (stream_more M id es bytes))
         ∙ beyond_renamed id n before after in
         own es vs all sees (Took id bytes) (Took n bytes) (λ s. takes c es id bytes ≡ length bytes) makes
         (each_beyond (λ s. concerns id s ≡ true) id before after (λ m. eq-eqb id id refl) (λ fault. eq-eqb id id refl))
         (each_beyond OpensSo id before after (λ m w. tt) (λ fault w. tt))
-        (taken_here id bytes ∙ sym (taken_here n bytes))
+        (taken_here id bytes ∙ sym (taken_here n bytes), λ N. refl)
         (if_weaker (side_of n v.sides) (λ s. takes c es id bytes ≡ length bytes) (λ s. takes c vs n bytes ≡ length bytes) (λ s takes_all. sym (takes_alike bytes) ∙ takes_all) (on_view (λ s. takes c es id bytes ≡ length bytes) ok))
         ok
 
@@ -352,22 +364,26 @@ module _ (c : ConfigValues) (id : ℕ) where
         unseen es vs all sees (Took other bytes)
         (each_beyond (λ s. concerns id s ≡ false) other before after (λ m. ne_eqb other id apart) (λ fault. ne_eqb other id apart))
         (ids_more (beyond other before after) (world_after c es) (each_beyond OpensSo other before after (λ m w. tt) (λ fault w. tt)))
-        (taken_elsewhere id other bytes apart)
+        (taken_elsewhere id other bytes apart) (λ N. refl)
 
     -- an event of no connection
-    common : (e : Event) (s : Step) → steps_by M es e ≡ s ∷ [] → steps_by M vs e ≡ s ∷ [] → renamed n s ≡ s → concerns id s ≡ true → OfNone s → OpensSo s → taken_in id e ≡ taken_in n e → IsAccepted c vs e → Sees (es ++ e ∷ []) (vs ++ e ∷ [])
+    common : (e : Event) (s : Step) → steps_by M es e ≡ s ∷ [] → steps_by M vs e ≡ s ∷ [] → renamed n s ≡ s → concerns id s ≡ true → OfNone s → OpensSo s → SpellSame es vs all sees e e → IsAccepted c vs e → Sees (es ++ e ∷ []) (vs ++ e ∷ [])
     unfolding after_steps
     common e s one too same of_all none opening bytes ok =
         let grow = subst (λ (ss : List Step). (world_after c es).ids ≤ (after_steps c.limits (world_after c es) ss).ids) (sym one) (ids_grow c (world_after c es) s (opening (world_after c es))) in
         seen es vs all sees e e (too ∙ ap (λ (t : Step). t ∷ []) (sym same) ∙ ap (map (renamed n)) (sym one)) (subst (AllByRecursion (λ t. concerns id t ≡ true)) (sym one) (of_all, tt)) bytes ok
         (λ low. subst (IsFresh c) (sym (world_step c vs e s too)) (fresh_step c v s none (sees.0.fresh (omega (arith, low, grow)))))
 
+    -- its own announcement
+    same_announced : (size N : ℕ) → size_by id (Announced id size) N ≡ size_by n (Announced n size) N
+    same_announced size N = announced_here id size N ∙ sym (announced_here n size N)
+
     event_seen : (e : Event) → IsAccepted c es e → Sees (es ++ e ∷ []) (vs ++ view_event c id es e)
     unfolding IsAccepted steps_by concerns view_event
     event_seen (Opened other) ok =
         if_here other (Opened n) es (λ fs. Sees (es ++ Opened other ∷ []) (vs ++ fs))
         (λ same. subst (λ k. IsAccepted c es (Opened k) → Sees (es ++ Opened k ∷ []) (vs ++ Opened n ∷ [])) (sym same) opened_here ok)
-        (λ apart. blind (Opened other) (world.Opened other) refl (ne_eqb other id apart) refl (ok.0, ok.2) refl)
+        (λ apart. blind (Opened other) (world.Opened other) refl (ne_eqb other id apart) refl (ok.0, ok.2) refl (λ N. refl))
     event_seen (Took other bytes) ok = by (other == id) refl
       where
         by : (same : Bool) → (other == id) ≡ same → Sees (es ++ Took other bytes ∷ []) (vs ++ (if same then Took n bytes ∷ [] else changes_of c.limits (world_after c es) (steps_by M es (Took other bytes))))
@@ -376,37 +392,42 @@ module _ (c : ConfigValues) (id : ℕ) where
     event_seen (Wrote other k) ok =
         if_here other (Wrote n k) es (λ fs. Sees (es ++ Wrote other k ∷ []) (vs ++ fs))
         (λ same. subst (λ i. IsAccepted c es (Wrote i k) → Sees (es ++ Wrote i k ∷ []) (vs ++ Wrote n k ∷ [])) (sym same)
-        (λ here. own es vs all sees (Wrote id k) (Wrote n k) (λ s. k ≤ length (waiting_on s)) refl (eq-eqb id id refl, tt) (λ w. tt, tt) refl (on_view (λ s. k ≤ length (waiting_on s)) here) here) ok)
-        (λ apart. blind (Wrote other k) (world.Written other k) refl (ne_eqb other id apart) refl tt refl)
-    event_seen (Ticked now) ok = common (Ticked now) (world.Ticked now) refl refl refl refl tt (λ w. tt) refl (subst (λ t. ticks t now ≡ true) same_now ok)
+        (λ here. own es vs all sees (Wrote id k) (Wrote n k) (λ s. k ≤ length (waiting_on s)) refl (eq-eqb id id refl, tt) (λ w. tt, tt) (refl, λ N. refl) (on_view (λ s. k ≤ length (waiting_on s)) here) here) ok)
+        (λ apart. blind (Wrote other k) (world.Written other k) refl (ne_eqb other id apart) refl tt refl (λ N. refl))
+    event_seen (Ticked now) ok = common (Ticked now) (world.Ticked now) refl refl refl refl tt (λ w. tt) (refl, λ N. refl) (subst (λ t. ticks t now ≡ true) same_now ok)
     event_seen (Stored path format bytes) ok =
-        common (Stored path format bytes) (world.Stored path format bytes) refl refl refl refl tt (λ w. tt) refl (subst (λ (s : StoreValue). put_refusal s path bytes ≡ None) same_stored ok)
-    event_seen (Removed path) ok = common (Removed path) (world.Removed path) refl refl refl refl tt (λ w. tt) refl (subst (λ (s : StoreValue). remove_refusal s path ≡ None) same_stored ok)
+        common (Stored path format bytes) (world.Stored path format bytes) refl refl refl refl tt (λ w. tt) (refl, λ N. refl) (subst (λ (s : StoreValue). put_refusal s path bytes ≡ None) same_stored ok)
+    event_seen (Removed path) ok = common (Removed path) (world.Removed path) refl refl refl refl tt (λ w. tt) (refl, λ N. refl) (subst (λ (s : StoreValue). remove_refusal s path ≡ None) same_stored ok)
     event_seen (Ended other) ok =
         if_here other (Ended n) es (λ fs. Sees (es ++ Ended other ∷ []) (vs ++ fs))
         (λ same. subst (λ i. IsAccepted c es (Ended i) → Sees (es ++ Ended i ∷ []) (vs ++ Ended n ∷ [])) (sym same)
-        (λ here. own es vs all sees (Ended id) (Ended n) (λ s. Unit {0}) (ap (λ (s : Stream). world.Ended n (is_cut s.rest) ∷ []) (sym same_stream)) (eq-eqb id id refl, tt) (λ w. tt, tt) refl (on_view (λ s. Unit {0}) here) here) ok)
-        (λ apart. blind (Ended other) (world.Ended other (is_cut (stream_on M other es).rest)) refl (ne_eqb other id apart) refl tt refl)
+        (λ here. own es vs all sees (Ended id) (Ended n) (λ s. Unit {0}) (ap (λ (s : Stream). world.Ended n (is_cut s.rest) ∷ []) (sym same_stream)) (eq-eqb id id refl, tt) (λ w. tt, tt) (refl, λ N. refl) (on_view (λ s. Unit {0}) here) here) ok)
+        (λ apart. blind (Ended other) (world.Ended other (is_cut (stream_on M other es).rest)) refl (ne_eqb other id apart) refl tt refl (λ N. refl))
     event_seen (Released other) ok =
         if_here other (Released n) es (λ fs. Sees (es ++ Released other ∷ []) (vs ++ fs))
         (λ same. subst (λ i. IsAccepted c es (Released i) → Sees (es ++ Released i ∷ []) (vs ++ Released n ∷ [])) (sym same)
-        (λ here. own es vs all sees (Released id) (Released n) (λ s. release_refusal (link_of s.history) ≡ None) refl (eq-eqb id id refl, tt) (λ w. tt, tt) refl (on_view (λ s. release_refusal (link_of s.history) ≡ None) here) here) ok)
-        (λ apart. blind (Released other) (world.Released other) refl (ne_eqb other id apart) refl tt refl)
+        (λ here. own es vs all sees (Released id) (Released n) (λ s. release_refusal (link_of s.history) ≡ None) refl (eq-eqb id id refl, tt) (λ w. tt, tt) (refl, λ N. refl) (on_view (λ s. release_refusal (link_of s.history) ≡ None) here) here) ok)
+        (λ apart. blind (Released other) (world.Released other) refl (ne_eqb other id apart) refl tt refl (λ N. refl))
+    event_seen (Announced other size) ok =
+        if_here other (Announced n size) es (λ fs. Sees (es ++ Announced other size ∷ []) (vs ++ fs))
+        (λ same. subst (λ i. IsAccepted c es (Announced i size) → Sees (es ++ Announced i size ∷ []) (vs ++ Announced n size ∷ [])) (sym same)
+        (λ here. own es vs all sees (Announced id size) (Announced n size) (λ s. may_raise s size ≡ true) refl (eq-eqb id id refl, tt) (λ w. tt, tt) (refl, same_announced size) (on_view (λ s. may_raise s size ≡ true) here) here) ok)
+        (λ apart. blind (Announced other size) (world.Announced other size) refl (ne_eqb other id apart) refl tt refl (announced_elsewhere id other size apart))
     event_seen (Dropped other) ok =
         if_here other (Dropped n) es (λ fs. Sees (es ++ Dropped other ∷ []) (vs ++ fs))
         (λ same. subst (λ i. IsAccepted c es (Dropped i) → Sees (es ++ Dropped i ∷ []) (vs ++ Dropped n ∷ [])) (sym same)
-        (λ here. own es vs all sees (Dropped id) (Dropped n) (λ s. Unit {0}) refl (eq-eqb id id refl, tt) (λ w. tt, tt) refl (on_view (λ s. Unit {0}) here) here) ok)
-        (λ apart. blind (Dropped other) (world.Dropped other) refl (ne_eqb other id apart) refl tt refl)
+        (λ here. own es vs all sees (Dropped id) (Dropped n) (λ s. Unit {0}) refl (eq-eqb id id refl, tt) (λ w. tt, tt) (refl, λ N. refl) (on_view (λ s. Unit {0}) here) here) ok)
+        (λ apart. blind (Dropped other) (world.Dropped other) refl (ne_eqb other id apart) refl tt refl (λ N. refl))
 
   -- ---- all events
 
   sees_nothing : Sees [] (view_events c id [])
-  unfolding view_events view_behind taken_on
+  unfolding view_events view_behind
   sees_nothing =
       let first : world_after c [] ≡ world.new_world c = world_first c in (
         record {
           alike = ap (share_of id) first ∙ ap (λ (o : Option Side). share (world.new_world c).store (world.new_world c).now o) (nobody id ∙ sym (nobody n)) ∙ sym (ap (share_of n) first);
-          bytes = refl;
+          spells = first_spelled M id ∙ sym (first_spelled M n);
           accepted = accepted_none c;
           fresh = λ low. subst (IsFresh c) (sym first) (record { empty = refl; ids = refl });
         },

@@ -11,7 +11,7 @@ use Rattle.coap_store.specs.Answer.{Answer, Change, Nothing, Put, Delete, change
 use Rattle.coap_store.specs.Refusals.{put_refusal, remove_refusal}
 use Rattle.coap_store.proofs.AnswerLaws.{answer_cases, get_cases, store_cases, CanStore, key_is, state_dynamic, change_finally, change_unheld}
 use Rattle.coap_serve.specs.Configs.{ConfigValues}
-use Rattle.coap_serve.specs.world.Sides.{Side, new_side, handles, asks_answer, side_after, change_after, side_faulted, side_written, side_ended, side_released, settled}
+use Rattle.coap_serve.specs.world.Sides.{Side, new_side, handles, asks_answer, side_after, change_after, side_faulted, side_written, side_ended, side_released, side_announced, settled}
 use Rattle.coap_serve.specs.world.World.{World, Step, new_world, side_of, changed_at, stored_after, ticks, acted, all_settled, after_steps}
 use Rattle.coap_serve.specs.world.World as world
 use Rattle.coap_serve.specs.world.Events.{Event, steps_of, world_after}
@@ -164,6 +164,7 @@ did limits (world.Stored path format bytes) x = cond (is_none (put_refusal x.sto
 did limits (world.Removed path) x = record x { store = removed_in x.store path }
 did limits (world.Ended id cut) x = with_side (λ s. side_ended s cut) x
 did limits (world.Released id) x = with_side side_released x
+did limits (world.Announced id size) x = with_side (λ s. side_announced s size) x
 did limits (world.Dropped id) x = record x { side = None }
 
 abbrev DidSo : LimitValues → ℕ → World → Step → Type 0
@@ -212,6 +213,7 @@ own_did limits id w (world.Stored path format bytes) same = share_if id (is_none
 own_did limits id w (world.Removed path) same = refl
 own_did limits id w (world.Ended other cut) same = own (λ n. DidSo limits id w (world.Ended n cut)) other id same (changed_so id w (λ s. side_ended s cut))
 own_did limits id w (world.Released other) same = own (λ n. DidSo limits id w (world.Released n)) other id same (changed_so id w side_released)
+own_did limits id w (world.Announced other size) same = own (λ n. DidSo limits id w (world.Announced n size)) other id same (changed_so id w (λ s. side_announced s size))
 own_did limits id w (world.Dropped other) same = own (λ n. DidSo limits id w (world.Dropped n)) other id same (ap (share w.store w.now) (dropped_here id w.sides))
 
 -- ---- a step of another connection
@@ -247,6 +249,7 @@ other_did limits id w (world.Stored path format bytes) apart = absurd cc
 other_did limits id w (world.Removed path) apart = absurd cc
 other_did limits id w (world.Ended other cut) apart = changed_apart id other w (λ s. side_ended s cut) apart
 other_did limits id w (world.Released other) apart = changed_apart id other w side_released apart
+other_did limits id w (world.Announced other size) apart = changed_apart id other w (λ s. side_announced s size) apart
 other_did limits id w (world.Dropped other) apart = ap (share w.store w.now) (dropped_elsewhere other id w.sides (eqb-false other id apart))
 
 -- ---- what is seen of a step does the same

@@ -6,27 +6,28 @@ use Rattle.std.proofs.lemmas.Bool.{cond_both, and_parts, leb-true, ltb-false}
 use Rattle.std.proofs.lemmas.List.{append-nil}
 use Rattle.coap_wire.specs.Message.{Message}
 use Rattle.coap_wire.specs.Stream.{StreamFault}
+use Rattle.coap_frame.specs.Raising.{greatest_size}
 use Rattle.coap_conn.specs.declared.phase.Reject.{Reject}
 use Rattle.coap_conn.specs.declared.reason.Reason.TheVariants.{ReleasedHere}
 use Rattle.coap_conn.specs.declared.phase.SendFault.TheVariants as fault
 use Rattle.coap_conn.specs.Phases.{takes_messages, answers, is_open}
-use Rattle.coap_conn.specs.Fit.{bare_response}
+use Rattle.coap_conn.specs.Fit.{fits, bare_response}
 use Rattle.coap_conn.specs.Verdicts.{VerdictValue, is_request}
 use Rattle.coap_conn.specs.Verdicts as verdict
 use Rattle.coap_conn.specs.Held.{HeldValue, Answer, Pong, first_due, without_due}
 use Rattle.coap_conn.specs.Reaction.{stop, abort, send, react, pong_with, due_effect}
 use Rattle.coap_conn.specs.Rejects.{reject_of, reject_reason}
 use Rattle.coap_conn.specs.Release.{release_refusal}
-use Rattle.coap_conn.specs.History.{History, standing_now, with_effect, after, may_hold, link_of}
-use Rattle.coap_conn.specs.Calls.{standing_due, end_reason, release}
+use Rattle.coap_conn.specs.History.{History, standing_now, limit_now, with_effect, after, may_hold, link_of}
+use Rattle.coap_conn.specs.Calls.{standing_due, end_reason, release, may_announce}
 use Rattle.coap_conn.specs.Calls as call
-use Rattle.coap_conn.specs.LinkValue.{LinkValue, free_in, limit_in}
+use Rattle.coap_conn.specs.LinkValue.{LinkValue, own_csm, free_in, limit_in}
 use Rattle.coap_conn.proofs.RequestLemmas.{react_asks}
 use Rattle.coap_store.specs.Store.{StoreValue}
 use Rattle.coap_store.specs.Answer.{Response, held_response, answer_of, prompt_answer}
 use Rattle.coap_store.specs.Messages.{response_with_observe}
 use Rattle.coap_serve.specs.world.Observers.{Observer, is_due, without_token, has_place, goes_on, notification}
-use Rattle.coap_serve.specs.world.Sides.{Side, waiting_on, has_room, handles, kept_open, with_history, moment_after, held_for, side_replied, asks_answer, side_handled, side_after, side_faulted, side_written, side_ended, side_released, notified, held_message, after_sent, settled_so, settled_once, settled_within, settled}
+use Rattle.coap_serve.specs.world.Sides.{Side, waiting_on, has_room, handles, kept_open, with_history, moment_after, held_for, side_replied, asks_answer, side_handled, side_after, side_faulted, side_written, side_ended, side_released, may_raise, side_announced, notified, held_message, after_sent, settled_so, settled_once, settled_within, settled}
 
 -- ---- the parts
 
@@ -49,6 +50,10 @@ holding h held = record h { held = held }
 -- what is due first is held no more
 abbrev pub without_first : History → ℕ → History
 without_first h now = holding h (without_due now h.held)
+
+-- a size was announced
+abbrev pub announcing : History → ℕ → History
+announcing h size = record h { queued = h.queued ++ own_csm size ∷ []; own_max = size }
 
 -- a relation keeps a part
 abbrev pub Hears : (History → History → Type 0) → Type 0
@@ -77,6 +82,9 @@ Releases R = (h : History) → is_open h.phase ≡ true → is_none (release_ref
 
 abbrev pub Writes : (History → History → Type 0) → Type 0
 Writes R = (h : History) (n : ℕ) → n ≤ length (link_of h).waiting → R h (after h (call.Written n))
+
+abbrev pub Announces : (History → History → Type 0) → Type 0
+Announces R = (h : History) (size : ℕ) → is_open h.phase ≡ true → room_in h ≡ true → fits (limit_now h) (own_csm size) ≡ true → R h (announcing h size)
 
 -- a relation that composes
 pub record Composes (R : History → History → Type 0) : Type 0 where
@@ -236,6 +244,17 @@ module _ (R : History → History → Type 0) (same : (h : History) → R h h) w
       if_side s (with_history s (after s.history call.Release)) (is_none (release_refusal (link_of s.history)))
       (λ does. if_between R (is_open s.history.phase) s.history _ (same s.history) (λ opened. releases s.history opened does))
 
+  pub announced_between : Announces R → (s : Side) (size : ℕ) → R s.history (side_announced s size).history
+  unfolding side_announced
+  announced_between announces s size =
+      let h : History = s.history in
+      let may : Bool = may_announce (link_of h) size in
+      if_side s (with_history s (after h (call.Announce size))) (may_raise s size)
+      (λ does.
+      (let room = (and_parts (has_room s) may (and_parts (nat_le h.own_max size && nat_le size greatest_size) (has_room s && may) does).1).0 in
+      if_between R may h (announcing h size) (same h)
+      (λ so. (let both = and_parts (is_open h.phase) (fits (limit_now h) (own_csm size)) so in announces h size both.0 room both.1))))
+
 -- ---- observers
 
 -- what holds of the observers of a connection, and of none, holds where it may not be open any more
@@ -262,3 +281,7 @@ module _ (P : List Observer → Type 0) (none : P []) where
   pub observers_released : (s : Side) → P s.observers → P (side_released s).observers
   unfolding side_released
   observers_released s is = let h : History = after s.history call.Release in either (is_none (release_refusal (link_of s.history))) s (with_history s h) is (open_or_none h s.observers is)
+
+  pub observers_announced : (s : Side) (size : ℕ) → P s.observers → P (side_announced s size).observers
+  unfolding side_announced
+  observers_announced s size is = let h : History = after s.history (call.Announce size) in either (may_raise s size) s (with_history s h) is (open_or_none h s.observers is)

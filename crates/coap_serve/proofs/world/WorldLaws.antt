@@ -7,7 +7,7 @@ use Rattle.coap_conn.specs.Limits.{LimitValues}
 use Rattle.coap_conn.specs.Phases.{takes_messages}
 use Rattle.coap_store.specs.Refusals.{put_refusal}
 use Rattle.coap_serve.specs.Configs.{ConfigValues}
-use Rattle.coap_serve.specs.world.Sides.{Side, new_side, handles, side_after, side_faulted, side_written, side_ended, side_released, settled}
+use Rattle.coap_serve.specs.world.Sides.{Side, new_side, handles, side_after, side_faulted, side_written, side_ended, side_released, side_announced, settled}
 use Rattle.coap_serve.specs.world.World.{Place, World, Step, new_world, side_of, changed_at, ticks, acted, settled_place, all_settled, after_steps}
 use Rattle.coap_serve.specs.world.World as world
 use Rattle.coap_serve.specs.world.Events.{Event, steps_of, world_after}
@@ -40,6 +40,7 @@ acted_distinct limits w (world.Stored path format bytes) distinct = if_distinct 
 acted_distinct limits w (world.Removed path) distinct = distinct
 acted_distinct limits w (world.Ended id cut) distinct = changed_distinct id (λ s. side_ended s cut) w.sides distinct
 acted_distinct limits w (world.Released id) distinct = changed_distinct id side_released w.sides distinct
+acted_distinct limits w (world.Announced id size) distinct = changed_distinct id (λ s. side_announced s size) w.sides distinct
 acted_distinct limits w (world.Dropped id) distinct = distinct_but id w.sides distinct
 
 pub step_distinct : (limits : LimitValues) (w : World) (s : Step) → AreDistinct w.sides → AreDistinct (world.step limits w s).sides
@@ -132,6 +133,7 @@ acted_numbered c w (world.Stored path format bytes) is next = if_numbered c (is_
 acted_numbered c w (world.Removed path) is next = record { low = is.low; each = is.each; few = is.few }
 acted_numbered c w (world.Ended id cut) is next = changed_numbers c w _ id (λ s. side_ended s cut) is refl refl
 acted_numbered c w (world.Released id) is next = changed_numbers c w _ id side_released is refl refl
+acted_numbered c w (world.Announced id size) is next = changed_numbers c w _ id (λ s. side_announced s size) is refl refl
 acted_numbered c w (world.Dropped id) is next = record {
   low = is.low;
   each = each_but (λ p. IsGivenNumber c w.ids p.id) id w.sides is.each;

@@ -8,7 +8,7 @@ use Rattle.coap_serve.specs.streams.Turns.{IsServed, IsAtRest, IsInTurn, end_of}
 use Rattle.coap_serve.specs.values.Dues.{stamp_of}
 use Rattle.coap_serve.specs.values.ServerAnswers.{open_refusal}
 use Rattle.coap_serve.specs.values.Servers.{ServerValue, server_opened, server_dropped}
-use Rattle.coap_serve.specs.world.Events.{Event, Opened, Took, Wrote, Ticked, Stored, Removed, Ended, Released, Dropped}
+use Rattle.coap_serve.specs.world.Events.{Event, Opened, Took, Wrote, Ticked, Stored, Removed, Ended, Released, Announced, Dropped}
 use Rattle.coap_serve.specs.declared.door.peer.Course.{Course}
 use Rattle.coap_serve.specs.declared.door.peer.Course.TheVariants.{Open, Over}
 use Rattle.coap_serve.specs.declared.door.peer.Peer.{Peer}
@@ -26,6 +26,7 @@ IsServing (Stored path format bytes) = ⊥
 IsServing (Removed path) = ⊥
 IsServing (Ended id) = Unit {0}
 IsServing (Released id) = ⊥
+IsServing (Announced id size) = ⊥
 IsServing (Dropped id) = Unit {0}
 
 -- Connections were served, and nothing else happened: whatever the server showed, it shows with such events behind it.

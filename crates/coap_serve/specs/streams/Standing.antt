@@ -8,19 +8,19 @@ use Rattle.coap_serve.specs.declared.serve.IoFault.{IoFault}
 use Rattle.coap_serve.specs.declared.serve.IoFault.TheVariants.{Read, Write, Memory, Turns}
 use Rattle.coap_serve.specs.values.Servers.{ServerValue}
 use Rattle.coap_serve.specs.world.Sides.{is_cut}
-use Rattle.coap_serve.specs.world.Events.{Event, taken_on, world_after}
+use Rattle.coap_serve.specs.world.Events.{Event, spelled_on, world_after}
 use Rattle.coap_serve.specs.world.Shows.{Shows}
 use Rattle.coap_serve.specs.streams.Output.{only_id, stream_of, world_for, outcome, stdio_output}
 use Rattle.coap_serve.specs.streams.StdioRun.{IsLastByte}
 
--- A server of this configuration stands behind these bytes: it shows events that leave the world for these bytes, and that took
--- them all, where nothing stops the connection.
+-- A server of this configuration stands behind these bytes: it shows events that leave the world for these bytes, and in which the
+-- connection spelled what they spell and announced no other size, where nothing stops it.
 pub record Stands (c : ConfigValues) (v : ServerValue) (bytes : List ℕ) : Type 0 where
   pub config : v.config ≡ c
   pub events : List Event
   pub shows : Shows v events
   pub world : world_after c events ≡ world_for c bytes
-  pub taken : (outcome c bytes).stop ≡ None → taken_on (only_id c) events ≡ bytes
+  pub spelled : (outcome c bytes).stop ≡ None → spelled_on c.limits.max_message (only_id c) events ≡ (stream_of c bytes, c.limits.max_message)
 
 -- and its only connection takes messages
 pub record IsGoing (c : ConfigValues) (v : ServerValue) (id : ℕ) (bytes : List ℕ) : Type 0 where

@@ -6,7 +6,7 @@ use Rattle.coap_store.specs.Paths.{Path}
 use Rattle.coap_store.specs.Store.{put_in, removed_in}
 use Rattle.coap_serve.specs.Configs.{ConfigValues}
 use Rattle.coap_serve.specs.declared.host.Host.{Host}
-use Rattle.coap_serve.specs.values.Sessions.{SessionValue, Taking, new_session, taking, host_changed, session_written, session_ended, session_released, session_settled, IsSettled}
+use Rattle.coap_serve.specs.values.Sessions.{SessionValue, Taking, new_session, taking, host_changed, session_written, session_ended, session_released, session_announced, session_settled, IsSettled}
 
 -- the configuration, the resources and the moment, the number given last, and the connections in order of their numbers
 pub record ServerValue : Type 0 where
@@ -116,6 +116,9 @@ server_ended v id = server_settled (on_session id session_ended v)
 
 abbrev pub server_released : ServerValue → ℕ → ServerValue
 server_released v id = server_settled (on_session id session_released v)
+
+abbrev pub server_announced : ServerValue → ℕ → ℕ → ServerValue
+server_announced v id size = server_settled (on_session id (λ s. session_announced s size) v)
 
 abbrev pub server_dropped : ServerValue → ℕ → ServerValue
 server_dropped v id = server_settled (record v { sessions = filter (λ e. not (e.0 == id)) v.sessions })

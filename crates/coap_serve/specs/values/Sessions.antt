@@ -5,6 +5,7 @@ use Rattle.coap_wire.specs.Reading.{message_of}
 use Rattle.coap_wire.specs.Stream.{OfFrame}
 use Rattle.coap_wire.specs.declared.fault.FormatFault.{FormatFault}
 use Rattle.coap_frame.specs.Framing.{Framing, Finding, Nothing, AFrame, AFault, framing}
+use Rattle.coap_frame.specs.Raising.{greatest_size}
 use Rattle.coap_conn.specs.declared.phase.Role.TheVariants.{Server}
 use Rattle.coap_conn.specs.declared.phase.Reject.{Reject}
 use Rattle.coap_conn.specs.declared.phase.Reject.TheVariants as reject
@@ -17,7 +18,7 @@ use Rattle.coap_conn.specs.Rejects.{reject_of}
 use Rattle.coap_conn.specs.Held.{HeldValue, first_due}
 use Rattle.coap_conn.specs.Held as held
 use Rattle.coap_conn.specs.LinkValue.{LinkValue, new_link, free_in, limit_in, standing_in, can_hold}
-use Rattle.coap_conn.specs.Calls.{link_after}
+use Rattle.coap_conn.specs.Calls.{link_after, may_announce}
 use Rattle.coap_conn.specs.Calls as call
 use Rattle.coap_store.specs.Paths.{Path, same_bytes}
 use Rattle.coap_store.specs.Store.{Representation}
@@ -49,9 +50,13 @@ pub record SessionValue : Type 0 where
   pub link : LinkValue
   pub observers : List ObserverValue
 
--- the greatest message that it takes
+-- the greatest message that it takes, as announced last
 abbrev pub session_max : SessionValue → ℕ
-session_max v = v.link.limits.max_message
+session_max v = v.link.own_max
+
+-- what only an announcement changes of a link: its limits, and the greatest message that it takes
+abbrev pub sizes_of : LinkValue → LimitValues × ℕ
+sizes_of l = (l.limits, l.own_max)
 
 -- ---- marks
 
@@ -209,6 +214,13 @@ session_ended v = session_with v.frame (link_after v.link (call.End (is_cut v.fr
 
 abbrev pub session_released : SessionValue → SessionValue
 session_released v = session_with v.frame (link_after v.link call.Release) v.observers
+
+-- a size may be announced: none below the one in force, and at most the greatest of all, where there is room and the peer takes it
+abbrev pub session_raises : SessionValue → ℕ → Bool
+session_raises v size = (nat_le v.link.own_max size && nat_le size greatest_size) && (session_ready v && may_announce v.link size)
+
+abbrev pub session_announced : SessionValue → ℕ → SessionValue
+session_announced v size = session_with v.frame (link_after v.link (call.Announce size)) v.observers
 
 -- ---- settling
 

@@ -9,10 +9,10 @@ use Rattle.coap_serve.specs.declared.session.Session.TheInside.{Inside}
 abbrev pub session_value : Inside → SessionValue
 session_value s = record { frame = s.framer.kept; link = s.link; observers = s.observers.entries }
 
--- the framer and the observers have the room that the limits name, and there are observers only while the connection is open
+-- the framer takes what was announced last, the observers have the room that the limits name, and there are observers only while the connection is open
 pub record IsSession (s : Inside) : Type 0 where
   pub ranges : AreInRange s.link.limits
-  pub greatest : s.framer.max ≡ s.link.limits.max_message
+  pub greatest : s.framer.max ≡ s.link.own_max
   pub framer : IsFramer s.framer
   pub room : s.observers.room ≡ s.link.limits.observers
   pub open_only : (is_open s.link.phase ≡ true) ⊎ (s.observers.entries ≡ [])

@@ -5,7 +5,7 @@ use Rattle.coap_conn.specs.Limits.{LimitValues}
 use Rattle.coap_conn.specs.Phases.{takes_messages}
 use Rattle.coap_serve.specs.Configs.{ConfigValues}
 use Rattle.coap_serve.specs.world.Sides.{Side}
-use Rattle.coap_serve.specs.world.World.{World, Step, Opened, Handled, Faulted, Written, Ticked, Stored, Removed, Ended, Released, Dropped, new_world, side_of, step}
+use Rattle.coap_serve.specs.world.World.{World, Step, Opened, Handled, Faulted, Written, Ticked, Stored, Removed, Ended, Released, Announced, Dropped, new_world, side_of, step}
 use Rattle.coap_serve.specs.world.Events.{Event, stream_on, steps_of, world_after}
 use Rattle.coap_serve.specs.world.Shows.{kept_on}
 
@@ -25,6 +25,7 @@ heard_step w (Stored path format bytes) = Stored path format bytes
 heard_step w (Removed path) = Removed path
 heard_step w (Ended id cut) = Ended id (hears (side_of id w.sides) && cut)
 heard_step w (Released id) = Released id
+heard_step w (Announced id size) = Announced id size
 heard_step w (Dropped id) = Dropped id
 
 -- each step in turn, in the world before it

@@ -4,6 +4,7 @@ use Rattle.std.specs.Prelude.{◌≡◌, ℕ, zero, suc, ◌+◌, Bool, true, �
 use Rattle.std.specs.List.{AllByRecursion}
 use Rattle.coap_wire.specs.Message.{Message}
 use Rattle.coap_wire.specs.Stream.{StreamFault}
+use Rattle.coap_frame.specs.Raising.{greatest_size}
 use Rattle.coap_conn.specs.declared.phase.Role.TheVariants.{Server}
 use Rattle.coap_conn.specs.Limits.{LimitValues}
 use Rattle.coap_conn.specs.Phases.{takes_messages, is_open}
@@ -16,6 +17,7 @@ use Rattle.coap_conn.specs.History.{History, link_of, new_history, limit_now, st
 use Rattle.coap_conn.specs.LinkValue.{free_in}
 use Rattle.coap_conn.specs.Held.{HeldValue, HoldsNothingDue, first_due}
 use Rattle.coap_conn.specs.Held as held
+use Rattle.coap_conn.specs.Calls.{may_announce}
 use Rattle.coap_conn.specs.Calls as call
 use Rattle.coap_store.specs.Store.{StoreValue}
 use Rattle.coap_store.specs.State.{state_of}
@@ -126,6 +128,15 @@ is_cut rest = nat_lt 0 (length rest)
 -- the input ended, within a frame where it was cut
 unfoldable pub side_ended : Side → Bool → Side
 side_ended s cut = with_history s (after s.history (call.End cut))
+
+-- A size may be announced: it is at least the one in force and at most the greatest of all, the connection is open, there is room for
+-- the greatest message sent, and the peer takes the announcement (RFC 8323 section 5.3.1).
+abbrev pub may_raise : Side → ℕ → Bool
+may_raise s size = (nat_le s.history.own_max size && nat_le size greatest_size) && (has_room s && may_announce (link_of s.history) size)
+
+-- our end announced a size as the greatest message that it takes from then on
+unfoldable pub side_announced : Side → ℕ → Side
+side_announced s size = if may_raise s size then with_history s (after s.history (call.Announce size)) else s
 
 -- our end released the connection
 unfoldable pub side_released : Side → Side

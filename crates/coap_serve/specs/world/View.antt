@@ -7,7 +7,7 @@ use Rattle.coap_conn.specs.Limits.{LimitValues}
 use Rattle.coap_store.specs.Answer.{Change, Nothing, Put, Delete}
 use Rattle.coap_serve.specs.Configs.{ConfigValues}
 use Rattle.coap_serve.specs.world.Sides.{Side, change_after}
-use Rattle.coap_serve.specs.world.World.{World, new_world, side_of, Step, Opened, Handled, Faulted, Written, Ticked, Stored, Removed, Ended, Released, Dropped, step, after_steps}
+use Rattle.coap_serve.specs.world.World.{World, new_world, side_of, Step, Opened, Handled, Faulted, Written, Ticked, Stored, Removed, Ended, Released, Announced, Dropped, step, after_steps}
 
 -- ---- what a message changes
 
@@ -36,6 +36,7 @@ change_by w (Stored path format bytes) = Nothing
 change_by w (Removed path) = Nothing
 change_by w (Ended id cut) = Nothing
 change_by w (Released id) = Nothing
+change_by w (Announced id size) = Nothing
 change_by w (Dropped id) = Nothing
 
 -- ---- what a connection sees
@@ -51,6 +52,7 @@ concerns id (Stored path format bytes) = true
 concerns id (Removed path) = true
 concerns id (Ended other cut) = other == id
 concerns id (Released other) = other == id
+concerns id (Announced other size) = other == id
 concerns id (Dropped other) = other == id
 
 -- such a step is seen as it is, and of another connection's step only the change that it makes in the store

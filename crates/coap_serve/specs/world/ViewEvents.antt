@@ -5,7 +5,7 @@ use Rattle.coap_conn.specs.Limits.{LimitValues}
 use Rattle.coap_store.specs.Answer.{Change, Nothing, Put, Delete}
 use Rattle.coap_serve.specs.Configs.{ConfigValues}
 use Rattle.coap_serve.specs.world.World.{World, Step, step}
-use Rattle.coap_serve.specs.world.Events.{Event, Opened, Took, Wrote, Ticked, Stored, Removed, Ended, Released, Dropped, steps_by, world_after}
+use Rattle.coap_serve.specs.world.Events.{Event, Opened, Took, Wrote, Ticked, Stored, Removed, Ended, Released, Announced, Dropped, steps_by, world_after}
 use Rattle.coap_serve.specs.world.View.{change_by}
 
 -- the number of the connection that is opened first
@@ -39,6 +39,7 @@ view_event c id earlier (Stored path format bytes) = Stored path format bytes �
 view_event c id earlier (Removed path) = Removed path ∷ []
 view_event c id earlier (Ended other) = if_own id other (Ended (first_number c))
 view_event c id earlier (Released other) = if_own id other (Released (first_number c))
+view_event c id earlier (Announced other size) = if_own id other (Announced (first_number c) size)
 view_event c id earlier (Dropped other) = if_own id other (Dropped (first_number c))
 
 unfoldable pub view_behind : ConfigValues → ℕ → List Event → List Event → List Event

@@ -7,7 +7,7 @@ use Rattle.coap_store.specs.Paths.{Path}
 use Rattle.coap_store.specs.Store.{StoreValue, put_in, removed_in}
 use Rattle.coap_store.specs.Refusals.{put_refusal}
 use Rattle.coap_serve.specs.Configs.{ConfigValues}
-use Rattle.coap_serve.specs.world.Sides.{Side, new_side, side_after, store_after, side_faulted, side_written, side_ended, side_released, settled}
+use Rattle.coap_serve.specs.world.Sides.{Side, new_side, side_after, store_after, side_faulted, side_written, side_ended, side_released, side_announced, settled}
 
 -- a connection and its number
 pub record Place : Type 0 where
@@ -60,6 +60,7 @@ pub data Step : Type 0 where
   Removed : (path : Path) → Step
   Ended : (id : ℕ) (cut : Bool) → Step
   Released : (id : ℕ) → Step
+  Announced : (id size : ℕ) → Step
   Dropped : (id : ℕ) → Step
 
 -- the moment does not go back, and is a number of 64 bits
@@ -80,6 +81,7 @@ acted limits w (Stored path format bytes) =
 acted limits w (Removed path) = record w { store = removed_in w.store path }
 acted limits w (Ended id cut) = on_side id (λ s. side_ended s cut) w
 acted limits w (Released id) = on_side id side_released w
+acted limits w (Announced id size) = on_side id (λ s. side_announced s size) w
 acted limits w (Dropped id) = record w { sides = filter (λ p. not (p.id == id)) w.sides }
 
 -- then every connection settles

@@ -1,17 +1,17 @@
 //! The connections of a server: opened, ended, released, dropped, and how each is.
 
-use super::sessions::{end_at, find, release_at};
-use super::{ConnId, NoSuch, OpenFault, Outlook, ReleaseFault, Server, Status};
+use super::sessions::{announce_at, end_at, find, release_at};
+use super::{AnnounceFault, ConnId, NoSuch, OpenFault, Outlook, ReleaseFault, Server, Status};
 use crate::session::Session;
 
 impl Server {
     ghost use Rattle.std.specs.Prelude.{◌≡◌, ◌+◌, ◌++◌, ◌∷◌, List, [], is_ok, is_none, IfOk, OnOk, OnErr};
     ghost use Rattle.coap_wire.specs.Refusal.{RefusedBy};
     ghost use Rattle.coap_conn.specs.Limits.{AreInRange};
-    ghost use Rattle.coap_serve.specs.values.Servers.{AreSettled, session_of, is_there, server_opened, server_ended, server_released, server_dropped};
-    ghost use Rattle.coap_serve.specs.values.ServerAnswers.{OpenedOrMemory, open_refusal, released_refusal, status_of};
+    ghost use Rattle.coap_serve.specs.values.Servers.{AreSettled, session_of, is_there, server_opened, server_ended, server_released, server_announced, server_dropped};
+    ghost use Rattle.coap_serve.specs.values.ServerAnswers.{OpenedOrMemory, open_refusal, released_refusal, IsAnnounced, status_of};
     ghost use Rattle.coap_serve.specs.values.Dues.{outlook_of};
-    ghost use Rattle.coap_serve.specs.world.Events.{Event, Opened, Ended, Released, Dropped};
+    ghost use Rattle.coap_serve.specs.world.Events.{Event, Opened, Ended, Released, Announced, Dropped};
     ghost use Rattle.coap_serve.specs.world.Shows.{Shows};
 
     /// Whether `open` would be refused for want of memory alone.
@@ -92,6 +92,29 @@ impl Server {
             return Err(ReleaseFault::NoSuch);
         };
         release_at(&mut self.sessions, at, &self.host)
+    }
+
+    /// Announces the greatest message that is taken on a connection from now on (RFC 8323 section 5.3.1), and keeps room
+    /// for it: Capabilities and Settings with this size are queued. The size in force is announced again as it is. What
+    /// is kept of a message stays; the message is judged by the new size where its length has not come in whole.
+    ///
+    /// # Errors
+    ///
+    /// In this order: `NoSuch` where no connection has the number, `NotOpen` where it is not open, `Lower` where the
+    /// size is below the one announced last, `TooLarge` where it is above 1,048,576 bytes, `NoRoom` where its queue has
+    /// no room for the greatest message sent, `PeerTooSmall` where the peer takes no message as great as the
+    /// announcement, `Memory` where the size is greater and its room is refused. Nothing has changed then.
+    pub fn announce(&mut self, id: ConnId, new: u32) -> Result<(), AnnounceFault>
+        ensures answer { IsAnnounced new (session_of id self.old.sessions) result }
+        ensures ok { OnOk result (self.new ≡ server_announced self.old id new) }
+        ensures shows { OnOk result ((events : List Event) → Shows self.old events →
+            Shows self.new (events ++ Announced id new ∷ [])) }
+        ensures err { OnErr result (self.new ≡ self.old) }
+    {
+        let Some(at) = find(&self.sessions, id) else {
+            return Err(AnnounceFault::NoSuch);
+        };
+        announce_at(&mut self.sessions, at, &self.host, new)
     }
 
     /// Drops a connection, with all that waits on it.

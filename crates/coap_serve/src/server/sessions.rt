@@ -5,13 +5,13 @@ ghost use Rattle.indexmap.specs.IndexMap.{values};
 ghost use Rattle.coap_wire.specs.Refusal.{RefusedBy};
 ghost use Rattle.coap_serve.specs.streams.Device.{AddsBytes, WritesPart};
 ghost use Rattle.coap_serve.specs.values.Flushes.{IsFlushedAt};
-ghost use Rattle.coap_serve.specs.values.Sessions.{SessionValue, session_written, session_ended, session_released, session_settled};
+ghost use Rattle.coap_serve.specs.values.Sessions.{SessionValue, session_written, session_ended, session_released, session_announced, session_settled};
 ghost use Rattle.coap_serve.specs.values.Servers.{LiesAt, session_of, changed_at, settled_entry, AreSettled};
 ghost use Rattle.coap_serve.specs.values.Causes.{AreSettledUntouched, AreOthersSettled};
 ghost use Rattle.coap_serve.specs.values.Entries.{settled_held};
-ghost use Rattle.coap_serve.specs.values.ServerAnswers.{released_refusal_on, handled_so};
+ghost use Rattle.coap_serve.specs.values.ServerAnswers.{released_refusal_on, IsAnnounced, handled_so};
 
-use super::{ConnId, Handled, ReleaseFault, Sessions};
+use super::{AnnounceFault, ConnId, Handled, ReleaseFault, Sessions};
 use crate::cause::Cause;
 use crate::device::Outlet;
 use crate::host::Host;
@@ -114,6 +114,29 @@ pub(super) fn release_at(
 {
     let session = &mut sessions[at];
     session.release()?;
+    session.settle(host);
+    Ok(())
+}
+
+/// Announces a size on the connection at an index. It settles.
+///
+/// # Errors
+///
+/// As `Session::announce`. Nothing has changed then.
+pub(super) fn announce_at(
+    sessions: &mut Sessions,
+    at: usize,
+    host: &Host,
+    size: u32,
+) -> Result<(), AnnounceFault>
+    requires { at < length sessions.old.entries }
+    ensures answer { IsAnnounced size (slice_get (values sessions.old) at) result }
+    ensures ok { OnOk result (sessions.new.entries ≡ changed_at at
+        (λ s. session_settled host.entry.now (session_announced s size)) sessions.old.entries) }
+    ensures err { OnErr result (sessions.new.entries ≡ sessions.old.entries) }
+{
+    let session = &mut sessions[at];
+    session.announce(size)?;
     session.settle(host);
     Ok(())
 }

@@ -1,4 +1,4 @@
-use Rattle.coap_serve.proofs.world.CustodyLaws.{held_in_order, custody_waits, custody_comes_first, faulted_no_custody, ended_no_custody, released_no_custody, written_no_custody, held_when_asked, sent_when_due}
+use Rattle.coap_serve.proofs.world.CustodyLaws.{held_in_order, custody_waits, custody_comes_first, faulted_no_custody, ended_no_custody, released_no_custody, announced_no_custody, written_no_custody, held_when_asked, sent_when_due}
 use Rattle.coap_serve.proofs.laws.custody_comes_last.Goals as goal
 
 pub returns-clause-order : goal.returns-clause-order
@@ -18,6 +18,9 @@ returns-clause-ended c = ended_no_custody
 
 pub returns-clause-released : goal.returns-clause-released
 returns-clause-released c = released_no_custody
+
+pub returns-clause-announced : goal.returns-clause-announced
+returns-clause-announced c = announced_no_custody
 
 pub returns-clause-written : goal.returns-clause-written
 returns-clause-written c = written_no_custody

@@ -1,4 +1,3 @@
-use Rattle.std.proofs.Common.{arith}
 use Rattle.coap_serve.proofs.world.LimitLaws.{waiting_within, observers_within, held_within, kept_within}
 use Rattle.coap_serve.proofs.laws.limits_are_kept.Goals as goal
 
@@ -12,4 +11,4 @@ pub returns-clause-held : goal.returns-clause-held
 returns-clause-held c k events id s there = held_within k events id s there
 
 pub returns-clause-kept : goal.returns-clause-kept
-returns-clause-kept c k events id s ranges accepted there = omega (arith, kept_within k events id s ranges accepted there)
+returns-clause-kept c k events id s ranges accepted there = kept_within k events id s ranges accepted there

@@ -1,4 +1,4 @@
-use Rattle.coap_serve.proofs.world.HeldLaws.{message_keeps, faulted_keeps, ended_keeps, released_keeps, written_same, told_keeps, taken_out, answer_sent, pong_sent}
+use Rattle.coap_serve.proofs.world.HeldLaws.{message_keeps, faulted_keeps, ended_keeps, released_keeps, announced_keeps, written_same, told_keeps, taken_out, answer_sent, pong_sent}
 use Rattle.coap_serve.proofs.laws.what_is_held_is_sent.Goals as goal
 
 pub returns-clause-message : goal.returns-clause-message
@@ -12,6 +12,9 @@ returns-clause-ended c = ended_keeps
 
 pub returns-clause-released : goal.returns-clause-released
 returns-clause-released c = released_keeps
+
+pub returns-clause-announced : goal.returns-clause-announced
+returns-clause-announced c = announced_keeps
 
 pub returns-clause-written : goal.returns-clause-written
 returns-clause-written c = written_same

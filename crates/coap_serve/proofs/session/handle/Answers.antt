@@ -1,9 +1,8 @@
 use Rattle.std.proofs.Common.{[], refl, sym, ap, ◌∙◌}
 use Rattle.coap_conn.specs.Verdicts.{is_request}
-use Rattle.coap_conn.specs.LinkValue.{LinkValue}
-use Rattle.coap_serve.specs.values.Sessions.{SessionValue, host_changed}
+use Rattle.coap_serve.specs.values.Sessions.{SessionValue, sizes_of, host_changed}
 use Rattle.coap_serve.specs.values.Causes.{change_hash}
-use Rattle.coap_serve.proofs.values.LinkLemmas.{message_limits}
+use Rattle.coap_serve.proofs.values.LinkLemmas.{message_sizes}
 use Rattle.coap_serve.proofs.values.SessionLemmas.{on_request, no_request, message_handled, nothing_changes}
 use Rattle.coap_serve.proofs.session.handle.Goals as goal
 
@@ -23,7 +22,7 @@ returns-in_default c =
     record {
       after = λ frame. message_handled host (record { frame = frame; link = link; observers = c.args.observers.now.entries }) m c.on.new.self other c.on.ensures.after;
       room = refl;
-      limits = ap (λ (l : LinkValue). l.limits) c.on.ensures.after ∙ message_limits link m;
+      sizes = ap sizes_of c.on.ensures.after ∙ message_sizes link m;
       changed = ap change_hash (sym same);
       host = ap (host_changed host) (sym same);
       put = tt;

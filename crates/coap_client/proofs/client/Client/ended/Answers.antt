@@ -2,6 +2,7 @@ use Rattle.std.proofs.Common.{ℕ, refl, ap, subst, sym, ◌∙◌}
 use Rattle.std.specs.Prelude.{[], nat_lt}
 use Rattle.coap_frame.specs.Framing.{FramerValue, IsFramer}
 use Rattle.coap_frame.proofs.FramingLemmas.{empty_framer}
+use Rattle.coap_conn.specs.Limits.{LimitValues}
 use Rattle.coap_conn.specs.LinkValue.{LinkValue}
 use Rattle.coap_conn.specs.Calls.{link_after}
 use Rattle.coap_conn.specs.Calls as call
@@ -9,14 +10,14 @@ use Rattle.coap_client.specs.ClientValues.{client_ended}
 use Rattle.coap_client.proofs.ClientShown.{ended_shown}
 use Rattle.coap_client.proofs.TakingLemmas.{is_still}
 use Rattle.coap_client.proofs.client.Client.ended.Goals as goal
-use Rattle.coap_serve.proofs.values.SessionLemmas.{end_limits}
+use Rattle.coap_serve.proofs.values.LinkLemmas.{end_sizes}
 
 pub invariant_of-self : goal.invariant_of-self
 invariant_of-self c =
     let is = c.self.invariant in
     is_still c.self.inside c.clear.new.self c.end.new.self is (ap (λ (f : FramerValue). f.max) c.clear.ensures)
     (subst IsFramer (sym c.clear.ensures) (empty_framer c.self.inside.framer.max [] c.self.inside.framer.copied is.framer.low is.framer.high is.framer.countable refl))
-    (ap (λ (l : LinkValue). l.limits) c.end.ensures.after ∙ end_limits c.self.inside.link (nat_lt 0 c.kept.result))
+    (ap (λ (l : LinkValue). l.limits) c.end.ensures.after ∙ ap (λ (both : LimitValues × ℕ). both.0) (end_sizes c.self.inside.link (nat_lt 0 c.kept.result)))
 
 pub returns-clause-shows : goal.returns-clause-shows
 returns-clause-shows c =

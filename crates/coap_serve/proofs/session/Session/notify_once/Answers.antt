@@ -3,7 +3,7 @@ use Rattle.std.proofs.lemmas.Bool.{le-leb}
 use Rattle.coap_conn.specs.LinkValue.{free_in}
 use Rattle.coap_serve.specs.values.Sessions.{ObserverValue, SessionValue, is_stale, session_ready, session_notified, next_stale}
 use Rattle.coap_serve.proofs.values.EntryLemmas.{none_found}
-use Rattle.coap_serve.proofs.values.SessionLemmas.{given_up, next_ready, IsNotified, next_found, notified_limits, notified_room, notified_once}
+use Rattle.coap_serve.proofs.values.SessionLemmas.{given_up, next_ready, IsNotified, next_found, notified_sizes, notified_room, notified_once}
 use Rattle.coap_serve.proofs.session.Session.notify_once.Goals as goal
 
 pub returns-in_default : goal.returns-in_default
@@ -26,7 +26,7 @@ invariant_of-self c =
       entries = c.notify.ensures.entries;
     } in
     given_up s c.notify.new.link s.framer c.give_up.new.framer c.notify.new.observers c.give_up.new.observers c.self.invariant
-    (notified_limits host s c.in-Some.stale.index c.notify.new.link c.notify.new.observers is)
+    (notified_sizes host s c.in-Some.stale.index c.notify.new.link c.notify.new.observers is)
     refl c.self.invariant.framer
     (notified_room host s c.in-Some.stale.index c.notify.new.link c.notify.new.observers is)
     c.give_up.ensures.framer c.give_up.ensures.observers

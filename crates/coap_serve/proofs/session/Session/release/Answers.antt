@@ -1,10 +1,11 @@
 use Rattle.std.proofs.Common.{refl, ap, ◌∙◌}
-use Rattle.coap_conn.specs.LinkValue.{LinkValue}
-use Rattle.coap_serve.proofs.values.SessionLemmas.{given_up, release_limits}
+use Rattle.coap_serve.specs.values.Sessions.{sizes_of}
+use Rattle.coap_serve.proofs.values.LinkLemmas.{release_sizes}
+use Rattle.coap_serve.proofs.values.SessionLemmas.{given_up}
 use Rattle.coap_serve.proofs.session.Session.release.Goals as goal
 
 pub invariant_of-self-2 : goal.invariant_of-self-2
 invariant_of-self-2 c =
     given_up c.self.inside c.release.new.self c.self.inside.framer c.give_up.new.framer c.self.inside.observers c.give_up.new.observers c.self.invariant
-    (ap (λ (l : LinkValue). l.limits) c.in_ok-release.ensures.after ∙ release_limits c.self.inside.link)
+    (ap sizes_of c.in_ok-release.ensures.after ∙ release_sizes c.self.inside.link)
     refl c.self.invariant.framer refl c.give_up.ensures.framer c.give_up.ensures.observers

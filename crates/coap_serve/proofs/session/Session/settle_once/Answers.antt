@@ -4,7 +4,7 @@ use Rattle.coap_conn.specs.LinkValue.{LinkValue}
 use Rattle.coap_serve.specs.values.Sessions.{ObserverValue, SessionValue, next_held_in, next_stale, session_ready, session_notified, session_settled_once}
 use Rattle.coap_serve.specs.views.SessionViews.{session_value}
 use Rattle.coap_serve.proofs.values.SettleLemmas.{stays_once}
-use Rattle.coap_serve.proofs.values.SessionLemmas.{given_up, ready_is, settled_unready, held_ready, there_is_none, IsSent, held_found, due_limits, sent_once, settles_by_notice}
+use Rattle.coap_serve.proofs.values.SessionLemmas.{given_up, ready_is, settled_unready, held_ready, there_is_none, IsSent, held_found, due_sizes, sent_once, settles_by_notice}
 use Rattle.coap_serve.proofs.session.Session.settle_once.Goals as goal
 
 pub returns-then-not-ready : goal.returns-then-not-ready
@@ -41,7 +41,7 @@ invariant_of-self c =
       some = sym c.send_due.ensures.found ∙ c.if-send_due.true;
       link = c.send_due.ensures.sent;
     } in
-    given_up s c.send_due.new.link s.framer c.give_up.new.framer s.observers c.give_up.new.observers c.self.invariant (due_limits host s c.send_due.new.link is) refl c.self.invariant.framer refl c.give_up.ensures.framer c.give_up.ensures.observers
+    given_up s c.send_due.new.link s.framer c.give_up.new.framer s.observers c.give_up.new.observers c.self.invariant (due_sizes host s c.send_due.new.link is) refl c.self.invariant.framer refl c.give_up.ensures.framer c.give_up.ensures.observers
 
 -- nothing that is held is due
 pub returns : goal.returns

@@ -4,9 +4,9 @@ use Rattle.coap_frame.specs.FramedViews.{finding_read}
 use Rattle.coap_frame.proofs.FramingLemmas.{framing_is_framer}
 use Rattle.coap_conn.specs.declared.phase.Reject.TheVariants as reject
 use Rattle.coap_conn.specs.LinkValue.{LinkValue}
-use Rattle.coap_serve.specs.values.Sessions.{ObserversValue, SessionValue, RefusesPiece, session_takes, taking}
+use Rattle.coap_serve.specs.values.Sessions.{ObserversValue, SessionValue, RefusesPiece, session_takes, sizes_of, taking}
 use Rattle.coap_serve.specs.views.SessionViews.{session_value}
-use Rattle.coap_serve.proofs.values.LinkLemmas.{reject_limits}
+use Rattle.coap_serve.proofs.values.LinkLemmas.{reject_sizes}
 use Rattle.coap_serve.proofs.values.SessionLemmas.{given_up, reframed, some_taken, may_unread, unread_framer, refused, kept_but_last}
 use Rattle.coap_serve.proofs.session.Session.take.Goals as goal
 
@@ -15,7 +15,7 @@ invariant_of-self-in-Err c =
     let s = c.self.inside in
     let next = c.next-framed.follows.holds-at-none in
     given_up s c.reject-in-Err.new.self _ c.give_up-in-Err.new.framer s.observers c.give_up-in-Err.new.observers c.self.invariant
-    (ap (λ (l : LinkValue). l.limits) c.reject-in-Err.ensures.after ∙ reject_limits s.link c.from.result)
+    (ap sizes_of c.reject-in-Err.ensures.after ∙ reject_sizes s.link c.from.result)
     (ap (λ (f : FramerValue). f.max) next)
     (subst IsFramer (sym next) (framing_is_framer s.framer c.args.piece.now c.self.invariant.framer))
     refl c.give_up-in-Err.ensures.framer c.give_up-in-Err.ensures.observers
@@ -25,7 +25,7 @@ invariant_of-self-in-Err-parse c =
     let s = c.self.inside in
     let next = c.next-framed.follows.holds-at-none in
     given_up s c.reject.new.self _ c.give_up.new.framer s.observers c.give_up.new.observers c.self.invariant
-    (ap (λ (l : LinkValue). l.limits) c.reject.ensures.after ∙ reject_limits s.link reject.Format)
+    (ap sizes_of c.reject.ensures.after ∙ reject_sizes s.link reject.Format)
     (ap (λ (f : FramerValue). f.max) next)
     (subst IsFramer (sym next) (framing_is_framer s.framer c.args.piece.now c.self.invariant.framer))
     refl c.give_up.ensures.framer c.give_up.ensures.observers
@@ -35,7 +35,7 @@ invariant_of-self-in-Ok-handle c =
     let s = c.self.inside in
     let next = c.next-framed.follows.holds-at-none in
     given_up s c.handle.new.link _ c.give_up-in-Ok-handle.new.framer c.handle.new.observers c.give_up-in-Ok-handle.new.observers c.self.invariant
-    c.in-Ok-handle.ensures.limits
+    c.in-Ok-handle.ensures.sizes
     (ap (λ (f : FramerValue). f.max) next)
     (subst IsFramer (sym next) (framing_is_framer s.framer c.args.piece.now c.self.invariant.framer))
     c.in-Ok-handle.ensures.room c.give_up-in-Ok-handle.ensures.framer c.give_up-in-Ok-handle.ensures.observers
