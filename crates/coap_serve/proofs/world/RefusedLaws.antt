@@ -90,9 +90,6 @@ module _ (M : ℕ) (so_far : Stream) (piece frame : List ℕ) (n : ℕ) (none : 
       ap (λ (s : List ℕ). beginning M (so_far.rest ++ s)) (sym but_last) ∙ but_last_unfinished M so_far.rest piece frame unfinished is in
       goes_on (take n piece) ∙ ap (stream.behind so_far.messages) (split_unfinished M (so_far.rest ++ take n piece) open_still)
 
-  messages_before : (split_on M so_far (take n piece)).messages ≡ so_far.messages
-  messages_before = ap (λ (s : Stream). s.messages) stream_before ∙ append-nil so_far.messages
-
   nothing_beyond : (id : ℕ) → beyond id so_far (split_on M so_far (take n piece)) ≡ []
   nothing_beyond id =
       ap (beyond id so_far) stream_before

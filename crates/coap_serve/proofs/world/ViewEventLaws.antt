@@ -301,9 +301,6 @@ module _ (c : ConfigValues) (id : ℕ) where
     same_stream : stream_on M id es ≡ stream_on M n vs
     same_stream = ap (λ (s : Stream × ℕ). s.0) sees.0.spells
 
-    same_size : size_on M id es ≡ size_on M n vs
-    same_size = ap (λ (s : Stream × ℕ). s.1) sees.0.spells
-
     takes_alike : (bytes : List ℕ) → takes c es id bytes ≡ takes c vs n bytes
     unfolding takes
     takes_alike bytes =
