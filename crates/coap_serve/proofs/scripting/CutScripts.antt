@@ -18,6 +18,7 @@ use Rattle.coap_serve.specs.world.Shows.{Shows}
 use Rattle.coap_serve.proofs.world.ShowLaws.{shows_opened, shows_taken, shows_written, shows_ticked, shows_put, shows_removed, shows_ended, shows_released, shows_dropped}
 use Rattle.coap_serve.proofs.scripting.CutTakes.{absent_stuck, stuck_turns, fed_in_parts}
 use Rattle.coap_serve.proofs.world.CallLaws.{not_refused}
+use Rattle.coap_serve.proofs.values.OptionLemmas.{none_made}
 
 -- ---- a server that shows a world shows one after each event of a script
 
@@ -34,10 +35,6 @@ unless_shown v word id does (Some number) shown next = shown
 connection_shown : (v : ServerValue) (word : List ℕ) (id : ℕ) (does : SessionValue → Ran) (found : Option SessionValue) → IsShown v → ((s : SessionValue) → found ≡ Some s → IsShown (does s).server) → IsShown (on_connection v word id does found).server
 connection_shown v word id does None shown next = shown
 connection_shown v word id does (Some s) shown next = next s refl
-
-no_number : {F : Type 0} (number_of : F → ℕ) (refusal : Option F) → option_map number_of refusal ≡ None → refusal ≡ None
-no_number number_of None none = refl
-no_number number_of (Some fault) none = absurd cc
 
 -- `open`
 opened_by : (v : ServerValue) → IsShown v → (full spent : Bool) → nat_le v.config.connections (length v.sessions) ≡ full → (v.ids == 18446744073709551615) ≡ spent → (if full then Some opening.Full else (if spent then Some opening.IdsSpent else None)) ≡ None → IsShown (server_opened v)
@@ -94,7 +91,7 @@ event_shown : (v : ServerValue) (e : EventValue) → IsInTime e → IsShown v �
 unfolding event_ran
 event_shown v Open in_time shown =
     unless_shown v (codes "open") None (comes_to (server_opened v) (open_line (v.ids + 1))) (option_map open_number (open_refusal v)) shown
-    (λ none. opened v shown (no_number open_number (open_refusal v) none))
+    (λ none. opened v shown (none_made open_number (open_refusal v) none))
 event_shown v (In id bytes) in_time shown =
     connection_shown v (codes "in") id (λ s. in_ran id (fed v id bytes)) (session_of id v.sessions) shown (λ s at. turns_shown v id bytes (length bytes) shown)
 event_shown v (Drain id most) in_time shown =
@@ -105,17 +102,17 @@ event_shown v (Tick now) in_time shown =
     (λ none. record { events = _; shows = shows_ticked v shown.events now shown.shows (ticked_by v now (nat_le v.host.now now) refl none) (omega (arith, in_time)); ids = shown.ids })
 event_shown v (Put path format bytes) in_time shown =
     unless_shown v (codes "put") None (comes_to (server_put v path format bytes) (put_line (v.host.store.versions + 1))) (option_map store_number (put_refusal v.host.store path bytes)) shown
-    (λ none. record { events = _; shows = shows_put v shown.events path format bytes shown.shows (no_number store_number (put_refusal v.host.store path bytes) none); ids = shown.ids })
+    (λ none. record { events = _; shows = shows_put v shown.events path format bytes shown.shows (none_made store_number (put_refusal v.host.store path bytes) none); ids = shown.ids })
 event_shown v (Remove path text) in_time shown =
     unless_shown v (codes "remove") None (comes_to (server_removed v path) (remove_line text)) (option_map store_number (remove_refusal v.host.store path)) shown
-    (λ none. record { events = _; shows = shows_removed v shown.events path shown.shows (no_number store_number (remove_refusal v.host.store path) none); ids = shown.ids })
+    (λ none. record { events = _; shows = shows_removed v shown.events path shown.shows (none_made store_number (remove_refusal v.host.store path) none); ids = shown.ids })
 event_shown v (End id) in_time shown =
     connection_shown v (codes "end") id (λ s. comes_to (server_ended v id) (word_line (codes "end") id)) (session_of id v.sessions) shown
     (λ s at. record { events = _; shows = shows_ended v shown.events id s shown.shows at; ids = shown.ids })
 event_shown v (Release id) in_time shown =
     unless_shown v (codes "release") (Some id) (comes_to (server_released v id) (word_line (codes "release") id)) (option_map release_number (released_refusal v id)) shown
     (λ none.
-    let may = released_by v id (session_of id v.sessions) refl (no_number release_number (released_refusal v id) none) in
+    let may = released_by v id (session_of id v.sessions) refl (none_made release_number (released_refusal v id) none) in
     record { events = _; shows = shows_released v shown.events id may.0 shown.shows may.1 may.2; ids = shown.ids })
 event_shown v (Drop id) in_time shown =
     connection_shown v (codes "drop") id (λ s. comes_to (server_dropped v id) (word_line (codes "drop") id)) (session_of id v.sessions) shown

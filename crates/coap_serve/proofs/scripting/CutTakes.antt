@@ -152,22 +152,19 @@ module _ (M : ℕ) (kept xs zs : List ℕ) (unfinished : beginning M kept ≡ Un
   all_at : (piece : List ℕ) → beginning M (kept ++ piece) ≡ Unfinished → front_of M kept piece ≡ length piece
   all_at piece is = nothing_taken M kept piece unfinished (nothing_at piece is)
 
-  both : (kept ++ xs) ++ zs ≡ kept ++ (xs ++ zs)
-  both = append_assoc kept xs zs
-
   -- something was found: what stands behind it makes no difference
   frame_same : (frame rest : List ℕ) → beginning M (kept ++ xs) ≡ Whole frame rest → front_of M kept (xs ++ zs) ≡ front_of M kept xs
   frame_same frame rest is =
-      let longer : beginning M (kept ++ (xs ++ zs)) ≡ Whole frame (rest ++ zs) = ap (beginning M) (sym both) ∙ whole_more M (kept ++ xs) zs frame rest is in
+      let longer : beginning M (kept ++ (xs ++ zs)) ≡ Whole frame (rest ++ zs) = ap (beginning M) (sym (append_assoc kept xs zs)) ∙ whole_more M (kept ++ xs) zs frame rest is in
       same_front kept (xs ++ zs) xs _ _ (taken_within M kept (xs ++ zs) unfinished) (taken_within M kept xs unfinished)
       (sym (frame_taken M kept (xs ++ zs) frame unfinished (whole_at (xs ++ zs) frame (rest ++ zs) longer)) ∙ frame_taken M kept xs frame unfinished (whole_at xs frame rest is))
 
   fault_same : (fault : FrameFault) → beginning M (kept ++ xs) ≡ Faulty fault → front_of M kept (xs ++ zs) ≡ front_of M kept xs
   fault_same fault is =
-      let longer : beginning M (kept ++ (xs ++ zs)) ≡ Faulty fault = ap (beginning M) (sym both) ∙ faulty_more M (kept ++ xs) zs fault is in
+      let longer : beginning M (kept ++ (xs ++ zs)) ≡ Faulty fault = ap (beginning M) (sym (append_assoc kept xs zs)) ∙ faulty_more M (kept ++ xs) zs fault is in
       same_front kept (xs ++ zs) xs _ _ (taken_within M kept (xs ++ zs) unfinished) (taken_within M kept xs unfinished)
       ((fault_taken M kept (xs ++ zs) fault unfinished (fault_at (xs ++ zs) fault longer)).1
-      ∙ ap (fault_bytes fault) (sym both)
+      ∙ ap (fault_bytes fault) (sym (append_assoc kept xs zs))
       ∙ fault_bytes_more M (kept ++ xs) zs fault is
       ∙ sym (fault_taken M kept xs fault unfinished (fault_at xs fault is)).1)
 
@@ -219,13 +216,10 @@ goes_shifted : (bytes : List ℕ) (n : ℕ) (f : Fed) → n ≤ length bytes →
 goes_shifted bytes n f within =
     ap (λ (b : Bool). b && not f.done) (lt_shifted n f.count (length bytes) within ∙ ap (λ (k : ℕ). nat_lt f.count k) (sym (length-drop n bytes)))
 
-plus_behind : (n a b : ℕ) → (n + a) + b ≡ n + (a + b)
-plus_behind n a b = omega arith
-
 more_shifted : (id : ℕ) (bytes : List ℕ) (n : ℕ) (f : Fed) → fed_more id (drop (n + f.count) bytes) (shifted n f) ≡ shifted n (fed_more id (drop f.count (drop n bytes)) f)
 more_shifted id bytes n f =
     ap (λ (left : List ℕ). fed_more id left (shifted n f)) (sym (drop-drop f.count n bytes))
-    ∙ ap (λ (k : ℕ). record (fed_more id (drop f.count (drop n bytes)) f) { count = k }) (plus_behind n f.count (count_taken f.server id (drop f.count (drop n bytes))))
+    ∙ ap (λ (k : ℕ). record (fed_more id (drop f.count (drop n bytes)) f) { count = k }) (omega arith)
 
 once_shifted : (id : ℕ) (bytes : List ℕ) (n : ℕ) (f : Fed) → n ≤ length bytes → fed_once id bytes (shifted n f) ≡ shifted n (fed_once id (drop n bytes) f)
 once_shifted id bytes n f within =

@@ -4,6 +4,7 @@ use Rattle.std.proofs.lemmas.Bool.{le-ltb, ne_eqb}
 use Rattle.std.proofs.lemmas.List.{append-nil, take_all, take-append-drop, length-drop, length-take-le, length-map}
 use Rattle.std.proofs.Math.Seq.{take-suc, drop-cons}
 use Rattle.std.proofs.Math.ListN.{get_or-map}
+use Rattle.std.proofs.Math.Bool.{and-false}
 use Rattle.std.specs.Result.{IsErr}
 use Rattle.std.specs.declared.alloc.AllocError.{AllocError}
 use Rattle.coap_store.specs.Paths.{Path}
@@ -83,11 +84,6 @@ told_none f (Some x) none = absurd cc
 pub is_told : {A B : Type 0} (f : A → B) (o : Option A) → is_some (option_map f o) ≡ is_there o
 is_told f None = refl
 is_told f (Some x) = refl
-
--- what is told of a connection is told of the one that is there
-pub told_of : {A B : Type 0} (f : A → B) (o : Option A) (y : B) → option_map f o ≡ Some y → (x : A) × (o ≡ Some x) × (f x ≡ y)
-told_of f None y some = absurd cc
-told_of f (Some x) y some = (x, refl, cc)
 
 -- ---- `remove`
 
@@ -197,13 +193,6 @@ no_take_shown now id left after none = shows_as now after [] _ (unmade_there (se
 going_on : (bytes : List ℕ) (now : ServerValue) (taken : ℕ) → taken < length bytes → goes_on bytes (record { server = now; count = taken; done = false }) ≡ true
 going_on bytes now taken left = ap (λ (b : Bool). b && true) (lt-ltb taken (length bytes) left)
 
-plus_zero : (n : ℕ) → n + 0 ≡ n
-plus_zero n = omega arith
-
-never : (b : Bool) → (b && false) ≡ false
-never true = refl
-never false = refl
-
 module _ (v : ServerValue) (id : ℕ) (bytes : List ℕ) (now : ServerValue) (taken : ℕ) (feeds : Feeds v id bytes now taken) (left : taken < length bytes) where
   one_more : fed_turns (feeds.turns + 1) v id bytes ≡ record { server = server_taken now id (drop taken bytes); count = taken + count_taken now id (drop taken bytes); done = count_taken now id (drop taken bytes) == 0 }
   one_more =
@@ -242,11 +231,11 @@ module _ (v : ServerValue) (id : ℕ) (bytes : List ℕ) (now : ServerValue) (ta
   last_turn after none is =
       one_more
       ∙ ap (λ (n : ℕ). record { server = server_taken now id (drop taken bytes); count = taken + n; done = n == 0 }) none
-      ∙ ap (λ (n : ℕ). record { server = server_taken now id (drop taken bytes); count = n; done = true }) (plus_zero taken)
+      ∙ ap (λ (n : ℕ). record { server = server_taken now id (drop taken bytes); count = n; done = true }) (let same : taken + 0 ≡ taken = omega arith in same)
       ∙ ap (λ (w : ServerValue). record { server = w; count = taken; done = true }) (sym is)
 
   it_is_over : (after : ServerValue) → count_taken now id (drop taken bytes) ≡ 0 → after ≡ server_taken now id (drop taken bytes) → goes_on bytes (fed_turns (feeds.turns + 1) v id bytes) ≡ false
-  it_is_over after none is = ap (goes_on bytes) (last_turn after none is) ∙ never (nat_lt taken (length bytes))
+  it_is_over after none is = ap (goes_on bytes) (last_turn after none is) ∙ and-false (nat_lt taken (length bytes))
 
   pub stopped : (after : ServerValue) → count_taken now id (drop taken bytes) ≡ 0 → after ≡ server_taken now id (drop taken bytes) → fed v id bytes ≡ record { server = after; count = taken; done = true }
   stopped after none is = all_turns v id bytes (feeds.turns + 1) (it_is_over after none is) (let few = feeds.few in omega (arith, few, left)) ∙ last_turn after none is

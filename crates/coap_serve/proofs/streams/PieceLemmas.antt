@@ -1,7 +1,7 @@
 -- A piece of a run, one take and one flush after the other.
 use Rattle.std.proofs.Common.{◌≡◌, ℕ, ◌+◌, ◌<◌, List, [], ◌∷◌, ◌++◌, length, take, drop, Option, Some, None, is_some, true, false, refl, sym, ap, subst, ◌∙◌, append_assoc, arith, ◌==◌}
-use Rattle.std.proofs.lemmas.Bool.{ne_eqb}
-use Rattle.std.proofs.lemmas.List.{append-nil, take-append-drop}
+use Rattle.std.proofs.lemmas.Bool.{ne_eqb, eqb-true}
+use Rattle.std.proofs.lemmas.List.{append-nil, take-append-drop, nil_from_length}
 use Rattle.coap_conn.specs.declared.reason.Reason.{Reason}
 use Rattle.coap_serve.specs.Configs.{ConfigValues}
 use Rattle.coap_serve.specs.values.Servers.{ServerValue, session_of}
@@ -151,13 +151,4 @@ is_filled [] e = absurd cc
 is_filled (x ∷ xs) e = omega arith
 
 pub is_used_up : (xs : List ℕ) → true ≡ (length xs == 0) → xs ≡ []
-is_used_up [] e = refl
-is_used_up (x ∷ xs) e = let some : false ≡ (length (x ∷ xs) == 0) = sym (ne_eqb (length (x ∷ xs)) 0 (omega arith)) in absurd cc
-
-pub stop_given : (stop : Option Reason) → true ≡ is_some stop → (why : Reason) × (stop ≡ Some why)
-stop_given None is = absurd cc
-stop_given (Some why) is = (why, refl)
-
-pub no_stop_given : (stop : Option Reason) → false ≡ is_some stop → stop ≡ None
-no_stop_given None is = refl
-no_stop_given (Some why) is = absurd cc
+is_used_up xs e = nil_from_length xs (eqb-true (length xs) 0 (sym e))

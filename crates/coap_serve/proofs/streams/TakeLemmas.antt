@@ -36,12 +36,12 @@ use Rattle.coap_serve.proofs.world.GoingOn.{side_is}
 use Rattle.coap_serve.proofs.world.ReachedLaws.{IsReached, accepted_is, takes_there, handling_goes_on}
 use Rattle.coap_serve.proofs.world.ShowLaws.{side_there}
 use Rattle.coap_serve.proofs.world.HandlingLaws.{messages_counted, one_step_at_most}
-use Rattle.coap_serve.proofs.world.AcrossLaws.{some_same}
 use Rattle.coap_serve.proofs.world.GrowLaws.{SideGrows, front_written, same_front, all_written, took_grows}
 use Rattle.coap_serve.proofs.streams.FlushLaws.{quiet_flush}
 use Rattle.coap_serve.proofs.streams.OutputLaws.{one_step_more, no_step_more, world_for_written, world_for_hears, output_of, stop_there}
 use Rattle.coap_serve.proofs.streams.FlushShown.{FlushShown, session_is}
 use Rattle.coap_serve.proofs.streams.FlushShown as shown
+use Rattle.coap_serve.proofs.values.OptionLemmas.{same_there}
 use Rattle.coap_wire.proofs.StreamSteps.{split_goes_on}
 
 -- ---- some bytes are taken
@@ -117,7 +117,7 @@ module _ (c : ConfigValues) (es : List Event) (s : Side) (turns : ℕ) (after : 
   pub all_said : stdio_output c bytes ≡ front_written s ++ text
   all_said =
       let all = world_for_written c bytes in
-      let none : waiting_on f.side ≡ [] = ap waiting_on (some_same f.side all.0 (sym side_is_there ∙ all.1)) ∙ all.2 in
+      let none : waiting_on f.side ≡ [] = ap waiting_on (same_there f.side all.0 (sym side_is_there ∙ all.1)) ∙ all.2 in
       output_of c bytes f.side side_is_there ∙ sym (all_written f.side none) ∙ f.said
 
   pub stands_behind : spelled_on c.limits.max_message (only_id c) es ≡ (stream_of c bytes, c.limits.max_message) → Stands c after bytes

@@ -6,10 +6,6 @@ use Rattle.coap_serve.specs.values.Servers.{ServerValue, server_written}
 use Rattle.coap_serve.specs.values.Flushes.{Flush, waiting_at, more_at, flush_once, flush_turns, IsFlushedOnce, IsFlushed, IsPartFlushed}
 use Rattle.coap_serve.proofs.streams.DeviceLemmas.{bytes_none, bytes_then}
 
-pub none_left : (w : List ℕ) → length w ≡ 0 → w ≡ []
-none_left [] none = refl
-none_left (b ∷ w) none = absurd cc
-
 -- ---- turns
 
 pub no_turns : (id : ℕ) (v : ServerValue) → flush_turns 0 id v ≡ record { server = v; text = [] }

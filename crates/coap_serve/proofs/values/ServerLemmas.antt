@@ -4,6 +4,7 @@ use Rattle.std.specs.List.{AllByRecursion, IsDistinct, position_or_len, position
 use Rattle.std.specs.Map.{lookup, keys_of, values_of}
 use Rattle.std.proofs.lemmas.Bool.{eqb-true, eqb-false, eq-eqb, ne_eqb}
 use Rattle.std.proofs.lemmas.List.{length-map, length-append}
+use Rattle.std.proofs.lemmas.Option.{cond_some}
 use Rattle.indexmap.specs.IndexMap.{set_value_at, insert_entry}
 use Rattle.coap_conn.specs.Limits.{LimitValues}
 use Rattle.coap_serve.specs.declared.host.Host.{Host}
@@ -13,6 +14,7 @@ use Rattle.coap_serve.specs.values.Dues.{session_outlook}
 use Rattle.coap_serve.specs.values.ServerAnswers.{front_of, session_status}
 use Rattle.coap_serve.specs.views.ServerViews.{IsServer}
 use Rattle.coap_serve.proofs.values.SettleLemmas.{no_held_due, settled_is_settled, settled_stays}
+use Rattle.coap_serve.proofs.values.OptionLemmas.{there_is_none}
 
 abbrev pub Entries : Type 0
 Entries = List (ℕ × SessionValue)
@@ -42,20 +44,12 @@ session_found id (e ∷ es) = rw (same_either_way e.0 id, session_found id es) r
 
 -- where the map found none
 pub none_found : (id : ℕ) (es : Entries) (r : Option ℕ) → is_some r ≡ is_some (lookup (nat_eq id) es) → r ≡ None → session_of id es ≡ None
-none_found id es r found none = session_found id es ∙ nothing (lookup (nat_eq id) es) (sym found ∙ ap is_some none)
-  where
-    nothing : (o : Option SessionValue) → is_some o ≡ false → o ≡ None
-    nothing None is = refl
-    nothing (Some s) is = absurd cc
-
-place_of : (b : Bool) (at i : ℕ) → Some at ≡ cond b (Some i) None → i ≡ at
-place_of true at i is = cc
-place_of false at i is = absurd cc
+none_found id es r found none = session_found id es ∙ there_is_none (lookup (nat_eq id) es) (sym found ∙ ap is_some none)
 
 -- where the map found one
 pub one_found : (id : ℕ) (es : Entries) (i : ℕ) → IsDistinct nat_eq (keys_of es) → Some i ≡ position (nat_eq id) (keys_of es) → i < length es → slice_get (values_of es) i ≡ lookup (nat_eq id) es → LiesAt id i es
 one_found id es i distinct index within value =
-    record { distinct = distinct; index = place_of _ i _ index; within = within; found = session_found id es ∙ sym value }
+    record { distinct = distinct; index = (cond_some _ _ i (sym index)).1; within = within; found = session_found id es ∙ sym value }
 
 -- what the map found, where it found none and where it found one
 pub none_where_none : (id : ℕ) (es : Entries) (r : Option ℕ) → is_some r ≡ is_some (lookup (nat_eq id) es) → IfNone r (session_of id es ≡ None)

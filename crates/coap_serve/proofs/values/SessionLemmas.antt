@@ -33,6 +33,7 @@ use Rattle.coap_serve.specs.views.SessionViews.{IsSession, session_value}
 use Rattle.coap_serve.proofs.values.LinkLemmas.{ends_in}
 use Rattle.coap_serve.proofs.values.LinkLemmas.{message_sizes, reply_sizes}
 use Rattle.coap_serve.proofs.values.EntryLemmas.{is_first}
+use Rattle.coap_serve.proofs.values.OptionLemmas.{there_is}
 
 -- ---- what a stop gives up
 
@@ -275,14 +276,6 @@ module _ (host : Host) (s : Inside) (index : ℕ) (l : LinkValue) (o : Observers
 sent_sizes : (l : LinkValue) (now : ℕ) (e : HeldValue) → sizes_of (link_sent l now e) ≡ sizes_of l
 sent_sizes l now (Answer token moment) = reply_sizes (link_after l (call.Due now)) (held_message token)
 sent_sizes l now (Pong token) = refl
-
-there_is : {A : Type 0} (o : Option A) → is_some o ≡ true → (x : A) × (o ≡ Some x)
-there_is None e = absurd cc
-there_is (Some x) e = (x, refl)
-
-pub there_is_none : {A : Type 0} (o : Option A) → is_some o ≡ false → o ≡ None
-there_is_none None e = refl
-there_is_none (Some x) e = absurd cc
 
 -- a session in which what was held and due first was sent
 pub record IsSent (host : Host) (s : Inside) (l : LinkValue) : Type 0 where

@@ -28,7 +28,8 @@ use Rattle.coap_serve.specs.world.World.{World, Step, side_of}
 use Rattle.coap_serve.specs.world.World as world
 use Rattle.coap_serve.proofs.world.EntryLemmas.{all_append}
 use Rattle.coap_serve.proofs.world.WalkLaws.{release_fits, holding, without_first, Hears, Replies, Pongs, Between, once_between, after_between, faulted_between, written_between, ended_between, released_between, announced_between}
-use Rattle.coap_serve.proofs.world.AcrossLaws.{some_same, HoldsOf, HoldsFrom, step_across}
+use Rattle.coap_serve.proofs.world.AcrossLaws.{HoldsOf, HoldsFrom, step_across}
+use Rattle.coap_serve.proofs.values.OptionLemmas.{same_there}
 use Rattle.coap_wire.proofs.StreamSteps.{none_or_some}
 
 -- ---- a message that announces a size queues nothing
@@ -161,7 +162,7 @@ grows_of w st id = record {
 }
 
 grows_from : (limits : LimitValues) (w : World) (st : Step) (id : ℕ) (s t : Side) → side_of id w.sides ≡ Some s → HoldsFrom (Between Grows) limits w st id t → Between Grows s t
-grows_from limits w st id s t there (inl old) = subst (λ (u : Side). Between Grows u t) (some_same old.0 s (sym old.1 ∙ there)) old.2
+grows_from limits w st id s t there (inl old) = subst (λ (u : Side). Between Grows u t) (same_there old.0 s (sym old.1 ∙ there)) old.2
 grows_from limits w st id s t there (inr new) = absurd (none_or_some s (sym new.0 ∙ there))
 
 -- each step only adds to what a connection has queued, and what it adds fits

@@ -23,8 +23,9 @@ use Rattle.coap_serve.proofs.world.WorldLaws.{OpensNext}
 use Rattle.coap_serve.proofs.world.ReachedLaws.{IsReached, accepted_is}
 use Rattle.coap_serve.proofs.world.ToldMessages.{StopsAtMost}
 use Rattle.coap_serve.proofs.world.WalkLaws.{Between, written_between, ended_between, released_between, announced_between}
-use Rattle.coap_serve.proofs.world.AcrossLaws.{some_same, HoldsOf, HoldsFrom, step_across}
+use Rattle.coap_serve.proofs.world.AcrossLaws.{HoldsOf, HoldsFrom, step_across}
 use Rattle.coap_serve.proofs.world.HandlingLaws.{HasStopped, Rests, rests_self, rests_then, open_no_stop, once_rests, TakesSo, NoStep, OneMessage, OneFault, Became, Stayed, Heard, Rejected, accepted_so, took_became}
+use Rattle.coap_serve.proofs.values.OptionLemmas.{same_there}
 
 -- ---- what is no message and no fault
 
@@ -124,7 +125,7 @@ module _ (c : ConfigValues) (es : List Event) (id : ℕ) (is : IsReached c es) (
   own_agrees : (bytes : List ℕ) (s : Side) → side_of id (world_after c es).sides ≡ Some s → takes c es id bytes ≡ length bytes → AgreesOn c (es ++ event.Took id bytes ∷ []) id
   own_agrees bytes s there all t then =
       let after = took_became c es id bytes s is there all in
-      subst (Agrees (stream_on most id (es ++ event.Took id bytes ∷ []))) (some_same after.1 t (sym after.2 ∙ then))
+      subst (Agrees (stream_on most id (es ++ event.Took id bytes ∷ []))) (same_there after.1 t (sym after.2 ∙ then))
       (became_agrees _ _ s after.1 after.0 after.3 (before s there))
 
   other_agrees : (other : ℕ) (bytes : List ℕ) (s : Side) (message : Bool) → other ≢ id → TakesSo most other es bytes s message → AgreesOn c (es ++ event.Took other bytes ∷ []) id

@@ -49,7 +49,8 @@ use Rattle.coap_serve.proofs.world.SideLaws.{replied_cases}
 use Rattle.coap_serve.proofs.world.ShownLemmas.{taking_stopped, taking_front}
 use Rattle.coap_serve.proofs.world.ShowLaws.{sessions_shown, side_there, no_session, takes_shown, shows_taken}
 use Rattle.coap_serve.proofs.world.WalkLaws.{sent, without_first, Replies, LetsGo, Pongs, Composes, if_between, once_between, settled_between}
-use Rattle.coap_serve.proofs.world.AcrossLaws.{some_same, handled_there, faulted_there}
+use Rattle.coap_serve.proofs.world.AcrossLaws.{handled_there, faulted_there}
+use Rattle.coap_serve.proofs.values.OptionLemmas.{same_there}
 
 -- ---- why a connection stops on a message
 
@@ -447,7 +448,7 @@ pub bytes_counted : (c : ConfigValues) (es : List Event) (id : ℕ) (bytes : Lis
     → length t.history.handled ≡ length s.history.handled + count_of (handled_in c es (Took id bytes) id)
 bytes_counted c es id bytes s t is all there then =
     let after = took_became c es id bytes s is there all in
-    let same : after.1 ≡ t = some_same after.1 t (sym after.2 ∙ then) in
+    let same : after.1 ≡ t = same_there after.1 t (sym after.2 ∙ then) in
     let count = counted _ _ s after.1 after.0 after.3 in
     let says = counted_there c es id (Took id bytes) s after.1 there after.2 in
     omega (arith, count, ap count_of says, ap (λ (u : Side). length u.history.handled) same)

@@ -3,7 +3,7 @@ use Rattle.std.proofs.Common.{◌≡◌, ℕ, ◌+◌, ◌≤◌, Bool, true, fa
 use Rattle.std.specs.Fmt.{decimal}
 use Rattle.std.specs.Str.Parse.{digits_value}
 use Rattle.std.specs.Option.{option_eq}
-use Rattle.std.proofs.lemmas.Bool.{not-false, eqb-true, eqb-false, eq-eqb, ne_eqb}
+use Rattle.std.proofs.lemmas.Bool.{not-false, eqb-true, eqb-false, eq-eqb, ne_eqb, and_parts}
 use Rattle.std.proofs.lemmas.Fmt.{decimal_is_IsNumeral}
 use lib.Pointwise.{bytes_decides}
 use Rattle.coap_wire.specs.Message.{Message}
@@ -95,10 +95,6 @@ pub state_itself : (state : Option Representation) → same_state state state �
 state_itself None = refl
 state_itself (Some r) = rw (eq-eqb r.version r.version refl, format_itself r.format, bytes_itself r.bytes) refl
 
-both : (a b : Bool) → (a && b) ≡ true → (a ≡ true) × (b ≡ true)
-both true b e = (refl, e)
-both false b e = absurd cc
-
 format_is : (f g : Option ℕ) → world.same_format f g ≡ true → f ≡ g
 format_is None None e = refl
 format_is None (Some n) e = absurd cc
@@ -111,8 +107,8 @@ state_is None None e = refl
 state_is None (Some q) e = absurd cc
 state_is (Some r) None e = absurd cc
 state_is (Some r) (Some q) e =
-    let first = both (r.version == q.version && world.same_format r.format q.format) (same_bytes r.bytes q.bytes) e in
-    let second = both (r.version == q.version) (world.same_format r.format q.format) first.0 in
+    let first = and_parts (r.version == q.version && world.same_format r.format q.format) (same_bytes r.bytes q.bytes) e in
+    let second = and_parts (r.version == q.version) (world.same_format r.format q.format) first.0 in
     let version : r.version ≡ q.version = eqb-true r.version q.version second.0 in
     let format : r.format ≡ q.format = format_is r.format q.format second.1 in
     let bytes : r.bytes ≡ q.bytes = bytes_is r.bytes q.bytes first.1 in

@@ -22,12 +22,13 @@ use Rattle.coap_serve.specs.world.Events.{Event, taken_in, size_on, stream_on, s
 use Rattle.coap_serve.specs.world.Events as event
 use Rattle.coap_serve.proofs.world.StepLaws.{world_first, world_same, world_step, by_events, stream_same, size_then, size_stays, announced_here, announced_elsewhere, nothing_spelled, first_spelled, spelled_same, taken_elsewhere, stream_elsewhere}
 use Rattle.coap_serve.proofs.world.TookLaws.{Adds, adds_nothing, adds_message, adds_bad, adds_fault, no_bytes_stream, no_bytes_steps, piece_whole}
-use Rattle.coap_serve.proofs.world.AcrossLaws.{some_same, HoldsOf, HoldsFrom, step_across, announced_there, all_across}
+use Rattle.coap_serve.proofs.world.AcrossLaws.{HoldsOf, HoldsFrom, step_across, announced_there, all_across}
 use Rattle.coap_serve.proofs.world.GoingOn.{GoesOn, all_go_on, was_live}
 use Rattle.coap_serve.proofs.world.WalkLaws.{announcing, Between, once_between, settled_between, after_between, faulted_between, written_between, ended_between, released_between}
 use Rattle.coap_serve.proofs.world.PlaceLaws.{nobody}
 use Rattle.coap_wire.proofs.StreamSteps.{none_or_some}
 use Rattle.coap_serve.proofs.world.WorldLaws.{OpensNext, IsGivenNumber, IsNumbered, new_world_numbered, number_given, step_numbered, ids_grow, faulted_is_stopped}
+use Rattle.coap_serve.proofs.values.OptionLemmas.{same_there}
 
 -- where a connection takes messages, its stream has no fault
 abbrev pub HaveNoFault : ConfigValues → List Event → World → Type 0
@@ -272,7 +273,7 @@ announced_sizes c es id size s there before may k t at =
     elim (cases_eq id k) [
       | inl same ↦
           let there_now : side_of id (world.step c.limits w (world.Announced id size)).sides ≡ Some t = ap (λ (n : ℕ). side_of n (world.step c.limits w (world.Announced id size)).sides) same ∙ at in
-          let now : settled w.store w.now (side_announced s size) ≡ t = some_same _ t (sym (announced_there c.limits w id size s there) ∙ there_now) in
+          let now : settled w.store w.now (side_announced s size) ≡ t = same_there _ t (sym (announced_there c.limits w id size s there) ∙ there_now) in
           let own : t.history.own_max ≡ size = ap (λ (u : Side). u.history.own_max) (sym now) ∙ settled_size w.store w.now (side_announced s size) ∙ announced_size s size may in
           let lower : s.history.own_max ≤ size = leb-true s.history.own_max size (and_parts (nat_le s.history.own_max size) (nat_le size greatest_size) (and_parts (nat_le s.history.own_max size && nat_le size greatest_size) (has_room s && may_announce (link_of s.history) size) may).0).0 in
           let N : ℕ = size_on M id es in

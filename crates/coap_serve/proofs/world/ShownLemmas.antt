@@ -30,7 +30,6 @@ use Rattle.coap_serve.proofs.world.StepLaws.{world_same, world_step, streams_sam
 use Rattle.coap_frame.proofs.FrontLaws.{nothing_kept, front_framing}
 use Rattle.coap_serve.proofs.world.TookLaws.{Adds, no_bytes_stream, no_bytes_steps, piece_adds_nothing, piece_adds_message, piece_adds_bad, piece_adds_fault, but_last_whole}
 use Rattle.coap_serve.proofs.world.PlaceLaws.{but, AreDistinct, of_number, of_each}
-use Rattle.coap_serve.proofs.world.AcrossLaws.{some_same}
 use Rattle.coap_serve.proofs.world.GoingOn.{side_is}
 use Rattle.coap_serve.proofs.world.WorldLaws.{events_distinct}
 use Rattle.coap_serve.proofs.world.ReachedLaws.{IsReached, handling_goes_on}
@@ -38,6 +37,7 @@ use Rattle.coap_serve.proofs.world.KnownLaws.{IsVersioned, not_due}
 use Rattle.coap_serve.proofs.world.SideLaws.{host_of, IsKnownSide, handles_parts, faulted_shown, handled_shown, change_shown}
 use Rattle.coap_serve.proofs.world.SettleLaws.{settled_shown, at_rest, hears_sent}
 use Rattle.coap_serve.proofs.world.HearingLaws.{IsKnownPlace, IsKnownWorld, acted_known, world_known, world_hears}
+use Rattle.coap_serve.proofs.values.OptionLemmas.{same_there}
 
 -- ---- connections by their numbers
 
@@ -95,7 +95,7 @@ pub one_becomes : (M id : ℕ) (es fs : List Event) (f : Side → Side) (g : Ses
 one_becomes M id es fs f g t ps distinct there same becomes =
     places_become M id es fs f g ps same
     (of_each (λ n s. n ≡ id → BecomesAs M id es fs f g s) ps distinct
-    (λ n s at here. subst (BecomesAs M id es fs f g) (some_same t s (sym there ∙ ap (λ (k : ℕ). side_of k ps) (sym here) ∙ at)) becomes))
+    (λ n s at here. subst (BecomesAs M id es fs f g) (same_there t s (sym there ∙ ap (λ (k : ℕ). side_of k ps) (sym here) ∙ at)) becomes))
 
 -- where nothing happens to it, no connection changes
 pub unchanged : (id : ℕ) (ps : List Place) → map (changed_at id (λ s. s)) ps ≡ ps

@@ -21,6 +21,7 @@ use Rattle.coap_serve.proofs.world.PlaceLaws.{first_there, later_there, nobody, 
 use Rattle.coap_serve.proofs.world.AcrossLaws.{opened_world}
 use Rattle.coap_serve.proofs.world.EntryLemmas.{all_append}
 use Rattle.coap_serve.proofs.world.SettleLaws.{IsAtRest, at_rest, settled_rests}
+use Rattle.coap_conn.proofs.AskingLaws.{none_where}
 
 -- ---- the store refuses nothing that a message puts
 
@@ -170,10 +171,6 @@ did limits (world.Dropped id) x = record x { side = None }
 abbrev DidSo : LimitValues → ℕ → World → Step → Type 0
 DidSo limits id w s = share_of id (acted limits w s) ≡ did limits s (share_of id w)
 
-none_there : (there : Option Side) → is_none there ≡ true → there ≡ None
-none_there None none = refl
-none_there (Some s) none = absurd cc
-
 opened_there : (limits : LimitValues) (id : ℕ) (w : World) → side_of id w.sides ≡ None → side_of id (opened_world limits w id).sides ≡ Some (new_side limits)
 opened_there limits id w none =
     let new : world.Place = record { id = id; side = new_side limits } in
@@ -183,7 +180,7 @@ opened_so : (limits : LimitValues) (id : ℕ) (w : World) → DidSo limits id w 
 unfolding acted
 opened_so limits id w =
     share_if id (is_none (side_of id w.sides)) (opened_world limits w id) w _ (share_of id w)
-    (λ none. ap (share w.store w.now) (opened_there limits id w (none_there (side_of id w.sides) none))) refl
+    (λ none. ap (share w.store w.now) (opened_there limits id w (none_where (side_of id w.sides) none))) refl
 
 stored_so : (w : World) (m : Message) (there : Option Side) → stored_after w m there ≡ stored_on (share w.store w.now there) m there
 stored_so w m None = refl
