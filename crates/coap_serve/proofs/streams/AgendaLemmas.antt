@@ -133,10 +133,10 @@ not_so false c e = inl refl
 not_so true true e = inr refl
 not_so true false e = absurd cc
 
-none_first : {X : Type 0} (far : X → FarEnd) (xs : List X) (i : ℕ) → nat_lt 0 i ≡ false → map far (take i xs) ≡ []
-none_first far [] zero e = refl
-none_first far (x ∷ xs) zero e = refl
-none_first far xs (suc i) e = let none : ⊥ = omega (arith, ltb-false 0 (suc i) e) in absurd none
+no_first_ones : {X : Type 0} (far : X → FarEnd) (xs : List X) (i : ℕ) → nat_lt 0 i ≡ false → map far (take i xs) ≡ []
+no_first_ones far [] zero e = refl
+no_first_ones far (x ∷ xs) zero e = refl
+no_first_ones far xs (suc i) e = let none : ⊥ = omega (arith, ltb-false 0 (suc i) e) in absurd none
 
 -- what a connection changes may concern those that were looked at
 pub seen_later : {X : Type 0} (far : X → FarEnd) (xs : List X) (i : ℕ) (a : Agenda) (stamp later : Stamp) → IsAgendaOf a stamp (map far (take i xs)) → IsAgendaOf (agenda_with a (nat_lt 0 i && not (same_stamp later stamp)) None) later (map far (take i xs))
@@ -145,7 +145,7 @@ seen_later far xs i a stamp later seen = record {
   rest = λ none.
       let parts = or_parts a.at_once (nat_lt 0 i && not (same_stamp later stamp)) none in
       elim (not_so (nat_lt 0 i) (same_stamp later stamp) parts.1) [
-        | inl first ↦ subst (AllByRecursion (IsAtRest later)) (sym (none_first far xs i first)) tt
+        | inl first ↦ subst (AllByRecursion (IsAtRest later)) (sym (no_first_ones far xs i first)) tt
         | inr same ↦ subst (λ (s : Stamp). AllByRecursion (IsAtRest s) (map far (take i xs))) (sym (is_same later stamp same)) (seen.rest parts.0)
       ];
 }

@@ -63,8 +63,8 @@ if_there None P x at holds = absurd cc
 if_there (Some y) P x at holds = let same : y ≡ x = cc in subst P same holds
 
 -- one more was opened
-pub one_more : {W : Type 0} (v after : ServerValue) (id : ℕ) (p : Peer W) (es now : List (ℕ × Peer W)) → open_refusal v ≡ None → id ≡ v.ids + 1 → after ≡ server_opened v → now ≡ insert_entry nat_eq es id p → p.rest ≡ [] → HasOneMore v es after now
-one_more v after id p es now may number opened entries rest = record {
+pub one_more_opened : {W : Type 0} (v after : ServerValue) (id : ℕ) (p : Peer W) (es now : List (ℕ × Peer W)) → open_refusal v ≡ None → id ≡ v.ids + 1 → after ≡ server_opened v → now ≡ insert_entry nat_eq es id p → p.rest ≡ [] → HasOneMore v es after now
+one_more_opened v after id p es now may number opened entries rest = record {
   peer = p;
   may = may;
   server = opened;

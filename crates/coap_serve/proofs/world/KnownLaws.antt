@@ -236,10 +236,10 @@ pub record IsWatchable (store : StoreValue) (now : ℕ) (path : Path) : Type 0 w
   pub there : state_of store now path ≡ Some representation
 
 -- an observer that is told what is there
-abbrev told_of : List ℕ → Path → Option Representation → Observer
-told_of token path told = record { token = token; path = path; told = told }
+abbrev observer_told : List ℕ → Path → Option Representation → Observer
+observer_told token path told = record { token = token; path = path; told = told }
 
-told_at : (place : Place) (store : StoreValue) (now : ℕ) (token : List ℕ) (path : Path) (r : Representation) → now ≤ 18446744073709551615 → IsVersioned store → is_observable place ≡ true → state_at store now (Some path) place ≡ Some r → IsKnownAt place store (told_of token path (Some r))
+told_at : (place : Place) (store : StoreValue) (now : ℕ) (token : List ℕ) (path : Path) (r : Representation) → now ≤ 18446744073709551615 → IsVersioned store → is_observable place ≡ true → state_at store now (Some path) place ≡ Some r → IsKnownAt place store (observer_told token path (Some r))
 unfolding state_at
 told_at Root store now token path r small is e there = absurd cc
 told_at Time store now token path r small is e there = record { moment = now; was = sym there; small = small }
@@ -257,7 +257,7 @@ told_at Dynamic store now token path r small is e there = record {
 pub told_known : (store : StoreValue) (now : ℕ) (token : List ℕ) (path : Path) → now ≤ 18446744073709551615 → IsVersioned store → IsWatchable store now path → IsKnown store (record { token = token; path = path; told = state_of store now path })
 told_known store now token path small is can =
     let there : state_at store now (Some path) (place_of path) ≡ Some can.representation = subst (λ key. state_at store now key (place_of path) ≡ Some can.representation) can.key can.there in
-    subst (λ told. IsKnown store (told_of token path told)) (sym can.there) (record { key = can.key; state = told_at (place_of path) store now token path can.representation small is can.observable there })
+    subst (λ told. IsKnown store (observer_told token path told)) (sym can.there) (record { key = can.key; state = told_at (place_of path) store now token path can.representation small is can.observable there })
 
 mark_at_place : (place : Place) (store : StoreValue) (now : ℕ) (path : Path) (r : Representation) → now ≤ 18446744073709551615 → IsVersioned store → is_observable place ≡ true → state_at store now (Some path) place ≡ Some r → mark_told (Some r) ≡ mark_at now r
 unfolding state_at

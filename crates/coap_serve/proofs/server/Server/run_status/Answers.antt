@@ -6,7 +6,7 @@ use Rattle.coap_serve.specs.script.Events as event
 use Rattle.coap_serve.specs.values.Servers.{session_of}
 use Rattle.coap_serve.specs.values.ServerAnswers.{session_status}
 use Rattle.coap_serve.specs.declared.server.Status.{Status}
-use Rattle.coap_serve.proofs.scripting.ReplayLemmas.{on_it, on_none, told_none}
+use Rattle.coap_serve.proofs.scripting.ReplayLemmas.{on_it, on_none, none_told_of_none}
 use Rattle.coap_serve.proofs.scripting.ShownLemmas.{shows_same, nothing_made, run_refused}
 use Rattle.coap_serve.proofs.server.Server.run_status.Goals as goal
 use Rattle.coap_serve.proofs.values.OptionLemmas.{one_made}
@@ -14,7 +14,7 @@ use Rattle.coap_serve.proofs.values.OptionLemmas.{one_made}
 pub returns-in_default-clause-run : goal.returns-in_default-clause-run
 unfolding event_ran
 returns-in_default-clause-run c =
-    let none = told_none session_status (session_of c.args.id c.args.self.now.sessions) (sym c.status.ensures ∙ c.in_default.is) in
+    let none = none_told_of_none session_status (session_of c.args.id c.args.self.now.sessions) (sym c.status.ensures ∙ c.in_default.is) in
     on_none c.args.self.now (codes "status") c.args.id _ _ c.args.self.now c.fault_line.result.items none refl c.fault_line.ensures
 
 pub returns-clause-run : goal.returns-clause-run
