@@ -27,7 +27,7 @@ use Rattle.coap_client.specs.Requests.{request_of, cancel_of}
 use Rattle.coap_frame.proofs.FrontLaws.{added_by}
 use Rattle.coap_client.proofs.ClientSteps.{stream_same, stream_first, client_first, client_same, client_step, by_calls, Adds, adds_whole, no_bytes_steps}
 use Rattle.coap_client.proofs.ClientReached.{accepted_is}
-use Rattle.coap_serve.proofs.world.HandledLaws.{takes_no_stop, no_fault}
+use Rattle.coap_serve.proofs.world.HandledLaws.{takes_no_stop, no_fault_and_some}
 
 -- ---- what accepted bytes make
 
@@ -132,7 +132,7 @@ heard_by : (u v : Stream) (h : History) (m : Message) (takes : Bool) → takes �
     → Agrees v (cond takes (record (with_effect h (react (standing_now h) m).effect) { handled = h.handled ++ m ∷ [] }) h)
 heard_by u v h m true e messages none is = record {
   handled = ap (λ (ms : List Message). ms ++ m ∷ []) is.handled ∙ sym messages;
-  stopped = λ fault at. absurd (no_fault v fault none at);
+  stopped = λ fault at. absurd (no_fault_and_some v fault none at);
 }
 heard_by u v h m false e messages none is = absurd cc
 
@@ -159,7 +159,7 @@ module _ (limits : LimitValues) (tokens : ℕ) where
       subst (Agrees (stream_in limits.max_message [])) (sym (client_first limits tokens)) (record {
         handled = ap (λ (s : Stream). s.messages) (sym (stream_first limits.max_message));
         stopped =
-            λ fault at. absurd (no_fault (stream_in limits.max_message []) fault (ap (λ (s : Stream). s.fault) (stream_first limits.max_message)) at);
+            λ fault at. absurd (no_fault_and_some (stream_in limits.max_message []) fault (ap (λ (s : Stream). s.fault) (stream_first limits.max_message)) at);
       })
 
   module _ (calls : List ClientCall) (all : AreAccepted limits tokens calls) (is : Agrees (stream_in limits.max_message calls) (client_after limits tokens calls)) where

@@ -18,6 +18,7 @@ use Rattle.coap_serve.specs.world.Shows.{Shows}
 use Rattle.coap_serve.proofs.world.ShowLaws.{shows_opened, shows_taken, shows_written, shows_ticked, shows_put, shows_removed, shows_ended, shows_released, shows_dropped}
 use Rattle.coap_serve.proofs.scripting.CutTakes.{absent_stuck, stuck_turns, fed_in_parts}
 use Rattle.coap_serve.proofs.world.CallLaws.{not_refused}
+use Rattle.coap_serve.proofs.values.OptionLemmas.{none_made}
 
 -- ---- a server that shows a world shows one after each event of a script
 
@@ -35,22 +36,18 @@ connection_shown : (v : ServerValue) (word : List ℕ) (id : ℕ) (does : Sessio
 connection_shown v word id does None shown next = shown
 connection_shown v word id does (Some s) shown next = next s refl
 
-no_number : {F : Type 0} (number_of : F → ℕ) (refusal : Option F) → option_map number_of refusal ≡ None → refusal ≡ None
-no_number number_of None none = refl
-no_number number_of (Some fault) none = absurd cc
-
 -- `open`
-opened_by : (v : ServerValue) → IsShown v → (full spent : Bool) → nat_le v.config.connections (length v.sessions) ≡ full → (v.ids == 18446744073709551615) ≡ spent → (if full then Some opening.Full else (if spent then Some opening.IdsSpent else None)) ≡ None → IsShown (server_opened v)
-opened_by v shown true spent is_full is_spent none = absurd cc
-opened_by v shown false true is_full is_spent none = absurd cc
-opened_by v shown false false is_full is_spent none =
+open_shown_by : (v : ServerValue) → IsShown v → (full spent : Bool) → nat_le v.config.connections (length v.sessions) ≡ full → (v.ids == 18446744073709551615) ≡ spent → (if full then Some opening.Full else (if spent then Some opening.IdsSpent else None)) ≡ None → IsShown (server_opened v)
+open_shown_by v shown true spent is_full is_spent none = absurd cc
+open_shown_by v shown false true is_full is_spent none = absurd cc
+open_shown_by v shown false false is_full is_spent none =
     let room = leb-false v.config.connections (length v.sessions) is_full in
     let ids = shown.ids in
     let fits : v.ids + 1 ≤ 18446744073709551615 = omega (arith, eqb-false v.ids 18446744073709551615 is_spent, ids) in
     record { events = _; shows = shows_opened v shown.events shown.shows fits (omega (arith, room)); ids = omega (arith, fits) }
 
-opened : (v : ServerValue) → IsShown v → open_refusal v ≡ None → IsShown (server_opened v)
-opened v shown none = opened_by v shown (nat_le v.config.connections (length v.sessions)) (v.ids == 18446744073709551615) refl refl none
+open_shown : (v : ServerValue) → IsShown v → open_refusal v ≡ None → IsShown (server_opened v)
+open_shown v shown none = open_shown_by v shown (nat_le v.config.connections (length v.sessions)) (v.ids == 18446744073709551615) refl refl none
 
 -- `in`
 ids_on : (v : ServerValue) (id : ℕ) (piece : List ℕ) (found : Option SessionValue) → (server_taken_on v id piece found).ids ≡ v.ids
@@ -61,19 +58,19 @@ ids_stay : (v : ServerValue) (id : ℕ) (piece : List ℕ) → (server_taken v i
 unfolding server_taken
 ids_stay v id piece = ids_on v id piece (session_of id v.sessions)
 
-taken_by : (v : ServerValue) (id : ℕ) (piece : List ℕ) (found : Option SessionValue) → session_of id v.sessions ≡ found → IsShown v → IsShown (server_taken v id piece)
+take_shown_by : (v : ServerValue) (id : ℕ) (piece : List ℕ) (found : Option SessionValue) → session_of id v.sessions ≡ found → IsShown v → IsShown (server_taken v id piece)
 unfolding server_taken
-taken_by v id piece None at shown = subst IsShown (sym (ap (server_taken_on v id piece) at)) shown
-taken_by v id piece (Some s) at shown = record { events = _; shows = shows_taken v shown.events id piece s shown.shows at; ids = let ids = shown.ids in omega (arith, ids, ids_stay v id piece) }
+take_shown_by v id piece None at shown = subst IsShown (sym (ap (server_taken_on v id piece) at)) shown
+take_shown_by v id piece (Some s) at shown = record { events = _; shows = shows_taken v shown.events id piece s shown.shows at; ids = let ids = shown.ids in omega (arith, ids, ids_stay v id piece) }
 
-turn_shown : (id : ℕ) (bytes : List ℕ) (f : Fed) (going : Bool) → IsShown f.server → IsShown (if going then fed_more id (drop f.count bytes) f else f).server
-turn_shown id bytes f true shown = taken_by f.server id (drop f.count bytes) (session_of id f.server.sessions) refl shown
-turn_shown id bytes f false shown = shown
+fed_turn_shown : (id : ℕ) (bytes : List ℕ) (f : Fed) (going : Bool) → IsShown f.server → IsShown (if going then fed_more id (drop f.count bytes) f else f).server
+fed_turn_shown id bytes f true shown = take_shown_by f.server id (drop f.count bytes) (session_of id f.server.sessions) refl shown
+fed_turn_shown id bytes f false shown = shown
 
 turns_shown : (v : ServerValue) (id : ℕ) (bytes : List ℕ) (turns : ℕ) → IsShown v → IsShown (fed_turns turns v id bytes).server
 unfolding fed_turns
 turns_shown v id bytes zero shown = shown
-turns_shown v id bytes (suc turns) shown = turn_shown id bytes (fed_turns turns v id bytes) (goes_on bytes (fed_turns turns v id bytes)) (turns_shown v id bytes turns shown)
+turns_shown v id bytes (suc turns) shown = fed_turn_shown id bytes (fed_turns turns v id bytes) (goes_on bytes (fed_turns turns v id bytes)) (turns_shown v id bytes turns shown)
 
 -- `drain`
 drained_few : (most : Option ℕ) (waiting : List ℕ) → length (drained most waiting) ≤ length waiting
@@ -86,15 +83,15 @@ ticked_by v now true is none = leb-true v.host.now now is
 ticked_by v now false is none = absurd cc
 
 -- `release`
-released_by : (v : ServerValue) (id : ℕ) (found : Option SessionValue) → session_of id v.sessions ≡ found → released_refusal_on found ≡ None → (s : SessionValue) × (session_of id v.sessions ≡ Some s) × (release_refusal s.link ≡ None)
-released_by v id None at none = absurd cc
-released_by v id (Some s) at none = (s, at, not_refused (release_refusal s.link) none)
+release_finds : (v : ServerValue) (id : ℕ) (found : Option SessionValue) → session_of id v.sessions ≡ found → released_refusal_on found ≡ None → (s : SessionValue) × (session_of id v.sessions ≡ Some s) × (release_refusal s.link ≡ None)
+release_finds v id None at none = absurd cc
+release_finds v id (Some s) at none = (s, at, not_refused (release_refusal s.link) none)
 
 event_shown : (v : ServerValue) (e : EventValue) → IsInTime e → IsShown v → IsShown (event_ran v e).server
 unfolding event_ran
 event_shown v Open in_time shown =
     unless_shown v (codes "open") None (comes_to (server_opened v) (open_line (v.ids + 1))) (option_map open_number (open_refusal v)) shown
-    (λ none. opened v shown (no_number open_number (open_refusal v) none))
+    (λ none. open_shown v shown (none_made open_number (open_refusal v) none))
 event_shown v (In id bytes) in_time shown =
     connection_shown v (codes "in") id (λ s. in_ran id (fed v id bytes)) (session_of id v.sessions) shown (λ s at. turns_shown v id bytes (length bytes) shown)
 event_shown v (Drain id most) in_time shown =
@@ -105,17 +102,17 @@ event_shown v (Tick now) in_time shown =
     (λ none. record { events = _; shows = shows_ticked v shown.events now shown.shows (ticked_by v now (nat_le v.host.now now) refl none) (omega (arith, in_time)); ids = shown.ids })
 event_shown v (Put path format bytes) in_time shown =
     unless_shown v (codes "put") None (comes_to (server_put v path format bytes) (put_line (v.host.store.versions + 1))) (option_map store_number (put_refusal v.host.store path bytes)) shown
-    (λ none. record { events = _; shows = shows_put v shown.events path format bytes shown.shows (no_number store_number (put_refusal v.host.store path bytes) none); ids = shown.ids })
+    (λ none. record { events = _; shows = shows_put v shown.events path format bytes shown.shows (none_made store_number (put_refusal v.host.store path bytes) none); ids = shown.ids })
 event_shown v (Remove path text) in_time shown =
     unless_shown v (codes "remove") None (comes_to (server_removed v path) (remove_line text)) (option_map store_number (remove_refusal v.host.store path)) shown
-    (λ none. record { events = _; shows = shows_removed v shown.events path shown.shows (no_number store_number (remove_refusal v.host.store path) none); ids = shown.ids })
+    (λ none. record { events = _; shows = shows_removed v shown.events path shown.shows (none_made store_number (remove_refusal v.host.store path) none); ids = shown.ids })
 event_shown v (End id) in_time shown =
     connection_shown v (codes "end") id (λ s. comes_to (server_ended v id) (word_line (codes "end") id)) (session_of id v.sessions) shown
     (λ s at. record { events = _; shows = shows_ended v shown.events id s shown.shows at; ids = shown.ids })
 event_shown v (Release id) in_time shown =
     unless_shown v (codes "release") (Some id) (comes_to (server_released v id) (word_line (codes "release") id)) (option_map release_number (released_refusal v id)) shown
     (λ none.
-    let may = released_by v id (session_of id v.sessions) refl (no_number release_number (released_refusal v id) none) in
+    let may = release_finds v id (session_of id v.sessions) refl (none_made release_number (released_refusal v id) none) in
     record { events = _; shows = shows_released v shown.events id may.0 shown.shows may.1 may.2; ids = shown.ids })
 event_shown v (Drop id) in_time shown =
     connection_shown v (codes "drop") id (λ s. comes_to (server_dropped v id) (word_line (codes "drop") id)) (session_of id v.sessions) shown
@@ -223,8 +220,8 @@ module _ (v : ServerValue) (before : List Event) (es fs : List EventValue) (show
   second : RunAlike v fs (joined fs)
   second = joined_alike v fs shown other
 
-  pub same_servers : (replayed v es).server ≡ (replayed v fs).server
-  same_servers = first.server ∙ ap (λ (gs : List EventValue). (replayed v gs).server) alike ∙ sym second.server
+  pub cuts_alike_servers : (replayed v es).server ≡ (replayed v fs).server
+  cuts_alike_servers = first.server ∙ ap (λ (gs : List EventValue). (replayed v gs).server) alike ∙ sym second.server
 
   pub same_lines : other_lines v es ≡ other_lines v fs
   same_lines = first.lines ∙ ap (other_lines v) alike ∙ sym second.lines

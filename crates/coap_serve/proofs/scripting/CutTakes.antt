@@ -40,12 +40,12 @@ servers_alike c es fs alike same =
     ∙ ap (λ (streams : ℕ → Stream). record (server_shown c es w) { sessions = map (λ p. (p.id, session_shown (streams p.id).rest p.side)) w.sides }) (streams_alike c.limits.max_message es fs alike)
 
 -- a server is what the events that it shows leave
-shown_alike : (u v : ServerValue) (es fs : List Event) → u.config ≡ v.config → Shows u es → Shows v fs → SpellAlike v.config.limits.max_message es fs → world_after v.config es ≡ world_after v.config fs → u ≡ v
-shown_alike u v es fs config first second alike same =
+same_where_alike : (u v : ServerValue) (es fs : List Event) → u.config ≡ v.config → Shows u es → Shows v fs → SpellAlike v.config.limits.max_message es fs → world_after v.config es ≡ world_after v.config fs → u ≡ v
+same_where_alike u v es fs config first second alike same =
     first.same ∙ ap (λ (c : ConfigValues). server_of c es) config ∙ servers_alike v.config es fs alike same ∙ sym second.same
 
 shown_same : (u v : ServerValue) (es : List Event) → u.config ≡ v.config → Shows u es → Shows v es → u ≡ v
-shown_same u v es config first second = shown_alike u v es es config first second (λ id. refl) refl
+shown_same u v es config first second = same_where_alike u v es es config first second (λ id. refl) refl
 
 -- ---- a take that takes nothing
 
@@ -65,25 +65,25 @@ no_bytes_alike : (M : ℕ) (es : List Event) (id : ℕ) → SpellAlike M (es ++ 
 no_bytes_alike M es id k = spelled_same M k es (Took id []) (no_bytes_in id k) (λ N. refl)
 
 module _ (v : ServerValue) (es : List Event) (id : ℕ) (shows : Shows v es) (s : SessionValue) (at : session_of id v.sessions ≡ Some s) (t : Side) (there : side_of id (world_after v.config es).sides ≡ Some t) where
-  abbrev M : ℕ
-  M = v.config.limits.max_message
+  abbrev greatest_message : ℕ
+  greatest_message = v.config.limits.max_message
 
-  abbrev N : ℕ
-  N = size_on M id es
+  abbrev size_in_force : ℕ
+  size_in_force = size_on greatest_message id es
 
   abbrev rest : List ℕ
-  rest = (stream_on M id es).rest
+  rest = (stream_on greatest_message id es).rest
 
-  counts : (does : Bool) → handles t ≡ does → (bytes : List ℕ) → count_taken v id bytes ≡ cond does (front_of N rest bytes) 0
-  counts does is bytes = takes_shown v es id bytes shows ∙ takes_there v.config es id bytes t there ∙ ap (λ (b : Bool). cond b (front_of N rest bytes) 0) is
+  counts : (does : Bool) → handles t ≡ does → (bytes : List ℕ) → count_taken v id bytes ≡ cond does (front_of size_in_force rest bytes) 0
+  counts does is bytes = takes_shown v es id bytes shows ∙ takes_there v.config es id bytes t there ∙ ap (λ (b : Bool). cond b (front_of size_in_force rest bytes) 0) is
 
   stopped_stuck : handles t ≡ false → IsStuck v id
   stopped_stuck is = record {
     none = counts false is;
     stays = λ bytes.
-        shown_alike (server_taken v id bytes) v (es ++ Took id [] ∷ []) es (config_stays v id bytes)
+        same_where_alike (server_taken v id bytes) v (es ++ Took id [] ∷ []) es (config_stays v id bytes)
         (subst (λ (n : ℕ). Shows (server_taken v id bytes) (es ++ Took id (take n bytes) ∷ [])) (counts false is bytes) (shows_taken v es id bytes s shows at))
-        shows (no_bytes_alike M es id) (world_same v.config es (Took id []) (no_bytes_steps M id es));
+        shows (no_bytes_alike greatest_message es id) (world_same v.config es (Took id []) (no_bytes_steps greatest_message id es));
   }
 
 -- ---- a take that takes some bytes
@@ -128,8 +128,8 @@ stuck_or_goes v es id shows = stuck_or_there v es id shows (session_of id v.sess
 -- ---- how many bytes of a longer piece are taken
 
 -- two fronts behind what was kept that have the same bytes
-same_front : (kept xs ys : List ℕ) (n k : ℕ) → n ≤ length xs → k ≤ length ys → kept ++ take n xs ≡ kept ++ take k ys → n ≡ k
-same_front kept xs ys n k few less same =
+same_front_length : (kept xs ys : List ℕ) (n k : ℕ) → n ≤ length xs → k ≤ length ys → kept ++ take n xs ≡ kept ++ take k ys → n ≡ k
+same_front_length kept xs ys n k few less same =
     omega (arith, ap (λ (bytes : List ℕ). length bytes) same, length-append kept (take n xs), length-append kept (take k ys), length-take-le n xs few, length-take-le k ys less)
 
 longer_front : (kept xs ys zs : List ℕ) (n k : ℕ) → n ≤ length zs → k ≤ length ys → (kept ++ xs) ++ take n zs ≡ kept ++ take k ys → k ≡ length xs + n
@@ -152,22 +152,19 @@ module _ (M : ℕ) (kept xs zs : List ℕ) (unfinished : beginning M kept ≡ Un
   all_at : (piece : List ℕ) → beginning M (kept ++ piece) ≡ Unfinished → front_of M kept piece ≡ length piece
   all_at piece is = nothing_taken M kept piece unfinished (nothing_at piece is)
 
-  both : (kept ++ xs) ++ zs ≡ kept ++ (xs ++ zs)
-  both = append_assoc kept xs zs
-
   -- something was found: what stands behind it makes no difference
   frame_same : (frame rest : List ℕ) → beginning M (kept ++ xs) ≡ Whole frame rest → front_of M kept (xs ++ zs) ≡ front_of M kept xs
   frame_same frame rest is =
-      let longer : beginning M (kept ++ (xs ++ zs)) ≡ Whole frame (rest ++ zs) = ap (beginning M) (sym both) ∙ whole_more M (kept ++ xs) zs frame rest is in
-      same_front kept (xs ++ zs) xs _ _ (taken_within M kept (xs ++ zs) unfinished) (taken_within M kept xs unfinished)
+      let longer : beginning M (kept ++ (xs ++ zs)) ≡ Whole frame (rest ++ zs) = ap (beginning M) (sym (append_assoc kept xs zs)) ∙ whole_more M (kept ++ xs) zs frame rest is in
+      same_front_length kept (xs ++ zs) xs _ _ (taken_within M kept (xs ++ zs) unfinished) (taken_within M kept xs unfinished)
       (sym (frame_taken M kept (xs ++ zs) frame unfinished (whole_at (xs ++ zs) frame (rest ++ zs) longer)) ∙ frame_taken M kept xs frame unfinished (whole_at xs frame rest is))
 
   fault_same : (fault : FrameFault) → beginning M (kept ++ xs) ≡ Faulty fault → front_of M kept (xs ++ zs) ≡ front_of M kept xs
   fault_same fault is =
-      let longer : beginning M (kept ++ (xs ++ zs)) ≡ Faulty fault = ap (beginning M) (sym both) ∙ faulty_more M (kept ++ xs) zs fault is in
-      same_front kept (xs ++ zs) xs _ _ (taken_within M kept (xs ++ zs) unfinished) (taken_within M kept xs unfinished)
+      let longer : beginning M (kept ++ (xs ++ zs)) ≡ Faulty fault = ap (beginning M) (sym (append_assoc kept xs zs)) ∙ faulty_more M (kept ++ xs) zs fault is in
+      same_front_length kept (xs ++ zs) xs _ _ (taken_within M kept (xs ++ zs) unfinished) (taken_within M kept xs unfinished)
       ((fault_taken M kept (xs ++ zs) fault unfinished (fault_at (xs ++ zs) fault longer)).1
-      ∙ ap (fault_bytes fault) (sym both)
+      ∙ ap (fault_bytes fault) (sym (append_assoc kept xs zs))
       ∙ fault_bytes_more M (kept ++ xs) zs fault is
       ∙ sym (fault_taken M kept xs fault unfinished (fault_at xs fault is)).1)
 
@@ -194,8 +191,8 @@ module _ (M : ℕ) (kept xs zs : List ℕ) (unfinished : beginning M kept ≡ Un
   front_later = later_by (beginning M ((kept ++ xs) ++ zs)) refl
 
 -- nothing is taken of a piece only where there is none
-session_is : (v : ServerValue) (es : List Event) (id : ℕ) (t : Side) → Shows v es → side_of id (world_after v.config es).sides ≡ Some t → (s : SessionValue) × (session_of id v.sessions ≡ Some s)
-session_is v es id t shows there = (session_shown (stream_on v.config.limits.max_message id es).rest t, side_there v es id t shows there)
+session_where_side : (v : ServerValue) (es : List Event) (id : ℕ) (t : Side) → Shows v es → side_of id (world_after v.config es).sides ≡ Some t → (s : SessionValue) × (session_of id v.sessions ≡ Some s)
+session_where_side v es id t shows there = (session_shown (stream_on v.config.limits.max_message id es).rest t, side_there v es id t shows there)
 
 -- ---- a piece that is taken in two parts
 
@@ -219,13 +216,10 @@ goes_shifted : (bytes : List ℕ) (n : ℕ) (f : Fed) → n ≤ length bytes →
 goes_shifted bytes n f within =
     ap (λ (b : Bool). b && not f.done) (lt_shifted n f.count (length bytes) within ∙ ap (λ (k : ℕ). nat_lt f.count k) (sym (length-drop n bytes)))
 
-plus_behind : (n a b : ℕ) → (n + a) + b ≡ n + (a + b)
-plus_behind n a b = omega arith
-
 more_shifted : (id : ℕ) (bytes : List ℕ) (n : ℕ) (f : Fed) → fed_more id (drop (n + f.count) bytes) (shifted n f) ≡ shifted n (fed_more id (drop f.count (drop n bytes)) f)
 more_shifted id bytes n f =
     ap (λ (left : List ℕ). fed_more id left (shifted n f)) (sym (drop-drop f.count n bytes))
-    ∙ ap (λ (k : ℕ). record (fed_more id (drop f.count (drop n bytes)) f) { count = k }) (plus_behind n f.count (count_taken f.server id (drop f.count (drop n bytes))))
+    ∙ ap (λ (k : ℕ). record (fed_more id (drop f.count (drop n bytes)) f) { count = k }) (omega arith)
 
 once_shifted : (id : ℕ) (bytes : List ℕ) (n : ℕ) (f : Fed) → n ≤ length bytes → fed_once id bytes (shifted n f) ≡ shifted n (fed_once id (drop n bytes) f)
 once_shifted id bytes n f within =
@@ -278,8 +272,8 @@ is_over v id bytes =
 
 -- once no take follows, more turns do nothing
 -- so many turns are all
-enough_turns : (v : ServerValue) (id : ℕ) (bytes : List ℕ) (turns : ℕ) → length bytes ≤ turns → fed_turns turns v id bytes ≡ fed v id bytes
-enough_turns v id bytes turns many =
+all_turns_enough : (v : ServerValue) (id : ℕ) (bytes : List ℕ) (turns : ℕ) → length bytes ≤ turns → fed_turns turns v id bytes ≡ fed v id bytes
+all_turns_enough v id bytes turns many =
     let same : turns ≡ length bytes + (turns - length bytes) = omega (arith, many) in
     ap (λ (m : ℕ). fed_turns m v id bytes) same ∙ stays_over v id bytes (length bytes) (is_over v id bytes) (turns - length bytes)
 
@@ -291,7 +285,7 @@ fed_by v id bytes (suc k) counted some within =
     let left : length (drop (suc k) bytes) ≤ length bytes - 1 = omega (arith, length-drop (suc k) bytes, within) in
     ap (λ (turns : ℕ). fed_turns turns v id bytes) all
     ∙ turns_shifted v id bytes k (length bytes - 1) counted within
-    ∙ ap (shifted (suc k)) (enough_turns (server_taken v id bytes) id (drop (suc k) bytes) (length bytes - 1) left)
+    ∙ ap (shifted (suc k)) (all_turns_enough (server_taken v id bytes) id (drop (suc k) bytes) (length bytes - 1) left)
 
 -- ---- takes that take nothing
 
@@ -311,9 +305,9 @@ unfolding fed_turns
 stuck_turns v id stuck bytes zero = record { server = refl; count = refl }
 stuck_turns v id stuck bytes (suc turns) = stuck_turn v id stuck bytes (fed_turns turns v id bytes) (goes_on bytes (fed_turns turns v id bytes)) (stuck_turns v id stuck bytes turns)
 
-nothing_fed : (v : ServerValue) (id : ℕ) → fed v id [] ≡ unfed v
+nothing_fed_of_none : (v : ServerValue) (id : ℕ) → fed v id [] ≡ unfed v
 unfolding fed_turns
-nothing_fed v id = refl
+nothing_fed_of_none v id = refl
 
 -- ---- an `in` that is cut
 
@@ -335,10 +329,10 @@ stuck_parts v id xs ys stuck =
 -- the first part is none
 no_first_part : (v : ServerValue) (id : ℕ) (ys : List ℕ) → IsFedInParts v id [] ys
 no_first_part v id ys = record {
-  server = ap (λ (f : Fed). (fed f.server id ys).server) (sym (nothing_fed v id));
+  server = ap (λ (f : Fed). (fed f.server id ys).server) (sym (nothing_fed_of_none v id));
   count =
       let first : Fed = fed v id [] in
-      omega (arith, ap (λ (f : Fed). f.count) (nothing_fed v id), ap (λ (f : Fed). (fed f.server id ys).count) (nothing_fed v id));
+      omega (arith, ap (λ (f : Fed). f.count) (nothing_fed_of_none v id), ap (λ (f : Fed). (fed f.server id ys).count) (nothing_fed_of_none v id));
 }
 
 -- the second part is none
@@ -347,13 +341,13 @@ no_second_part v id xs =
     let first : Fed = fed v id xs in
     let whole : fed v id (xs ++ []) ≡ first = ap (fed v id) (append-nil xs) in
     record {
-      server = ap (λ (f : Fed). f.server) whole ∙ ap (λ (f : Fed). f.server) (sym (nothing_fed first.server id));
-      count = omega (arith, ap (λ (f : Fed). f.count) whole, ap (λ (f : Fed). f.count) (nothing_fed first.server id));
+      server = ap (λ (f : Fed). f.server) whole ∙ ap (λ (f : Fed). f.server) (sym (nothing_fed_of_none first.server id));
+      count = omega (arith, ap (λ (f : Fed). f.count) whole, ap (λ (f : Fed). f.count) (nothing_fed_of_none first.server id));
     }
 
 module _ (v : ServerValue) (es : List Event) (id : ℕ) (xs ys : List ℕ) (shows : Shows v es) (goes : Goes v es id) where
-  abbrev most : ℕ
-  most = size_on v.config.limits.max_message id es
+  abbrev size_before_take : ℕ
+  size_before_take = size_on v.config.limits.max_message id es
 
   abbrev kept : List ℕ
   kept = (stream_on v.config.limits.max_message id es).rest
@@ -371,13 +365,13 @@ module _ (v : ServerValue) (es : List Event) (id : ℕ) (xs ys : List ℕ) (show
   same_config = config_stays v id (xs ++ ys) ∙ sym (config_stays v id xs)
 
   -- something was found in the first part: the take is the same
-  found_parts : 0 < length xs → front_of most kept (xs ++ ys) ≡ front_of most kept xs
+  found_parts : 0 < length xs → front_of size_before_take kept (xs ++ ys) ≡ front_of size_before_take kept xs
       → ((w : ServerValue) (fs : List Event) (zs : List ℕ) → Shows w fs → length zs < length xs → IsFedInParts w id zs ys)
       → IsFedInParts v id xs ys
   found_parts some same again =
-      let n : ℕ = front_of most kept xs in
-      let takes_some : 1 ≤ n = some_in_front most kept xs goes.unfinished some in
-      let within : n ≤ length xs = taken_within most kept xs goes.unfinished in
+      let n : ℕ = front_of size_before_take kept xs in
+      let takes_some : 1 ≤ n = some_in_front size_before_take kept xs goes.unfinished some in
+      let within : n ≤ length xs = taken_within size_before_take kept xs goes.unfinished in
       let longer : n ≤ length (xs ++ ys) = omega (arith, within, length-append xs ys) in
       let whole_count : count_taken v id (xs ++ ys) ≡ n = goes.counts (xs ++ ys) ∙ same in
       let part_shows = took_shows xs n (goes.counts xs) in
@@ -396,46 +390,46 @@ module _ (v : ServerValue) (es : List Event) (id : ℕ) (xs ys : List ℕ) (show
       }
 
   -- nothing was found in the first part: all of it is taken, and the next take goes on behind it
-  module _ (still : beginning most (kept ++ xs) ≡ Unfinished) (some : 0 < length xs) (more : 0 < length ys) where
-    abbrev fs : List Event
-    fs = es ++ Took id xs ∷ []
+  module _ (still : beginning size_before_take (kept ++ xs) ≡ Unfinished) (some : 0 < length xs) (more : 0 < length ys) where
+    abbrev events_then : List Event
+    events_then = es ++ Took id xs ∷ []
 
     part_count : count_taken v id xs ≡ length xs
-    part_count = goes.counts xs ∙ all_at most kept xs ys goes.unfinished xs still
+    part_count = goes.counts xs ∙ all_at size_before_take kept xs ys goes.unfinished xs still
 
-    part_shows : Shows part_taken fs
+    part_shows : Shows part_taken events_then
     part_shows = subst (λ (bytes : List ℕ). Shows part_taken (es ++ Took id bytes ∷ [])) (take_all (length xs) xs (omega arith)) (took_shows xs (length xs) part_count)
 
-    adds : Adds v.config.limits.max_message id es xs (record { messages = []; rest = kept ++ xs; fault = None })
-    adds = adds_nothing v.config.limits.max_message id es xs goes.no_fault (nothing_at most kept xs ys goes.unfinished xs still)
+    kept_alone_added : Adds v.config.limits.max_message id es xs (record { messages = []; rest = kept ++ xs; fault = None })
+    kept_alone_added = adds_nothing v.config.limits.max_message id es xs goes.no_fault (nothing_at size_before_take kept xs ys goes.unfinished xs still)
 
-    there_still : side_of id (world_after v.config fs).sides ≡ Some goes.side
-    there_still = ap (λ (w : World). side_of id w.sides) (world_same v.config es (Took id xs) adds.steps) ∙ goes.there
+    there_still : side_of id (world_after v.config events_then).sides ≡ Some goes.side
+    there_still = ap (λ (w : World). side_of id w.sides) (world_same v.config es (Took id xs) kept_alone_added.steps) ∙ goes.there
 
-    next_counts : count_taken part_taken id ys ≡ front_of most (kept ++ xs) ys
+    next_counts : count_taken part_taken id ys ≡ front_of size_before_take (kept ++ xs) ys
     next_counts =
         let M : ℕ = v.config.limits.max_message in
-        takes_shown part_taken fs id ys part_shows
-        ∙ ap (λ (c : ConfigValues). takes c fs id ys) (config_stays v id xs)
-        ∙ takes_there v.config fs id ys goes.side there_still
-        ∙ ap (λ (b : Bool). cond b (front_of (size_on M id fs) (stream_on M id fs).rest ys) 0) goes.handling
-        ∙ ap (λ (N : ℕ). front_of N (stream_on M id fs).rest ys) (size_then M id es (Took id xs))
-        ∙ ap (λ (s : Stream). front_of most s.rest ys) adds.stream
+        takes_shown part_taken events_then id ys part_shows
+        ∙ ap (λ (c : ConfigValues). takes c events_then id ys) (config_stays v id xs)
+        ∙ takes_there v.config events_then id ys goes.side there_still
+        ∙ ap (λ (b : Bool). cond b (front_of (size_on M id events_then) (stream_on M id events_then).rest ys) 0) goes.handling
+        ∙ ap (λ (N : ℕ). front_of N (stream_on M id events_then).rest ys) (size_then M id es (Took id xs))
+        ∙ ap (λ (s : Stream). front_of size_before_take s.rest ys) kept_alone_added.stream
 
     later_parts : IsFedInParts v id xs ys
     later_parts =
-        let n : ℕ = front_of most (kept ++ xs) ys in
-        let takes_some : 1 ≤ n = some_in_front most (kept ++ xs) ys still more in
-        let within : n ≤ length ys = taken_within most (kept ++ xs) ys still in
-        let whole_count : count_taken v id (xs ++ ys) ≡ length xs + n = goes.counts (xs ++ ys) ∙ front_later most kept xs ys goes.unfinished still in
+        let n : ℕ = front_of size_before_take (kept ++ xs) ys in
+        let takes_some : 1 ≤ n = some_in_front size_before_take (kept ++ xs) ys still more in
+        let within : n ≤ length ys = taken_within size_before_take (kept ++ xs) ys still in
+        let whole_count : count_taken v id (xs ++ ys) ≡ length xs + n = goes.counts (xs ++ ys) ∙ front_later size_before_take kept xs ys goes.unfinished still in
         let longer : length xs + n ≤ length (xs ++ ys) = omega (arith, within, length-append xs ys) in
         let next_taken : ServerValue = server_taken part_taken id ys in
-        let next_session = session_is part_taken fs id goes.side part_shows (ap (λ (c : ConfigValues). side_of id (world_after c fs).sides) (config_stays v id xs) ∙ there_still) in
-        let next_shows : Shows next_taken (fs ++ Took id (take n ys) ∷ []) =
-        subst (λ (k : ℕ). Shows next_taken (fs ++ Took id (take k ys) ∷ [])) next_counts (shows_taken part_taken fs id ys next_session.0 part_shows next_session.1) in
+        let next_session = session_where_side part_taken events_then id goes.side part_shows (ap (λ (c : ConfigValues). side_of id (world_after c events_then).sides) (config_stays v id xs) ∙ there_still) in
+        let next_shows : Shows next_taken (events_then ++ Took id (take n ys) ∷ []) =
+        subst (λ (k : ℕ). Shows next_taken (events_then ++ Took id (take k ys) ∷ [])) next_counts (shows_taken part_taken events_then id ys next_session.0 part_shows next_session.1) in
         let next_config : next_taken.config ≡ v.config = config_stays part_taken id ys ∙ config_stays v id xs in
         let server_same : whole_taken ≡ next_taken =
-        shown_alike whole_taken next_taken (es ++ Took id (xs ++ take n ys) ∷ []) (fs ++ Took id (take n ys) ∷ []) (config_stays v id (xs ++ ys) ∙ sym next_config)
+        same_where_alike whole_taken next_taken (es ++ Took id (xs ++ take n ys) ∷ []) (events_then ++ Took id (take n ys) ∷ []) (config_stays v id (xs ++ ys) ∙ sym next_config)
         (subst (λ (bytes : List ℕ). Shows whole_taken (es ++ Took id bytes ∷ [])) (take-append-add xs ys n) (took_shows (xs ++ ys) (length xs + n) whole_count))
         next_shows (spelled_twice next_taken.config.limits.max_message es id xs (take n ys)) (world_twice next_taken.config es id xs (take n ys)) in
         let whole : fed v id (xs ++ ys) ≡ shifted (length xs + n) (fed next_taken id (drop n ys)) =
@@ -445,7 +439,7 @@ module _ (v : ServerValue) (es : List Event) (id : ℕ) (xs ys : List ℕ) (show
         let first : fed v id xs ≡ shifted (length xs) (unfed part_taken) =
         fed_by v id xs (length xs) part_count (omega (arith, some)) (omega arith)
         ∙ ap (λ (bytes : List ℕ). shifted (length xs) (fed part_taken id bytes)) (drop-length xs)
-        ∙ ap (shifted (length xs)) (nothing_fed part_taken id) in
+        ∙ ap (shifted (length xs)) (nothing_fed_of_none part_taken id) in
         let second : fed part_taken id ys ≡ shifted n (fed next_taken id (drop n ys)) = fed_by part_taken id ys n next_counts takes_some within in
         record {
           server = ap (λ (f : Fed). f.server) whole ∙ sym (ap (λ (f : Fed). (fed f.server id ys).server) first ∙ ap (λ (f : Fed). f.server) second);

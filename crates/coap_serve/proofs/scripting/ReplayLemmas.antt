@@ -4,6 +4,7 @@ use Rattle.std.proofs.lemmas.Bool.{le-ltb, ne_eqb}
 use Rattle.std.proofs.lemmas.List.{append-nil, take_all, take-append-drop, length-drop, length-take-le, length-map}
 use Rattle.std.proofs.Math.Seq.{take-suc, drop-cons}
 use Rattle.std.proofs.Math.ListN.{get_or-map}
+use Rattle.std.proofs.Math.Bool.{and-false}
 use Rattle.std.specs.Result.{IsErr}
 use Rattle.std.specs.declared.alloc.AllocError.{AllocError}
 use Rattle.coap_store.specs.Paths.{Path}
@@ -76,25 +77,20 @@ abbrev pub refusal_by : Bool → Option ℕ
 refusal_by b = if b then None else Some 1
 
 -- a connection is there exactly where something of it is told
-pub told_none : {A B : Type 0} (f : A → B) (o : Option A) → option_map f o ≡ None → is_there o ≡ false
-told_none f None none = refl
-told_none f (Some x) none = absurd cc
+pub none_told_of_none : {A B : Type 0} (f : A → B) (o : Option A) → option_map f o ≡ None → is_there o ≡ false
+none_told_of_none f None none = refl
+none_told_of_none f (Some x) none = absurd cc
 
-pub is_told : {A B : Type 0} (f : A → B) (o : Option A) → is_some (option_map f o) ≡ is_there o
-is_told f None = refl
-is_told f (Some x) = refl
-
--- what is told of a connection is told of the one that is there
-pub told_of : {A B : Type 0} (f : A → B) (o : Option A) (y : B) → option_map f o ≡ Some y → (x : A) × (o ≡ Some x) × (f x ≡ y)
-told_of f None y some = absurd cc
-told_of f (Some x) y some = (x, refl, cc)
+pub is_told_where_there : {A B : Type 0} (f : A → B) (o : Option A) → is_some (option_map f o) ≡ is_there o
+is_told_where_there f None = refl
+is_told_where_there f (Some x) = refl
 
 -- ---- `remove`
 
 -- the only refusal
-pub no_such : (s : StoreValue) (path : Path) → is_none (remove_refusal s path) ≡ false → remove_refusal s path ≡ Some NoSuch
+pub no_such_path : (s : StoreValue) (path : Path) → is_none (remove_refusal s path) ≡ false → remove_refusal s path ≡ Some NoSuch
 unfolding remove_refusal
-no_such s path refused =
+no_such_path s path refused =
     elim (not (is_dynamic (place_of path))) as (λ b. is_none (if b then Some NoSuch else (if is_none (found_in s.resources path) then Some NoSuch else None)) ≡ false → (if b then Some NoSuch else (if is_none (found_in s.resources path) then Some NoSuch else None)) ≡ Some NoSuch) [
       | true ↦ λ some. refl
       | false ↦ elim (is_none (found_in s.resources path)) as (λ b. is_none (if b then Some NoSuch else None) ≡ false → (if b then Some NoSuch else None) ≡ Some NoSuch) [ true ↦ λ some. refl | false ↦ λ some. absurd cc ]
@@ -142,14 +138,14 @@ stays_over v id bytes n is (suc k) =
     let same : n + suc k ≡ suc (n + k) = omega arith in
     ap (λ (m : ℕ). fed_turns m v id bytes) same ∙ ap (fed_once id bytes) (stays_over v id bytes n is k) ∙ over id bytes (fed_turns n v id bytes) is
 
-all_turns : (v : ServerValue) (id : ℕ) (bytes : List ℕ) (n : ℕ) → goes_on bytes (fed_turns n v id bytes) ≡ false → n ≤ length bytes → fed v id bytes ≡ fed_turns n v id bytes
-all_turns v id bytes n is few =
+no_more_turns : (v : ServerValue) (id : ℕ) (bytes : List ℕ) (n : ℕ) → goes_on bytes (fed_turns n v id bytes) ≡ false → n ≤ length bytes → fed v id bytes ≡ fed_turns n v id bytes
+no_more_turns v id bytes n is few =
     let same : length bytes ≡ n + (length bytes - n) = omega arith in
     ap (λ (m : ℕ). fed_turns m v id bytes) same ∙ stays_over v id bytes n is (length bytes - n)
 
-next_turn : (v : ServerValue) (id : ℕ) (bytes : List ℕ) (n : ℕ) → fed_turns (n + 1) v id bytes ≡ fed_once id bytes (fed_turns n v id bytes)
+one_turn_more : (v : ServerValue) (id : ℕ) (bytes : List ℕ) (n : ℕ) → fed_turns (n + 1) v id bytes ≡ fed_once id bytes (fed_turns n v id bytes)
 unfolding fed_turns
-next_turn v id bytes n =
+one_turn_more v id bytes n =
     let same : n + 1 ≡ suc n = omega arith in
     ap (λ (m : ℕ). fed_turns m v id bytes) same
 
@@ -197,23 +193,16 @@ no_take_shown now id left after none = shows_as now after [] _ (unmade_there (se
 going_on : (bytes : List ℕ) (now : ServerValue) (taken : ℕ) → taken < length bytes → goes_on bytes (record { server = now; count = taken; done = false }) ≡ true
 going_on bytes now taken left = ap (λ (b : Bool). b && true) (lt-ltb taken (length bytes) left)
 
-plus_zero : (n : ℕ) → n + 0 ≡ n
-plus_zero n = omega arith
-
-never : (b : Bool) → (b && false) ≡ false
-never true = refl
-never false = refl
-
 module _ (v : ServerValue) (id : ℕ) (bytes : List ℕ) (now : ServerValue) (taken : ℕ) (feeds : Feeds v id bytes now taken) (left : taken < length bytes) where
-  one_more : fed_turns (feeds.turns + 1) v id bytes ≡ record { server = server_taken now id (drop taken bytes); count = taken + count_taken now id (drop taken bytes); done = count_taken now id (drop taken bytes) == 0 }
-  one_more =
+  turn_more_feeds : fed_turns (feeds.turns + 1) v id bytes ≡ record { server = server_taken now id (drop taken bytes); count = taken + count_taken now id (drop taken bytes); done = count_taken now id (drop taken bytes) == 0 }
+  turn_more_feeds =
       let here : Fed = record { server = now; count = taken; done = false } in
-      next_turn v id bytes feeds.turns
+      one_turn_more v id bytes feeds.turns
       ∙ ap (fed_once id bytes) feeds.so_far
       ∙ ap (λ (b : Bool). if b then fed_more id (drop taken bytes) here else here) (going_on bytes now taken left)
 
-  takes_more : took_turns (feeds.turns + 1) v id bytes ≡ took_turns feeds.turns v id bytes ++ where_there (session_of id now.sessions) (λ s. Took id (take (count_taken now id (drop taken bytes)) (drop taken bytes)))
-  takes_more =
+  took_more_turns : took_turns (feeds.turns + 1) v id bytes ≡ took_turns feeds.turns v id bytes ++ where_there (session_of id now.sessions) (λ s. Took id (take (count_taken now id (drop taken bytes)) (drop taken bytes)))
+  took_more_turns =
       let here : Fed = record { server = now; count = taken; done = false } in
       next_take v id bytes feeds.turns
       ∙ ap (λ (f : Fed). took_turns feeds.turns v id bytes ++ took_once id bytes f) feeds.so_far
@@ -221,16 +210,16 @@ module _ (v : ServerValue) (id : ℕ) (bytes : List ℕ) (now : ServerValue) (ta
 
   shows_more : (after : ServerValue) → ShowsTake now id (drop taken bytes) after → ShowsMore v after (took_turns (feeds.turns + 1) v id bytes)
   shows_more after more =
-      shows_as v after _ _ (sym takes_more) (shows_then v now after (took_turns feeds.turns v id bytes) _ feeds.shows more)
+      shows_as v after _ _ (sym took_more_turns) (shows_then v now after (took_turns feeds.turns v id bytes) _ feeds.shows more)
 
   -- a take took some bytes
-  pub further : (k : ℕ) (after : ServerValue) → k ≤ length (drop taken bytes) → k ≡ count_taken now id (drop taken bytes) → k ≢ 0 → after ≡ server_taken now id (drop taken bytes) → ShowsTake now id (drop taken bytes) after → Feeds v id bytes after (taken + k)
-  further k after within counted some is more = record {
+  pub feeds_more : (k : ℕ) (after : ServerValue) → k ≤ length (drop taken bytes) → k ≡ count_taken now id (drop taken bytes) → k ≢ 0 → after ≡ server_taken now id (drop taken bytes) → ShowsTake now id (drop taken bytes) after → Feeds v id bytes after (taken + k)
+  feeds_more k after within counted some is more = record {
     turns = feeds.turns + 1;
     few = let few = feeds.few in omega (arith, few, some);
     within = omega (arith, within, left, length-drop taken bytes);
     so_far =
-        one_more
+        turn_more_feeds
         ∙ ap (λ (n : ℕ). record { server = server_taken now id (drop taken bytes); count = taken + n; done = n == 0 }) (sym counted)
         ∙ ap (λ (w : ServerValue). record { server = w; count = taken + k; done = k == 0 }) (sym is)
         ∙ ap (λ (b : Bool). record { server = after; count = taken + k; done = b }) (ne_eqb k 0 some);
@@ -238,18 +227,18 @@ module _ (v : ServerValue) (id : ℕ) (bytes : List ℕ) (now : ServerValue) (ta
   }
 
   -- a take took none
-  last_turn : (after : ServerValue) → count_taken now id (drop taken bytes) ≡ 0 → after ≡ server_taken now id (drop taken bytes) → fed_turns (feeds.turns + 1) v id bytes ≡ record { server = after; count = taken; done = true }
-  last_turn after none is =
-      one_more
+  none_taken_turn : (after : ServerValue) → count_taken now id (drop taken bytes) ≡ 0 → after ≡ server_taken now id (drop taken bytes) → fed_turns (feeds.turns + 1) v id bytes ≡ record { server = after; count = taken; done = true }
+  none_taken_turn after none is =
+      turn_more_feeds
       ∙ ap (λ (n : ℕ). record { server = server_taken now id (drop taken bytes); count = taken + n; done = n == 0 }) none
-      ∙ ap (λ (n : ℕ). record { server = server_taken now id (drop taken bytes); count = n; done = true }) (plus_zero taken)
+      ∙ ap (λ (n : ℕ). record { server = server_taken now id (drop taken bytes); count = n; done = true }) (let same : taken + 0 ≡ taken = omega arith in same)
       ∙ ap (λ (w : ServerValue). record { server = w; count = taken; done = true }) (sym is)
 
   it_is_over : (after : ServerValue) → count_taken now id (drop taken bytes) ≡ 0 → after ≡ server_taken now id (drop taken bytes) → goes_on bytes (fed_turns (feeds.turns + 1) v id bytes) ≡ false
-  it_is_over after none is = ap (goes_on bytes) (last_turn after none is) ∙ never (nat_lt taken (length bytes))
+  it_is_over after none is = ap (goes_on bytes) (none_taken_turn after none is) ∙ and-false (nat_lt taken (length bytes))
 
-  pub stopped : (after : ServerValue) → count_taken now id (drop taken bytes) ≡ 0 → after ≡ server_taken now id (drop taken bytes) → fed v id bytes ≡ record { server = after; count = taken; done = true }
-  stopped after none is = all_turns v id bytes (feeds.turns + 1) (it_is_over after none is) (let few = feeds.few in omega (arith, few, left)) ∙ last_turn after none is
+  pub fed_and_stopped : (after : ServerValue) → count_taken now id (drop taken bytes) ≡ 0 → after ≡ server_taken now id (drop taken bytes) → fed v id bytes ≡ record { server = after; count = taken; done = true }
+  fed_and_stopped after none is = no_more_turns v id bytes (feeds.turns + 1) (it_is_over after none is) (let few = feeds.few in omega (arith, few, left)) ∙ none_taken_turn after none is
 
   pub stopped_shows : (after : ServerValue) → count_taken now id (drop taken bytes) ≡ 0 → after ≡ server_taken now id (drop taken bytes) → ShowsTake now id (drop taken bytes) after → ShowsMore v after (took v id bytes)
   stopped_shows after none is more =
@@ -283,7 +272,7 @@ used_up v id bytes now taken feeds none =
     let over_now : nat_lt taken (length bytes) ≡ false = le-ltb taken (length bytes) none in
     let few = feeds.few in
     let within = feeds.within in
-    all_turns v id bytes feeds.turns (ap (goes_on bytes) feeds.so_far ∙ ap (λ (b : Bool). b && true) over_now) (omega (arith, few, within)) ∙ feeds.so_far
+    no_more_turns v id bytes feeds.turns (ap (goes_on bytes) feeds.so_far ∙ ap (λ (b : Bool). b && true) over_now) (omega (arith, few, within)) ∙ feeds.so_far
 
 pub used_up_shows : (v : ServerValue) (id : ℕ) (bytes : List ℕ) (now : ServerValue) (taken : ℕ) → Feeds v id bytes now taken → length bytes ≤ taken → ShowsMore v now (took v id bytes)
 used_up_shows v id bytes now taken feeds none =
@@ -293,15 +282,15 @@ used_up_shows v id bytes now taken feeds none =
     shows_as v now _ _ (sym (all_takes v id bytes feeds.turns (ap (goes_on bytes) feeds.so_far ∙ ap (λ (b : Bool). b && true) over_now) (omega (arith, few, within)))) feeds.shows
 
 -- no connection has the number: nothing is taken, and nothing changes
-pub none_there : (now : ServerValue) (id : ℕ) (piece : List ℕ) (after : ServerValue) → IsNotTaken now id piece taking.NoSuch after → (count_taken now id piece ≡ 0) × (after ≡ server_taken now id piece)
+pub take_where_none : (now : ServerValue) (id : ℕ) (piece : List ℕ) (after : ServerValue) → IsNotTaken now id piece taking.NoSuch after → (count_taken now id piece ≡ 0) × (after ≡ server_taken now id piece)
 unfolding server_taken count_taken
-none_there now id piece after none = (ap (count_on now piece) none.0, none.1 ∙ sym (ap (server_taken_on now id piece) none.0))
+take_where_none now id piece after none = (ap (count_on now piece) none.0, none.1 ∙ sym (ap (server_taken_on now id piece) none.0))
 
 -- ---- one event after the other
 
 -- what stands behind two texts
-behind_both : (s t : List ℕ) (r : Ran) → behind s (behind t r) ≡ behind (s ++ t) r
-behind_both s t r = ap (comes_to r.server) (sym (append_assoc s t r.text))
+texts_behind : (s t : List ℕ) (r : Ran) → behind s (behind t r) ≡ behind (s ++ t) r
+texts_behind s t r = ap (comes_to r.server) (sym (append_assoc s t r.text))
 
 -- events behind others are replayed on the server after these
 pub replayed_on : (v : ServerValue) (es fs : List EventValue) → replayed v (es ++ fs) ≡ behind (replayed v es).text (replayed (replayed v es).server fs)
@@ -309,7 +298,7 @@ unfolding replayed
 replayed_on v [] fs = refl
 replayed_on v (e ∷ es) fs =
     ap (behind (event_ran v e).text) (replayed_on (event_ran v e).server es fs)
-    ∙ behind_both (event_ran v e).text (replayed (event_ran v e).server es).text (replayed (replayed (event_ran v e).server es).server fs)
+    ∙ texts_behind (event_ran v e).text (replayed (event_ran v e).server es).text (replayed (replayed (event_ran v e).server es).server fs)
 
 replayed_one : (v : ServerValue) (e : EventValue) → replayed v (e ∷ []) ≡ event_ran v e
 unfolding replayed
@@ -328,12 +317,12 @@ unfolding replayed
 none_replayed v all x = record { server_is = refl; written = bytes_none x }
 
 -- an event among others
-pub record Stands (all : List EventValue) (index : ℕ) (e : EventValue) : Type 0 where
+pub record StandsAt (all : List EventValue) (index : ℕ) (e : EventValue) : Type 0 where
   pub within : index < length all
   pub all_is : all ≡ take index all ++ e ∷ drop (index + 1) all
   pub more : take (index + 1) all ≡ take index all ++ e ∷ []
 
-pub stands : (events : List Event) (index : ℕ) (x : Event) → index < length events → x ≡ get_or events index x → Stands (map event_value events) index (event_value x)
+pub stands : (events : List Event) (index : ℕ) (x : Event) → index < length events → x ≡ get_or events index x → StandsAt (map event_value events) index (event_value x)
 stands events index x lt is =
     let all : List EventValue = map event_value events in
     let within : index < length all = omega (arith, lt, length-map events event_value) in
@@ -352,7 +341,7 @@ stands events index x lt is =
           ∙ ap (λ (e : EventValue). take index all ++ e ∷ []) found;
     }
 
-module _ (v : ServerValue) (all : List EventValue) (index : ℕ) (now : ServerValue) (x y : Option (List ℕ)) (so_far : Replays v all index now x y) (e : EventValue) (stands : Stands all index e) where
+module _ (v : ServerValue) (all : List EventValue) (index : ℕ) (now : ServerValue) (x y : Option (List ℕ)) (so_far : Replays v all index now x y) (e : EventValue) (stands : StandsAt all index e) where
   -- memory was refused for the event
   pub refused_at : (number : ℕ) (after : ServerValue) → number ≡ index + 1 → IsUnrun now e after → IsRefusedAt v all number after (AddsBytes x y)
   refused_at number after counted unrun = record {

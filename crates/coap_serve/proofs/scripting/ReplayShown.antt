@@ -6,7 +6,7 @@ use Rattle.coap_serve.specs.script.Shown.{events_made, events_ran, ShowsMore, Is
 use Rattle.coap_serve.specs.values.Servers.{ServerValue}
 use Rattle.coap_serve.specs.world.Events.{Event}
 use Rattle.coap_serve.specs.world.Shows.{Shows}
-use Rattle.coap_serve.proofs.scripting.ReplayLemmas.{Replays, Stands}
+use Rattle.coap_serve.proofs.scripting.ReplayLemmas.{Replays, StandsAt}
 use Rattle.coap_serve.proofs.scripting.ShownLemmas.{shows_same, shows_then, shows_as, events_ran_more}
 
 -- after the first events the server shows theirs
@@ -17,7 +17,7 @@ pub none_shown : (v : ServerValue) (all : List EventValue) → ShowsFirst v all 
 unfolding events_ran
 none_shown v all = shows_same v v refl
 
-module _ (v : ServerValue) (all : List EventValue) (index : ℕ) (now : ServerValue) (x y : Option (List ℕ)) (so_far : Replays v all index now x y) (shown : ShowsFirst v all index now) (e : EventValue) (stands : Stands all index e) where
+module _ (v : ServerValue) (all : List EventValue) (index : ℕ) (now : ServerValue) (x y : Option (List ℕ)) (so_far : Replays v all index now x y) (shown : ShowsFirst v all index now) (e : EventValue) (stands : StandsAt all index e) where
   next_ran : events_ran v (take index all) ++ events_made now e ≡ events_ran v (take (index + 1) all)
   next_ran =
       ap (λ (w : ServerValue). events_ran v (take index all) ++ events_made w e) so_far.server_is

@@ -29,13 +29,13 @@ behind_nothing : (r : Result (List EventValue) ℕ) → r ≡ said_behind 0 [] r
 behind_nothing (Ok events) = refl
 behind_nothing (Err line) = let e : line ≡ 0 + line = omega arith in ap Err e
 
-behind_both : (n : ℕ) (first second : List EventValue) (r : Result (List EventValue) ℕ) → said_behind 1 first (said_behind n second r) ≡ said_behind (n + 1) (first ++ second) r
-behind_both n first second (Ok events) = ap Ok (sym (append_assoc first second events))
-behind_both n first second (Err line) = let e : 1 + (n + line) ≡ n + 1 + line = omega arith in ap Err e
+events_said_behind : (n : ℕ) (first second : List EventValue) (r : Result (List EventValue) ℕ) → said_behind 1 first (said_behind n second r) ≡ said_behind (n + 1) (first ++ second) r
+events_said_behind n first second (Ok events) = ap Ok (sym (append_assoc first second events))
+events_said_behind n first second (Err line) = let e : 1 + (n + line) ≡ n + 1 + line = omega arith in ap Err e
 
 line_then_on : (n : ℕ) (events : Option (List EventValue)) (s r : Result (List EventValue) ℕ) → said_by_line events (said_on n s r) ≡ said_on (n + 1) (said_by_line events s) r
 line_then_on n None s r = refl
-line_then_on n (Some first) (Ok second) r = behind_both n first second r
+line_then_on n (Some first) (Ok second) r = events_said_behind n first second r
 line_then_on n (Some first) (Err line) r = refl
 
 lines_then_others : (ps qs : List (List ℕ)) → 1 ≤ length qs → said_by_parts (ps ++ qs) ≡ said_on (length ps) (said_by_parts (ps ++ [] ∷ [])) (said_by_parts qs)
@@ -51,8 +51,8 @@ lines_then_others (p ∷ ps) qs some =
     ∙ ap (λ s. said_on (length ps + 1) s (said_by_parts qs)) (sym (line_and_others p (ps ++ [] ∷ []) (omega arith)))
     ∙ ap (λ (n : ℕ). said_on n (said_by_parts (p ∷ (ps ++ [] ∷ []))) (said_by_parts qs)) count
 
-pub goes_on : (lines more : List ℕ) → script_of (lines ++ newline ∷ more) ≡ said_on (count_by (λ b. b == newline) lines + 1) (script_of (lines ++ newline ∷ [])) (script_of more)
-goes_on lines more =
+pub script_goes_on : (lines more : List ℕ) → script_of (lines ++ newline ∷ more) ≡ said_on (count_by (λ b. b == newline) lines + 1) (script_of (lines ++ newline ∷ [])) (script_of more)
+script_goes_on lines more =
     let ps = parts newline lines in
     let qs = parts newline more in
     let count = length-slice_split (λ b. b == newline) lines in

@@ -42,9 +42,9 @@ taken_on lines old new None behind takes = cc takes
 taken_on lines old new (Some events) (Ok others) takes = ap Ok (sym (append_assoc old events others) ∙ ap (λ l. l ++ others) (sym takes.1))
 taken_on lines old new (Some events) (Err line) takes = let sum : lines + (1 + line) ≡ lines + 1 + line = omega arith in ap Err sum
 
-refused_there : (lines : ℕ) (old new : List EventValue) (events : Option (List EventValue)) (behind : Result (List EventValue) ℕ) → TakesLine false old new events → said_behind lines old (said_by_line events behind) ≡ Err (lines + 1)
-refused_there lines old new None behind takes = refl
-refused_there lines old new (Some events) behind takes = cc takes.0
+refused_on : (lines : ℕ) (old new : List EventValue) (events : Option (List EventValue)) (behind : Result (List EventValue) ℕ) → TakesLine false old new events → said_behind lines old (said_by_line events behind) ≡ Err (lines + 1)
+refused_on lines old new None behind takes = refl
+refused_on lines old new (Some events) behind takes = cc takes.0
 
 -- what was left is a line and a rest
 pub line_taken : (lines : ℕ) (old new : List EventValue) (left line rest : List ℕ) (all : Result (List EventValue) ℕ) → all ≡ said_behind lines old (said_by_parts (parts newline left)) → parts newline left ≡ line ∷ parts newline rest → TakesLine true old new (events_in line) → all ≡ said_behind (lines + 1) new (said_by_parts (parts newline rest))
@@ -55,7 +55,7 @@ line_taken lines old new left line rest all said cut takes =
 pub line_refused : (lines : ℕ) (old new : List EventValue) (left line rest : List ℕ) (all : Result (List EventValue) ℕ) → all ≡ said_behind lines old (said_by_parts (parts newline left)) → parts newline left ≡ line ∷ parts newline rest → TakesLine false old new (events_in line) → all ≡ Err (lines + 1)
 line_refused lines old new left line rest all said cut takes =
     said ∙ ap (λ ps. said_behind lines old (said_by_parts ps)) cut ∙ ap (said_behind lines old) (line_and_rest line rest)
-    ∙ refused_there lines old new (events_in line) (said_by_parts (parts newline rest)) takes
+    ∙ refused_on lines old new (events_in line) (said_by_parts (parts newline rest)) takes
 
 -- ---- behind the last newline
 

@@ -90,14 +90,14 @@ none_taken_on v id piece None none = refl
 none_taken_on v id piece (Some s) none = absurd cc
 
 module _ (v : ServerValue) (id : ℕ) (none : is_there (session_of id v.sessions) ≡ false) (bytes : List ℕ) where
-  none_taken : (piece : List ℕ) → server_taken v id piece ≡ v
+  absent_takes_none : (piece : List ℕ) → server_taken v id piece ≡ v
   unfolding server_taken
-  none_taken piece = none_taken_on v id piece (session_of id v.sessions) none
+  absent_takes_none piece = none_taken_on v id piece (session_of id v.sessions) none
 
-  same_server : (f : Fed) → f.server ≡ v → (fed_once id bytes f).server ≡ v
-  same_server f is =
+  no_turn_changes : (f : Fed) → f.server ≡ v → (fed_once id bytes f).server ≡ v
+  no_turn_changes f is =
       elim (goes_on bytes f) as (λ b. (if b then fed_more id (drop f.count bytes) f else f).server ≡ v) [
-        | true ↦ ap (λ (w : ServerValue). server_taken w id (drop f.count bytes)) is ∙ none_taken (drop f.count bytes)
+        | true ↦ ap (λ (w : ServerValue). server_taken w id (drop f.count bytes)) is ∙ absent_takes_none (drop f.count bytes)
         | false ↦ is
       ]
 
@@ -108,13 +108,13 @@ module _ (v : ServerValue) (id : ℕ) (none : is_there (session_of id v.sessions
         | false ↦ refl
       ]
 
-  same_servers : (turns : ℕ) → (fed_turns turns v id bytes).server ≡ v
+  no_turns_change : (turns : ℕ) → (fed_turns turns v id bytes).server ≡ v
   unfolding fed_turns
-  same_servers zero = refl
-  same_servers (suc turns) = same_server (fed_turns turns v id bytes) (same_servers turns)
+  no_turns_change zero = refl
+  no_turns_change (suc turns) = no_turn_changes (fed_turns turns v id bytes) (no_turns_change turns)
 
   pub none_taken_there : (turns : ℕ) → took_turns turns v id bytes ≡ []
   unfolding took_turns
   none_taken_there zero = refl
   none_taken_there (suc turns) =
-      ap (λ (es : List Event). es ++ took_once id bytes (fed_turns turns v id bytes)) (none_taken_there turns) ∙ none_took (fed_turns turns v id bytes) (same_servers turns)
+      ap (λ (es : List Event). es ++ took_once id bytes (fed_turns turns v id bytes)) (none_taken_there turns) ∙ none_took (fed_turns turns v id bytes) (no_turns_change turns)

@@ -79,8 +79,8 @@ no_decimal word not = no_value _ (digits_value 10 word) (λ good. not (decimal_p
 pub too_many_digits : (word : List ℕ) → 20 < length word → None ≡ decimal_value word
 too_many_digits word long = no_decimal word (λ (is : IsDecimal word). let few : length word ≤ 20 = is.few in omega arith)
 
-pub other_bytes : (word : List ℕ) → list_all is_ascii_digit word ≡ false → None ≡ decimal_value word
-other_bytes word other = no_decimal word (λ (is : IsDecimal word). let digits : list_all is_ascii_digit word ≡ true = is.digits in cc)
+pub no_decimal_bytes : (word : List ℕ) → list_all is_ascii_digit word ≡ false → None ≡ decimal_value word
+no_decimal_bytes word other = no_decimal word (λ (is : IsDecimal word). let digits : list_all is_ascii_digit word ≡ true = is.digits in cc)
 
 is_decimal : (word : List ℕ) → IsDecimal word → Some (digits_value 10 word) ≡ decimal_value word
 unfolding decimal_value
@@ -152,8 +152,8 @@ hex_of_some (c ∷ cs) some = refl
 pub decoded : (word bytes : List ℕ) → (length word ≡ 0 → ⊥) → decode_of word ≡ Ok bytes → Some bytes ≡ hex_value word
 decoded word bytes some is = sym (hex_of_some word some ∙ ap result_ok is)
 
-pub refused : (word : List ℕ) (fault : FromHexError) → (length word ≡ 0 → ⊥) → (fault ≡ OutOfMemory) ⊎ (decode_of word ≡ Err fault) → (fault ≡ OutOfMemory → ⊥) → None ≡ hex_value word
-refused word fault some why other = elim why [ inl memory ↦ absurd (other memory) | inr is ↦ sym (hex_of_some word some ∙ ap result_ok is) ]
+pub hex_refused : (word : List ℕ) (fault : FromHexError) → (length word ≡ 0 → ⊥) → (fault ≡ OutOfMemory) ⊎ (decode_of word ≡ Err fault) → (fault ≡ OutOfMemory → ⊥) → None ≡ hex_value word
+hex_refused word fault some why other = elim why [ inl memory ↦ absurd (other memory) | inr is ↦ sym (hex_of_some word some ∙ ap result_ok is) ]
 
 -- ---- paths
 

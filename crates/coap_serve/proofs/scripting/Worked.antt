@@ -9,13 +9,13 @@ use Rattle.coap_serve.specs.script.Events as event
 use Rattle.coap_serve.specs.script.Events.{event_of, event_alone, event_with_one, event_with_two, number_event, remove_event, in_event, drain_event, put_event}
 use Rattle.coap_serve.specs.script.Script.{event_in, says_nothing, events_in, said_by_parts, script_of}
 
-nothing : script_of (codes "") ≡ Ok []
+nothing_scripted : script_of (codes "") ≡ Ok []
 unfolding said_by_parts events_in event_in says_nothing event_of event_alone event_with_one event_with_two number_event remove_event in_event drain_event put_event decimal_value hex_value payload_value format_value segments_of path_value key_for is_path percent_decode decode_pairs
-nothing = refl
+nothing_scripted = refl
 
-opened : script_of (codes "open" ++ newline ∷ []) ≡ Ok (event.Open ∷ [])
+open_line_read : script_of (codes "open" ++ newline ∷ []) ≡ Ok (event.Open ∷ [])
 unfolding said_by_parts events_in event_in says_nothing event_of event_alone event_with_one event_with_two number_event remove_event in_event drain_event put_event decimal_value hex_value payload_value format_value segments_of path_value key_for is_path percent_decode decode_pairs
-opened = refl
+open_line_read = refl
 
 came_in : script_of (codes "in 1 00e1" ++ newline ∷ []) ≡ Ok (event.In 1 (0 ∷ 225 ∷ []) ∷ [])
 unfolding said_by_parts events_in event_in says_nothing event_of event_alone event_with_one event_with_two number_event remove_event in_event drain_event put_event decimal_value hex_value payload_value format_value segments_of path_value key_for is_path percent_decode decode_pairs
@@ -93,17 +93,17 @@ too_great : script_of (codes "tick 18446744073709551616" ++ newline ∷ []) ≡ 
 unfolding said_by_parts events_in event_in says_nothing event_of event_alone event_with_one event_with_two number_event remove_event in_event drain_event put_event decimal_value hex_value payload_value format_value segments_of path_value key_for is_path percent_decode decode_pairs
 too_great = refl
 
-too_many_digits : script_of (codes "tick 000000000000000000001" ++ newline ∷ []) ≡ Err 1
+digits_too_many : script_of (codes "tick 000000000000000000001" ++ newline ∷ []) ≡ Err 1
 unfolding said_by_parts events_in event_in says_nothing event_of event_alone event_with_one event_with_two number_event remove_event in_event drain_event put_event decimal_value hex_value payload_value format_value segments_of path_value key_for is_path percent_decode decode_pairs
-too_many_digits = refl
+digits_too_many = refl
 
 signed : script_of (codes "tick +1" ++ newline ∷ []) ≡ Err 1
 unfolding said_by_parts events_in event_in says_nothing event_of event_alone event_with_one event_with_two number_event remove_event in_event drain_event put_event decimal_value hex_value payload_value format_value segments_of path_value key_for is_path percent_decode decode_pairs
 signed = refl
 
-great_format : script_of (codes "put /a 65536 -" ++ newline ∷ []) ≡ Err 1
+format_too_great : script_of (codes "put /a 65536 -" ++ newline ∷ []) ≡ Err 1
 unfolding said_by_parts events_in event_in says_nothing event_of event_alone event_with_one event_with_two number_event remove_event in_event drain_event put_event decimal_value hex_value payload_value format_value segments_of path_value key_for is_path percent_decode decode_pairs
-great_format = refl
+format_too_great = refl
 
 dots : script_of (codes "put /. - -" ++ newline ∷ []) ≡ Err 1
 unfolding said_by_parts events_in event_in says_nothing event_of event_alone event_with_one event_with_two number_event remove_event in_event drain_event put_event decimal_value hex_value payload_value format_value segments_of path_value key_for is_path percent_decode decode_pairs

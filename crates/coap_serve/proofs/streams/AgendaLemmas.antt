@@ -17,6 +17,7 @@ use Rattle.coap_serve.specs.values.Servers.{ServerValue}
 use Rattle.coap_serve.specs.streams.Wires.{IsTold}
 use Rattle.coap_serve.specs.streams.Turns.{FarEnd, agenda_with, agenda_past, IsAsked, IsServed, IsServedOnce, CanGoOn, IsAtRest, IsInTurn, IsRestAnswer, IsAgendaOf, least_with, wants_in, wants_of, can_go_on}
 use Rattle.coap_serve.proofs.world.EntryLemmas.{all_append}
+use Rattle.coap_serve.proofs.values.OptionLemmas.{same_there}
 
 -- ---- what a connection is to be served for
 
@@ -132,10 +133,10 @@ not_so false c e = inl refl
 not_so true true e = inr refl
 not_so true false e = absurd cc
 
-none_first : {X : Type 0} (far : X → FarEnd) (xs : List X) (i : ℕ) → nat_lt 0 i ≡ false → map far (take i xs) ≡ []
-none_first far [] zero e = refl
-none_first far (x ∷ xs) zero e = refl
-none_first far xs (suc i) e = let none : ⊥ = omega (arith, ltb-false 0 (suc i) e) in absurd none
+no_first_ones : {X : Type 0} (far : X → FarEnd) (xs : List X) (i : ℕ) → nat_lt 0 i ≡ false → map far (take i xs) ≡ []
+no_first_ones far [] zero e = refl
+no_first_ones far (x ∷ xs) zero e = refl
+no_first_ones far xs (suc i) e = let none : ⊥ = omega (arith, ltb-false 0 (suc i) e) in absurd none
 
 -- what a connection changes may concern those that were looked at
 pub seen_later : {X : Type 0} (far : X → FarEnd) (xs : List X) (i : ℕ) (a : Agenda) (stamp later : Stamp) → IsAgendaOf a stamp (map far (take i xs)) → IsAgendaOf (agenda_with a (nat_lt 0 i && not (same_stamp later stamp)) None) later (map far (take i xs))
@@ -144,7 +145,7 @@ seen_later far xs i a stamp later seen = record {
   rest = λ none.
       let parts = or_parts a.at_once (nat_lt 0 i && not (same_stamp later stamp)) none in
       elim (not_so (nat_lt 0 i) (same_stamp later stamp) parts.1) [
-        | inl first ↦ subst (AllByRecursion (IsAtRest later)) (sym (none_first far xs i first)) tt
+        | inl first ↦ subst (AllByRecursion (IsAtRest later)) (sym (no_first_ones far xs i first)) tt
         | inr same ↦ subst (λ (s : Stamp). AllByRecursion (IsAtRest s) (map far (take i xs))) (sym (is_same later stamp same)) (seen.rest parts.0)
       ];
 }
@@ -165,14 +166,6 @@ front_kept [] (suc i) = refl
 front_kept (x ∷ xs) zero = refl
 front_kept (x ∷ xs) (suc i) = ap (λ ys. x ∷ ys) (front_kept xs i)
 
-pub length_without : {X : Type 0} (xs : List X) (i : ℕ) → i < length xs → length (remove xs i) + 1 ≡ length xs
-length_without [] i within = absurd (omega (arith, within))
-length_without (x ∷ xs) zero within = omega arith
-length_without (x ∷ xs) (suc i) within =
-    let less : i < length xs = omega (arith, within) in
-    let same : length (remove xs i) + 1 ≡ length xs = length_without xs i less in
-    omega (arith, same)
-
 -- as many values as keys
 pub same_length : {P : Type 0} (es fs : List (ℕ × P)) → keys_of es ≡ keys_of fs → length es ≡ length fs
 same_length es fs same = sym (length-map es (λ e. e.0)) ∙ ap (λ (ks : List ℕ). length ks) same ∙ length-map fs (λ e. e.0)
@@ -191,14 +184,11 @@ entry_more far es i p at =
     let there = value_at es i p at in
     front_more (λ e. far e.1) es i there.0 there.1 ∙ ap (λ q. map (λ e. far e.1) (take i es) ++ far q ∷ []) there.2
 
-same_value : {P : Type 0} (vs : List P) (i : ℕ) (p q : P) → slice_get vs i ≡ Some p → slice_get vs i ≡ Some q → q ≡ p
-same_value vs i p q first second = let both : Some q ≡ Some p = sym second ∙ first in cc
-
 -- one that was served
 pub open_step : {P : Type 0} (far : P → FarEnd) (es : List (ℕ × P)) (i : ℕ) (p q : P) (a b : Agenda) (stamp : Stamp) (ready : Bool) → slice_get (values_of es) i ≡ Some p → slice_get (values_of es) i ≡ Some q
     → IsAgendaOf a stamp (map (λ e. far e.1) (take i es)) → CanGoOn (far q) ready → (far p).wants.stamp ≡ stamp → b ≡ agenda_with a ready (far p).wants.due → IsAgendaOf b stamp (map (λ e. far e.1) (take (i + 1) es))
 open_step far es i p q a b stamp ready at again seen can same is =
-    let here : CanGoOn (far p) ready = subst (λ x. CanGoOn (far x) ready) (same_value (values_of es) i p q at again) can in
+    let here : CanGoOn (far p) ready = subst (λ x. CanGoOn (far x) ready) (same_there q p (sym again ∙ at)) can in
     let more : IsAgendaOf (agenda_with a ready (far p).wants.due) stamp (map (λ e. far e.1) (take i es) ++ far p ∷ []) = seen_more a stamp (map (λ e. far e.1) (take i es)) (far p) ready seen same here in
     subst (λ (x : Agenda). IsAgendaOf x stamp (map (λ e. far e.1) (take (i + 1) es))) (sym is) (subst (λ (ws : List FarEnd). IsAgendaOf (agenda_with a ready (far p).wants.due) stamp ws) (sym (entry_more far es i p at)) more)
 
@@ -268,7 +258,7 @@ one_more_passed far es from i p q stamp before due later order at again passed r
     let more : drop from (take (i + 1) es) ≡ drop from (take i es) ++ there.0 ∷ [] = ap (λ n. drop from (take n es)) next ∙ more_between es from i there.0 order there.1 in
     let ends : map (λ e. far e.1) (drop from (take (i + 1) es)) ≡ map (λ e. far e.1) (drop from (take i es)) ++ far p ∷ [] =
     ap (map (λ e. far e.1)) more ∙ map-append (λ e. far e.1) (drop from (take i es)) (there.0 ∷ []) ∙ ap (λ x. map (λ e. far e.1) (drop from (take i es)) ++ far x ∷ []) there.2 in
-    let here : IsAtRest stamp (far p) = subst (λ x. IsAtRest stamp (far x)) (same_value (values_of es) i p q at again) rests in
+    let here : IsAtRest stamp (far p) = subst (λ x. IsAtRest stamp (far x)) (same_there q p (sym again ∙ at)) rests in
     record {
       rest = subst (AllByRecursion (IsAtRest stamp)) (sym ends) (all_append (IsAtRest stamp) (map (λ e. far e.1) (drop from (take i es))) (far p ∷ []) passed.rest (here, tt));
       due = is ∙ ap (λ d. sooner d (far p).wants.due) passed.due ∙ sym (least_both before (map (λ e. far e.1) (drop from (take i es))) (far p ∷ [])) ∙ ap (least_with before) (sym ends);

@@ -1,6 +1,7 @@
 -- What devices passed on, one call after another.
 use Rattle.std.proofs.Common.{◌≡◌, ◌≢◌, ℕ, zero, suc, Bool, false, ◌||◌, List, [], ◌∷◌, ◌++◌, Option, Some, None, refl, sym, ap, subst, ◌∙◌, append_assoc, inl, inr, ◌⊎◌}
 use Rattle.std.proofs.lemmas.List.{append-nil}
+use Rattle.std.proofs.lemmas.List.Folds.{concat-append}
 use Rattle.std.specs.List.{concat}
 use Rattle.std.specs.Io.KnownBytes.{Consumes}
 use Rattle.coap_serve.specs.streams.Device.{AddsPieces, AddsBytes, Told, FoundEnd, EndsAt, HasGiven, is_failed_write}
@@ -34,10 +35,6 @@ consumes_then None b c xs ys p q = tt
 consumes_then (Some x) None c xs ys p q = absurd p
 consumes_then (Some x) (Some y) None xs ys p q = absurd q
 consumes_then (Some x) (Some y) (Some z) xs ys p q = p ∙ ap (λ (w : List ℕ). xs ++ w) q ∙ sym (append_assoc xs ys z)
-
-pub concat-append : (ps qs : List (List ℕ)) → concat (ps ++ qs) ≡ concat ps ++ concat qs
-concat-append [] qs = refl
-concat-append (p ∷ ps) qs = ap (λ (s : List ℕ). p ++ s) (concat-append ps qs) ∙ sym (append_assoc p (concat ps) (concat qs))
 
 still_ends : (a b c : Option (List ℕ)) (xs : List ℕ) → Consumes a b xs → Consumes b c [] → EndsAt a b → EndsAt a c
 still_ends None b c xs p q e = tt

@@ -25,55 +25,55 @@ use Rattle.coap_serve.proofs.streams.TakeLemmas.{takes_where_going, is_not_missi
 
 -- ---- the end of input
 
-ended_by : (h : History) (cut takes : Bool) → takes ≡ true → HasStopped (cond takes (with_effect h (stop (standing_now h) (end_reason cut) [])) h) (end_reason cut)
-ended_by h cut true is = (refl, refl)
-ended_by h cut false is = absurd cc
+history_ended_by : (h : History) (cut takes : Bool) → takes ≡ true → HasStopped (cond takes (with_effect h (stop (standing_now h) (end_reason cut) [])) h) (end_reason cut)
+history_ended_by h cut true is = (refl, refl)
+history_ended_by h cut false is = absurd cc
 
 -- a connection that takes messages stops at the end of input, and gives up what it holds
 ended_side : (s : Side) (cut : Bool) → takes_messages s.history.phase ≡ true → HasStopped (side_ended s cut).history (end_reason cut)
 unfolding side_ended
-ended_side s cut takes = ended_by s.history cut (takes_messages s.history.phase) takes
+ended_side s cut takes = history_ended_by s.history cut (takes_messages s.history.phase) takes
 
 ended_one : (M : ℕ) (es : List Event) (id : ℕ) → steps_by M es (Ended id) ≡ world.Ended id (is_cut (stream_on M id es).rest) ∷ []
 unfolding steps_by
 ended_one M es id = refl
 
 module _ (c : ConfigValues) (v v1 : ServerValue) (bytes : List ℕ) (stands : Stands c v bytes) (going : (outcome c bytes).stop ≡ None) (config : v1.config ≡ c) (shows : (events : List Event) → Shows v events → Shows v1 (events ++ Ended (only_id c) ∷ [])) where
-  abbrev id : ℕ
-  id = only_id c
+  abbrev ended_id : ℕ
+  ended_id = only_id c
 
-  abbrev es : List Event
-  es = stands.events
+  abbrev events_before_end : List Event
+  events_before_end = stands.events
 
-  abbrev w : World
-  w = world_after c es
+  abbrev world_before_end : World
+  world_before_end = world_after c events_before_end
 
-  there : (s : Side) × (side_of id w.sides ≡ Some s) × (takes_messages s.history.phase ≡ true)
-  there =
+  side_there_still : (s : Side) × (side_of ended_id world_before_end.sides ≡ Some s) × (takes_messages s.history.phase ≡ true)
+  side_there_still =
       let all = world_for_written c bytes in
-      let is : side_of id w.sides ≡ Some all.0 = ap (λ (u : World). side_of id u.sides) stands.world ∙ all.1 in
+      let is : side_of ended_id world_before_end.sides ≡ Some all.0 = ap (λ (u : World). side_of ended_id u.sides) stands.world ∙ all.1 in
       (all.0, is, takes_where_going (stop_of all.0.history.phase) (sym (stop_there c bytes all.0 all.1) ∙ going))
 
-  abbrev cut : Bool
-  cut = is_cut (stream_on c.limits.max_message id es).rest
+  abbrev is_cut_off : Bool
+  is_cut_off = is_cut (stream_on c.limits.max_message ended_id events_before_end).rest
 
   abbrev t : Side
-  t = settled w.store w.now (side_ended there.0 cut)
+  t = settled world_before_end.store world_before_end.now (side_ended side_there_still.0 is_cut_off)
 
-  then : side_of id (world_after c (es ++ Ended id ∷ [])).sides ≡ Some t
+  then : side_of ended_id (world_after c (events_before_end ++ Ended ended_id ∷ [])).sides ≡ Some t
   then =
-      ap (λ (u : World). side_of id u.sides) (world_step c es (Ended id) (world.Ended id cut) (ended_one c.limits.max_message es id))
-      ∙ ended_there c.limits w id cut there.0 there.1
+      ap (λ (u : World). side_of ended_id u.sides) (world_step c events_before_end (Ended ended_id) (world.Ended ended_id is_cut_off) (ended_one c.limits.max_message events_before_end ended_id))
+      ∙ ended_there c.limits world_before_end ended_id is_cut_off side_there_still.0 side_there_still.1
 
-  stopped : stop_of t.history.phase ≡ Some (end_reason (is_cut (stream_of c bytes).rest))
-  stopped =
-      ap stop_of ((settled_still w.store w.now (side_ended there.0 cut)).stopped (end_reason cut) (ended_side there.0 cut there.2)).0
+  stopped_by_end : stop_of t.history.phase ≡ Some (end_reason (is_cut (stream_of c bytes).rest))
+  stopped_by_end =
+      ap stop_of ((settled_still world_before_end.store world_before_end.now (side_ended side_there_still.0 is_cut_off)).stopped (end_reason is_cut_off) (ended_side side_there_still.0 is_cut_off side_there_still.2)).0
       ∙ ap (λ (s : Stream × ℕ). Some (end_reason (is_cut s.0.rest))) (stands.spelled going)
 
-  pub ended_stop : stop_on (session_of id v1.sessions) ≡ Some (end_reason (is_cut (stream_of c bytes).rest))
+  pub ended_stop : stop_on (session_of ended_id v1.sessions) ≡ Some (end_reason (is_cut (stream_of c bytes).rest))
   ended_stop =
-      ap stop_on (side_there v1 (es ++ Ended id ∷ []) id t (shows es stands.shows) (ap (λ (k : ConfigValues). side_of id (world_after k (es ++ Ended id ∷ [])).sides) config ∙ then))
-      ∙ stopped
+      ap stop_on (side_there v1 (events_before_end ++ Ended ended_id ∷ []) ended_id t (shows events_before_end stands.shows) (ap (λ (k : ConfigValues). side_of ended_id (world_after k (events_before_end ++ Ended ended_id ∷ [])).sides) config ∙ then))
+      ∙ stopped_by_end
 
 -- the same where the number has a name
 pub end_stops : (c : ConfigValues) (v v1 : ServerValue) (id : ℕ) (bytes : List ℕ) → IsGoing c v id bytes → v1.config ≡ v.config → ((events : List Event) → Shows v events → Shows v1 (events ++ Ended id ∷ [])) → stop_on (session_of id v1.sessions) ≡ Some (end_reason (is_cut (stream_of c bytes).rest))
@@ -82,9 +82,9 @@ end_stops c v v1 _ bytes goes config shows =
     (ended_stop c v v1 bytes goes.stands goes.going (config ∙ goes.stands.config)) shows
 
 -- the connection is there
-there_by : (o : Option SessionValue) → false ≡ is_there o → o ≡ None
-there_by None e = refl
-there_by (Some s) e = absurd cc
+none_where_not_there : (o : Option SessionValue) → false ≡ is_there o → o ≡ None
+none_where_not_there None e = refl
+none_where_not_there (Some s) e = absurd cc
 
 pub not_there : (c : ConfigValues) (v : ServerValue) (id : ℕ) (bytes : List ℕ) → IsGoing c v id bytes → false ≡ is_there (session_of id v.sessions) → ⊥
-not_there c v id bytes goes none = is_not_missing c v id bytes [] goes (there_by (session_of id v.sessions) none)
+not_there c v id bytes goes none = is_not_missing c v id bytes [] goes (none_where_not_there (session_of id v.sessions) none)

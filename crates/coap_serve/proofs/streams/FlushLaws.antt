@@ -19,7 +19,7 @@ use Rattle.coap_serve.proofs.world.EntryLemmas.{count_due, count_within}
 use Rattle.coap_serve.proofs.world.SettleLaws.{IsAtRest, left_on, once_less, at_rest, settled_rests}
 use Rattle.coap_serve.proofs.world.PlaceLaws.{all_there, changed_here}
 use Rattle.coap_serve.proofs.world.HearingLaws.{AllHear, step_hears}
-use Rattle.coap_serve.proofs.world.ShownLemmas.{unchanged, settled_stays}
+use Rattle.coap_serve.proofs.world.ShownLemmas.{unchanged, side_at_rest_stays}
 use Rattle.coap_serve.proofs.world.HeldLaws.{written_same}
 
 -- ---- one write
@@ -91,10 +91,10 @@ side_times store now zero s = s
 side_times store now (suc turns) s = side_once store now (side_times store now turns s)
 
 -- nothing waits on it, and nothing is to be sent
-abbrev Rests : StoreValue → ℕ → Side → Type 0
-Rests store now s = (waiting_on s ≡ []) × IsAtRest store now s
+abbrev IsFlushedAndAtRest : StoreValue → ℕ → Side → Type 0
+IsFlushedAndAtRest store now s = (waiting_on s ≡ []) × IsAtRest store now s
 
-once_stays : (store : StoreValue) (now : ℕ) (s : Side) → Rests store now s → side_once store now s ≡ s
+once_stays : (store : StoreValue) (now : ℕ) (s : Side) → IsFlushedAndAtRest store now s → side_once store now s ≡ s
 unfolding settled
 once_stays store now s rests =
     ap (λ (bytes : List ℕ). settled store now (side_written s (length bytes))) rests.0
@@ -108,7 +108,7 @@ written_left store now s n =
     ∙ ap (λ (os : List Observer). length s.history.held + count_due (is_due store now) os) (written_observers s n)
 
 -- after a turn nothing waits, or less is left
-once_turn : (store : StoreValue) (now : ℕ) (s : Side) → Rests store now (side_once store now s) ⊎ (left_on store now (side_once store now s) + 1 ≤ left_on store now s)
+once_turn : (store : StoreValue) (now : ℕ) (s : Side) → IsFlushedAndAtRest store now (side_once store now s) ⊎ (left_on store now (side_once store now s) + 1 ≤ left_on store now s)
 unfolding settled
 once_turn store now s =
     let u : Side = side_written s (length (waiting_on s)) in
@@ -117,13 +117,13 @@ once_turn store now s =
       | inr less ↦ inr (omega (arith, less, written_left store now s (length (waiting_on s))))
     ]
 
-times_turn : (turns : ℕ) (store : StoreValue) (now : ℕ) (s : Side) → Rests store now (side_times store now turns s) ⊎ (left_on store now (side_times store now turns s) + turns ≤ left_on store now s)
+times_turn : (turns : ℕ) (store : StoreValue) (now : ℕ) (s : Side) → IsFlushedAndAtRest store now (side_times store now turns s) ⊎ (left_on store now (side_times store now turns s) + turns ≤ left_on store now s)
 unfolding side_times
 times_turn zero store now s = inr (omega arith)
 times_turn (suc turns) store now s =
     let t : Side = side_times store now turns s in
     elim (times_turn turns store now s) [
-      | inl rests ↦ inl (subst (Rests store now) (sym (once_stays store now t rests)) rests)
+      | inl rests ↦ inl (subst (IsFlushedAndAtRest store now) (sym (once_stays store now t rests)) rests)
       | inr few ↦ elim (once_turn store now t) [
         | inl rests ↦ inl rests
         | inr less ↦ inr (omega (arith, few, less))
@@ -131,7 +131,7 @@ times_turn (suc turns) store now s =
     ]
 
 -- no more turns are needed than is held, and observe, together, and one
-times_rest : (store : StoreValue) (now : ℕ) (s : Side) → Rests store now (side_times store now (suc (more_of (Some s))) s)
+times_rest : (store : StoreValue) (now : ℕ) (s : Side) → IsFlushedAndAtRest store now (side_times store now (suc (more_of (Some s))) s)
 times_rest store now s =
     elim (times_turn (suc (more_of (Some s))) store now s) [
       | inl rests ↦ rests
@@ -185,15 +185,15 @@ flushed_empties limits id w s there =
 
 -- ---- where nothing waits
 
-places_stay : (store : StoreValue) (now : ℕ) (ps : List Place) → AllByRecursion (λ p. HearsAll store now p.side) ps → map (settled_place store now) ps ≡ ps
-places_stay store now [] hear = refl
-places_stay store now (p ∷ ps) hear =
-    ap (λ (s : Side). record p { side = s } ∷ map (settled_place store now) ps) (settled_stays store now p.side hear.0)
-    ∙ ap (λ (qs : List Place). p ∷ qs) (places_stay store now ps hear.1)
+settled_places_stay : (store : StoreValue) (now : ℕ) (ps : List Place) → AllByRecursion (λ p. HearsAll store now p.side) ps → map (settled_place store now) ps ≡ ps
+settled_places_stay store now [] hear = refl
+settled_places_stay store now (p ∷ ps) hear =
+    ap (λ (s : Side). record p { side = s } ∷ map (settled_place store now) ps) (side_at_rest_stays store now p.side hear.0)
+    ∙ ap (λ (qs : List Place). p ∷ qs) (settled_places_stay store now ps hear.1)
 
 -- a world in which no change is lost is settled
 pub world_stays : (w : World) → AllHear w → all_settled w ≡ w
-world_stays w hear = ap (λ (ps : List Place). record w { sides = ps }) (places_stay w.store w.now w.sides hear)
+world_stays w hear = ap (λ (ps : List Place). record w { sides = ps }) (settled_places_stay w.store w.now w.sides hear)
 
 -- a step that does nothing in it leaves it
 pub idle_step : (limits : LimitValues) (w : World) (st : Step) → AllHear w → acted limits w st ≡ w → step limits w st ≡ w

@@ -10,7 +10,7 @@ use Rattle.coap_serve.specs.world.World as world
 use Rattle.coap_serve.specs.world.Events.{Event, Wrote, taken_on, stream_on, steps_by, world_after, spelled_on}
 use Rattle.coap_serve.specs.world.Shows.{Shows, session_shown}
 use Rattle.coap_serve.specs.streams.Output.{waiting_of, more_of, written_once, written_times, flushed}
-use Rattle.coap_serve.proofs.values.FlushLemmas.{no_turns, turn_more}
+use Rattle.coap_serve.proofs.values.FlushLemmas.{no_flush_turns, turn_more}
 use Rattle.coap_serve.proofs.world.StepLaws.{taken_then, world_step, spelled_same}
 use Rattle.coap_serve.proofs.world.HearingLaws.{world_hears}
 use Rattle.coap_serve.proofs.streams.FlushLaws.{flushed_so, flushed_early}
@@ -43,65 +43,65 @@ no_turn c v es id s config shows is =
 
 -- one turn more
 module _ (c : ConfigValues) (es : List Event) (id : ℕ) (s : Side) (turns : ℕ) (now : ServerValue) (text : List ℕ) (so_far : FlushShown c es id s turns now text) where
-  abbrev fs : List Event
-  fs = so_far.events
+  abbrev flush_events : List Event
+  flush_events = so_far.events
 
-  abbrev w : World
-  w = world_after c fs
+  abbrev world_flushed : World
+  world_flushed = world_after c flush_events
 
-  pub session_is : session_of id now.sessions ≡ Some (session_shown (stream_on now.config.limits.max_message id fs).rest so_far.side)
-  session_is = side_there now fs id so_far.side so_far.shows (ap (λ (k : ConfigValues). side_of id (world_after k fs).sides) so_far.config ∙ so_far.there)
+  pub session_is : session_of id now.sessions ≡ Some (session_shown (stream_on now.config.limits.max_message id flush_events).rest so_far.side)
+  session_is = side_there now flush_events id so_far.side so_far.shows (ap (λ (k : ConfigValues). side_of id (world_after k flush_events).sides) so_far.config ∙ so_far.there)
 
   pub waits_shown : waiting_at id now ≡ waiting_on so_far.side
   waits_shown = ap waiting_in session_is
 
-  abbrev n : ℕ
-  n = length (waiting_at id now)
+  abbrev count_waiting : ℕ
+  count_waiting = length (waiting_at id now)
 
   abbrev next : Side
-  next = settled w.store w.now (side_written so_far.side n)
+  next = settled world_flushed.store world_flushed.now (side_written so_far.side count_waiting)
 
-  next_world : world_after c (fs ++ Wrote id n ∷ []) ≡ written_times c.limits id (suc turns) (world_after c es)
+  next_world : world_after c (flush_events ++ Wrote id count_waiting ∷ []) ≡ written_times c.limits id (suc turns) (world_after c es)
   unfolding written_times
   next_world =
-      world_step c fs (Wrote id n) (world.Written id n) (wrote_one c.limits.max_message fs id n)
-      ∙ ap (λ (k : ℕ). world.step c.limits w (world.Written id k)) (ap (λ (b : List ℕ). length b) waits_shown ∙ ap (λ (o : Option Side). length (waiting_of o)) (sym so_far.there))
+      world_step c flush_events (Wrote id count_waiting) (world.Written id count_waiting) (wrote_one c.limits.max_message flush_events id count_waiting)
+      ∙ ap (λ (k : ℕ). world.step c.limits world_flushed (world.Written id k)) (ap (λ (b : List ℕ). length b) waits_shown ∙ ap (λ (o : Option Side). length (waiting_of o)) (sym so_far.there))
       ∙ ap (written_once c.limits id) so_far.world
 
-  next_there : side_of id (world_after c (fs ++ Wrote id n ∷ [])).sides ≡ Some next
+  next_there : side_of id (world_after c (flush_events ++ Wrote id count_waiting ∷ [])).sides ≡ Some next
   next_there =
-      ap (λ (u : World). side_of id u.sides) (world_step c fs (Wrote id n) (world.Written id n) (wrote_one c.limits.max_message fs id n))
-      ∙ written_there c.limits w id n so_far.side so_far.there
+      ap (λ (u : World). side_of id u.sides) (world_step c flush_events (Wrote id count_waiting) (world.Written id count_waiting) (wrote_one c.limits.max_message flush_events id count_waiting))
+      ∙ written_there c.limits world_flushed id count_waiting so_far.side so_far.there
 
   next_said : front_written next ≡ front_written s ++ (text ++ waiting_at id now)
   next_said =
       let t : Side = so_far.side in
-      let wrote : Side = side_written t n in
-      let is = (side_is c fs id t so_far.there).is_history in
-      same_front wrote next ((written_between GoesOn as_before written_goes_on t n).history is) (settled_grows w.store w.now wrote)
+      let wrote : Side = side_written t count_waiting in
+      let is = (side_is c flush_events id t so_far.there).is_history in
+      same_front wrote next ((written_between GoesOn as_before written_goes_on t count_waiting).history is) (settled_grows world_flushed.store world_flushed.now wrote)
       ∙ ap (λ (k : ℕ). front_written (side_written t k)) (ap (λ (b : List ℕ). length b) waits_shown)
       ∙ written_all t
       ∙ ap (λ (b : List ℕ). b ++ waiting_on t) so_far.said
       ∙ append_assoc (front_written s) text (waiting_on t)
       ∙ ap (λ (b : List ℕ). front_written s ++ (text ++ b)) (sym waits_shown)
 
-  turn_shown : FlushShown c es id s (suc turns) (server_written now id n) (text ++ waiting_at id now)
+  turn_shown : FlushShown c es id s (suc turns) (server_written now id count_waiting) (text ++ waiting_at id now)
   turn_shown = record {
     config = so_far.config;
-    events = fs ++ Wrote id n ∷ [];
-    shows = shows_written now fs id n _ so_far.shows session_is (omega (arith, ap (λ (b : List ℕ). length b) waits_shown));
+    events = flush_events ++ Wrote id count_waiting ∷ [];
+    shows = shows_written now flush_events id count_waiting _ so_far.shows session_is (omega (arith, ap (λ (b : List ℕ). length b) waits_shown));
     world = next_world;
-    spelled = spelled_same c.limits.max_message id fs (Wrote id n) refl (λ N. refl) ∙ so_far.spelled;
+    spelled = spelled_same c.limits.max_message id flush_events (Wrote id count_waiting) refl (λ N. refl) ∙ so_far.spelled;
     side = next;
     there = next_there;
     said = next_said;
-    handled = settled_handled w.store w.now (side_written so_far.side n) ∙ written_handled so_far.side n ∙ so_far.handled;
+    handled = settled_handled world_flushed.store world_flushed.now (side_written so_far.side count_waiting) ∙ written_handled so_far.side count_waiting ∙ so_far.handled;
   }
 
 -- all turns
 pub flush_shown : (c : ConfigValues) (v : ServerValue) (es : List Event) (id : ℕ) (s : Side) (turns : ℕ) → v.config ≡ c → Shows v es → side_of id (world_after c es).sides ≡ Some s
     → FlushShown c es id s turns (flush_turns turns id v).server (flush_turns turns id v).text
-flush_shown c v es id s zero config shows is = subst (λ (f : Flush). FlushShown c es id s 0 f.server f.text) (sym (no_turns id v)) (no_turn c v es id s config shows is)
+flush_shown c v es id s zero config shows is = subst (λ (f : Flush). FlushShown c es id s 0 f.server f.text) (sym (no_flush_turns id v)) (no_turn c v es id s config shows is)
 flush_shown c v es id s (suc turns) config shows is =
     let f : Flush = flush_turns turns id v in
     subst (λ (g : Flush). FlushShown c es id s (suc turns) g.server g.text) (sym (turn_more turns id v)) (turn_shown c es id s turns f.server f.text (flush_shown c v es id s turns config shows is))

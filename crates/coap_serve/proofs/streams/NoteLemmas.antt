@@ -142,16 +142,16 @@ other_is_settled other host es now settled same =
 
 -- The stamp is no earlier, and where it is the same, so is the host. All stay settled, and the connections with these numbers are then
 -- as they were.
-record GoesOn (Spared : ℕ → Type 0) (v after : ServerValue) : Type 0 where
+record GoesOnSparing (Spared : ℕ → Type 0) (v after : ServerValue) : Type 0 where
   no_earlier : IsNoEarlier (stamp_of v.host) (stamp_of after.host)
   host : stamp_of after.host ≡ stamp_of v.host → after.host ≡ v.host
   settled : AreSettled v.host v.sessions → AreSettled after.host after.sessions
   spared : (other : ℕ) → Spared other → AreSettled v.host v.sessions → stamp_of after.host ≡ stamp_of v.host → session_of other after.sessions ≡ session_of other v.sessions
 
-nothing_happens : (Spared : ℕ → Type 0) (v : ServerValue) → GoesOn Spared v v
+nothing_happens : (Spared : ℕ → Type 0) (v : ServerValue) → GoesOnSparing Spared v v
 nothing_happens Spared v = record { no_earlier = no_earlier_itself (stamp_of v.host); host = λ e. refl; settled = λ all. all; spared = λ other is all e. refl }
 
-one_then_another : (Spared : ℕ → Type 0) (v w after : ServerValue) → GoesOn Spared v w → GoesOn Spared w after → GoesOn Spared v after
+one_then_another : (Spared : ℕ → Type 0) (v w after : ServerValue) → GoesOnSparing Spared v w → GoesOnSparing Spared w after → GoesOnSparing Spared v after
 one_then_another Spared v w after first later =
     let between : stamp_of after.host ≡ stamp_of v.host → stamp_of w.host ≡ stamp_of v.host = never_back (stamp_of v.host) (stamp_of w.host) (stamp_of after.host) first.no_earlier later.no_earlier in
     let behind : stamp_of after.host ≡ stamp_of v.host → stamp_of after.host ≡ stamp_of w.host = λ e. e ∙ sym (between e) in
@@ -162,7 +162,7 @@ one_then_another Spared v w after first later =
       spared = λ other is all e. later.spared other is (first.settled all) (behind e) ∙ first.spared other is all (between e);
     }
 
-fewer_spared : (Spared Fewer : ℕ → Type 0) (v after : ServerValue) → ((other : ℕ) → Fewer other → Spared other) → GoesOn Spared v after → GoesOn Fewer v after
+fewer_spared : (Spared Fewer : ℕ → Type 0) (v after : ServerValue) → ((other : ℕ) → Fewer other → Spared other) → GoesOnSparing Spared v after → GoesOnSparing Fewer v after
 fewer_spared Spared Fewer v after each on = record { no_earlier = on.no_earlier; host = on.host; settled = on.settled; spared = λ other is all e. on.spared other (each other is) all e }
 
 -- all but one
@@ -170,7 +170,7 @@ abbrev But : ℕ → ℕ → Type 0
 But id other = other ≢ id
 
 -- something happens to one connection, and the host follows
-one_happens : (v : ServerValue) (id : ℕ) (f : SessionValue → SessionValue) (host : Host) → Follows v.host host → GoesOn (But id) v (record v { host = host; sessions = map (settled_entry host) (map (session_becomes id f) v.sessions) })
+one_happens : (v : ServerValue) (id : ℕ) (f : SessionValue → SessionValue) (host : Host) → Follows v.host host → GoesOnSparing (But id) v (record v { host = host; sessions = map (settled_entry host) (map (session_becomes id f) v.sessions) })
 one_happens v id f host follows = record {
   no_earlier = follows.no_earlier;
   host = follows.same;
@@ -179,48 +179,48 @@ one_happens v id f host follows = record {
       other_is_settled other host v.sessions (map (session_becomes id f) v.sessions) (subst (λ (h : Host). AreSettled h v.sessions) (sym (follows.same e)) all) (other_stays other id f v.sessions apart);
 }
 
-takes_once : (v : ServerValue) (id : ℕ) (piece : List ℕ) → GoesOn (But id) v (server_taken v id piece)
+takes_once : (v : ServerValue) (id : ℕ) (piece : List ℕ) → GoesOnSparing (But id) v (server_taken v id piece)
 unfolding server_taken
-takes_once v id piece = elim (session_of id v.sessions) as (λ o. GoesOn (But id) v (server_taken_on v id piece o)) [
+takes_once v id piece = elim (session_of id v.sessions) as (λ o. GoesOnSparing (But id) v (server_taken_on v id piece o)) [
   | None ↦ nothing_happens (But id) v
   | Some s ↦
       let t : Taking = taking v.host s piece in
       one_happens v id (λ _. t.session) (host_changed v.host t.change) (change_follows v.host t.change)
 ]
 
-takes_more : (turns : ℕ) (v : ServerValue) (id : ℕ) (bytes : List ℕ) → GoesOn (But id) v (fed_turns turns v id bytes).server
+takes_sparing : (turns : ℕ) (v : ServerValue) (id : ℕ) (bytes : List ℕ) → GoesOnSparing (But id) v (fed_turns turns v id bytes).server
 unfolding fed_turns
-takes_more zero v id bytes = nothing_happens (But id) v
-takes_more (suc turns) v id bytes =
+takes_sparing zero v id bytes = nothing_happens (But id) v
+takes_sparing (suc turns) v id bytes =
     let f : Fed = fed_turns turns v id bytes in
-    let so_far = takes_more turns v id bytes in
-    elim (goes_on bytes f) as (λ b. GoesOn (But id) v (if b then fed_more id (drop f.count bytes) f else f).server) [
+    let so_far = takes_sparing turns v id bytes in
+    elim (goes_on bytes f) as (λ b. GoesOnSparing (But id) v (if b then fed_more id (drop f.count bytes) f else f).server) [
       | true ↦ one_then_another (But id) v f.server (server_taken f.server id (drop f.count bytes)) so_far (takes_once f.server id (drop f.count bytes))
       | false ↦ so_far
     ]
 
 -- ---- one connection's part of a turn
 
-hears : (v : ServerValue) (id : ℕ) (heard : Got) → GoesOn (But id) v (server_heard v id heard)
+hears : (v : ServerValue) (id : ℕ) (heard : Got) → GoesOnSparing (But id) v (server_heard v id heard)
 hears v id (Bytes n) = nothing_happens (But id) v
 hears v id Later = nothing_happens (But id) v
 hears v id End = one_happens v id session_ended v.host (follows_itself v.host)
 hears v id Failed = nothing_happens (But id) v
 
-writes : (v : ServerValue) (id : ℕ) (wrote : Got) → GoesOn (But id) v (server_wrote v id wrote)
+writes : (v : ServerValue) (id : ℕ) (wrote : Got) → GoesOnSparing (But id) v (server_wrote v id wrote)
 writes v id (Bytes n) = one_happens v id (λ s. session_written s n) v.host (follows_itself v.host)
 writes v id Later = nothing_happens (But id) v
 writes v id End = nothing_happens (But id) v
 writes v id Failed = nothing_happens (But id) v
 
-is_carried_on : (failed may_write : Bool) (v : ServerValue) (id : ℕ) (bytes : List ℕ) (after : ServerValue) (left : List ℕ) (course : Course) → IsCarriedOn failed may_write v id bytes after left course → GoesOn (But id) v after
-is_carried_on true may_write v id bytes after left course carried = subst (GoesOn (But id) v) (sym carried.0) (nothing_happens (But id) v)
+is_carried_on : (failed may_write : Bool) (v : ServerValue) (id : ℕ) (bytes : List ℕ) (after : ServerValue) (left : List ℕ) (course : Course) → IsCarriedOn failed may_write v id bytes after left course → GoesOnSparing (But id) v after
+is_carried_on true may_write v id bytes after left course carried = subst (GoesOnSparing (But id) v) (sym carried.0) (nothing_happens (But id) v)
 is_carried_on false may_write v id bytes after left course carried =
     let w : ServerValue = (fed v id bytes).server in
-    subst (GoesOn (But id) v) (sym carried.server) (one_then_another (But id) v w (server_wrote w id carried.wrote) (takes_more (length bytes) v id bytes) (writes w id carried.wrote))
+    subst (GoesOnSparing (But id) v) (sym carried.server) (one_then_another (But id) v w (server_wrote w id carried.wrote) (takes_sparing (length bytes) v id bytes) (writes w id carried.wrote))
 
 module _ (may_read may_write : Bool) (v : ServerValue) (id : ℕ) (rest : List ℕ) (after : ServerValue) (left : List ℕ) (course : Course) (part : IsServedOnce may_read may_write v id rest after left course) where
-  served_on : GoesOn (But id) v after
+  served_on : GoesOnSparing (But id) v after
   served_on =
       let w : ServerValue = server_heard v id part.heard in
       one_then_another (But id) v w after (hears v id part.heard) (is_carried_on (has_failed part.heard) may_write w id part.bytes after left course part.carried)
@@ -230,7 +230,7 @@ module _ (may_read may_write : Bool) (v : ServerValue) (id : ℕ) (rest : List �
 
 -- ---- a connection goes or comes, and the moment moves on
 
-same_host : (Spared : ℕ → Type 0) (v : ServerValue) (ids : ℕ) (es : Entries) → ((other : ℕ) → Spared other → session_of other es ≡ session_of other v.sessions) → GoesOn Spared v (record v { ids = ids; sessions = map (settled_entry v.host) es })
+same_host : (Spared : ℕ → Type 0) (v : ServerValue) (ids : ℕ) (es : Entries) → ((other : ℕ) → Spared other → session_of other es ≡ session_of other v.sessions) → GoesOnSparing Spared v (record v { ids = ids; sessions = map (settled_entry v.host) es })
 same_host Spared v ids es same = record {
   no_earlier = no_earlier_itself (stamp_of v.host);
   host = λ e. refl;
@@ -238,10 +238,10 @@ same_host Spared v ids es same = record {
   spared = λ other is all e. other_is_settled other v.host v.sessions es all (same other is);
 }
 
-dropped_on : (v : ServerValue) (id : ℕ) → GoesOn (But id) v (server_dropped v id)
+dropped_on : (v : ServerValue) (id : ℕ) → GoesOnSparing (But id) v (server_dropped v id)
 dropped_on v id = same_host (But id) v v.ids (filter (is_other id) v.sessions) (λ other apart. other_is_kept other id v.sessions apart)
 
-opened_on : (v : ServerValue) → GoesOn (But (v.ids + 1)) v (server_opened v)
+opened_on : (v : ServerValue) → GoesOnSparing (But (v.ids + 1)) v (server_opened v)
 opened_on v =
     let s : SessionValue = new_session v.config.limits in
     same_host (But (v.ids + 1)) v (v.ids + 1) (v.sessions ++ (v.ids + 1, s) ∷ []) (λ other apart. other_is_there other (v.ids + 1) s v.sessions apart)
@@ -254,7 +254,7 @@ pub ticked_to_the_same : (v : ServerValue) (later : ℕ) → AreSettled v.host v
 ticked_to_the_same v later settled same =
     ap (server_ticked v) (ap (λ (s : Stamp). s.moment) same) ∙ ap (λ (es : Entries). record v { sessions = es }) (all_settled_stay v.host v.sessions settled)
 
-ticked_on : (Spared : ℕ → Type 0) (v : ServerValue) (later : ℕ) → v.host.now ≤ later → GoesOn Spared v (server_ticked v later)
+ticked_on : (Spared : ℕ → Type 0) (v : ServerValue) (later : ℕ) → v.host.now ≤ later → GoesOnSparing Spared v (server_ticked v later)
 ticked_on Spared v later on = record {
   no_earlier = ticked_no_earlier v later on;
   host = λ e. ap (λ (n : ℕ). record v.host { now = n }) (ap (λ (s : Stamp). s.moment) e);
@@ -264,7 +264,7 @@ ticked_on Spared v later on = record {
 
 -- ---- what was noted
 
-outlook_stays : (Spared : ℕ → Type 0) (v after : ServerValue) (id : ℕ) → GoesOn Spared v after → Spared id → AreSettled v.host v.sessions → stamp_of after.host ≡ stamp_of v.host → outlook_of after id ≡ outlook_of v id
+outlook_stays : (Spared : ℕ → Type 0) (v after : ServerValue) (id : ℕ) → GoesOnSparing Spared v after → Spared id → AreSettled v.host v.sessions → stamp_of after.host ≡ stamp_of v.host → outlook_of after id ≡ outlook_of v id
 outlook_stays Spared v after id on is settled e =
     ap (λ (host : Host). option_map (session_outlook host.now) (session_of id after.sessions)) (on.host e)
     ∙ ap (option_map (session_outlook v.host.now)) (on.spared id is settled e)
@@ -273,7 +273,7 @@ noted_so : (v after : ServerValue) (id : ℕ) (rest : List ℕ) → outlook_of a
 noted_so v after id rest outlook stamp =
     ap (λ (o : Option Outlook). wants_in o (length rest == 0) (stamp_of after.host)) outlook ∙ ap (wants_in (outlook_of v id) (length rest == 0)) stamp
 
-keeps_notes : (id : ℕ) (v after : ServerValue) → AreSettled v.host v.sessions → GoesOn (But id) v after → KeepsNotes id v after
+keeps_notes : (id : ℕ) (v after : ServerValue) → AreSettled v.host v.sessions → GoesOnSparing (But id) v after → KeepsNotes id v after
 keeps_notes id v after settled on = record {
   settled = on.settled settled;
   no_earlier = on.no_earlier;
@@ -295,23 +295,23 @@ noted_where_opened v settled = keeps_notes (v.ids + 1) v (server_opened v) settl
 abbrev Only : ℕ → ℕ → Type 0
 Only id other = other ≡ id
 
-spares_one : (id other : ℕ) (v after : ServerValue) → id ≢ other → GoesOn (But other) v after → GoesOn (Only id) v after
+spares_one : (id other : ℕ) (v after : ServerValue) → id ≢ other → GoesOnSparing (But other) v after → GoesOnSparing (Only id) v after
 spares_one id other v after apart on = fewer_spared (But other) (Only id) v after (λ k is e. apart (sym is ∙ e)) on
 
-passed_on : (id : ℕ) (v after : ServerValue) → WhilePassedOver id v after → GoesOn (Only id) v after
-passed_on id v after AtFirst = nothing_happens (Only id) v
-passed_on id v after (Served before now other rest left may_read may_write course so_far apart part) =
-    one_then_another (Only id) v before now (passed_on id v before so_far) (spares_one id other before now apart (served_on may_read may_write before other rest now left course part))
-passed_on id v after (Dropped before other so_far apart) =
-    one_then_another (Only id) v before (server_dropped before other) (passed_on id v before so_far) (spares_one id other before (server_dropped before other) apart (dropped_on before other))
-passed_on id v after (Opened before so_far apart) =
-    one_then_another (Only id) v before (server_opened before) (passed_on id v before so_far) (spares_one id (before.ids + 1) before (server_opened before) apart (opened_on before))
-passed_on id v after (Ticked before later so_far on) =
-    one_then_another (Only id) v before (server_ticked before later) (passed_on id v before so_far) (ticked_on (Only id) before later on)
+passed_on_sparing : (id : ℕ) (v after : ServerValue) → WhilePassedOver id v after → GoesOnSparing (Only id) v after
+passed_on_sparing id v after AtFirst = nothing_happens (Only id) v
+passed_on_sparing id v after (Served before now other rest left may_read may_write course so_far apart part) =
+    one_then_another (Only id) v before now (passed_on_sparing id v before so_far) (spares_one id other before now apart (served_on may_read may_write before other rest now left course part))
+passed_on_sparing id v after (Dropped before other so_far apart) =
+    one_then_another (Only id) v before (server_dropped before other) (passed_on_sparing id v before so_far) (spares_one id other before (server_dropped before other) apart (dropped_on before other))
+passed_on_sparing id v after (Opened before so_far apart) =
+    one_then_another (Only id) v before (server_opened before) (passed_on_sparing id v before so_far) (spares_one id (before.ids + 1) before (server_opened before) apart (opened_on before))
+passed_on_sparing id v after (Ticked before later so_far on) =
+    one_then_another (Only id) v before (server_ticked before later) (passed_on_sparing id v before so_far) (ticked_on (Only id) before later on)
 
 module _ (id : ℕ) (v after : ServerValue) (rest : List ℕ) (settled : AreSettled v.host v.sessions) (passed : WhilePassedOver id v after) (same : stamp_of after.host ≡ stamp_of v.host) where
   outlook_throughout : outlook_of after id ≡ outlook_of v id
-  outlook_throughout = outlook_stays (Only id) v after id (passed_on id v after passed) refl settled same
+  outlook_throughout = outlook_stays (Only id) v after id (passed_on_sparing id v after passed) refl settled same
 
   pub noted_throughout : wants_of after id rest ≡ wants_of v id rest
   noted_throughout = noted_so v after id rest outlook_throughout same
@@ -319,6 +319,6 @@ module _ (id : ℕ) (v after : ServerValue) (rest : List ℕ) (settled : AreSett
   -- where nothing could be done then, nothing can now
   pub still_nothing_to_do : (i : ℕ) (may_read may_write : Bool) → LiesAt id i after.sessions → can_go_on (wants_of v id rest) may_read may_write ≡ false → is_over_in (outlook_of v id) ≡ false → ComesToNothing may_read may_write after id rest
   still_nothing_to_do i may_read may_write lies idle on =
-      passed_over after id i rest may_read may_write lies ((passed_on id v after passed).settled settled)
+      passed_over after id i rest may_read may_write lies ((passed_on_sparing id v after passed).settled settled)
       (ap (λ (w : Wants). can_go_on w may_read may_write) noted_throughout ∙ idle)
       (ap is_over_in outlook_throughout ∙ on)

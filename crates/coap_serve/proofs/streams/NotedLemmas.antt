@@ -26,9 +26,9 @@ abbrev pub AreOthers : {W : Type 0} → ℕ → List (ℕ × Peer W) → Type 0
 AreOthers id es = AllByRecursion (λ e. e.0 ≢ id) es
 
 -- what follows for each other connection from what held of it, holds of all where all are others
-all_become : {W : Type 0} (P Q : ℕ × Peer W → Type 0) (id : ℕ) (es : List (ℕ × Peer W)) → ((e : ℕ × Peer W) → e.0 ≢ id → P e → Q e) → AreOthers id es → AllByRecursion P es → AllByRecursion Q es
-all_become P Q id [] each apart all = tt
-all_become P Q id (e ∷ es) each apart all = (each e apart.0 all.0, all_become P Q id es each apart.1 all.1)
+others_become : {W : Type 0} (P Q : ℕ × Peer W → Type 0) (id : ℕ) (es : List (ℕ × Peer W)) → ((e : ℕ × Peer W) → e.0 ≢ id → P e → Q e) → AreOthers id es → AllByRecursion P es → AllByRecursion Q es
+others_become P Q id [] each apart all = tt
+others_become P Q id (e ∷ es) each apart all = (each e apart.0 all.0, others_become P Q id es each apart.1 all.1)
 
 stays_noted : {W : Type 0} (id : ℕ) (v after : ServerValue) (e : ℕ × Peer W) → KeepsNotes id v after → e.0 ≢ id → IsNoted v e → IsNoted after e
 stays_noted id v after e keeps apart noted = record {
@@ -39,7 +39,7 @@ stays_noted id v after e keeps apart noted = record {
 }
 
 others_stay_noted : {W : Type 0} (id : ℕ) (v after : ServerValue) (es : List (ℕ × Peer W)) → KeepsNotes id v after → AreOthers id es → AreNoted v es → AreNoted after es
-others_stay_noted id v after es keeps apart noted = all_become (IsNoted v) (IsNoted after) id es (λ e other was. stays_noted id v after e keeps other was) apart noted
+others_stay_noted id v after es keeps apart noted = others_become (IsNoted v) (IsNoted after) id es (λ e other was. stays_noted id v after e keeps other was) apart noted
 
 -- what was noted just now
 noted_now : {W : Type 0} (v : ServerValue) (id : ℕ) (p : Peer W) → p.wants ≡ wants_of v id p.rest → IsNoted v (id, p)
@@ -162,7 +162,7 @@ with_one_more P Q id p (e ∷ es) each one distinct all =
     elim (nat_eq id e.0) as (λ b. nat_eq id e.0 ≡ b → IsDistinct nat_eq (keys_of (if b then (e.0, p) ∷ es else e ∷ insert_entry nat_eq es id p)) → AllByRecursion Q (if b then (e.0, p) ∷ es else e ∷ insert_entry nat_eq es id p)) [
       | true ↦ λ is apart.
           let same : id ≡ e.0 = eqb-true id e.0 is in
-          (subst (λ k. Q (k, p)) same one, all_become P Q id es each (subst (λ k. AreOthers k es) (sym same) (others_by_keys e.0 es apart.0)) all.1)
+          (subst (λ k. Q (k, p)) same one, others_become P Q id es each (subst (λ k. AreOthers k es) (sym same) (others_by_keys e.0 es apart.0)) all.1)
       | false ↦ λ is apart. (each e (λ same. eqb-false id e.0 is (sym same)) all.0, with_one_more P Q id p es each one apart.1 all.1)
     ] refl distinct
 

@@ -44,9 +44,9 @@ bytes_cases id P message faulted other of = absurd of
 abbrev pub AreOfBytes : ℕ → List Step → Type 0
 AreOfBytes id steps = AllByRecursion (IsOfBytes id) steps
 
-messages_are : (id : ℕ) (ms : List Message) → AreOfBytes id (map (world.Handled id) ms)
-messages_are id [] = tt
-messages_are id (m ∷ ms) = (refl, messages_are id ms)
+messages_of_bytes : (id : ℕ) (ms : List Message) → AreOfBytes id (map (world.Handled id) ms)
+messages_of_bytes id [] = tt
+messages_of_bytes id (m ∷ ms) = (refl, messages_of_bytes id ms)
 
 fault_is : (id : ℕ) (before after : Option StreamFault) → AreOfBytes id (new_fault id before after)
 fault_is id before None = tt
@@ -57,7 +57,7 @@ fault_is id (Some old) (Some fault) = tt
 pub beyond_are : (id : ℕ) (before after : Stream) → AreOfBytes id (beyond id before after)
 beyond_are id before after =
     all_append (IsOfBytes id) (map (world.Handled id) (drop (length before.messages) after.messages)) (new_fault id before.fault after.fault)
-    (messages_are id (drop (length before.messages) after.messages)) (fault_is id before.fault after.fault)
+    (messages_of_bytes id (drop (length before.messages) after.messages)) (fault_is id before.fault after.fault)
 
 -- the connection is opened, and then takes bytes
 abbrev fed : ConfigValues → List ℕ → List Event
@@ -127,13 +127,13 @@ step_flushed_grows limits id w st s is there =
     let one : HasGrown id s (step limits w st) = step_grows limits id w st s is there in
     grown_then id s (step limits w st) (flushed limits id (step limits w st)) one (flushed_grows limits id (step limits w st) one.side one.there)
 
-pub after_grows : (limits : LimitValues) (id : ℕ) (w : World) (ss : List Step) (s : Side) → AreOfBytes id ss → side_of id w.sides ≡ Some s → HasGrown id s (flushed_after limits id w ss)
+pub bytes_grow : (limits : LimitValues) (id : ℕ) (w : World) (ss : List Step) (s : Side) → AreOfBytes id ss → side_of id w.sides ≡ Some s → HasGrown id s (flushed_after limits id w ss)
 unfolding flushed_after
-after_grows limits id w [] s all there = grown_self id s w there
-after_grows limits id w (st ∷ ss) s all there =
+bytes_grow limits id w [] s all there = grown_self id s w there
+bytes_grow limits id w (st ∷ ss) s all there =
     let v : World = flushed limits id (step limits w st) in
     let one : HasGrown id s v = step_flushed_grows limits id w st s all.0 there in
-    grown_then id s v (flushed_after limits id v ss) one (after_grows limits id v ss one.side all.1 one.there)
+    grown_then id s v (flushed_after limits id v ss) one (bytes_grow limits id v ss one.side all.1 one.there)
 
 -- the connection is there, and nothing waits on it
 abbrev pub AllIsWritten : ℕ → World → Type 0
@@ -235,7 +235,7 @@ pub side_grows : (c : ConfigValues) (xs ys : List ℕ) (s : Side) → side_for c
 side_grows c xs ys s there =
     let ss : List Step = beyond (only_id c) (stream_of c xs) (stream_of c (xs ++ ys)) in
     subst (HasGrown (only_id c) s) (sym (world_goes_on c xs ys))
-    (after_grows c.limits (only_id c) (world_for c xs) ss s (beyond_are (only_id c) (stream_of c xs) (stream_of c (xs ++ ys))) there)
+    (bytes_grow c.limits (only_id c) (world_for c xs) ss s (beyond_are (only_id c) (stream_of c xs) (stream_of c (xs ++ ys))) there)
 
 -- ---- what is written
 

@@ -1,8 +1,9 @@
 -- The far ends of connections, as they are served in order.
-use Rattle.std.proofs.Common.{◌≡◌, ℕ, zero, suc, ◌+◌, ◌<◌, ◌≤◌, Bool, List, [], ◌∷◌, ◌++◌, length, map, take, drop, remove, Option, Some, None, refl, sym, ap, subst, ◌∙◌, arith, nat_eq, slice_get, IfSome}
+use Rattle.std.proofs.Common.{◌≡◌, ℕ, zero, suc, ◌+◌, ◌<◌, ◌≤◌, Bool, List, [], ◌∷◌, ◌++◌, length, map, take, drop, remove, Option, Some, None, refl, sym, ap, subst, ◌∙◌, arith, nat_eq, slice_get, IfSome, append_assoc}
 use Rattle.std.specs.List.{AllByRecursion}
 use Rattle.std.specs.Map.{keys_of}
-use Rattle.std.proofs.lemmas.List.{append-nil}
+use Rattle.std.proofs.lemmas.List.{append-nil, take_all}
+use Rattle.std.proofs.Math.ListN.{drop_of_length-le}
 use Rattle.indexmap.specs.IndexMap.{insert_entry}
 use Rattle.coap_serve.specs.declared.door.peer.Course.TheVariants.{Open, Over}
 use Rattle.coap_serve.specs.declared.door.peer.Peer.{Peer}
@@ -28,10 +29,6 @@ parted [] (suc from) (suc to) order = refl
 parted (x ∷ xs) (suc from) zero order = absurd (omega (arith, order))
 parted (x ∷ xs) (suc from) (suc to) order = parted xs from to (omega (arith, order))
 
-behind_both : {X : Type 0} (xs ys zs : List X) → (xs ++ ys) ++ zs ≡ xs ++ (ys ++ zs)
-behind_both [] ys zs = refl
-behind_both (x ∷ xs) ys zs = ap (λ rest. x ∷ rest) (behind_both xs ys zs)
-
 one_at : {X : Type 0} (xs : List X) (i : ℕ) → i < length xs → (x : X) × (slice_get xs i ≡ Some x)
 one_at [] i within = absurd (omega (arith, within))
 one_at (x ∷ xs) zero within = (x, refl)
@@ -47,14 +44,6 @@ back_stays [] zero = refl
 back_stays [] (suc i) = refl
 back_stays (x ∷ xs) zero = refl
 back_stays (x ∷ xs) (suc i) = back_stays xs i
-
-all_of : {X : Type 0} (xs : List X) (i : ℕ) → length xs ≤ i → (take i xs ≡ xs) × (drop i xs ≡ [])
-all_of [] zero most = (refl, refl)
-all_of [] (suc i) most = (refl, refl)
-all_of (x ∷ xs) zero most = absurd (omega (arith, most))
-all_of (x ∷ xs) (suc i) most =
-    let rest = all_of xs i (omega (arith, most)) in
-    (ap (λ ys. x ∷ ys) rest.0, rest.1)
 
 -- the same key stands at the index
 same_key : {X : Type 0} (xs ys : List (ℕ × X)) (i : ℕ) (x y : ℕ × X) → keys_of ys ≡ keys_of xs → slice_get xs i ≡ Some x → slice_get ys i ≡ Some y → y.0 ≡ x.0
@@ -74,8 +63,8 @@ if_there None P x at holds = absurd cc
 if_there (Some y) P x at holds = let same : y ≡ x = cc in subst P same holds
 
 -- one more was opened
-pub one_more : {W : Type 0} (v after : ServerValue) (id : ℕ) (p : Peer W) (es now : List (ℕ × Peer W)) → open_refusal v ≡ None → id ≡ v.ids + 1 → after ≡ server_opened v → now ≡ insert_entry nat_eq es id p → p.rest ≡ [] → HasOneMore v es after now
-one_more v after id p es now may number opened entries rest = record {
+pub one_more_opened : {W : Type 0} (v after : ServerValue) (id : ℕ) (p : Peer W) (es now : List (ℕ × Peer W)) → open_refusal v ≡ None → id ≡ v.ids + 1 → after ≡ server_opened v → now ≡ insert_entry nat_eq es id p → p.rest ≡ [] → HasOneMore v es after now
+one_more_opened v after id p es now may number opened entries rest = record {
   peer = p;
   may = may;
   server = opened;
@@ -91,7 +80,7 @@ module _ {W : Type 0} (readable writable : W → Option Bool) where
   both_served u v w es fs ls ms (NoMore start) two = two
   both_served u v w es fs ls ms (PassedOver start e others after left rests rest) two = PassedOver u e (others ++ fs) w (left ++ ms) rests (both_served u v w others fs left ms rest two)
   both_served u v w es fs ls ms (HadItsPart start e others between its after left in_turn part rest) two =
-      subst (AreServed readable writable u (e ∷ others ++ fs) w) (sym (behind_both its left ms))
+      subst (AreServed readable writable u (e ∷ others ++ fs) w) (sym (append_assoc its left ms))
       (HadItsPart u e (others ++ fs) between its w (left ++ ms) in_turn part (both_served between v w others fs left ms rest two))
 
   -- those at rest
@@ -113,7 +102,7 @@ module _ {W : Type 0} (readable writable : W → Option Bool) where
       → AreServedTo u all v now from → AreServedTo u all v now to
   passed_on u v all now from to stamp is order rests before = record {
     done = before.done ++ drop from (take to now);
-    all_of_them = before.all_of_them ∙ ap (λ xs. before.done ++ xs) (parted now from to order) ∙ sym (behind_both before.done (drop from (take to now)) (drop to now));
+    all_of_them = before.all_of_them ∙ ap (λ xs. before.done ++ xs) (parted now from to order) ∙ sym (append_assoc before.done (drop from (take to now)) (drop to now));
     served = subst (AreServed readable writable u (before.done ++ drop from (take to now)) v) (front_between now from to order)
         (both_served u v v before.done (drop from (take to now)) (take from now) (drop from (take to now)) before.served
         (all_passed v (drop from (take to now)) (subst (λ s. AllByRecursion (IsAtRest s) (map (λ e. end_of readable writable e.1) (drop from (take to now)))) is rests)));
@@ -122,7 +111,7 @@ module _ {W : Type 0} (readable writable : W → Option Bool) where
   pub one_further : (u v w : ServerValue) (all es now : List (ℕ × Peer W)) (i at : ℕ) → IfSome (slice_get es i) (λ e. IsInTurn (stamp_of v.host) (end_of readable writable e.1)) → HasGoneOn readable writable v es i w now at → AreServedTo u all v es i → AreServedTo u all w now at
   one_further u v w all es now i at in_turn gone before = record {
     done = before.done ++ gone.e ∷ [];
-    all_of_them = before.all_of_them ∙ ap (λ xs. before.done ++ xs) (next_first es i gone.e gone.there ∙ ap (λ xs. gone.e ∷ xs) (ap (λ n. drop n es) (sym (one_more_than i)) ∙ sym gone.back)) ∙ sym (behind_both before.done (gone.e ∷ []) (drop at now));
+    all_of_them = before.all_of_them ∙ ap (λ xs. before.done ++ xs) (next_first es i gone.e gone.there ∙ ap (λ xs. gone.e ∷ xs) (ap (λ n. drop n es) (sym (one_more_than i)) ∙ sym gone.back)) ∙ sym (append_assoc before.done (gone.e ∷ []) (drop at now));
     served = subst (AreServed readable writable u (before.done ++ gone.e ∷ []) w) (sym gone.front)
         (both_served u v w before.done (gone.e ∷ []) (take i es) gone.its before.served
         (subst (AreServed readable writable v (gone.e ∷ []) w) (append-nil gone.its)
@@ -131,9 +120,8 @@ module _ {W : Type 0} (readable writable : W → Option Bool) where
 
   pub all_are_served : (u v : ServerValue) (all now : List (ℕ × Peer W)) (at : ℕ) → length now ≤ at → AreServedTo u all v now at → AreServed readable writable u all v now
   all_are_served u v all now at most before =
-      let whole = all_of now at most in
-      subst (λ xs. AreServed readable writable u xs v now) (sym (before.all_of_them ∙ ap (λ xs. before.done ++ xs) whole.1 ∙ append-nil before.done))
-      (subst (AreServed readable writable u before.done v) whole.0 before.served)
+      subst (λ xs. AreServed readable writable u xs v now) (sym (before.all_of_them ∙ ap (λ xs. before.done ++ xs) (drop_of_length-le now most) ∙ append-nil before.done))
+      (subst (AreServed readable writable u before.done v) (take_all at now most) before.served)
 
   -- ---- one connection
 

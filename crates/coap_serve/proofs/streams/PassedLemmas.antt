@@ -23,17 +23,17 @@ use Rattle.coap_serve.proofs.world.ShownLemmas.{taking_stopped}
 
 -- ---- it takes nothing
 
-same_there : (es : Entries) (i : ℕ) (s : SessionValue) → slice_get (values_of es) i ≡ Some s → changed_at i (λ _. s) es ≡ es
+shown_the_same : (es : Entries) (i : ℕ) (s : SessionValue) → slice_get (values_of es) i ≡ Some s → changed_at i (λ _. s) es ≡ es
 unfolding changed_at
-same_there [] i s at = refl
-same_there (e ∷ es) zero s at = ap (λ v. (e.0, v) ∷ es) (let is : s ≡ e.1 = cc in is)
-same_there (e ∷ es) (suc i) s at = ap (λ rest. e ∷ rest) (same_there es i s at)
+shown_the_same [] i s at = refl
+shown_the_same (e ∷ es) zero s at = ap (λ v. (e.0, v) ∷ es) (let is : s ≡ e.1 = cc in is)
+shown_the_same (e ∷ es) (suc i) s at = ap (λ rest. e ∷ rest) (shown_the_same es i s at)
 
 untouched : (v : ServerValue) (id i : ℕ) (s : SessionValue) (piece : List ℕ) → LiesAt id i v.sessions → session_of id v.sessions ≡ Some s → AreSettled v.host v.sessions → session_takes s ≡ false → server_taken v id piece ≡ v
 unfolding server_taken
 untouched v id i s piece lies here settled closed =
     ap (server_taken_on v id piece) here ∙ ap (server_taken_so v id) (taking_stopped v.host s piece closed)
-    ∙ ap (λ (es : Entries). record v { sessions = map (settled_entry v.host) es }) (sym (changed_one id (λ _. s) v.sessions i lies.distinct lies.index lies.within) ∙ same_there v.sessions i s (sym lies.found ∙ here))
+    ∙ ap (λ (es : Entries). record v { sessions = map (settled_entry v.host) es }) (sym (changed_one id (λ _. s) v.sessions i lies.distinct lies.index lies.within) ∙ shown_the_same v.sessions i s (sym lies.found ∙ here))
     ∙ ap (λ (es : Entries). record v { sessions = es }) (all_settled_stay v.host v.sessions settled)
 
 none_taken : (v : ServerValue) (id : ℕ) (s : SessionValue) (piece : List ℕ) → session_of id v.sessions ≡ Some s → session_takes s ≡ false → count_taken v id piece ≡ 0
@@ -44,12 +44,12 @@ record IsUntouched (v : ServerValue) (f : Fed) : Type 0 where
   server : f.server ≡ v
   count : f.count ≡ 0
 
-stays : (v : ServerValue) (id i : ℕ) (s : SessionValue) (bytes : List ℕ) (turns : ℕ) → LiesAt id i v.sessions → session_of id v.sessions ≡ Some s → AreSettled v.host v.sessions → session_takes s ≡ false → IsUntouched v (fed_turns turns v id bytes)
+untouched_where_stopped : (v : ServerValue) (id i : ℕ) (s : SessionValue) (bytes : List ℕ) (turns : ℕ) → LiesAt id i v.sessions → session_of id v.sessions ≡ Some s → AreSettled v.host v.sessions → session_takes s ≡ false → IsUntouched v (fed_turns turns v id bytes)
 unfolding fed_turns
-stays v id i s bytes zero lies here settled closed = record { server = refl; count = refl }
-stays v id i s bytes (suc turns) lies here settled closed =
+untouched_where_stopped v id i s bytes zero lies here settled closed = record { server = refl; count = refl }
+untouched_where_stopped v id i s bytes (suc turns) lies here settled closed =
     let f : Fed = fed_turns turns v id bytes in
-    let so_far = stays v id i s bytes turns lies here settled closed in
+    let so_far = untouched_where_stopped v id i s bytes turns lies here settled closed in
     elim (goes_on bytes f) as (λ b. IsUntouched v (if b then fed_more id (drop f.count bytes) f else f)) [
       | true ↦ record {
         server = ap (λ w. server_taken w id (drop f.count bytes)) so_far.server ∙ untouched v id i s (drop f.count bytes) lies here settled closed;
@@ -61,28 +61,28 @@ stays v id i s bytes (suc turns) lies here settled closed =
       | false ↦ so_far
     ]
 
-not_taken : (b : ℕ) (rest : List ℕ) (more : Bool) → (not (length (b ∷ rest) == 0) && more) ≡ false → more ≡ false
-not_taken b rest more = subst (λ c. (not c && more) ≡ false → more ≡ false) (sym (ne_eqb (suc (length rest)) 0 (λ e. omega (arith, e)))) (λ is. is)
+not_taken_now : (b : ℕ) (rest : List ℕ) (more : Bool) → (not (length (b ∷ rest) == 0) && more) ≡ false → more ≡ false
+not_taken_now b rest more = subst (λ c. (not c && more) ≡ false → more ≡ false) (sym (ne_eqb (suc (length rest)) 0 (λ e. omega (arith, e)))) (λ is. is)
 
 -- what was read before and waits for room stays, and where nothing was, nothing is taken
 still_fed : (v : ServerValue) (id i : ℕ) (s : SessionValue) (rest : List ℕ) → LiesAt id i v.sessions → session_of id v.sessions ≡ Some s → AreSettled v.host v.sessions → (wants_of v id rest).take ≡ false → IsUntouched v (fed v id rest)
 unfolding fed_turns
 still_fed v id i s [] lies here settled idle = record { server = refl; count = refl }
 still_fed v id i s (b ∷ rest) lies here settled idle =
-    let closed : session_takes s ≡ false = (or_parts (session_takes s) (is_over s.link.phase) (not_taken b rest (session_takes s || is_over s.link.phase) (rw here at idle))).0 in
-    stays v id i s (b ∷ rest) (length (b ∷ rest)) lies here settled closed
+    let closed : session_takes s ≡ false = (or_parts (session_takes s) (is_over s.link.phase) (not_taken_now b rest (session_takes s || is_over s.link.phase) (rw here at idle))).0 in
+    untouched_where_stopped v id i s (b ∷ rest) (length (b ∷ rest)) lies here settled closed
 
 none_given_up : (phase : Phase) (bytes : List ℕ) → is_over phase ≡ false → left_behind (stop_of phase) bytes ≡ bytes
 none_given_up phase bytes on = elim (stop_of phase) as (λ (why : Option Reason). is_some why ≡ false → left_behind why bytes ≡ bytes) [ None ↦ λ e. refl | Some why ↦ λ e. absurd cc ] on
 
-none_there : (why : Option Reason) → left_behind why [] ≡ []
-none_there None = refl
-none_there (Some why) = refl
+nothing_left_behind : (why : Option Reason) → left_behind why [] ≡ []
+nothing_left_behind None = refl
+nothing_left_behind (Some why) = refl
 
 left_as_it_is : (v : ServerValue) (id : ℕ) (s : SessionValue) (rest : List ℕ) → session_of id v.sessions ≡ Some s → (wants_of v id rest).take ≡ false → left_behind (stop_on (session_of id v.sessions)) rest ≡ rest
-left_as_it_is v id s [] here idle = none_there (stop_on (session_of id v.sessions))
+left_as_it_is v id s [] here idle = nothing_left_behind (stop_on (session_of id v.sessions))
 left_as_it_is v id s (b ∷ rest) here idle =
-    let on : is_over s.link.phase ≡ false = (or_parts (session_takes s) (is_over s.link.phase) (not_taken b rest (session_takes s || is_over s.link.phase) (rw here at idle))).1 in
+    let on : is_over s.link.phase ≡ false = (or_parts (session_takes s) (is_over s.link.phase) (not_taken_now b rest (session_takes s || is_over s.link.phase) (rw here at idle))).1 in
     ap (λ o. left_behind (stop_on o) (b ∷ rest)) here ∙ none_given_up s.link.phase (b ∷ rest) on
 
 rest_stays : (v : ServerValue) (id : ℕ) (s : SessionValue) (rest : List ℕ) → session_of id v.sessions ≡ Some s → (wants_of v id rest).take ≡ false → IsUntouched v (fed v id rest) → rest_left v id rest ≡ rest
@@ -105,8 +105,8 @@ middle false b c e = absurd cc
 laid_again : (may_read : Bool) (v : ServerValue) (id : ℕ) (rest : List ℕ) → IsLaidOut (is_heard may_read v id rest) rest Later rest
 laid_again may_read v id rest = laid_by (is_heard may_read v id rest) rest (λ e. eqb-true (length rest) 0 (middle may_read (length rest == 0) (can_take_on (session_of id v.sessions)) e))
 
-passed_on : (v : ServerValue) (id i : ℕ) (s : SessionValue) (rest : List ℕ) (may_read may_write : Bool) → LiesAt id i v.sessions → session_of id v.sessions ≡ Some s → AreSettled v.host v.sessions → (wants_of v id rest).take ≡ false → is_over_in (outlook_of v id) ≡ false → IsServedOnce may_read may_write v id rest v rest Open
-passed_on v id i s rest may_read may_write lies here settled idle on =
+passed_on_untouched : (v : ServerValue) (id i : ℕ) (s : SessionValue) (rest : List ℕ) (may_read may_write : Bool) → LiesAt id i v.sessions → session_of id v.sessions ≡ Some s → AreSettled v.host v.sessions → (wants_of v id rest).take ≡ false → is_over_in (outlook_of v id) ≡ false → IsServedOnce may_read may_write v id rest v rest Open
+passed_on_untouched v id i s rest may_read may_write lies here settled idle on =
     let same = still_fed v id i s rest lies here settled idle in
     record {
       heard = Later;
@@ -140,16 +140,16 @@ not_written true waiting e = nil_from_length waiting (let none = ltb-false 0 (le
 
 module _ (v : ServerValue) (id i : ℕ) (s : SessionValue) (rest : List ℕ) (may_read may_write : Bool) (lies : LiesAt id i v.sessions) (here : session_of id v.sessions ≡ Some s) (settled : AreSettled v.host v.sessions) where
   module _ (idle : can_go_on (wants_of v id rest) may_read may_write ≡ false) where
-    parts : (((wants_of v id rest).take || ((wants_of v id rest).read && may_read)) ≡ false) × (((wants_of v id rest).write && may_write) ≡ false)
-    parts = or_parts ((wants_of v id rest).take || ((wants_of v id rest).read && may_read)) ((wants_of v id rest).write && may_write) idle
+    wants_parts : (((wants_of v id rest).take || ((wants_of v id rest).read && may_read)) ≡ false) × (((wants_of v id rest).write && may_write) ≡ false)
+    wants_parts = or_parts ((wants_of v id rest).take || ((wants_of v id rest).read && may_read)) ((wants_of v id rest).write && may_write) idle
 
     is_unread : is_heard may_read v id rest ≡ false
     is_unread =
         ap (λ o. may_read && (length rest == 0) && can_take_on o) here
-        ∙ not_heard may_read (length rest == 0) (session_takes s) (rw here at ((or_parts (wants_of v id rest).take ((wants_of v id rest).read && may_read) parts.0).1))
+        ∙ not_heard may_read (length rest == 0) (session_takes s) (rw here at ((or_parts (wants_of v id rest).take ((wants_of v id rest).read && may_read) wants_parts.0).1))
 
     is_unwritten : waiting_once may_write id v ≡ []
-    is_unwritten = ap (λ o. if may_write then waiting_in o else []) here ∙ not_written may_write s.link.waiting (rw here at parts.1)
+    is_unwritten = ap (λ o. if may_write then waiting_in o else []) here ∙ not_written may_write s.link.waiting (rw here at wants_parts.1)
 
   -- a part in which the wire is neither read nor written
   module _ (none : (wants_of v id rest).take ≡ false) (unwritten : waiting_once may_write id v ≡ []) (on : is_over_in (outlook_of v id) ≡ false) where
@@ -177,7 +177,7 @@ module _ (v : ServerValue) (id i : ℕ) (s : SessionValue) (rest : List ℕ) (ma
       record {
         unread = unread;
         unwritten = unwritten;
-        there_is_one = passed_on v id i s rest may_read may_write lies here settled none on;
+        there_is_one = passed_on_untouched v id i s rest may_read may_write lies here settled none on;
         always = λ after left course part.
             carried_so none unwritten on part.heard part.bytes after left course (subst (λ b. IsLaidOut b rest part.heard part.bytes) unread part.laid) part.carried;
       }

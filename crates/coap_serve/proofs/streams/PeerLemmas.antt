@@ -3,13 +3,13 @@ use Rattle.std.proofs.Common.{◌≡◌, ℕ, zero, suc, List, [], ◌∷◌, ta
 use Rattle.indexmap.specs.IndexMap.{set_value_at}
 
 -- what relates the value that was there to the one that is written relates the entries at that index
-pub written_there : {X : Type 0} (es : List (ℕ × X)) (i : ℕ) (w : X) (k : ℕ) (x : X) → slice_get es i ≡ Some (k, x) → (P : ℕ × X → ℕ × X → Type 0) → P (k, x) (k, w) → IfSome (slice_get es i) (λ was. IfSome (slice_get (set_value_at es i w) i) (λ is. P was is))
-written_there [] i w k x at P p = tt
-written_there {X = X} (e ∷ es) zero w k x at P p =
+pub peer_written_there : {X : Type 0} (es : List (ℕ × X)) (i : ℕ) (w : X) (k : ℕ) (x : X) → slice_get es i ≡ Some (k, x) → (P : ℕ × X → ℕ × X → Type 0) → P (k, x) (k, w) → IfSome (slice_get es i) (λ was. IfSome (slice_get (set_value_at es i w) i) (λ is. P was is))
+peer_written_there [] i w k x at P p = tt
+peer_written_there {X = X} (e ∷ es) zero w k x at P p =
     let same : e ≡ (k, x) = cc in
     let Q : ℕ × X → Type 0 = λ v. P v (v.0, w) in
     subst Q (sym same) p
-written_there (e ∷ es) (suc i) w k x at P p = written_there es i w k x at P p
+peer_written_there (e ∷ es) (suc i) w k x at P p = peer_written_there es i w k x at P p
 
 -- the entries before it stay
 pub before_written : {X : Type 0} (es : List (ℕ × X)) (i : ℕ) (w : X) → take i (set_value_at es i w) ≡ take i es

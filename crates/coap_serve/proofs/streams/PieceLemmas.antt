@@ -1,7 +1,7 @@
 -- A piece of a run, one take and one flush after the other.
 use Rattle.std.proofs.Common.{◌≡◌, ℕ, ◌+◌, ◌<◌, List, [], ◌∷◌, ◌++◌, length, take, drop, Option, Some, None, is_some, true, false, refl, sym, ap, subst, ◌∙◌, append_assoc, arith, ◌==◌}
-use Rattle.std.proofs.lemmas.Bool.{ne_eqb}
-use Rattle.std.proofs.lemmas.List.{append-nil, take-append-drop}
+use Rattle.std.proofs.lemmas.Bool.{ne_eqb, eqb-true}
+use Rattle.std.proofs.lemmas.List.{append-nil, take-append-drop, nil_from_length}
 use Rattle.coap_conn.specs.declared.reason.Reason.{Reason}
 use Rattle.coap_serve.specs.Configs.{ConfigValues}
 use Rattle.coap_serve.specs.values.Servers.{ServerValue, session_of}
@@ -59,60 +59,60 @@ module _ (c : ConfigValues) (id : ℕ) (bytes piece : List ℕ) (v : ServerValue
 
   -- a front of the rest, and what is behind it
   module _ (n : ℕ) where
-    abbrev front : List ℕ
-    front = take n rest
+    abbrev rest_front : List ℕ
+    rest_front = take n rest
 
-    abbrev behind : List ℕ
-    behind = drop n rest
+    abbrev rest_behind : List ℕ
+    rest_behind = drop n rest
 
-    split_so : piece ≡ (so_far.taken ++ front) ++ behind
-    split_so = so_far.all ∙ ap (λ (b : List ℕ). so_far.taken ++ b) (sym (take-append-drop n rest)) ∙ sym (append_assoc so_far.taken front behind)
+    split_so : piece ≡ (so_far.taken ++ rest_front) ++ rest_behind
+    split_so = so_far.all ∙ ap (λ (b : List ℕ). so_far.taken ++ b) (sym (take-append-drop n rest)) ∙ sym (append_assoc so_far.taken rest_front rest_behind)
 
-    further_bytes : bytes ++ (so_far.taken ++ front) ≡ here ++ front
-    further_bytes = sym (append_assoc bytes so_far.taken front)
+    further_bytes : bytes ++ (so_far.taken ++ rest_front) ≡ here ++ rest_front
+    further_bytes = sym (append_assoc bytes so_far.taken rest_front)
 
-    whole_bytes : bytes ++ piece ≡ (here ++ front) ++ behind
-    whole_bytes = ap (λ (b : List ℕ). bytes ++ b) split_so ∙ sym (append_assoc bytes (so_far.taken ++ front) behind) ∙ ap (λ (b : List ℕ). b ++ behind) further_bytes
+    whole_bytes : bytes ++ piece ≡ (here ++ rest_front) ++ rest_behind
+    whole_bytes = ap (λ (b : List ℕ). bytes ++ b) split_so ∙ sym (append_assoc bytes (so_far.taken ++ rest_front) rest_behind) ∙ ap (λ (b : List ℕ). b ++ rest_behind) further_bytes
 
     -- the front was served, and the connection goes on
-    pub serves_more : (z : Option (List ℕ)) (after : ServerValue) (more : ℕ) → FrontServed c id here front after (AddsBytes y z) more → stop_on (session_of id after.sessions) ≡ None → Serves c id bytes piece after behind x z (messages + more)
+    pub serves_more : (z : Option (List ℕ)) (after : ServerValue) (more : ℕ) → FrontServed c id here rest_front after (AddsBytes y z) more → stop_on (session_of id after.sessions) ≡ None → Serves c id bytes piece after rest_behind x z (messages + more)
     serves_more z after more did going =
         let said = did.whole in
-        let none : (outcome c (here ++ front)).stop ≡ None = sym did.stop ∙ going in
+        let none : (outcome c (here ++ rest_front)).stop ≡ None = sym did.stop ∙ going in
         record {
-          taken = so_far.taken ++ front;
+          taken = so_far.taken ++ rest_front;
           all = split_so;
           goes = subst (IsGoing c after id) (sym further_bytes) (record { number = so_far.goes.number; ranges = so_far.goes.ranges; stands = said.stands; going = none });
           text = so_far.text ++ said.text;
-          says = says_then c bytes so_far.taken front so_far.text said.text so_far.says said.says;
+          says = says_then c bytes so_far.taken rest_front so_far.text said.text so_far.says said.says;
           written = bytes_then x y z so_far.text said.text so_far.written said.written;
           counted = omega (arith, said.counted, so_far.counted, ap (λ (b : List ℕ). (outcome c b).messages) further_bytes);
         }
 
     -- the front was served, and the connection takes no message any more
-    pub serves_last : (z : Option (List ℕ)) (after : ServerValue) (more : ℕ) (why : Reason) → FrontServed c id here front after (AddsBytes y z) more → stop_on (session_of id after.sessions) ≡ Some why → IsWhole c bytes piece after (AddsBytes x z) (messages + more)
+    pub serves_last : (z : Option (List ℕ)) (after : ServerValue) (more : ℕ) (why : Reason) → FrontServed c id here rest_front after (AddsBytes y z) more → stop_on (session_of id after.sessions) ≡ Some why → IsWhole c bytes piece after (AddsBytes x z) (messages + more)
     serves_last z after more why did stopped =
         let said = did.whole in
-        let over : (outcome c (here ++ front)).stop ≡ Some why = sym did.stop ∙ stopped in
-        let same : outcome c (bytes ++ piece) ≡ outcome c (here ++ front) = ap (outcome c) whole_bytes ∙ stopped_outcome c (here ++ front) behind why over in
+        let over : (outcome c (here ++ rest_front)).stop ≡ Some why = sym did.stop ∙ stopped in
+        let same : outcome c (bytes ++ piece) ≡ outcome c (here ++ rest_front) = ap (outcome c) whole_bytes ∙ stopped_outcome c (here ++ rest_front) rest_behind why over in
         record {
           stands = record {
             config = said.stands.config;
             events = said.stands.events;
             shows = said.stands.shows;
-            world = said.stands.world ∙ sym (stopped_output c (here ++ front) behind why over) ∙ ap (world_for c) (sym whole_bytes);
+            world = said.stands.world ∙ sym (stopped_output c (here ++ rest_front) rest_behind why over) ∙ ap (world_for c) (sym whole_bytes);
             spelled = λ none. let bad : ◌≡◌ {A = Option Reason} None (Some why) = sym none ∙ ap (λ (o : Outcome). o.stop) same ∙ over in absurd cc;
           };
           text = so_far.text ++ said.text;
-          says = ap (λ (o : Outcome). o.output) same ∙ ap (stdio_output c) (sym further_bytes) ∙ says_then c bytes so_far.taken front so_far.text said.text so_far.says said.says;
+          says = ap (λ (o : Outcome). o.output) same ∙ ap (stdio_output c) (sym further_bytes) ∙ says_then c bytes so_far.taken rest_front so_far.text said.text so_far.says said.says;
           written = bytes_then x y z so_far.text said.text so_far.written said.written;
           counted = omega (arith, said.counted, so_far.counted, ap (λ (o : Outcome). o.messages) same);
         }
 
     -- what the front brings about was not written whole
-    pub cut_off : (z : Option (List ℕ)) → IsCut c here front (AddsBytes y z) → IsCut c bytes piece (AddsBytes x z)
+    pub cut_off : (z : Option (List ℕ)) → IsCut c here rest_front (AddsBytes y z) → IsCut c bytes piece (AddsBytes x z)
     cut_off z did =
-        let more = output_grows c (here ++ front) behind in
+        let more = output_grows c (here ++ rest_front) rest_behind in
         record {
           part = so_far.text ++ did.part;
           missing = did.missing ++ more.0;
@@ -120,7 +120,7 @@ module _ (c : ConfigValues) (id : ℕ) (bytes piece : List ℕ) (v : ServerValue
           says =
               ap (stdio_output c) whole_bytes
               ∙ more.1
-              ∙ ap (λ (b : List ℕ). b ++ more.0) (ap (stdio_output c) (sym further_bytes) ∙ says_then c bytes so_far.taken front so_far.text (did.part ++ did.missing) so_far.says did.says)
+              ∙ ap (λ (b : List ℕ). b ++ more.0) (ap (stdio_output c) (sym further_bytes) ∙ says_then c bytes so_far.taken rest_front so_far.text (did.part ++ did.missing) so_far.says did.says)
               ∙ append_assoc (stdio_output c bytes) (so_far.text ++ (did.part ++ did.missing)) more.0
               ∙ ap (λ (b : List ℕ). stdio_output c bytes ++ b) (
               ap (λ (b : List ℕ). b ++ more.0) (sym (append_assoc so_far.text did.part did.missing))
@@ -151,13 +151,4 @@ is_filled [] e = absurd cc
 is_filled (x ∷ xs) e = omega arith
 
 pub is_used_up : (xs : List ℕ) → true ≡ (length xs == 0) → xs ≡ []
-is_used_up [] e = refl
-is_used_up (x ∷ xs) e = let some : false ≡ (length (x ∷ xs) == 0) = sym (ne_eqb (length (x ∷ xs)) 0 (omega arith)) in absurd cc
-
-pub stop_given : (stop : Option Reason) → true ≡ is_some stop → (why : Reason) × (stop ≡ Some why)
-stop_given None is = absurd cc
-stop_given (Some why) is = (why, refl)
-
-pub no_stop_given : (stop : Option Reason) → false ≡ is_some stop → stop ≡ None
-no_stop_given None is = refl
-no_stop_given (Some why) is = absurd cc
+is_used_up xs e = nil_from_length xs (eqb-true (length xs) 0 (sym e))

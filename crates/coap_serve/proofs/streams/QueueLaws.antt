@@ -28,12 +28,12 @@ QueuesMore h k = (more : List Message) × (k.queued ≡ h.queued ++ more)
 queues_self : (h : History) → QueuesMore h h
 queues_self h = ([], sym (append-nil h.queued))
 
-pub queues_then : (h k g : History) → QueuesMore h k → QueuesMore k g → QueuesMore h g
-queues_then h k g one two = (one.0 ++ two.0, two.1 ∙ ap (λ (ms : List Message). ms ++ two.0) one.1 ∙ append_assoc h.queued one.0 two.0)
+pub queues_more_then : (h k g : History) → QueuesMore h k → QueuesMore k g → QueuesMore h g
+queues_more_then h k g one two = (one.0 ++ two.0, two.1 ∙ ap (λ (ms : List Message). ms ++ two.0) one.1 ∙ append_assoc h.queued one.0 two.0)
 
 all_queue : KeepsAll QueuesMore
 all_queue = record {
-  composes = record { same = queues_self; then = queues_then };
+  composes = record { same = queues_self; then = queues_more_then };
   hears = λ h m takes room. ((react (standing_now h) m).effect.queued, refl);
   replies = λ h token observe r does room. (let m = response_with_observe token observe r in ((send (standing_now h) m (bare_response m)).queued, refl));
   holds = λ h token moment opened may. queues_self h;
@@ -64,12 +64,12 @@ pub grown_self : (id : ℕ) (s : Side) (w : World) → side_of id w.sides ≡ So
 grown_self id s w there = record { side = s; there = there; more = queues_self s.history }
 
 pub grown_then : (id : ℕ) (s : Side) (w v : World) (one : HasGrown id s w) → HasGrown id one.side v → HasGrown id s v
-grown_then id s w v one two = record { side = two.side; there = two.there; more = queues_then s.history one.side.history two.side.history one.more two.more }
+grown_then id s w v one two = record { side = two.side; there = two.there; more = queues_more_then s.history one.side.history two.side.history one.more two.more }
 
 -- a connection that changes, and then settles
 settles_grown : (id : ℕ) (s t : Side) (w : World) (store : StoreValue) (now : ℕ) → SideQueues s t → side_of id w.sides ≡ Some (settled store now t) → HasGrown id s w
 settles_grown id s t w store now more there =
-    record { side = settled store now t; there = there; more = queues_then s.history t.history (settled store now t).history more (settled_queues store now t) }
+    record { side = settled store now t; there = there; more = queues_more_then s.history t.history (settled store now t).history more (settled_queues store now t) }
 
 pub handled_grows : (limits : LimitValues) (w : World) (id : ℕ) (m : Message) (s : Side) → side_of id w.sides ≡ Some s → HasGrown id s (step limits w (world.Handled id m))
 handled_grows limits w id m s there =

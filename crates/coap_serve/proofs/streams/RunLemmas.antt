@@ -90,8 +90,8 @@ module _ (c : ConfigValues) (id turns read messages : ℕ) (v after : ServerValu
   few_more : (piece : List ℕ) → length piece ≤ 4096 → AllByRecursion (λ p. length p ≤ 4096) (longer piece)
   few_more piece few = all_append (λ (p : List ℕ). length p ≤ 4096) so_far.pieces (piece ∷ []) so_far.few (few, tt)
 
-  goes_on : GoesOn c so_far.pieces
-  goes_on = record { given = so_far.given; no_stop = so_far.goes.going }
+  pieces_go_on : GoesOn c so_far.pieces
+  pieces_go_on = record { given = so_far.given; no_stop = so_far.goes.going }
 
   -- the text so far and more of it
   more_text : (text more : List ℕ) → text ≡ stdio_output c bytes ++ more → stdio_output c [] ++ (so_far.output ++ more) ≡ text
@@ -101,8 +101,8 @@ module _ (c : ConfigValues) (id turns read messages : ℕ) (v after : ServerValu
   said_more piece more is = more_text (stdio_output c (concat (longer piece))) more (ap (stdio_output c) (longer_bytes piece) ∙ is)
 
   -- a piece was served, and the connection goes on
-  further : (t : Turn) → IsPiece c bytes after (HasGiven b d) (AddsBytes y z) t → t.stop ≡ None → RunsOn c id (turns + 1) (read + t.read) (messages + t.messages) after a d x z
-  further t did none =
+  piece_goes_on : (t : Turn) → IsPiece c bytes after (HasGiven b d) (AddsBytes y z) t → t.stop ≡ None → RunsOn c id (turns + 1) (read + t.read) (messages + t.messages) after a d x z
+  piece_goes_on t did none =
       let piece : List ℕ = did.piece in
       let whole = did.served in
       record {
@@ -121,7 +121,7 @@ module _ (c : ConfigValues) (id turns read messages : ℕ) (v after : ServerValu
 
   next_by : (t : Turn) → IsEnd c bytes (HasGiven b d) (AddsBytes y z) t ⊎ IsPiece c bytes after (HasGiven b d) (AddsBytes y z) t → t.stop ≡ None → RunsOn c id (turns + 1) (read + t.read) (messages + t.messages) after a d x z
   next_by t (inl end) none = let bad : ◌≡◌ {A = Option Reason} None (Some (end_reason (is_cut (stream_of c bytes).rest))) = sym none ∙ end.reason in absurd cc
-  next_by t (inr piece) none = further t piece none
+  next_by t (inr piece) none = piece_goes_on t piece none
 
   pub next_turn : (t : Turn) → IsTurn c bytes after (HasGiven b d) (AddsBytes y z) (Ok t) → t.stop ≡ None → RunsOn c id (turns + 1) (read + t.read) (messages + t.messages) after a d x z
   next_turn t did none = next_by t did none
@@ -142,7 +142,7 @@ module _ (c : ConfigValues) (id turns read messages : ℕ) (v after : ServerValu
           last = [];
           all = refl;
           within = omega (arith, counted_more [], lt);
-          goes_on = goes_on;
+          goes_on = pieces_go_on;
           ended =
               subst (λ (stop : Option Reason). EndsRun (stream_of c (concat (longer []))).rest [] report.reason stop) (sym no_stop)
               (refl, why ∙ ap (λ (s : List ℕ). end_reason (is_cut (stream_of c s).rest)) (sym same_bytes));
@@ -152,8 +152,8 @@ module _ (c : ConfigValues) (id turns read messages : ℕ) (v after : ServerValu
         },
       )
 
-  stopped : (t : Turn) (report : Report) → turns < c.turns → IsPiece c bytes after (HasGiven b d) (AddsBytes y z) t → report.read ≡ read + t.read → report.messages ≡ messages + t.messages → t.stop ≡ Some report.reason → Ran c a d x z (Ok report)
-  stopped t report lt did read_is messages_are reason_is =
+  run_stops_at_piece : (t : Turn) (report : Report) → turns < c.turns → IsPiece c bytes after (HasGiven b d) (AddsBytes y z) t → report.read ≡ read + t.read → report.messages ≡ messages + t.messages → t.stop ≡ Some report.reason → Ran c a d x z (Ok report)
+  run_stops_at_piece t report lt did read_is messages_are reason_is =
       let piece : List ℕ = did.piece in
       let whole = did.served in
       let stop_is : (outcome c (concat (longer piece))).stop ≡ Some report.reason = ap (λ (s : List ℕ). (outcome c s).stop) (longer_bytes piece) ∙ sym did.reason ∙ reason_is in (
@@ -167,7 +167,7 @@ module _ (c : ConfigValues) (id turns read messages : ℕ) (v after : ServerValu
           last = piece;
           all = refl;
           within = omega (arith, counted_more piece, lt);
-          goes_on = goes_on;
+          goes_on = pieces_go_on;
           ended = subst (λ (stop : Option Reason). EndsRun (stream_of c (concat (longer piece))).rest piece report.reason stop) (sym stop_is) refl;
           read = omega (arith, read_is, did.read, so_far.read_is, ap (λ (s : List ℕ). length s) (longer_bytes piece), length-append bytes piece);
           messages = omega (arith, messages_are, whole.counted, so_far.messages_are, ap (λ (s : List ℕ). (outcome c s).messages) (longer_bytes piece));
@@ -177,10 +177,10 @@ module _ (c : ConfigValues) (id turns read messages : ℕ) (v after : ServerValu
 
   last_by : (t : Turn) (report : Report) → turns < c.turns → IsEnd c bytes (HasGiven b d) (AddsBytes y z) t ⊎ IsPiece c bytes after (HasGiven b d) (AddsBytes y z) t → report.read ≡ read + t.read → report.messages ≡ messages + t.messages → t.stop ≡ Some report.reason → Ran c a d x z (Ok report)
   last_by t report lt (inl end) read_is messages_are reason_is = ended t report lt end read_is messages_are reason_is
-  last_by t report lt (inr piece) read_is messages_are reason_is = stopped t report lt piece read_is messages_are reason_is
+  last_by t report lt (inr piece) read_is messages_are reason_is = run_stops_at_piece t report lt piece read_is messages_are reason_is
 
-  pub last_turn : (t : Turn) (report : Report) → turns < c.turns → IsTurn c bytes after (HasGiven b d) (AddsBytes y z) (Ok t) → report.read ≡ read + t.read → report.messages ≡ messages + t.messages → t.stop ≡ Some report.reason → Ran c a d x z (Ok report)
-  last_turn t report lt did read_is messages_are reason_is = last_by t report lt did read_is messages_are reason_is
+  pub run_ends_at_turn : (t : Turn) (report : Report) → turns < c.turns → IsTurn c bytes after (HasGiven b d) (AddsBytes y z) (Ok t) → report.read ≡ read + t.read → report.messages ≡ messages + t.messages → t.stop ≡ Some report.reason → Ran c a d x z (Ok report)
+  run_ends_at_turn t report lt did read_is messages_are reason_is = last_by t report lt did read_is messages_are reason_is
 
   -- ---- the run stops short in this turn
 
@@ -191,7 +191,7 @@ module _ (c : ConfigValues) (id turns read messages : ℕ) (v after : ServerValu
     given_then a b d so_far.pieces [] so_far.told gave,
     all_append (λ (p : List ℕ). length p ≤ 4096) so_far.pieces [] so_far.few tt,
     bytes_then x y z so_far.output [] so_far.written wrote,
-    (omega (arith, so_far.counted, lt, ap (λ (ps : List (List ℕ)). length ps) (append-nil so_far.pieces)), rw (append-nil so_far.pieces) (record { goes_on = goes_on; written = more_text (stdio_output c bytes) [] (sym (append-nil (stdio_output c bytes))) })),
+    (omega (arith, so_far.counted, lt, ap (λ (ps : List (List ℕ)). length ps) (append-nil so_far.pieces)), rw (append-nil so_far.pieces) (record { goes_on = pieces_go_on; written = more_text (stdio_output c bytes) [] (sym (append-nil (stdio_output c bytes))) })),
   )
 
   failed_write : (piece : List ℕ) → turns < c.turns → HasRead (HasGiven b d) piece → IsCut c bytes piece (AddsBytes y z) → Ran c a d x z (Err Write)
@@ -203,7 +203,7 @@ module _ (c : ConfigValues) (id turns read messages : ℕ) (v after : ServerValu
     bytes_then x y z so_far.output cut.part so_far.written cut.written,
     (
       omega (arith, counted_more piece, lt),
-      inr (so_far.pieces, piece, refl, goes_on, (cut.part, more_text (stdio_output c bytes ++ cut.part) cut.part refl)),
+      inr (so_far.pieces, piece, refl, pieces_go_on, (cut.part, more_text (stdio_output c bytes ++ cut.part) cut.part refl)),
       record {
         missing = cut.missing;
         some = cut.some;
@@ -216,8 +216,8 @@ module _ (c : ConfigValues) (id turns read messages : ℕ) (v after : ServerValu
   )
 
   -- memory was refused for a message of the piece
-  refused : (piece : List ℕ) → turns < c.turns → HasRead (HasGiven b d) piece → IsRefused c bytes piece (AddsBytes y z) → Ran c a d x z (Err Memory)
-  refused piece lt has did = (
+  piece_refused_memory : (piece : List ℕ) → turns < c.turns → HasRead (HasGiven b d) piece → IsRefused c bytes piece (AddsBytes y z) → Ran c a d x z (Err Memory)
+  piece_refused_memory piece lt has did = (
     longer piece,
     so_far.output ++ did.text,
     given_then a b d so_far.pieces (piece ∷ []) so_far.told has.given,
@@ -230,7 +230,7 @@ module _ (c : ConfigValues) (id turns read messages : ℕ) (v after : ServerValu
       behind = did.behind;
       all = ap longer did.all;
       within = omega (arith, counted_more piece, lt);
-      goes_on = goes_on;
+      goes_on = pieces_go_on;
       refused = did.refused;
       written = more_text (stdio_output c (bytes ++ did.front)) did.text did.says;
     }),
@@ -240,5 +240,5 @@ module _ (c : ConfigValues) (id turns read messages : ℕ) (v after : ServerValu
   pub faulted : (e : IoFault) → turns < c.turns → IsTurn c bytes after (HasGiven b d) (AddsBytes y z) (Err e) → Ran c a d x z (Err e)
   faulted Read lt t = failed_read lt t.0 t.1
   faulted Write lt t = failed_write t.0 lt t.1 t.2
-  faulted Memory lt t = refused t.0 lt t.1 t.2
+  faulted Memory lt t = piece_refused_memory t.0 lt t.1 t.2
   faulted Turns lt t = absurd t

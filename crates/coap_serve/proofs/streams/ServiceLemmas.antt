@@ -28,8 +28,8 @@ module _ (v : ServerValue) (change : Change) (settled : AreSettled v.host v.sess
   changed_to_the_same same =
       ap (λ (h : Host). server_settled (record v { host = h })) (follows.same same) ∙ ap (λ (es : Entries). record v { sessions = es }) (all_settled_stay v.host v.sessions settled)
 
-  changed_one : {W : Type 0} (e : ℕ × Peer W) → IsNoted v e → IsNoted (server_changed v change) e
-  changed_one e noted = record {
+  note_after_change : {W : Type 0} (e : ℕ × Peer W) → IsNoted v e → IsNoted (server_changed v change) e
+  note_after_change e noted = record {
     no_earlier = no_earlier_on e.1.wants.stamp (stamp_of v.host) (stamp_of (host_changed v.host change)) noted.no_earlier follows.no_earlier;
     truth = λ same.
         let between : stamp_of v.host ≡ e.1.wants.stamp = never_back e.1.wants.stamp (stamp_of v.host) (stamp_of (host_changed v.host change)) noted.no_earlier follows.no_earlier (sym same) in
@@ -38,7 +38,7 @@ module _ (v : ServerValue) (change : Change) (settled : AreSettled v.host v.sess
 
   changed_all : {W : Type 0} (es : List (ℕ × Peer W)) → AreNoted v es → AreNoted (server_changed v change) es
   changed_all [] noted = tt
-  changed_all (e ∷ es) noted = (changed_one e noted.0, changed_all es noted.1)
+  changed_all (e ∷ es) noted = (note_after_change e noted.0, changed_all es noted.1)
 
 -- the notes of a service hold whether a change was made or refused
 pub kept_where_changed : {W T E : Type 0} (r : Result T E) (v after : ServerValue) (change : Change) (es : List (ℕ × Peer W)) → AreSettled v.host v.sessions

@@ -36,52 +36,52 @@ nothing_yet c =
     spelled_same M (only_id c) [] (Opened (only_id c)) refl (λ N. refl) ∙ first_spelled M (only_id c) ∙ ap (λ (s : Stream). (s, M)) (sym (no_bytes_spell c))
 
 module _ (c : ConfigValues) (v : ServerValue) (ranges : AreInRange c.limits) (config : v.config ≡ c) (shows : Shows v (Opened (only_id c) ∷ [])) where
-  abbrev id : ℕ
-  id = only_id c
+  abbrev opened_id : ℕ
+  opened_id = only_id c
 
-  abbrev es : List Event
-  es = Opened id ∷ []
+  abbrev events_of_opening : List Event
+  events_of_opening = Opened opened_id ∷ []
 
-  opened : world_after c es ≡ step c.limits (new_world c) (world.Opened id)
-  opened = world_step c [] (Opened id) (world.Opened id) (opened_one c.limits.max_message id) ∙ ap (λ (w : World). step c.limits w (world.Opened id)) (world_first c)
+  world_opened : world_after c events_of_opening ≡ step c.limits (new_world c) (world.Opened opened_id)
+  world_opened = world_step c [] (Opened opened_id) (world.Opened opened_id) (opened_one c.limits.max_message opened_id) ∙ ap (λ (w : World). step c.limits w (world.Opened opened_id)) (world_first c)
 
-  there : side_of id (world_after c es).sides ≡ Some (new_side c.limits)
-  there = ap (λ (w : World). side_of id w.sides) opened ∙ opened_there c
+  opened_is_there : side_of opened_id (world_after c events_of_opening).sides ≡ Some (new_side c.limits)
+  opened_is_there = ap (λ (w : World). side_of opened_id w.sides) world_opened ∙ opened_there c
 
-  abbrev flushing : (turns : ℕ) → FlushShown c es id (new_side c.limits) turns (flush_turns turns id v).server (flush_turns turns id v).text
-  flushing turns = shown.flushing c v es id (new_side c.limits) config shows there turns
+  abbrev first_flush : (turns : ℕ) → FlushShown c events_of_opening opened_id (new_side c.limits) turns (flush_turns turns opened_id v).server (flush_turns turns opened_id v).text
+  first_flush turns = shown.flushing c v events_of_opening opened_id (new_side c.limits) config shows opened_is_there turns
 
-  flush_ends : (turns : ℕ) → turns ≤ suc (more_at id v) → (waiting_at id (flush_turns turns id v).server ≡ []) ⊎ (turns ≡ suc (more_at id v)) → world_after c (flushing turns).events ≡ world_for c []
-  flush_ends turns within done =
-      shown.flush_ends c v es id (new_side c.limits) config shows there turns within done ∙ ap (flushed c.limits id) opened ∙ sym (world_for_none c)
+  first_flush_ends : (turns : ℕ) → turns ≤ suc (more_at opened_id v) → (waiting_at opened_id (flush_turns turns opened_id v).server ≡ []) ⊎ (turns ≡ suc (more_at opened_id v)) → world_after c (first_flush turns).events ≡ world_for c []
+  first_flush_ends turns within done =
+      shown.flush_ends c v events_of_opening opened_id (new_side c.limits) config shows opened_is_there turns within done ∙ ap (flushed c.limits opened_id) world_opened ∙ sym (world_for_none c)
 
-  module _ (turns : ℕ) (ends : world_after c (flushing turns).events ≡ world_for c []) where
-    abbrev f : FlushShown c es id (new_side c.limits) turns (flush_turns turns id v).server (flush_turns turns id v).text
-    f = flushing turns
+  module _ (turns : ℕ) (ends : world_after c (first_flush turns).events ≡ world_for c []) where
+    abbrev flush_of_opened : FlushShown c events_of_opening opened_id (new_side c.limits) turns (flush_turns turns opened_id v).server (flush_turns turns opened_id v).text
+    flush_of_opened = first_flush turns
 
-    text_is : stdio_output c [] ≡ (flush_turns turns id v).text
-    text_is = all_said c es (new_side c.limits) turns _ _ [] f ends
+    first_text_is : stdio_output c [] ≡ (flush_turns turns opened_id v).text
+    first_text_is = all_said c events_of_opening (new_side c.limits) turns _ _ [] flush_of_opened ends
 
-    stands_now : Stands c (flush_turns turns id v).server []
-    stands_now = stands_behind c es (new_side c.limits) turns _ _ [] f ends (nothing_yet c)
+    first_flush_stands : Stands c (flush_turns turns opened_id v).server []
+    first_flush_stands = stands_behind c events_of_opening (new_side c.limits) turns _ _ [] flush_of_opened ends (nothing_yet c)
 
   -- what a run begins from
-  pub goes_first : (after : ServerValue) (wrote : List ℕ → Type 0) → IsFlushed id v after wrote → IsGoing c after id []
+  pub goes_first : (after : ServerValue) (wrote : List ℕ → Type 0) → IsFlushed opened_id v after wrote → IsGoing c after opened_id []
   goes_first after wrote did =
-      let ends = flush_ends did.turns did.within (subst (λ (u : ServerValue). (waiting_at id u ≡ []) ⊎ (did.turns ≡ suc (more_at id v))) did.server did.done) in
-      record { number = refl; ranges = ranges; stands = subst (λ (u : ServerValue). Stands c u []) (sym did.server) (stands_now did.turns ends); going = none_stops c }
+      let ends = first_flush_ends did.turns did.within (subst (λ (u : ServerValue). (waiting_at opened_id u ≡ []) ⊎ (did.turns ≡ suc (more_at opened_id v))) did.server did.done) in
+      record { number = refl; ranges = ranges; stands = subst (λ (u : ServerValue). Stands c u []) (sym did.server) (first_flush_stands did.turns ends); going = none_stops c }
 
-  pub text_first : (after : ServerValue) (wrote : List ℕ → Type 0) → IsFlushed id v after wrote → wrote (stdio_output c [])
+  pub text_first : (after : ServerValue) (wrote : List ℕ → Type 0) → IsFlushed opened_id v after wrote → wrote (stdio_output c [])
   text_first after wrote did =
-      let ends = flush_ends did.turns did.within (subst (λ (u : ServerValue). (waiting_at id u ≡ []) ⊎ (did.turns ≡ suc (more_at id v))) did.server did.done) in
-      subst wrote (sym (text_is did.turns ends)) did.written
+      let ends = first_flush_ends did.turns did.within (subst (λ (u : ServerValue). (waiting_at opened_id u ≡ []) ⊎ (did.turns ≡ suc (more_at opened_id v))) did.server did.done) in
+      subst wrote (sym (first_text_is did.turns ends)) did.written
 
   -- what waits on a new connection was not written whole
-  pub not_greeted : (a : Told) (x z : Option (List ℕ)) → IsPartFlushed id v (WritesPart x z) → (pieces : List (List ℕ)) × (output : List ℕ) × HasGiven a a pieces × AllByRecursion (λ p. length p ≤ 4096) pieces × AddsBytes x z output × IsStdioRun c pieces output (Err Write)
+  pub not_greeted : (a : Told) (x z : Option (List ℕ)) → IsPartFlushed opened_id v (WritesPart x z) → (pieces : List (List ℕ)) × (output : List ℕ) × HasGiven a a pieces × AllByRecursion (λ p. length p ≤ 4096) pieces × AddsBytes x z output × IsStdioRun c pieces output (Err Write)
   not_greeted a x z did =
-      let all : ℕ = suc (more_at id v) in
-      let ends = flush_ends all (omega arith) (inr refl) in
-      let more = text_grows id v did.turns all did.within in (
+      let all : ℕ = suc (more_at opened_id v) in
+      let ends = first_flush_ends all (omega arith) (inr refl) in
+      let more = text_grows opened_id v did.turns all did.within in (
         [],
         did.part.0,
         given_none a,
@@ -93,7 +93,7 @@ module _ (c : ConfigValues) (v : ServerValue) (ranges : AreInRange c.limits) (co
           record {
             missing = did.part.1 ++ more.0;
             some = λ none. did.part.2 (first_none did.part.1 more.0 none);
-            written = sym (text_is all ends ∙ more.1 ∙ ap (λ (b : List ℕ). b ++ more.0) did.part.3 ∙ append_assoc did.part.0 did.part.1 more.0);
+            written = sym (first_text_is all ends ∙ more.1 ∙ ap (λ (b : List ℕ). b ++ more.0) did.part.3 ∙ append_assoc did.part.0 did.part.1 more.0);
           },
         ),
       )

@@ -15,9 +15,9 @@ use Rattle.coap_serve.specs.world.Sides.{Side, has_room, handles, with_history, 
 use Rattle.coap_serve.specs.world.World.{Place, World, side_of, changed_at, stored_after, acted, step}
 use Rattle.coap_serve.specs.world.World as world
 use Rattle.coap_serve.proofs.world.PlaceLaws.{AreDistinct, of_each}
-use Rattle.coap_serve.proofs.world.AcrossLaws.{some_same}
 use Rattle.coap_serve.proofs.world.HearingLaws.{AllHear}
 use Rattle.coap_serve.proofs.streams.FlushLaws.{idle_step}
+use Rattle.coap_serve.proofs.values.OptionLemmas.{same_there}
 
 -- ---- a connection that has stopped
 
@@ -38,7 +38,7 @@ one_stays : (id : ℕ) (f : Side → Side) (s : Side) (ps : List Place) → AreD
 one_stays id f s ps distinct there stays =
     places_stay id f ps
     (of_each (λ n t. n ≡ id → f t ≡ t) ps distinct
-    (λ n t at here. subst (λ (u : Side). f u ≡ u) (some_same s t (sym there ∙ ap (λ (k : ℕ). side_of k ps) (sym here) ∙ at)) stays))
+    (λ n t at here. subst (λ (u : Side). f u ≡ u) (same_there s t (sym there ∙ ap (λ (k : ℕ). side_of k ps) (sym here) ∙ at)) stays))
 
 over_handles : (s : Side) → takes_messages s.history.phase ≡ false → handles s ≡ false
 over_handles s over = ap (λ (b : Bool). b && has_room s) over

@@ -36,12 +36,12 @@ use Rattle.coap_serve.proofs.world.GoingOn.{side_is}
 use Rattle.coap_serve.proofs.world.ReachedLaws.{IsReached, accepted_is, takes_there, handling_goes_on}
 use Rattle.coap_serve.proofs.world.ShowLaws.{side_there}
 use Rattle.coap_serve.proofs.world.HandlingLaws.{messages_counted, one_step_at_most}
-use Rattle.coap_serve.proofs.world.AcrossLaws.{some_same}
 use Rattle.coap_serve.proofs.world.GrowLaws.{SideGrows, front_written, same_front, all_written, took_grows}
 use Rattle.coap_serve.proofs.streams.FlushLaws.{quiet_flush}
 use Rattle.coap_serve.proofs.streams.OutputLaws.{one_step_more, no_step_more, world_for_written, world_for_hears, output_of, stop_there}
 use Rattle.coap_serve.proofs.streams.FlushShown.{FlushShown, session_is}
 use Rattle.coap_serve.proofs.streams.FlushShown as shown
+use Rattle.coap_serve.proofs.values.OptionLemmas.{same_there}
 use Rattle.coap_wire.proofs.StreamSteps.{split_goes_on}
 
 -- ---- some bytes are taken
@@ -80,8 +80,8 @@ pub record FrontRefused (c : ConfigValues) (bytes piece : List ℕ) (n : ℕ) : 
   pub refused : IsLastByte c (bytes ++ take n piece) last
   pub says : Says c bytes (take n piece) []
 
-refuses_there : (v : ServerValue) (piece : List ℕ) (n : ℕ) (found : Option SessionValue) (s : SessionValue) → found ≡ Some s → RefusesPieceOn v piece n found → RefusesPiece v.host s piece n
-refuses_there v piece n found s is refused = subst (RefusesPieceOn v piece n) is refused
+refuses_this : (v : ServerValue) (piece : List ℕ) (n : ℕ) (found : Option SessionValue) (s : SessionValue) → found ≡ Some s → RefusesPieceOn v piece n found → RefusesPiece v.host s piece n
+refuses_this v piece n found s is refused = subst (RefusesPieceOn v piece n) is refused
 
 -- ---- a take
 
@@ -117,7 +117,7 @@ module _ (c : ConfigValues) (es : List Event) (s : Side) (turns : ℕ) (after : 
   pub all_said : stdio_output c bytes ≡ front_written s ++ text
   all_said =
       let all = world_for_written c bytes in
-      let none : waiting_on f.side ≡ [] = ap waiting_on (some_same f.side all.0 (sym side_is_there ∙ all.1)) ∙ all.2 in
+      let none : waiting_on f.side ≡ [] = ap waiting_on (same_there f.side all.0 (sym side_is_there ∙ all.1)) ∙ all.2 in
       output_of c bytes f.side side_is_there ∙ sym (all_written f.side none) ∙ f.said
 
   pub stands_behind : spelled_on c.limits.max_message (only_id c) es ≡ (stream_of c bytes, c.limits.max_message) → Stands c after bytes
@@ -137,52 +137,52 @@ module _ (v : ServerValue) (bytes piece : List ℕ) (stands : Stands v.config v 
   abbrev es : List Event
   es = stands.events
 
-  all_there : (s : Side) × (side_for c bytes ≡ Some s) × (waiting_on s ≡ [])
-  all_there = world_for_written c bytes
+  side_written_out : (s : Side) × (side_for c bytes ≡ Some s) × (waiting_on s ≡ [])
+  side_written_out = world_for_written c bytes
 
-  abbrev s : Side
-  s = all_there.0
+  abbrev side_before : Side
+  side_before = side_written_out.0
 
-  there : side_of id (world_after c es).sides ≡ Some s
-  there = ap (λ (w : World). side_of id w.sides) stands.world ∙ all_there.1
+  side_is_there_now : side_of id (world_after c es).sides ≡ Some side_before
+  side_is_there_now = ap (λ (w : World). side_of id w.sides) stands.world ∙ side_written_out.1
 
-  reached : IsReached c es
-  reached = accepted_is c es stands.shows.accepted
+  events_reached : IsReached c es
+  events_reached = accepted_is c es stands.shows.accepted
 
-  stream_before : stream_on c.limits.max_message id es ≡ stream_of c bytes
-  stream_before = ap (λ (s : Stream × ℕ). s.0) (stands.spelled going)
+  stream_of_bytes : stream_on c.limits.max_message id es ≡ stream_of c bytes
+  stream_of_bytes = ap (λ (s : Stream × ℕ). s.0) (stands.spelled going)
 
   -- ---- some bytes of the piece are taken
 
-  room : has_room s ≡ true
+  room : has_room side_before ≡ true
   room =
-      let is = side_is c es id s there in
-      le-leb s.history.limits.max_sent _ (omega (arith, ranges.queue_low, ap (λ (l : LimitValues). l.max_sent) is.same_limits, ap (λ (l : LimitValues). l.queue) is.same_limits, ap (λ (b : List ℕ). length b) all_there.2))
+      let is = side_is c es id side_before side_is_there_now in
+      le-leb side_before.history.limits.max_sent _ (omega (arith, ranges.queue_low, ap (λ (l : LimitValues). l.max_sent) is.same_limits, ap (λ (l : LimitValues). l.queue) is.same_limits, ap (λ (b : List ℕ). length b) side_written_out.2))
 
-  handling : handles s ≡ true
-  handling = rw (takes_where_going (stop_of s.history.phase) (sym (stop_there c bytes s all_there.1) ∙ going), room) refl
+  handling : handles side_before ≡ true
+  handling = rw (takes_where_going (stop_of side_before.history.phase) (sym (stop_there c bytes side_before side_written_out.1) ∙ going), room) refl
 
   pub takes_some : 0 < length piece → 1 ≤ takes c es id piece
   takes_some some =
       let M : ℕ = c.limits.max_message in
-      let unfinished = rest_unfinished M id es (handling_goes_on c es id s reached there handling) in
+      let unfinished = rest_unfinished M id es (handling_goes_on c es id side_before events_reached side_is_there_now handling) in
       let front = some_in_front (size_on M id es) (stream_on M id es).rest piece unfinished some in
-      omega (arith, front, takes_there c es id piece s there ∙ ap (λ (b : Bool). cond b (front_of (size_on M id es) (stream_on M id es).rest piece) 0) handling)
+      omega (arith, front, takes_there c es id piece side_before side_is_there_now ∙ ap (λ (b : Bool). cond b (front_of (size_on M id es) (stream_on M id es).rest piece) 0) handling)
 
   -- ---- memory is refused
 
-  session_there : session_of id v.sessions ≡ Some (session_shown (stream_on c.limits.max_message id es).rest s)
-  session_there = side_there v es id s stands.shows there
+  session_shown_before : session_of id v.sessions ≡ Some (session_shown (stream_on c.limits.max_message id es).rest side_before)
+  session_shown_before = side_there v es id side_before stands.shows side_is_there_now
 
   pub not_missing : session_of id v.sessions ≡ None → ⊥
-  not_missing none = let bad : ◌≡◌ {A = Option SessionValue} None (Some (session_shown (stream_on c.limits.max_message id es).rest s)) = sym none ∙ session_there in cc
+  not_missing none = let bad : ◌≡◌ {A = Option SessionValue} None (Some (session_shown (stream_on c.limits.max_message id es).rest side_before)) = sym none ∙ session_shown_before in cc
 
   pub refused_front : (n : ℕ) → RefusesPieceOn v piece n (session_of id v.sessions) → FrontRefused c bytes piece n
   unfolding outcome
   refused_front n refused =
       let M : ℕ = c.limits.max_message in
       let front : List ℕ = take n piece in
-      let last = refuses_last v es id piece n _ stands.shows session_there (refuses_there v piece n (session_of id v.sessions) _ session_there refused) in
+      let last = refuses_last v es id piece n _ stands.shows session_shown_before (refuses_this v piece n (session_of id v.sessions) _ session_shown_before refused) in
       let spelled = stands.spelled going in
       let further : split_on M (stream_of c bytes) front ≡ stream_of c (bytes ++ front) = sym (split_goes_on M bytes front) in
       let quiet : beyond id (stream_of c bytes) (stream_of c (bytes ++ front)) ≡ [] =
@@ -210,8 +210,8 @@ module _ (v : ServerValue) (bytes piece : List ℕ) (stands : Stands v.config v 
     abbrev T : List ℕ
     T = take t.bytes piece
 
-    pub some_taken : 0 < length piece → 1 ≤ t.bytes
-    some_taken some = omega (arith, takes_some some, took.takes_so es stands.shows)
+    pub take_takes_some : 0 < length piece → 1 ≤ t.bytes
+    take_takes_some some = omega (arith, takes_some some, took.takes_so es stands.shows)
 
     bytes_are : T ≡ take (takes c es id piece) piece
     bytes_are = ap (λ (n : ℕ). take n piece) (took.takes_so es stands.shows)
@@ -233,15 +233,15 @@ module _ (v : ServerValue) (bytes piece : List ℕ) (stands : Stands v.config v 
     stream_after : stream_on c.limits.max_message id fs ≡ stream_of c (bytes ++ T)
     stream_after = ap (λ (s : Stream × ℕ). s.0) spelled_after
 
-    steps_are : steps_by c.limits.max_message es (Took id T) ≡ beyond id (stream_of c bytes) (stream_of c (bytes ++ T))
+    steps_of_take : steps_by c.limits.max_message es (Took id T) ≡ beyond id (stream_of c bytes) (stream_of c (bytes ++ T))
     unfolding steps_by
-    steps_are = ap (λ (x : Stream). beyond id x (stream_on c.limits.max_message id fs)) stream_before ∙ ap (beyond id (stream_of c bytes)) stream_after
+    steps_of_take = ap (λ (x : Stream). beyond id x (stream_on c.limits.max_message id fs)) stream_of_bytes ∙ ap (beyond id (stream_of c bytes)) stream_after
 
     step_or_none : (steps_by c.limits.max_message es (Took id T) ≡ []) ⊎ ((st : Step) × (steps_by c.limits.max_message es (Took id T) ≡ st ∷ []))
     unfolding steps_by
     step_or_none =
         subst (λ (b : List ℕ). (beyond id (stream_on c.limits.max_message id es) (stream_on c.limits.max_message id (es ++ Took id b ∷ [])) ≡ []) ⊎ ((st : Step) × (beyond id (stream_on c.limits.max_message id es) (stream_on c.limits.max_message id (es ++ Took id b ∷ [])) ≡ st ∷ [])))
-        (sym bytes_are) (one_step_at_most c es id piece s reached there)
+        (sym bytes_are) (one_step_at_most c es id piece side_before events_reached side_is_there_now)
 
     -- the world after the take, once it is flushed, is that for the bytes
     flushed_world : flushed c.limits id w1 ≡ world_for c (bytes ++ T)
@@ -249,77 +249,77 @@ module _ (v : ServerValue) (bytes piece : List ℕ) (stands : Stands v.config v 
         elim step_or_none [
           | inl none ↦
               ap (flushed c.limits id) (world_same c es (Took id T) none ∙ stands.world)
-              ∙ quiet_flush c.limits id (world_for c bytes) s (world_for_hears c bytes) all_there.1 all_there.2
-              ∙ sym (no_step_more c bytes T (sym steps_are ∙ none))
+              ∙ quiet_flush c.limits id (world_for c bytes) side_before (world_for_hears c bytes) side_written_out.1 side_written_out.2
+              ∙ sym (no_step_more c bytes T (sym steps_of_take ∙ none))
           | inr one ↦
               ap (flushed c.limits id) (world_step c es (Took id T) one.0 one.1 ∙ ap (λ (w : World). step c.limits w one.0) stands.world)
-              ∙ sym (one_step_more c bytes T one.0 (sym steps_are ∙ one.1))
+              ∙ sym (one_step_more c bytes T one.0 (sym steps_of_take ∙ one.1))
         ]
 
-    abbrev grown : (s1 : Side) × (side_of id w1.sides ≡ Some s1) × SideGrows s s1
-    grown = took_grows c es id T s there
+    abbrev grown : (s1 : Side) × (side_of id w1.sides ≡ Some s1) × SideGrows side_before s1
+    grown = took_grows c es id T side_before side_is_there_now
 
     abbrev s1 : Side
     s1 = grown.0
 
     said_before : front_written s1 ≡ stdio_output c bytes
     said_before =
-        same_front s s1 (side_is c es id s there).is_history grown.2
-        ∙ all_written s all_there.2
-        ∙ sym (output_of c bytes s all_there.1)
+        same_front side_before s1 (side_is c es id side_before side_is_there_now).is_history grown.2
+        ∙ all_written side_before side_written_out.2
+        ∙ sym (output_of c bytes side_before side_written_out.1)
 
     counted_before : length s1.history.handled ≡ (outcome c bytes).messages + count_of t.handled
     counted_before =
         let now = subst (λ (b : List ℕ). side_of id (world_after c (es ++ Took id b ∷ [])).sides ≡ Some s1) bytes_are grown.1 in
-        let counted = messages_counted c es id piece s s1 stands.shows.accepted there now in
+        let counted = messages_counted c es id piece side_before s1 stands.shows.accepted side_is_there_now now in
         let told : t.handled ≡ handled_in c es (Took id (take (takes c es id piece) piece)) id = took.says es stands.shows ∙ ap (λ (b : List ℕ). handled_in c es (Took id b) id) bytes_are in
-        omega (arith, counted, ap count_of told, messages_of c bytes s all_there.1)
+        omega (arith, counted, ap count_of told, messages_of c bytes side_before side_written_out.1)
 
-    shows_then : Shows v1 fs
-    shows_then = took.shows es stands.shows
+    take_shows_events : Shows v1 fs
+    take_shows_events = took.shows es stands.shows
 
     config_then : v1.config ≡ c
     config_then = ap (λ (u : ServerValue). u.config) took.after_is ∙ config_stays v id piece
 
-    abbrev flushing : (turns : ℕ) → FlushShown c fs id s1 turns (flush_turns turns id v1).server (flush_turns turns id v1).text
-    flushing turns = shown.flushing c v1 fs id s1 config_then shows_then grown.1 turns
+    abbrev take_flush : (turns : ℕ) → FlushShown c fs id s1 turns (flush_turns turns id v1).server (flush_turns turns id v1).text
+    take_flush turns = shown.flushing c v1 fs id s1 config_then take_shows_events grown.1 turns
 
     -- where a flush ends the world is that for the bytes
-    flush_ends : (turns : ℕ) → turns ≤ suc (more_at id v1) → (waiting_at id (flush_turns turns id v1).server ≡ []) ⊎ (turns ≡ suc (more_at id v1)) → world_after c (flushing turns).events ≡ world_for c (bytes ++ T)
-    flush_ends turns within done = shown.flush_ends c v1 fs id s1 config_then shows_then grown.1 turns within done ∙ flushed_world
+    take_flush_ends : (turns : ℕ) → turns ≤ suc (more_at id v1) → (waiting_at id (flush_turns turns id v1).server ≡ []) ⊎ (turns ≡ suc (more_at id v1)) → world_after c (take_flush turns).events ≡ world_for c (bytes ++ T)
+    take_flush_ends turns within done = shown.flush_ends c v1 fs id s1 config_then take_shows_events grown.1 turns within done ∙ flushed_world
 
     -- and so is all that was written
-    module _ (turns : ℕ) (ends : world_after c (flushing turns).events ≡ world_for c (bytes ++ T)) where
-      abbrev f : FlushShown c fs id s1 turns (flush_turns turns id v1).server (flush_turns turns id v1).text
-      f = flushing turns
+    module _ (turns : ℕ) (ends : world_after c (take_flush turns).events ≡ world_for c (bytes ++ T)) where
+      abbrev flush_after_take : FlushShown c fs id s1 turns (flush_turns turns id v1).server (flush_turns turns id v1).text
+      flush_after_take = take_flush turns
 
-      then_there : side_for c (bytes ++ T) ≡ Some f.side
-      then_there = side_is_there c fs s1 turns _ _ (bytes ++ T) f ends
+      then_there : side_for c (bytes ++ T) ≡ Some flush_after_take.side
+      then_there = side_is_there c fs s1 turns _ _ (bytes ++ T) flush_after_take ends
 
-      text_is : Says c bytes T (flush_turns turns id v1).text
-      text_is = all_said c fs s1 turns _ _ (bytes ++ T) f ends ∙ ap (λ (b : List ℕ). b ++ (flush_turns turns id v1).text) said_before
+      take_text_is : Says c bytes T (flush_turns turns id v1).text
+      take_text_is = all_said c fs s1 turns _ _ (bytes ++ T) flush_after_take ends ∙ ap (λ (b : List ℕ). b ++ (flush_turns turns id v1).text) said_before
 
       messages_are : (outcome c (bytes ++ T)).messages ≡ (outcome c bytes).messages + count_of t.handled
-      messages_are = messages_of c (bytes ++ T) f.side then_there ∙ ap (λ (ms : List Message). length ms) f.handled ∙ counted_before
+      messages_are = messages_of c (bytes ++ T) flush_after_take.side then_there ∙ ap (λ (ms : List Message). length ms) flush_after_take.handled ∙ counted_before
 
-      stands_now : Stands c (flush_turns turns id v1).server (bytes ++ T)
-      stands_now = stands_behind c fs s1 turns _ _ (bytes ++ T) f ends spelled_after
+      take_flush_stands : Stands c (flush_turns turns id v1).server (bytes ++ T)
+      take_flush_stands = stands_behind c fs s1 turns _ _ (bytes ++ T) flush_after_take ends spelled_after
 
       stop_is : stop_on (session_of id (flush_turns turns id v1).server.sessions) ≡ (outcome c (bytes ++ T)).stop
       stop_is =
-          ap stop_on (session_is c fs id s1 turns (flush_turns turns id v1).server (flush_turns turns id v1).text f)
-          ∙ sym (stop_there c (bytes ++ T) f.side then_there)
+          ap stop_on (session_is c fs id s1 turns (flush_turns turns id v1).server (flush_turns turns id v1).text flush_after_take)
+          ∙ sym (stop_there c (bytes ++ T) flush_after_take.side then_there)
 
     -- The take and its flush did what is defined for the bytes taken.
     pub served_front : (after : ServerValue) (wrote : List ℕ → Type 0) → IsFlushed id v1 after wrote → FrontServed c id bytes T after wrote (count_of t.handled)
     served_front after wrote did =
         let turns : ℕ = did.turns in
-        let ends = flush_ends turns did.within (subst (λ (u : ServerValue). (waiting_at id u ≡ []) ⊎ (turns ≡ suc (more_at id v1))) did.server did.done) in
+        let ends = take_flush_ends turns did.within (subst (λ (u : ServerValue). (waiting_at id u ≡ []) ⊎ (turns ≡ suc (more_at id v1))) did.server did.done) in
         subst (λ (u : ServerValue). FrontServed c id bytes T u wrote (count_of t.handled)) (sym did.server) (record {
           whole = record {
-            stands = stands_now turns ends;
+            stands = take_flush_stands turns ends;
             text = (flush_turns turns id v1).text;
-            says = text_is turns ends;
+            says = take_text_is turns ends;
             written = did.written;
             counted = messages_are turns ends;
           };
@@ -330,14 +330,14 @@ module _ (v : ServerValue) (bytes piece : List ℕ) (stands : Stands v.config v 
     pub cut_front : (x y : Option (List ℕ)) → IsPartFlushed id v1 (WritesPart x y) → IsCut c bytes T (AddsBytes x y)
     cut_front x y did =
         let all : ℕ = suc (more_at id v1) in
-        let ends = flush_ends all (omega arith) (inr refl) in
+        let ends = take_flush_ends all (omega arith) (inr refl) in
         let more = text_grows id v1 did.turns all did.within in
         record {
           part = did.part.0;
           missing = did.part.1 ++ more.0;
           some = λ none. did.part.2 (first_none did.part.1 more.0 none);
           says =
-              text_is all ends
+              take_text_is all ends
               ∙ ap (λ (b : List ℕ). stdio_output c bytes ++ b) (more.1 ∙ ap (λ (b : List ℕ). b ++ more.0) did.part.3 ∙ append_assoc did.part.0 did.part.1 more.0);
           written = did.part.4;
         }
@@ -364,27 +364,27 @@ module _ (c : ConfigValues) (v : ServerValue) (id : ℕ) (bytes piece : List ℕ
       goes_so (subst (λ (k : ℕ). RefusesPieceOn v piece n (session_of k v.sessions)) goes.number refused)
 
 module _ (c : ConfigValues) (v : ServerValue) (id : ℕ) (bytes piece : List ℕ) (goes : IsGoing c v id bytes) (v1 : ServerValue) (t : Taken) (took : WasTaken v v1 id piece t) where
-  took_so : WasTaken v v1 (only_id c) piece t
-  took_so = subst (λ (n : ℕ). WasTaken v v1 n piece t) goes.number took
+  took_by_its_number : WasTaken v v1 (only_id c) piece t
+  took_by_its_number = subst (λ (n : ℕ). WasTaken v v1 n piece t) goes.number took
 
   pub front_served : (after : ServerValue) (wrote : List ℕ → Type 0) (messages : ℕ) → messages ≡ count_of t.handled → IsFlushed id v1 after wrote → FrontServed c id bytes (take t.bytes piece) after wrote messages
   front_served after wrote messages counted did =
       subst (FrontServed c id bytes (take t.bytes piece) after wrote) (sym counted) (subst (λ (n : ℕ). FrontServed c n bytes (take t.bytes piece) after wrote (count_of t.handled)) (sym goes.number)
       (subst (λ (k : ConfigValues). GoesSo c v id bytes piece goes k → WasTaken v v1 (only_id k) piece t → IsFlushed (only_id k) v1 after wrote → FrontServed k (only_id k) bytes (take t.bytes piece) after wrote (count_of t.handled)) goes.stands.config
       (λ so taken flushed. served_front v bytes piece so.0 so.1 so.2 v1 t taken after wrote flushed)
-      (goes_so c v id bytes piece goes) took_so (subst (λ (n : ℕ). IsFlushed n v1 after wrote) goes.number did)))
+      (goes_so c v id bytes piece goes) took_by_its_number (subst (λ (n : ℕ). IsFlushed n v1 after wrote) goes.number did)))
 
   pub front_cut : (x y : Option (List ℕ)) → IsPartFlushed id v1 (WritesPart x y) → IsCut c bytes (take t.bytes piece) (AddsBytes x y)
   front_cut x y did =
       subst (λ (k : ConfigValues). GoesSo c v id bytes piece goes k → WasTaken v v1 (only_id k) piece t → IsPartFlushed (only_id k) v1 (WritesPart x y) → IsCut k bytes (take t.bytes piece) (AddsBytes x y)) goes.stands.config
       (λ so taken flushed. cut_front v bytes piece so.0 so.1 so.2 v1 t taken x y flushed)
-      (goes_so c v id bytes piece goes) took_so (subst (λ (n : ℕ). IsPartFlushed n v1 (WritesPart x y)) goes.number did)
+      (goes_so c v id bytes piece goes) took_by_its_number (subst (λ (n : ℕ). IsPartFlushed n v1 (WritesPart x y)) goes.number did)
 
   pub front_some : 0 < length piece → 1 ≤ t.bytes
   front_some =
       subst (λ (k : ConfigValues). GoesSo c v id bytes piece goes k → WasTaken v v1 (only_id k) piece t → 0 < length piece → 1 ≤ t.bytes) goes.stands.config
-      (λ so taken. some_taken v bytes piece so.0 so.1 so.2 v1 t taken)
-      (goes_so c v id bytes piece goes) took_so
+      (λ so taken. take_takes_some v bytes piece so.0 so.1 so.2 v1 t taken)
+      (goes_so c v id bytes piece goes) took_by_its_number
 
 -- a take handles one message at most
 reason_few : (why : Reason) → message_reason why ≤ 1

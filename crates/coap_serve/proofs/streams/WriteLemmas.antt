@@ -5,14 +5,14 @@ use Rattle.coap_serve.specs.streams.Device.{AddsBytes}
 use Rattle.coap_serve.proofs.streams.DeviceLemmas.{bytes_then}
 
 -- Of some bytes a front was written, and these are left. The outlet told x, and tells y.
-pub record Writes (bytes left : List ℕ) (x y : Option (List ℕ)) : Type 0 where
+pub record WritesFront (bytes left : List ℕ) (x y : Option (List ℕ)) : Type 0 where
   pub front : List ℕ
   pub all : bytes ≡ front ++ left
   pub written : AddsBytes x y front
 
-module _ (bytes left : List ℕ) (x y z : Option (List ℕ)) (so_far : Writes bytes left x y) where
+module _ (bytes left : List ℕ) (x y z : Option (List ℕ)) (so_far : WritesFront bytes left x y) where
   -- some bytes more were written
-  pub more_written : (count : ℕ) → AddsBytes y z (take count left) → Writes bytes (drop count left) x z
+  pub more_written : (count : ℕ) → AddsBytes y z (take count left) → WritesFront bytes (drop count left) x z
   more_written count wrote = record {
     front = so_far.front ++ take count left;
     all =

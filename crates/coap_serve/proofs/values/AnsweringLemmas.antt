@@ -2,6 +2,7 @@
 use Rattle.std.proofs.Common.{◌≡◌, ℕ, Bool, true, false, ◌&&◌, List, [], ◌++◌, Option, Some, None, refl, sym, ap, ◌∙◌, not, nat_lt, ◌==◌, length, slice_set, if◌then◌else◌}
 use Rattle.std.specs.List.{remove}
 use Rattle.std.proofs.lemmas.List.{append-nil}
+use Rattle.std.proofs.Math.Bool.{not-not}
 use Rattle.coap_wire.specs.Message.{Message}
 use Rattle.coap_wire.specs.Codes as code
 use Rattle.coap_conn.specs.declared.phase.Reply.{Reply}
@@ -121,15 +122,11 @@ pub prompt_is : (host : Host) (m : Message) (a : Answer) → a ≡ answer_of hos
 prompt_is host m a is none = is ∙ sym (same_at_once host.store host.now m none)
 
 -- whether the response is one of an observer, by what the code computes
-not_not : (b : Bool) → not (not b) ≡ b
-not_not true = refl
-not_not false = refl
-
 pub observed_where_asked : (host : Host) (m : Message) (room : ℕ) (others : List ObserverValue) (asks full observes : Bool) → asks ≡ asks_entry (answer_on host m).watch → asks ≡ true → full ≡ not (nat_lt (length others) room) → observes ≡ not full → observes ≡ is_observed host room others m
 observed_where_asked host m room others asks full observes asks_is asked full_is is =
     is
     ∙ ap not full_is
-    ∙ not_not (nat_lt (length others) room)
+    ∙ not-not (nat_lt (length others) room)
     ∙ ap (λ (b : Bool). b && nat_lt (length others) room) (sym asked ∙ asks_is)
 
 pub observed_where_unasked : (host : Host) (m : Message) (room : ℕ) (others : List ObserverValue) (asks observes : Bool) → asks ≡ asks_entry (answer_on host m).watch → asks ≡ false → observes ≡ false → observes ≡ is_observed host room others m

@@ -21,7 +21,7 @@ use Rattle.coap_serve.specs.values.Servers.{AreSettled, changed_at, settled_entr
 use Rattle.coap_serve.specs.values.Causes.{path_hash, change_hash, ObservesNone, IsUntouched, AreSettledUntouched, AreOthersSettled}
 use Rattle.coap_serve.proofs.values.SettleLemmas.{settled_is_settled, settled_stays}
 use Rattle.coap_serve.proofs.values.ServerLemmas.{Entries, one_of_all, written_at_index, settled_up_to}
-use Rattle.coap_serve.proofs.values.DueLemmas.{at_moment, none_found, stays_settled}
+use Rattle.coap_serve.proofs.values.DueLemmas.{at_moment, none_found_first, stays_settled}
 
 -- ---- the hash of a change
 
@@ -45,25 +45,25 @@ unfolding key_for
 key_is p q e = elim (is_path p) as (λ b. (if b then Some p else None) ≡ Some q → p ≡ q) [ true ↦ λ is. cc | false ↦ λ is. absurd cc ] e
 
 -- what is built in has the moment as its mark, whatever is stored
-marked_at : (s t : StoreValue) (now mark : ℕ) (key : Option Path) (p : Place) → ((q : Path) → key ≡ Some q → found_in t.resources q ≡ found_in s.resources q) → is_marked now mark (state_at t now key p) ≡ is_marked now mark (state_at s now key p)
+marked_alike : (s t : StoreValue) (now mark : ℕ) (key : Option Path) (p : Place) → ((q : Path) → key ≡ Some q → found_in t.resources q ≡ found_in s.resources q) → is_marked now mark (state_at t now key p) ≡ is_marked now mark (state_at s now key p)
 unfolding state_at
-marked_at s t now mark key Root same = refl
-marked_at s t now mark key Time same = refl
-marked_at s t now mark key Async same = refl
-marked_at s t now mark key Listing same = refl
-marked_at s t now mark None Dynamic same = refl
-marked_at s t now mark (Some q) Dynamic same = ap (is_marked now mark) (same q refl)
+marked_alike s t now mark key Root same = refl
+marked_alike s t now mark key Time same = refl
+marked_alike s t now mark key Async same = refl
+marked_alike s t now mark key Listing same = refl
+marked_alike s t now mark None Dynamic same = refl
+marked_alike s t now mark (Some q) Dynamic same = ap (is_marked now mark) (same q refl)
 
 stale_elsewhere : (host : Host) (c : Change) (hash : ℕ) (o : ObserverValue) → change_hash c ≡ Some hash → path_hash o.path ≢ hash → is_stale host o ≡ is_stale (host_changed host c) o
 unfolding is_stale
 stale_elsewhere host c hash o is other =
-    ap not (sym (marked_at host.store (changed host.store c) host.now o.mark (key_for o.path) (place_of o.path)
+    ap not (sym (marked_alike host.store (changed host.store c) host.now o.mark (key_for o.path) (place_of o.path)
     (λ q e. kept_elsewhere host.store c hash is q (λ same. other (ap path_hash (key_is o.path q e) ∙ same)))))
 
 none_elsewhere : (host : Host) (c : Change) (hash : ℕ) (os : List ObserverValue) → change_hash c ≡ Some hash → ObservesNone hash os → find (is_stale host) os ≡ None → find (is_stale (host_changed host c)) os ≡ None
 none_elsewhere host c hash [] is others none = refl
 none_elsewhere host c hash (o ∷ os) is others none =
-    let found = none_found (is_stale host) o os none in
+    let found = none_found_first (is_stale host) o os none in
     rw (sym (stale_elsewhere host c hash o is others.0) ∙ found.0) (none_elsewhere host c hash os is others.1 found.1)
 
 settled_elsewhere : (host : Host) (c : Change) (hash : ℕ) (v : SessionValue) → change_hash c ≡ Some hash → ObservesNone hash v.observers → IsSettled host v → IsSettled (host_changed host c) v

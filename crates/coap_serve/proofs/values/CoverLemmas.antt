@@ -61,17 +61,17 @@ all_covered_before paths (o ∷ os) all = (all 0 o (omega arith) refl, all_cover
 
 -- ---- entries that go
 
-no_more : {X : Type 0} (keep : X → Bool) (xs : List X) → length (filter keep xs) ≤ length xs
-no_more keep [] = omega arith
-no_more keep (x ∷ xs) =
-    let rest = no_more keep xs in
+filter_within : {X : Type 0} (keep : X → Bool) (xs : List X) → length (filter keep xs) ≤ length xs
+filter_within keep [] = omega arith
+filter_within keep (x ∷ xs) =
+    let rest = filter_within keep xs in
     elim (keep x) as (λ b. length (if b then x ∷ filter keep xs else filter keep xs) ≤ length (x ∷ xs)) [ true ↦ omega (arith, rest) | false ↦ omega (arith, rest) ]
 
 -- where as many stay as there were, all do
 pub all_stay : {X : Type 0} (keep : X → Bool) (xs : List X) → length xs ≤ length (filter keep xs) → filter keep xs ≡ xs
 all_stay keep [] many = refl
 all_stay keep (x ∷ xs) many =
-    let fewer = no_more keep xs in
+    let fewer = filter_within keep xs in
     elim (keep x) as (λ b. length (x ∷ xs) ≤ length (if b then x ∷ filter keep xs else filter keep xs) → (if b then x ∷ filter keep xs else filter keep xs) ≡ x ∷ xs) [
       | true ↦ λ m. ap (λ (l : List _). x ∷ l) (all_stay keep xs (omega (arith, m)))
       | false ↦ λ m. absurd (omega (arith, m, fewer))

@@ -62,8 +62,8 @@ none_come now later (e ∷ held) none after =
     let parts = cons_parts (λ x. later < x) (to_come now e) (filter_map (to_come now) held) after in
     (not_come now later e none.0 parts.0, none_come now later held none.1 parts.1)
 
-not_due : (now later : ℕ) (held : List HeldValue) → first_due now held ≡ None → IsBefore later (next_moment now held) → first_due later held ≡ None
-not_due now later held none before =
+not_due_later : (now later : ℕ) (held : List HeldValue) → first_due now held ≡ None → IsBefore later (next_moment now held) → first_due later held ≡ None
+not_due_later now later held none before =
     let nothing = (due_nothing now held none).0 in
     nothing_first later held (none_come now later held nothing.0 (before_each later (filter_map (to_come now) held) before), nothing.1)
 
@@ -110,8 +110,8 @@ stale_so host later o store stored =
     (marked_so host.now later o.mark (state_on host o.path) (λ r e. numbered_at host.store host.now (key_for o.path) (place_of o.path) r store is e)
     ∙ ap (is_marked later o.mark) (same_at host.store host.now later (key_for o.path) (place_of o.path) is))
 
-pub none_found : {X : Type 0} (p : X → Bool) (x : X) (xs : List X) → find p (x ∷ xs) ≡ None → (p x ≡ false) × (find p xs ≡ None)
-none_found p x xs e = elim (p x) as (λ b. p x ≡ b → (if b then Some x else find p xs) ≡ None → (p x ≡ false) × (find p xs ≡ None)) [
+pub none_found_first : {X : Type 0} (p : X → Bool) (x : X) (xs : List X) → find p (x ∷ xs) ≡ None → (p x ≡ false) × (find p xs ≡ None)
+none_found_first p x xs e = elim (p x) as (λ b. p x ≡ b → (if b then Some x else find p xs) ≡ None → (p x ≡ false) × (find p xs ≡ None)) [
   | true ↦ λ is e. absurd cc
   | false ↦ λ is e. (is, e)
 ] refl e
@@ -120,7 +120,7 @@ none_stale : (host : Host) (later : ℕ) (os : List ObserverValue) → IsStore h
 none_stale host later [] store stored none = refl
 none_stale host later (o ∷ os) store stored none =
     let parts = or_parts (tells_time o) (list_any tells_time os) stored in
-    let found = none_found (is_stale host) o os none in
+    let found = none_found_first (is_stale host) o os none in
     cond-false (is_stale (at_moment host later) o) (Some o) (find (is_stale (at_moment host later)) os) (sym (stale_so host later o store parts.0) ∙ found.0)
     ∙ none_stale host later os store parts.1 found.1
 
@@ -143,7 +143,7 @@ stays_settled host later v store settled more fits before =
     let told = before_other later (next_moment host.now v.link.held) (next_told host.now v.observers) before in
     elim (session_ready v) as (λ b. (if b then first_due host.now v.link.held else None) ≡ None → (if b then find (is_stale host) v.observers else None) ≡ None → ((if b then first_due later v.link.held else None) ≡ None) × ((if b then find (is_stale (at_moment host later)) v.observers else None) ≡ None)) [
       | true ↦ λ sent fresh. (
-        not_due host.now later v.link.held sent held,
+        not_due_later host.now later v.link.held sent held,
         none_stale host later v.observers store (told_first host.now later v.observers more fits told) fresh,
       )
       | false ↦ λ sent fresh. (refl, refl)

@@ -12,17 +12,9 @@ use Rattle.coap_serve.specs.world.Observers.{first_becomes}
 use Rattle.coap_serve.specs.values.Sessions.{ObserverValue, ObserversValue, mark_of, is_marked, state_on, untold_mark, is_stale, without_entry}
 use Rattle.coap_serve.specs.values.Entries.{IsFirstStale, first_index}
 use Rattle.coap_serve.specs.views.ObserverViews.{observer_value}
+use Rattle.coap_serve.proofs.values.OptionLemmas.{none_made, one_made, same_there}
 
 -- ---- the first index
-
--- an index that is one more
-one_more : (found : Option ℕ) (i : ℕ) → option_map (λ k. suc k) found ≡ Some i → (k : ℕ) × (found ≡ Some k) × (i ≡ suc k)
-one_more None i e = absurd cc
-one_more (Some k) i e = (k, refl, cc)
-
-one_none : (found : Option ℕ) → option_map (λ k. suc k) found ≡ None → found ≡ None
-one_none None e = refl
-one_none (Some k) e = absurd cc
 
 -- what the code does at the first index is what becomes of the first one
 pub record IsFirst {O : Type 0} (due : O → Bool) (os : List O) (i : ℕ) : Type 0 where
@@ -44,9 +36,9 @@ is_first_at due o os i later e =
             goes = sym (cond-true (due o) _ _ here);
           }))
       | false ↦ λ other first. (
-          let behind = one_more (first_index due os) i first in
+          let behind = one_made (λ k. suc k) (first_index due os) i first in
           let is = later behind.0 behind.1 in
-          subst (IsFirst due (o ∷ os)) (sym behind.2) (record {
+          subst (IsFirst due (o ∷ os)) behind.2 (record {
             within = omega (arith, is.within);
             found = cond-false (due o) (Some o) (find due os) other ∙ is.found;
             becomes = λ p. ap (λ (l : List _). o ∷ l) (is.becomes p) ∙ sym (cond-false (due o) _ _ other);
@@ -65,7 +57,7 @@ none_found due [] e = refl
 none_found due (o ∷ os) e =
     elim (due o) as (λ b. (if b then Some 0 else option_map (λ k. suc k) (first_index due os)) ≡ None → (if b then Some o else find due os) ≡ None) [
       | true ↦ λ none. absurd cc
-      | false ↦ λ none. none_found due os (one_none (first_index due os) none)
+      | false ↦ λ none. none_found due os (none_made (λ k. suc k) (first_index due os) none)
     ] e
 
 -- ---- a loop that looks for it
@@ -80,12 +72,9 @@ none_more due os i o at is none k p below there =
       | inl less ↦ none k p less there
       | inr more ↦ (
           let same : k ≡ i = omega arith in
-          let found : o ≡ p = some_once _ _ (sym at ∙ ap (slice_get os) (sym same) ∙ there) in
+          let found : o ≡ p = same_there _ _ (sym at ∙ ap (slice_get os) (sym same) ∙ there) in
           ap due (sym found) ∙ is)
     ]
-  where
-    some_once : {P : Type 0} (x y : P) → Some x ≡ Some y → x ≡ y
-    some_once x y e = cc
 
 pub none_at_all : {O : Type 0} (due : O → Bool) (os : List O) → NoneBefore due os (length os) → None ≡ first_index due os
 unfolding first_index

@@ -6,15 +6,11 @@ use Rattle.coap_serve.specs.values.Servers.{ServerValue, server_written}
 use Rattle.coap_serve.specs.values.Flushes.{Flush, waiting_at, more_at, flush_once, flush_turns, IsFlushedOnce, IsFlushed, IsPartFlushed}
 use Rattle.coap_serve.proofs.streams.DeviceLemmas.{bytes_none, bytes_then}
 
-pub none_left : (w : List ℕ) → length w ≡ 0 → w ≡ []
-none_left [] none = refl
-none_left (b ∷ w) none = absurd cc
-
 -- ---- turns
 
-pub no_turns : (id : ℕ) (v : ServerValue) → flush_turns 0 id v ≡ record { server = v; text = [] }
+pub no_flush_turns : (id : ℕ) (v : ServerValue) → flush_turns 0 id v ≡ record { server = v; text = [] }
 unfolding flush_turns
-no_turns id v = refl
+no_flush_turns id v = refl
 
 pub turn_more : (turns id : ℕ) (v : ServerValue) → flush_turns (suc turns) id v ≡ flush_once id (flush_turns turns id v)
 unfolding flush_turns
@@ -30,8 +26,8 @@ pub record Flushing (id : ℕ) (v : ServerValue) (turns : ℕ) (now : ServerValu
 
 pub flush_begins : (id : ℕ) (v : ServerValue) (x : Option (List ℕ)) → Flushing id v 0 v x x
 flush_begins id v x = record {
-  server = ap (λ (f : Flush). f.server) (sym (no_turns id v));
-  written = subst (λ (f : Flush). AddsBytes x x f.text) (sym (no_turns id v)) (bytes_none x);
+  server = ap (λ (f : Flush). f.server) (sym (no_flush_turns id v));
+  written = subst (λ (f : Flush). AddsBytes x x f.text) (sym (no_flush_turns id v)) (bytes_none x);
 }
 
 module _ (id : ℕ) (v : ServerValue) (turns : ℕ) (now : ServerValue) (x y z : Option (List ℕ)) (so_far : Flushing id v turns now x y) where
@@ -39,41 +35,41 @@ module _ (id : ℕ) (v : ServerValue) (turns : ℕ) (now : ServerValue) (x y z :
   pub nothing_waits : turns ≤ suc (more_at id v) → waiting_at id now ≡ [] → IsFlushed id v now (AddsBytes x y)
   nothing_waits within none = record { turns = turns; within = within; done = inl none; server = so_far.server; written = so_far.written }
 
-  abbrev f : Flush
-  f = flush_turns turns id v
+  abbrev flush_so_far : Flush
+  flush_so_far = flush_turns turns id v
 
   -- one turn more
   pub flush_further : (more : ℕ) (w : List ℕ) (next : ServerValue) → more ≡ suc turns → w ≡ waiting_at id now → next ≡ server_written now id (length w) → AddsBytes y z w → Flushing id v more next x z
   flush_further more w next one waits is wrote =
       let whole = turn_more_so turns more id v one in
-      let here : w ≡ waiting_at id f.server = waits ∙ ap (waiting_at id) so_far.server in
+      let here : w ≡ waiting_at id flush_so_far.server = waits ∙ ap (waiting_at id) so_far.server in
       record {
         server =
             is
             ∙ ap (λ (u : ServerValue). server_written u id (length w)) so_far.server
-            ∙ ap (λ (b : List ℕ). server_written f.server id (length b)) here
+            ∙ ap (λ (b : List ℕ). server_written flush_so_far.server id (length b)) here
             ∙ ap (λ (g : Flush). g.server) (sym whole);
         written =
             subst (λ (g : Flush). AddsBytes x z g.text) (sym whole)
-            (subst (λ (b : List ℕ). AddsBytes x z (f.text ++ b)) here (bytes_then x y z f.text w so_far.written wrote));
+            (subst (λ (b : List ℕ). AddsBytes x z (flush_so_far.text ++ b)) here (bytes_then x y z flush_so_far.text w so_far.written wrote));
       }
 
   -- a part was written in one turn more
   pub flush_cut : (w : List ℕ) → suc turns ≤ suc (more_at id v) → w ≡ waiting_at id now → WritesPart y z w → IsPartFlushed id v (WritesPart x z)
   flush_cut w within waits wrote =
       let whole = turn_more turns id v in
-      let here : w ≡ waiting_at id f.server = waits ∙ ap (waiting_at id) so_far.server in
+      let here : w ≡ waiting_at id flush_so_far.server = waits ∙ ap (waiting_at id) so_far.server in
       record {
         turns = suc turns;
         within = within;
         part =
             subst (λ (g : Flush). WritesPart x z g.text) (sym whole)
-            (subst (λ (b : List ℕ). WritesPart x z (f.text ++ b)) here (
-              f.text ++ wrote.0,
+            (subst (λ (b : List ℕ). WritesPart x z (flush_so_far.text ++ b)) here (
+              flush_so_far.text ++ wrote.0,
               wrote.1,
               wrote.2,
-              ap (λ (b : List ℕ). f.text ++ b) wrote.3 ∙ sym (append_assoc f.text wrote.0 wrote.1),
-              bytes_then x y z f.text wrote.0 so_far.written wrote.4,
+              ap (λ (b : List ℕ). flush_so_far.text ++ b) wrote.3 ∙ sym (append_assoc flush_so_far.text wrote.0 wrote.1),
+              bytes_then x y z flush_so_far.text wrote.0 so_far.written wrote.4,
             ));
       }
 

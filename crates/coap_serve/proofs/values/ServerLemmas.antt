@@ -4,6 +4,7 @@ use Rattle.std.specs.List.{AllByRecursion, IsDistinct, position_or_len, position
 use Rattle.std.specs.Map.{lookup, keys_of, values_of}
 use Rattle.std.proofs.lemmas.Bool.{eqb-true, eqb-false, eq-eqb, ne_eqb}
 use Rattle.std.proofs.lemmas.List.{length-map, length-append}
+use Rattle.std.proofs.lemmas.Option.{cond_some}
 use Rattle.indexmap.specs.IndexMap.{set_value_at, insert_entry}
 use Rattle.coap_conn.specs.Limits.{LimitValues}
 use Rattle.coap_serve.specs.declared.host.Host.{Host}
@@ -13,6 +14,7 @@ use Rattle.coap_serve.specs.values.Dues.{session_outlook}
 use Rattle.coap_serve.specs.values.ServerAnswers.{front_of, session_status}
 use Rattle.coap_serve.specs.views.ServerViews.{IsServer}
 use Rattle.coap_serve.proofs.values.SettleLemmas.{no_held_due, settled_is_settled, settled_stays}
+use Rattle.coap_serve.proofs.values.OptionLemmas.{there_is_none}
 
 abbrev pub Entries : Type 0
 Entries = List (ℕ × SessionValue)
@@ -35,31 +37,23 @@ one_of_all P zero (e ∷ es) s all at = subst P (let is : e.1 ≡ s = cc in is) 
 one_of_all P (suc i) (e ∷ es) s all at = one_of_all P i es s all.1 at
 
 -- what the map finds is the connection with the number
-pub session_found : (id : ℕ) (es : Entries) → session_of id es ≡ lookup (nat_eq id) es
+pub session_looked_up : (id : ℕ) (es : Entries) → session_of id es ≡ lookup (nat_eq id) es
 unfolding session_of
-session_found id [] = refl
-session_found id (e ∷ es) = rw (same_either_way e.0 id, session_found id es) refl
+session_looked_up id [] = refl
+session_looked_up id (e ∷ es) = rw (same_either_way e.0 id, session_looked_up id es) refl
 
 -- where the map found none
-pub none_found : (id : ℕ) (es : Entries) (r : Option ℕ) → is_some r ≡ is_some (lookup (nat_eq id) es) → r ≡ None → session_of id es ≡ None
-none_found id es r found none = session_found id es ∙ nothing (lookup (nat_eq id) es) (sym found ∙ ap is_some none)
-  where
-    nothing : (o : Option SessionValue) → is_some o ≡ false → o ≡ None
-    nothing None is = refl
-    nothing (Some s) is = absurd cc
-
-place_of : (b : Bool) (at i : ℕ) → Some at ≡ cond b (Some i) None → i ≡ at
-place_of true at i is = cc
-place_of false at i is = absurd cc
+pub no_session_found : (id : ℕ) (es : Entries) (r : Option ℕ) → is_some r ≡ is_some (lookup (nat_eq id) es) → r ≡ None → session_of id es ≡ None
+no_session_found id es r found none = session_looked_up id es ∙ there_is_none (lookup (nat_eq id) es) (sym found ∙ ap is_some none)
 
 -- where the map found one
 pub one_found : (id : ℕ) (es : Entries) (i : ℕ) → IsDistinct nat_eq (keys_of es) → Some i ≡ position (nat_eq id) (keys_of es) → i < length es → slice_get (values_of es) i ≡ lookup (nat_eq id) es → LiesAt id i es
 one_found id es i distinct index within value =
-    record { distinct = distinct; index = place_of _ i _ index; within = within; found = session_found id es ∙ sym value }
+    record { distinct = distinct; index = (cond_some _ _ i (sym index)).1; within = within; found = session_looked_up id es ∙ sym value }
 
 -- what the map found, where it found none and where it found one
 pub none_where_none : (id : ℕ) (es : Entries) (r : Option ℕ) → is_some r ≡ is_some (lookup (nat_eq id) es) → IfNone r (session_of id es ≡ None)
-none_where_none id es None found = none_found id es None found refl
+none_where_none id es None found = no_session_found id es None found refl
 none_where_none id es (Some i) found = tt
 
 pub one_where_some : (id : ℕ) (es : Entries) (r : Option ℕ) → IsDistinct nat_eq (keys_of es) → r ≡ position (nat_eq id) (keys_of es) → IfSome r (λ i. i < length es) → IfSome r (λ i. slice_get (values_of es) i ≡ lookup (nat_eq id) es) → IfSome r (λ i. LiesAt id i es)
@@ -107,9 +101,9 @@ at_front : (b : Bool) (n : ℕ) → zero ≡ cond (not b) (1 + n) 0 → b ≡ tr
 at_front true n is = refl
 at_front false n is = absurd (omega arith)
 
-further : (b : Bool) (j n : ℕ) → suc j ≡ cond (not b) (1 + n) 0 → (b ≡ false) × (j ≡ n)
-further true j n is = absurd (omega arith)
-further false j n is = (refl, omega arith)
+at_later : (b : Bool) (j n : ℕ) → suc j ≡ cond (not b) (1 + n) 0 → (b ≡ false) × (j ≡ n)
+at_later true j n is = absurd (omega arith)
+at_later false j n is = (refl, omega arith)
 
 -- what happens at its index happens to it alone
 pub changed_one : (id : ℕ) (f : SessionValue → SessionValue) (es : Entries) (i : ℕ) → IsDistinct nat_eq (keys_of es) → position_or_len (nat_eq id) (keys_of es) ≡ i → i < length es → changed_at i f es ≡ map (session_becomes id f) es
@@ -120,7 +114,7 @@ changed_one id f (e ∷ es) zero distinct index within =
     let apart : AllByRecursion (λ k. nat_eq id k ≡ false) (keys_of es) = subst (λ n. AllByRecursion (λ k. nat_eq n k ≡ false) (keys_of es)) (sym (eqb-true id e.0 there)) distinct.0 in
     sym (rw (same_either_way e.0 id ∙ there) (ap (λ (rest : Entries). (e.0, f e.1) ∷ rest) (others_stay id f es apart)))
 changed_one id f (e ∷ es) (suc i) distinct index within =
-    let later = further (nat_eq id e.0) i (position_or_len (nat_eq id) (keys_of es)) (sym index) in
+    let later = at_later (nat_eq id e.0) i (position_or_len (nat_eq id) (keys_of es)) (sym index) in
     let rest = changed_one id f es i distinct.1 (sym later.1) (omega arith) in
     sym (rw (same_either_way e.0 id ∙ later.0) (ap (λ (rest : Entries). e ∷ rest) (sym rest)))
 
@@ -238,7 +232,7 @@ unfolding session_of
 found_there id [] i index within = absurd (omega arith)
 found_there id (e ∷ es) zero index within = rw (same_either_way e.0 id ∙ at_front _ _ (sym index)) refl
 found_there id (e ∷ es) (suc i) index within =
-    let later = further (nat_eq id e.0) i (position_or_len (nat_eq id) (keys_of es)) (sym index) in
+    let later = at_later (nat_eq id e.0) i (position_or_len (nat_eq id) (keys_of es)) (sym index) in
     rw (same_either_way e.0 id ∙ later.0) (found_there id es i (sym later.1) (omega arith))
 
 pub lies_still : (id i : ℕ) (es now : Entries) → keys_of now ≡ keys_of es → LiesAt id i es → LiesAt id i now
@@ -325,7 +319,7 @@ without_one id (e ∷ es) zero distinct index within =
     let apart : AllByRecursion (λ k. nat_eq id k ≡ false) (keys_of es) = subst (λ n. AllByRecursion (λ k. nat_eq n k ≡ false) (keys_of es)) (sym (eqb-true id e.0 there)) distinct.0 in
     sym (rw (same_either_way e.0 id ∙ there) (others_are_kept id es apart))
 without_one id (e ∷ es) (suc i) distinct index within =
-    let later = further (nat_eq id e.0) i (position_or_len (nat_eq id) (keys_of es)) (sym index) in
+    let later = at_later (nat_eq id e.0) i (position_or_len (nat_eq id) (keys_of es)) (sym index) in
     let rest = without_one id es i distinct.1 (sym later.1) (omega arith) in
     sym (rw (same_either_way e.0 id ∙ later.0) (ap (λ (rest : Entries). e ∷ rest) (sym rest)))
 
@@ -383,18 +377,18 @@ goes_last n s [] all = refl
 goes_last n s (e ∷ es) all = rw (ne_eqb (n + 1) e.0 (λ is. omega (arith, all.0))) (ap (λ (rest : Entries). e ∷ rest) (goes_last n s es all.1))
 
 module _ (v : ServerValue) (entries : Entries) (server : IsServer v) (is : entries ≡ insert_entry nat_eq v.sessions (v.ids + 1) (new_session v.config.limits)) where
-  one_more : entries ≡ v.sessions ++ (v.ids + 1, new_session v.config.limits) ∷ []
-  one_more = is ∙ goes_last v.ids (new_session v.config.limits) v.sessions server.numbered
+  entry_more_last : entries ≡ v.sessions ++ (v.ids + 1, new_session v.config.limits) ∷ []
+  entry_more_last = is ∙ goes_last v.ids (new_session v.config.limits) v.sessions server.numbered
 
   now_settled : AreSettled v.host (v.sessions ++ (v.ids + 1, new_session v.config.limits) ∷ [])
   now_settled = each_with_last (λ e. IsSettled v.host e.1) v.sessions _ server.settled (new_is_settled v.host v.config.limits)
 
   pub opened_value : record v { ids = v.ids + 1; sessions = entries } ≡ server_opened v
-  opened_value = ap (λ (es : Entries). record v { ids = v.ids + 1; sessions = es }) (one_more ∙ sym (all_settled_stay v.host _ now_settled))
+  opened_value = ap (λ (es : Entries). record v { ids = v.ids + 1; sessions = es }) (entry_more_last ∙ sym (all_settled_stay v.host _ now_settled))
 
   pub opened_server : length v.sessions < v.config.connections → IsServer (record v { ids = v.ids + 1; sessions = entries })
   opened_server room =
-      subst (λ (es : Entries). IsServer (record v { ids = v.ids + 1; sessions = es })) (sym one_more)
+      subst (λ (es : Entries). IsServer (record v { ids = v.ids + 1; sessions = es })) (sym entry_more_last)
       (record {
         settled = now_settled;
         numbered = each_with_last (λ e. e.0 ≤ v.ids + 1) v.sessions _ (higher_numbers v.ids v.sessions server.numbered) (omega arith);
@@ -412,10 +406,10 @@ is_there_at id i es lies = sym (ap is_there lies.found ∙ at_place (values_of e
     at_place (v ∷ vs) (suc k) within = at_place vs k (omega arith)
 
 pub status_found : (id : ℕ) (es : Entries) (found : Option SessionValue) → found ≡ lookup (nat_eq id) es → option_map session_status found ≡ option_map session_status (session_of id es)
-status_found id es found is = ap (option_map session_status) (is ∙ sym (session_found id es))
+status_found id es found is = ap (option_map session_status) (is ∙ sym (session_looked_up id es))
 
 pub outlook_found : (now id : ℕ) (es : Entries) (found : Option SessionValue) → found ≡ lookup (nat_eq id) es → option_map (session_outlook now) found ≡ option_map (session_outlook now) (session_of id es)
-outlook_found now id es found is = ap (option_map (session_outlook now)) (is ∙ sym (session_found id es))
+outlook_found now id es found is = ap (option_map (session_outlook now)) (is ∙ sym (session_looked_up id es))
 
 pub waits_there : (v : ServerValue) (id i : ℕ) (s : SessionValue) → LiesAt id i v.sessions → slice_get (values_of v.sessions) i ≡ Some s → Some s.link.waiting ≡ front_of v id
 waits_there v id i s lies here = ap (option_map (λ (s : SessionValue). s.link.waiting)) (sym (lies.found ∙ here))

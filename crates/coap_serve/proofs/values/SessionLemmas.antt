@@ -33,6 +33,7 @@ use Rattle.coap_serve.specs.views.SessionViews.{IsSession, session_value}
 use Rattle.coap_serve.proofs.values.LinkLemmas.{ends_in}
 use Rattle.coap_serve.proofs.values.LinkLemmas.{message_sizes, reply_sizes}
 use Rattle.coap_serve.proofs.values.EntryLemmas.{is_first}
+use Rattle.coap_serve.proofs.values.OptionLemmas.{there_is}
 
 -- ---- what a stop gives up
 
@@ -42,8 +43,8 @@ framer_stays l f is = elim (takes_messages l.phase) as (λ b. IsFramer (if b the
 max_stays : (l : LinkValue) (f : FramerValue) → (framer_on l f).max ≡ f.max
 max_stays l f = elim (takes_messages l.phase) as (λ b. (if b then f else record f { kept = []; spent = [] }).max ≡ f.max) [ true ↦ refl | false ↦ refl ]
 
-open_or_none : (l : LinkValue) (os : List ObserverValue) → (is_open l.phase ≡ true) ⊎ (observers_on l os ≡ [])
-open_or_none l os = elim (is_open l.phase) as (λ b. (b ≡ true) ⊎ ((if b then os else []) ≡ [])) [ true ↦ inl refl | false ↦ inr refl ]
+open_or_unobserved : (l : LinkValue) (os : List ObserverValue) → (is_open l.phase ≡ true) ⊎ (observers_on l os ≡ [])
+open_or_unobserved l os = elim (is_open l.phase) as (λ b. (b ≡ true) ⊎ ((if b then os else []) ≡ [])) [ true ↦ inl refl | false ↦ inr refl ]
 
 -- a session whose fields were changed, and which then gave up what a stop gives up
 pub given_up : (s : Inside) (l : LinkValue) (f g : FramerValue) (o p : ObserversValue) → IsSession s → sizes_of l ≡ sizes_of s.link → f.max ≡ s.framer.max → IsFramer f → o.room ≡ s.observers.room → g ≡ framer_on l f → p ≡ record o { entries = observers_on l o.entries }
@@ -55,7 +56,7 @@ given_up s l f g o p is sizes max framer room g_is p_is =
       greatest = ap (λ (k : FramerValue). k.max) g_is ∙ max_stays l f ∙ max ∙ is.greatest ∙ ap (λ (both : LimitValues × ℕ). both.1) (sym sizes);
       framer = subst IsFramer (sym g_is) (framer_stays l f framer);
       room = ap (λ (k : ObserversValue). k.room) p_is ∙ room ∙ is.room ∙ ap (λ (k : LimitValues). k.observers) (sym limits);
-      open_only = subst (λ (k : ObserversValue). (is_open l.phase ≡ true) ⊎ (k.entries ≡ [])) (sym p_is) (open_or_none l o.entries);
+      open_only = subst (λ (k : ObserversValue). (is_open l.phase ≡ true) ⊎ (k.entries ≡ [])) (sym p_is) (open_or_unobserved l o.entries);
     }
 
 -- a session that takes messages of another size from then on
@@ -107,9 +108,9 @@ on_request r host v m l after o p asks is room entries =
     on_both r (λ link_is p_is frame. request_handled host (record v { frame = frame; observers = o.entries }) m l after o.room o p asks is room link_is p_is ∙ ap (λ (os : List ObserverValue). session_handled host (record v { frame = frame; observers = os }) m) entries)
 
 -- what is no request
-pub no_request : (what : Verdict) → (what ≡ told.Request → ⊥) → is_request (verdict_value what) ≡ false
-no_request told.Request other = absurd (other refl)
-no_request what other = refl
+pub no_request_told : (what : Verdict) → (what ≡ told.Request → ⊥) → is_request (verdict_value what) ≡ false
+no_request_told told.Request other = absurd (other refl)
+no_request_told what other = refl
 
 pub message_handled : (host : Host) (v : SessionValue) (m : Message) (l : LinkValue) → asks_this v.link m ≡ false → l ≡ link_after v.link (call.Handle m) → session_with [] l v.observers ≡ session_handled host v m
 unfolding session_handled
@@ -147,22 +148,22 @@ taking_nothing host v piece takes found =
 
 -- a piece in which a frame was found
 module _ (s : Inside) (is : IsSession s) (piece frame : List ℕ) (found : (framing_of s.framer piece).finding ≡ AFrame frame) where
-  abbrev count : ℕ
-  count = (framing_of s.framer piece).taken
+  abbrev frame_count : ℕ
+  frame_count = (framing_of s.framer piece).taken
 
   -- all that was taken but the last byte
-  abbrev cut : List ℕ
-  cut = without_last (taken_of s.framer piece)
+  abbrev but_last_taken : List ℕ
+  but_last_taken = without_last (taken_of s.framer piece)
 
-  pub some_taken : 1 ≤ count
+  pub frame_takes_some : 1 ≤ frame_count
   unfolding framing
-  some_taken = frame_takes s.framer.max s.framer.kept piece frame (beginning s.framer.max (s.framer.kept ++ piece)) is.framer.unfinished refl found
+  frame_takes_some = frame_takes s.framer.max s.framer.kept piece frame (beginning s.framer.max (s.framer.kept ++ piece)) is.framer.unfinished refl found
 
-  cut_is : cut ≡ take (count - 1) piece
+  cut_is : but_last_taken ≡ take (frame_count - 1) piece
   cut_is =
-      let within : count ≤ length piece = taken_within s.framer.max s.framer.kept piece is.framer.unfinished in
-      ap (λ (n : ℕ). take (n - 1) (take count piece)) (length-take-le count piece within)
-      ∙ take-take (count - 1) count piece (omega arith)
+      let within : frame_count ≤ length piece = taken_within s.framer.max s.framer.kept piece is.framer.unfinished in
+      ap (λ (n : ℕ). take (n - 1) (take frame_count piece)) (length-take-le frame_count piece within)
+      ∙ take-take (frame_count - 1) frame_count piece (omega arith)
 
   pub may_unread : MayUnread (framer_after s.framer piece) (taken_of s.framer piece)
   may_unread = unread_allowed s.framer piece frame is.framer found
@@ -173,24 +174,24 @@ module _ (s : Inside) (is : IsSession s) (piece frame : List ℕ) (found : (fram
   same_framing : (bytes : List ℕ) → framing_of s.framer bytes ≡ framing (session_max (session_value s)) s.framer.kept bytes
   same_framing bytes = ap (λ (n : ℕ). framing n s.framer.kept bytes) is.greatest
 
-  pub refused : (host : Host) (m : Message) → session_takes (session_value s) ≡ true → message_of frame ≡ Ok m → IsPut (change_by host s.link m) → RefusesPiece host (session_value s) piece (count - 1)
-  refused host m takes read put =
+  pub put_refused : (host : Host) (m : Message) → session_takes (session_value s) ≡ true → message_of frame ≡ Ok m → IsPut (change_by host s.link m) → RefusesPiece host (session_value s) piece (frame_count - 1)
+  put_refused host m takes read put =
       let v : SessionValue = session_value s in
       let whole = taking_message host v piece frame m takes (ap (λ (f : Framing). f.finding) (sym (same_framing piece)) ∙ found) read in
-      let taken : (taking host v piece).count ≡ count = ap (λ (t : Taking). t.count) whole ∙ ap (λ (f : Framing). f.taken) (sym (same_framing piece)) in
+      let taken : (taking host v piece).count ≡ frame_count = ap (λ (t : Taking). t.count) whole ∙ ap (λ (f : Framing). f.taken) (sym (same_framing piece)) in
       record {
         takes = takes;
-        last = omega (arith, taken, some_taken);
+        last = omega (arith, taken, frame_takes_some);
         stores = subst (λ (t : Taking). IsPut t.change) (sym whole) put;
       }
 
-  pub kept_but_last : (host : Host) → session_takes (session_value s) ≡ true → record (session_value s) { frame = (unread_after s.framer piece).kept } ≡ (taking host (session_value s) (take (count - 1) piece)).session
+  pub kept_but_last : (host : Host) → session_takes (session_value s) ≡ true → record (session_value s) { frame = (unread_after s.framer piece).kept } ≡ (taking host (session_value s) (take (frame_count - 1) piece)).session
   kept_but_last host takes =
       let v : SessionValue = session_value s in
-      let nothing : (framing (session_max v) v.frame cut).finding ≡ Nothing = ap (λ (f : Framing). f.finding) (sym (same_framing cut)) ∙ unread_nothing s.framer piece frame is.framer found in
+      let nothing : (framing (session_max v) v.frame but_last_taken).finding ≡ Nothing = ap (λ (f : Framing). f.finding) (sym (same_framing but_last_taken)) ∙ unread_nothing s.framer piece frame is.framer found in
       ap (λ (f : FramerValue). record v { frame = f.kept }) (unread_one_less s.framer piece frame is.framer found)
-      ∙ ap (λ (f : Framing). record v { frame = f.kept }) (same_framing cut)
-      ∙ sym (taking_nothing host v cut takes nothing)
+      ∙ ap (λ (f : Framing). record v { frame = f.kept }) (same_framing but_last_taken)
+      ∙ sym (taking_nothing host v but_last_taken takes nothing)
       ∙ ap (λ (bytes : List ℕ). (taking host v bytes).session) cut_is
 
 -- a session whose framer alone was changed
@@ -245,20 +246,20 @@ pub record IsNotified (host : Host) (s : Inside) (index : ℕ) (l : LinkValue) (
   pub entries : (e : ObserverValue) → slice_get s.observers.entries index ≡ Some e → o ≡ record s.observers { entries = entries_notified host s.link s.observers.entries e }
 
 module _ (host : Host) (s : Inside) (index : ℕ) (l : LinkValue) (o : ObserversValue) (is : IsNotified host s index l o) where
-  abbrev there : (e : ObserverValue) × (slice_get s.observers.entries index ≡ Some e)
-  there = entry_there s.observers.entries index (is_first (is_stale host) s.observers.entries index (sym is.first)).within
+  abbrev entry_is_there : (e : ObserverValue) × (slice_get s.observers.entries index ≡ Some e)
+  entry_is_there = entry_there s.observers.entries index (is_first (is_stale host) s.observers.entries index (sym is.first)).within
 
-  next_is : next_stale host (session_value s) ≡ Some there.0
-  next_is = next_ready host (session_value s) is.ready ∙ (is_first (is_stale host) s.observers.entries index (sym is.first)).found ∙ there.1
+  next_is : next_stale host (session_value s) ≡ Some entry_is_there.0
+  next_is = next_ready host (session_value s) is.ready ∙ (is_first (is_stale host) s.observers.entries index (sym is.first)).found ∙ entry_is_there.1
 
   pub next_found : true ≡ is_some (next_stale host (session_value s))
   next_found = ap (λ (e : Option ObserverValue). is_some e) (sym next_is)
 
   pub notified_sizes : sizes_of l ≡ sizes_of s.link
-  notified_sizes = ap sizes_of (is.link there.0 there.1) ∙ reply_sizes s.link (notification_on host there.0)
+  notified_sizes = ap sizes_of (is.link entry_is_there.0 entry_is_there.1) ∙ reply_sizes s.link (notification_on host entry_is_there.0)
 
   pub notified_room : o.room ≡ s.observers.room
-  notified_room = ap (λ (k : ObserversValue). k.room) (is.entries there.0 there.1)
+  notified_room = ap (λ (k : ObserversValue). k.room) (is.entries entry_is_there.0 entry_is_there.1)
 
   pub notified_once : (g : FramerValue) (p : ObserversValue) → g ≡ framer_on l s.framer → p ≡ record o { entries = observers_on l o.entries }
       → record { frame = g.kept; link = l; observers = p.entries } ≡ session_notified host (session_value s) (next_stale host (session_value s))
@@ -266,8 +267,8 @@ module _ (host : Host) (s : Inside) (index : ℕ) (l : LinkValue) (o : Observers
       ap (λ (f : FramerValue). record { frame = f.kept; link = l; observers = p.entries }) g_is
       ∙ ap (λ (frame : List ℕ). record { frame = frame; link = l; observers = p.entries }) (kept_stays l s.framer)
       ∙ ap (λ (k : ObserversValue). record { frame = frame_on l s.framer.kept; link = l; observers = k.entries }) p_is
-      ∙ ap (λ (k : ObserversValue). session_with s.framer.kept l k.entries) (is.entries there.0 there.1)
-      ∙ ap (λ (k : LinkValue). session_with s.framer.kept k (entries_notified host s.link s.observers.entries there.0)) (is.link there.0 there.1)
+      ∙ ap (λ (k : ObserversValue). session_with s.framer.kept l k.entries) (is.entries entry_is_there.0 entry_is_there.1)
+      ∙ ap (λ (k : LinkValue). session_with s.framer.kept k (entries_notified host s.link s.observers.entries entry_is_there.0)) (is.link entry_is_there.0 entry_is_there.1)
       ∙ ap (session_notified host (session_value s)) (sym next_is)
 
 -- ---- what is held
@@ -275,14 +276,6 @@ module _ (host : Host) (s : Inside) (index : ℕ) (l : LinkValue) (o : Observers
 sent_sizes : (l : LinkValue) (now : ℕ) (e : HeldValue) → sizes_of (link_sent l now e) ≡ sizes_of l
 sent_sizes l now (Answer token moment) = reply_sizes (link_after l (call.Due now)) (held_message token)
 sent_sizes l now (Pong token) = refl
-
-there_is : {A : Type 0} (o : Option A) → is_some o ≡ true → (x : A) × (o ≡ Some x)
-there_is None e = absurd cc
-there_is (Some x) e = (x, refl)
-
-pub there_is_none : {A : Type 0} (o : Option A) → is_some o ≡ false → o ≡ None
-there_is_none None e = refl
-there_is_none (Some x) e = absurd cc
 
 -- a session in which what was held and due first was sent
 pub record IsSent (host : Host) (s : Inside) (l : LinkValue) : Type 0 where

@@ -41,22 +41,22 @@ due_held s None = omega arith
 due_held s (Some (Answer token moment)) = omega arith
 due_held s (Some (Pong token)) = send_held s (pong_with true token) (pong_with false token) (fit s.limit (pong_with true token) (pong_with false token))
 
-sent_held : (l : LinkValue) (now : ℕ) (e : HeldValue) → length (link_sent l now e).held ≤ length (link_after l (call.Due now)).held
-sent_held l now (Answer token moment) = reply_held (link_after l (call.Due now)) (held_message token)
-sent_held l now (Pong token) = omega arith
+held_where_sent : (l : LinkValue) (now : ℕ) (e : HeldValue) → length (link_sent l now e).held ≤ length (link_after l (call.Due now)).held
+held_where_sent l now (Answer token moment) = reply_held (link_after l (call.Due now)) (held_message token)
+held_where_sent l now (Pong token) = omega arith
 
 -- a turn that finds what is due leaves less
 pub fewer_held : (l : LinkValue) (now : ℕ) (e : HeldValue) → first_due now l.held ≡ Some e → length (link_sent l now e).held + 1 ≤ length l.held
 fewer_held l now e found =
     let out : length (link_after l (call.Due now)).held ≤ length (without_due now l.held) = due_held (standing_due now (standing_in l)) (first_due now l.held) in
-    omega (arith, sent_held l now e, out, due_fewer now l.held e found)
+    omega (arith, held_where_sent l now e, out, due_fewer now l.held e found)
 
 -- ---- one turn
 
 -- an observer that was told the state now is not stale
-told_now : (host : Host) (o : ObserverValue) (r : Representation) → state_on host o.path ≡ Some r → is_stale host (record o { mark = mark_of host.now (state_on host o.path) }) ≡ false
+marked_now : (host : Host) (o : ObserverValue) (r : Representation) → state_on host o.path ≡ Some r → is_stale host (record o { mark = mark_of host.now (state_on host o.path) }) ≡ false
 unfolding is_stale
-told_now host o r there =
+marked_now host o r there =
     ap (λ (s : Option Representation). not (is_marked host.now (mark_of host.now s) s)) there
     ∙ ap not (eq-eqb (mark_at host.now r) (mark_at host.now r) refl)
 
@@ -69,7 +69,7 @@ left_is_told host o whole =
       | true ↦ λ goes. (
           let tells = notification_tells host.store host.now o.path o.format (eqb-true told.code code.content goes) in
           elim whole as (λ w. count_due (is_stale host) (entry_left host o w) ≡ 0) [
-            | true ↦ cond-false (is_stale host (record o { mark = mark_of host.now (state_on host o.path) })) _ _ (told_now host o tells.representation tells.there)
+            | true ↦ cond-false (is_stale host (record o { mark = mark_of host.now (state_on host o.path) })) _ _ (marked_now host o tells.representation tells.there)
             | false ↦ refl
           ])
       | false ↦ λ ends. refl

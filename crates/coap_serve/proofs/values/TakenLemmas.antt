@@ -227,33 +227,33 @@ settled_with host id after [] now all = tt
 settled_with host id after (e ∷ es) now all = (entry_becomes_settled host after (nat_eq e.0 id) e now all.0, settled_with host id after es now all.1)
 
 module _ (v : ServerValue) (id i : ℕ) (s : SessionValue) (piece : List ℕ) (server : IsServer v) (lies : LiesAt id i v.sessions) (here : slice_get (values_of v.sessions) i ≡ Some s) where
-  abbrev taken_here : Taking
-  taken_here = taking v.host s piece
+  abbrev taking_here : Taking
+  taking_here = taking v.host s piece
 
   abbrev host_after : Host
-  host_after = host_changed v.host taken_here.change
+  host_after = host_changed v.host taking_here.change
 
   abbrev with_it : Entries
-  with_it = map (session_becomes id (λ _. taken_here.session)) v.sessions
+  with_it = map (session_becomes id (λ _. taking_here.session)) v.sessions
 
-  pub taken_is : server_taken v id piece ≡ server_taken_so v id taken_here
+  pub taken_is : server_taken v id piece ≡ server_taken_so v id taking_here
   unfolding server_taken
   taken_is = ap (server_taken_on v id piece) (lies.found ∙ here)
 
-  pub count_is : count_taken v id piece ≡ taken_here.count
+  pub count_is : count_taken v id piece ≡ taking_here.count
   unfolding count_taken
   count_is = ap (count_on v piece) (lies.found ∙ here)
 
-  written_is : set_value_at v.sessions i taken_here.session ≡ with_it
+  written_is : set_value_at v.sessions i taking_here.session ≡ with_it
   written_is =
-      written_at_index (λ _. taken_here.session) v.sessions i s here ∙ changed_one id (λ _. taken_here.session) v.sessions i lies.distinct lies.index lies.within
+      written_at_index (λ _. taking_here.session) v.sessions i s here ∙ changed_one id (λ _. taking_here.session) v.sessions i lies.distinct lies.index lies.within
 
   -- where no resource changed, the others are settled
-  quiet_is : changes taken_here.change ≡ false → changed_at i (settled_held host_after) (set_value_at v.sessions i taken_here.session) ≡ map (settled_entry host_after) with_it
+  quiet_is : changes taking_here.change ≡ false → changed_at i (settled_held host_after) (set_value_at v.sessions i taking_here.session) ≡ map (settled_entry host_after) with_it
   quiet_is quiet =
-      let last : SessionValue → SessionValue = λ _. taken_here.session in
-      let settles : settled_held v.host taken_here.session ≡ session_settled v.host taken_here.session = taking_settles_held v.host s piece (settled_at v.host i v.sessions s server.settled here) in
-      subst (λ (host : Host). changed_at i (settled_held host) (set_value_at v.sessions i taken_here.session) ≡ map (settled_entry host) with_it) (sym (host_stays v.host taken_here.change quiet))
+      let last : SessionValue → SessionValue = λ _. taking_here.session in
+      let settles : settled_held v.host taking_here.session ≡ session_settled v.host taking_here.session = taking_settles_held v.host s piece (settled_at v.host i v.sessions s server.settled here) in
+      subst (λ (host : Host). changed_at i (settled_held host) (set_value_at v.sessions i taking_here.session) ≡ map (settled_entry host) with_it) (sym (host_stays v.host taking_here.change quiet))
       (ap (changed_at i (settled_held v.host)) (written_at_index last v.sessions i s here)
       ∙ changed_twice i (settled_held v.host) last v.sessions
       ∙ ap (λ (to : SessionValue). changed_at i (λ _. to) v.sessions) settles
@@ -261,18 +261,18 @@ module _ (v : ServerValue) (id i : ℕ) (s : SessionValue) (piece : List ℕ) (s
       ∙ one_settles v.host id last v.sessions server.settled)
 
   -- the same where it holds still
-  pub still_is : changes taken_here.change ≡ false → IsSettled v.host taken_here.session → set_value_at v.sessions i taken_here.session ≡ map (settled_entry host_after) with_it
+  pub still_is : changes taking_here.change ≡ false → IsSettled v.host taking_here.session → set_value_at v.sessions i taking_here.session ≡ map (settled_entry host_after) with_it
   still_is quiet still =
       written_is
-      ∙ sym (all_settled_stay host_after with_it (subst (λ (host : Host). AreSettled host with_it) (sym (host_stays v.host taken_here.change quiet)) (settled_with v.host id taken_here.session v.sessions still server.settled)))
+      ∙ sym (all_settled_stay host_after with_it (subst (λ (host : Host). AreSettled host with_it) (sym (host_stays v.host taking_here.change quiet)) (settled_with v.host id taking_here.session v.sessions still server.settled)))
 
   -- all settle where a resource changed, and else the one, where it holds something
   abbrev left_so : Host → SessionValue → Bool → Entries
   left_so host after changed = cond changed (map (settled_entry host) (set_value_at v.sessions i after)) (changed_at i (settled_held host) (set_value_at v.sessions i after))
 
-  left_is : left_so host_after taken_here.session (changes taken_here.change) ≡ map (settled_entry host_after) with_it
+  left_is : left_so host_after taking_here.session (changes taking_here.change) ≡ map (settled_entry host_after) with_it
   left_is =
-      elim (changes taken_here.change) as (λ b. changes taken_here.change ≡ b → left_so host_after taken_here.session b ≡ map (settled_entry host_after) with_it) [
+      elim (changes taking_here.change) as (λ b. changes taking_here.change ≡ b → left_so host_after taking_here.session b ≡ map (settled_entry host_after) with_it) [
         | true ↦ λ _. ap (map (settled_entry host_after)) written_is
         | false ↦ quiet_is
       ] refl
@@ -289,13 +289,13 @@ module _ (v : ServerValue) (id i : ℕ) (s : SessionValue) (piece : List ℕ) (s
     becomes_server =
         subst (λ (h : Host). IsServer (record v { host = h; sessions = entries })) (sym host_is)
         (subst (λ (es : Entries). IsServer (record v { host = host_after; sessions = es })) (sym all)
-        (taken_server_with v id (λ _. taken_here.session) host_after server))
+        (taken_server_with v id (λ _. taking_here.session) host_after server))
 
-  module _ (host : Host) (after : SessionValue) (changed : Bool) (entries : Entries) (after_is : after ≡ taken_here.session) (host_is : host ≡ host_after) (changed_is : changed ≡ changes taken_here.change) (entries_are : entries ≡ left_so host after changed) where
+  module _ (host : Host) (after : SessionValue) (changed : Bool) (entries : Entries) (after_is : after ≡ taking_here.session) (host_is : host ≡ host_after) (changed_is : changed ≡ changes taking_here.change) (entries_are : entries ≡ left_so host after changed) where
     all_are : entries ≡ map (settled_entry host_after) with_it
     all_are =
         entries_are ∙ ap (λ (h : Host). left_so h after changed) host_is ∙ ap (λ (a : SessionValue). left_so host_after a changed) after_is
-        ∙ ap (left_so host_after taken_here.session) changed_is ∙ left_is
+        ∙ ap (left_so host_after taking_here.session) changed_is ∙ left_is
 
     pub taken_value : record v { host = host; sessions = entries } ≡ server_taken v id piece
     taken_value = becomes_value host entries host_is all_are
@@ -304,15 +304,15 @@ module _ (v : ServerValue) (id i : ℕ) (s : SessionValue) (piece : List ℕ) (s
     taken_server = becomes_server host entries host_is all_are
 
     pub taken_lies : LiesAt id i entries
-    taken_lies = subst (LiesAt id i) (sym all_are) (lies_where_taken id i (λ _. taken_here.session) host_after v.sessions lies)
+    taken_lies = subst (LiesAt id i) (sym all_are) (lies_where_taken id i (λ _. taking_here.session) host_after v.sessions lies)
 
     -- what was handled, where the connection stands so afterwards
-    pub taken_handled : (takes message : Bool) (stop : Option Reason) (now : SessionValue) → takes ≡ session_takes s → message ≡ taken_here.handled → slice_get (values_of entries) i ≡ Some now → stop ≡ stop_of now.link.phase → handled_so takes message stop ≡ handled_by v id piece
+    pub taken_handled : (takes message : Bool) (stop : Option Reason) (now : SessionValue) → takes ≡ session_takes s → message ≡ taking_here.handled → slice_get (values_of entries) i ≡ Some now → stop ≡ stop_of now.link.phase → handled_so takes message stop ≡ handled_by v id piece
     unfolding handled_by
     taken_handled takes message stop now takes_is message_is there stop_is =
         let stops = stop_is ∙ ap stop_on (sym (taken_lies.found ∙ there)) ∙ ap (λ (w : ServerValue). stop_on (session_of id w.sessions)) taken_value in
         ap (λ b. handled_so b message stop) takes_is ∙ ap (λ b. handled_so (session_takes s) b stop) message_is
-        ∙ ap (handled_so (session_takes s) taken_here.handled) stops
+        ∙ ap (handled_so (session_takes s) taking_here.handled) stops
         ∙ ap (λ found. handled_on v piece found (stop_on (session_of id (server_taken v id piece).sessions))) (sym (lies.found ∙ here))
 
 -- ---- the server where memory was refused
@@ -321,17 +321,17 @@ module _ (v : ServerValue) (id i : ℕ) (s : SessionValue) (piece : List ℕ) (c
   pub refuses_on : RefusesPieceOn v piece count (session_of id v.sessions)
   refuses_on = subst (RefusesPieceOn v piece count) (sym (lies.found ∙ here)) refuses
 
-  nothing_changes : (taking v.host s (take count piece)).change ≡ answer.Nothing
-  nothing_changes = refused_changes_nothing v.host s piece count refuses
+  front_changes_nothing : (taking v.host s (take count piece)).change ≡ answer.Nothing
+  front_changes_nothing = refused_changes_nothing v.host s piece count refuses
 
   module _ (host : Host) (after : SessionValue) (after_is : after ≡ (taking v.host s (take count piece)).session) (host_is : host ≡ v.host) where
     host_after_is : host ≡ host_changed v.host (taking v.host s (take count piece)).change
-    host_after_is = host_is ∙ sym (ap (host_changed v.host) nothing_changes)
+    host_after_is = host_is ∙ sym (ap (host_changed v.host) front_changes_nothing)
 
     still_all : set_value_at v.sessions i after ≡ map (settled_entry (host_changed v.host (taking v.host s (take count piece)).change)) (map (session_becomes id (λ _. (taking v.host s (take count piece)).session)) v.sessions)
     still_all =
         ap (set_value_at v.sessions i) after_is
-        ∙ still_is v id i s (take count piece) server lies here (ap changes nothing_changes) (refused_stays_settled v.host s piece count refuses (settled_at v.host i v.sessions s server.settled here))
+        ∙ still_is v id i s (take count piece) server lies here (ap changes front_changes_nothing) (refused_stays_settled v.host s piece count refuses (settled_at v.host i v.sessions s server.settled here))
 
     pub refused_value : record v { host = host; sessions = set_value_at v.sessions i after } ≡ server_taken v id (take count piece)
     refused_value = becomes_value v id i s (take count piece) server lies here host _ host_after_is still_all

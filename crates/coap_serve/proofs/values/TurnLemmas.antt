@@ -16,8 +16,8 @@ pub same_session : (o : Option SessionValue) (s t : SessionValue) → o ≡ Some
 same_session o s t is also = let both : ◌≡◌ {A = Option SessionValue} (Some s) (Some t) = sym is ∙ also in cc
 
 module _ (v : ServerValue) (id i : ℕ) (s : SessionValue) (server : IsServer v) (lies : LiesAt id i v.sessions) (here : slice_get (values_of v.sessions) i ≡ Some s) (entries : Entries) (wrote : List ℕ → Type 0) where
-  there : session_of id v.sessions ≡ Some s
-  there = lies.found ∙ here
+  session_is_there : session_of id v.sessions ≡ Some s
+  session_is_there = lies.found ∙ here
 
   pub turned_server : (waited : Bool) → IsFlushedAt i v.host s v.sessions entries wrote waited → IsServer (record v { sessions = entries })
   turned_server true did = changed_server v id i (λ u. session_written u (length s.link.waiting)) entries server lies did.0
@@ -25,10 +25,10 @@ module _ (v : ServerValue) (id i : ℕ) (s : SessionValue) (server : IsServer v)
 
   pub turned_value : (waited : Bool) → IsFlushedAt i v.host s v.sessions entries wrote waited → IsFlushedOnce id v (record v { sessions = entries }) wrote waited
   turned_value true did = (
-    changed_value v id i (λ u. session_written u (length s.link.waiting)) entries server lies did.0 ∙ ap (λ (o : Option SessionValue). server_written v id (length (waiting_in o))) (sym there),
-    subst wrote (ap waiting_in (sym there)) did.1,
+    changed_value v id i (λ u. session_written u (length s.link.waiting)) entries server lies did.0 ∙ ap (λ (o : Option SessionValue). server_written v id (length (waiting_in o))) (sym session_is_there),
+    subst wrote (ap waiting_in (sym session_is_there)) did.1,
   )
-  turned_value false did = (ap waiting_in there ∙ did.0, ap (λ (es : Entries). record v { sessions = es }) did.1, did.2)
+  turned_value false did = (ap waiting_in session_is_there ∙ did.0, ap (λ (es : Entries). record v { sessions = es }) did.1, did.2)
 
   pub turned_lies : (waited : Bool) → IsFlushedAt i v.host s v.sessions entries wrote waited → LiesAt id i entries
   turned_lies true did =

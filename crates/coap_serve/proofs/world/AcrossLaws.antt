@@ -16,6 +16,7 @@ use Rattle.coap_serve.specs.world.World as world
 use Rattle.coap_serve.specs.world.Events.{Event, steps_of, world_after}
 use Rattle.coap_serve.proofs.world.PlaceLaws.{found, nobody, all_there, changed_here, changed_elsewhere, still_there, new_there, but, dropped_here, dropped_elsewhere}
 use Rattle.coap_serve.proofs.world.WalkLaws.{Composes, Between, Hears, Replies, Holds, LetsGo, Pongs, Rejects, Ends, Releases, Announces, Writes, once_between, after_between, faulted_between, written_between, ended_between, released_between, announced_between}
+use Rattle.coap_serve.proofs.values.OptionLemmas.{one_made, same_there}
 use Rattle.coap_wire.proofs.StreamSteps.{none_or_some}
 
 -- ---- settling
@@ -50,21 +51,13 @@ pub record HoldsOf (R : Side → Side → Type 0) (w : World) (st : Step) (id : 
 abbrev pub HoldsFrom : (Side → Side → Type 0) → LimitValues → World → Step → ℕ → Side → Type 0
 HoldsFrom R limits w st id t = ((s : Side) × (side_of id w.sides ≡ Some s) × R s t) ⊎ ((side_of id w.sides ≡ None) × (st ≡ world.Opened id) × R (new_side limits) t)
 
--- what a function makes of what may be there
-made_of : (g : Side → Side) (o : Option Side) (t : Side) → option_map g o ≡ Some t → (s : Side) × (o ≡ Some s) × (g s ≡ t)
-made_of g None t e = absurd cc
-made_of g (Some s) t e = (s, refl, cc)
-
-pub some_same : (s t : Side) → ◌≡◌ {A = Option Side} (Some s) (Some t) → s ≡ t
-some_same s t e = cc
-
 -- the world with a new connection
 abbrev pub opened_world : LimitValues → World → ℕ → World
 opened_world limits w id = record w { sides = w.sides ++ record { id = id; side = new_side limits } ∷ []; ids = id }
 
 -- the connection that became one when all settled
 pub before_settled : (w : World) (id : ℕ) (t : Side) → side_of id (all_settled w).sides ≡ Some t → (s : Side) × (side_of id w.sides ≡ Some s) × (settled w.store w.now s ≡ t)
-before_settled w id t e = made_of (settled w.store w.now) (side_of id w.sides) t (sym (all_there id (settled w.store w.now) w.sides) ∙ e)
+before_settled w id t e = one_made (settled w.store w.now) (side_of id w.sides) t (sym (all_there id (settled w.store w.now) w.sides) ∙ e)
 
 module _ (R : Side → Side → Type 0) (limits : LimitValues) (w : World) (st : Step) (id : ℕ) (holds : HoldsOf R w st id) where
   same_across : (t : Side) → side_of id w.sides ≡ Some t → HoldsFrom R limits w st id t
@@ -75,7 +68,7 @@ module _ (R : Side → Side → Type 0) (limits : LimitValues) (w : World) (st :
   changed_across at f t go e =
       elim (cases_eq at id) [
         | inl here ↦
-            let made = made_of f (side_of at w.sides) t (sym (changed_here at f w.sides) ∙ ap (λ (n : ℕ). side_of n (map (changed_at at f) w.sides)) here ∙ e) in
+            let made = one_made f (side_of at w.sides) t (sym (changed_here at f w.sides) ∙ ap (λ (n : ℕ). side_of n (map (changed_at at f) w.sides)) here ∙ e) in
             inl (made.0, ap (λ (n : ℕ). side_of n w.sides) (sym here) ∙ made.1, subst (R made.0) made.2 (go here made.0))
         | inr apart ↦ same_across t (sym (changed_elsewhere at id f w.sides apart) ∙ e)
       ]
@@ -88,7 +81,7 @@ module _ (R : Side → Side → Type 0) (limits : LimitValues) (w : World) (st :
         | inr later ↦ absurd (let bad : ◌≡◌ {A = Option Side} None (Some t) = sym (nobody id) ∙ later.1 in cc)
       ]
   opened_across at t (Some s) is there e =
-      let same = some_same s t (sym (still_there id s w.sides (record { id = at; side = new_side limits } ∷ []) there) ∙ e) in
+      let same = same_there s t (sym (still_there id s w.sides (record { id = at; side = new_side limits } ∷ []) there) ∙ e) in
       same_across t (there ∙ ap (λ (u : Side). Some u) same)
 
   if_across : (v : World) (t : Side) (does : Bool) → (side_of id v.sides ≡ Some t → HoldsFrom R limits w st id t) → side_of id (cond does v w).sides ≡ Some t → HoldsFrom R limits w st id t

@@ -64,8 +64,8 @@ pub record IsBehind (ms : List Message) (n : Tally) (token : List ℕ) : Type 0 
   pub asks : asks_held ping (Pong token) ≡ true
   pub few : AtMost (requests earlier) n
 
-behind_more : (ms more : List Message) (n k : Tally) (token : List ℕ) → AtMost n k → IsBehind ms n token → IsBehind (ms ++ more) k token
-behind_more ms more n k token grows is = record {
+still_behind : (ms more : List Message) (n k : Tally) (token : List ℕ) → AtMost n k → IsBehind ms n token → IsBehind (ms ++ more) k token
+still_behind ms more n k token grows is = record {
   earlier = is.earlier;
   ping = is.ping;
   later = is.later ++ more;
@@ -84,7 +84,7 @@ PongsBehind ms n (q ∷ qs) = (is_custody_pong q ≡ true → IsBehind ms n q.to
 pub pongs_more : (ms more : List Message) (n k : Tally) (qs : List Message) → AtMost n k → PongsBehind ms n qs → PongsBehind (ms ++ more) k qs
 pongs_more ms more n k [] grows is = tt
 pongs_more ms more n k (q ∷ qs) grows is = (
-  λ pong. behind_more ms more n k q.token grows (is.0 pong),
+  λ pong. still_behind ms more n k q.token grows (is.0 pong),
   pongs_more ms more (plus n (responses (q ∷ []))) (plus k (responses (q ∷ []))) qs (λ t. omega (arith, grows t)) is.1,
 )
 
@@ -100,10 +100,10 @@ pongs_other ms n (q ∷ qs) others = (λ pong. absurd (both_ways (is_custody_pon
 
 -- of one of them
 pub pong_at : (ms : List Message) (n : Tally) (before : List Message) (pong : Message) (behind : List Message) → PongsBehind ms n (before ++ pong ∷ behind) → is_custody_pong pong ≡ true → IsBehind ms (plus n (responses before)) pong.token
-pong_at ms n [] pong behind is custody = subst (λ (xs : List Message). IsBehind xs (plus n (responses [])) pong.token) (append-nil ms) (behind_more ms [] n (plus n (responses [])) pong.token (λ t. omega arith) (is.0 custody))
+pong_at ms n [] pong behind is custody = subst (λ (xs : List Message). IsBehind xs (plus n (responses [])) pong.token) (append-nil ms) (still_behind ms [] n (plus n (responses [])) pong.token (λ t. omega arith) (is.0 custody))
 pong_at ms n (q ∷ before) pong behind is custody =
     subst (λ (xs : List Message). IsBehind xs (plus n (responses (q ∷ before))) pong.token) (append-nil ms)
-    (behind_more ms [] (plus (plus n (responses (q ∷ []))) (responses before)) (plus n (responses (q ∷ before))) pong.token (λ t. omega arith)
+    (still_behind ms [] (plus (plus n (responses (q ∷ []))) (responses before)) (plus n (responses (q ∷ before))) pong.token (λ t. omega arith)
     (pong_at ms (plus n (responses (q ∷ []))) before pong behind is.1 custody))
 
 -- ---- what is held
@@ -119,7 +119,7 @@ HeldBehind ms n (e ∷ es) = IsPongFor e (IsBehind ms n) × HeldBehind ms (plus 
 
 pong_for_more : (ms more : List Message) (n k : Tally) (e : HeldValue) → AtMost n k → IsPongFor e (IsBehind ms n) → IsPongFor e (IsBehind (ms ++ more) k)
 pong_for_more ms more n k (Answer token moment) grows is = tt
-pong_for_more ms more n k (Pong token) grows is = behind_more ms more n k token grows is
+pong_for_more ms more n k (Pong token) grows is = still_behind ms more n k token grows is
 
 pub held_more : (ms more : List Message) (n k : Tally) (es : List HeldValue) → AtMost n k → HeldBehind ms n es → HeldBehind (ms ++ more) k es
 held_more ms more n k [] grows is = tt

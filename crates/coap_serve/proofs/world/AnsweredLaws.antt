@@ -63,8 +63,8 @@ record FollowsBut (first all_in_all : Tally) (h : History) : Type 0 where
   all : takes_messages h.phase ≡ true → AtMost (requests h.handled) (plus (plus all_in_all (responses h.queued)) (held_back h.held))
   quiet : answers h.phase ≡ false → h.held ≡ []
 
-abbrev Follows : History → Type 0
-Follows h = FollowsBut nothing nothing h
+abbrev PongsFollow : History → Type 0
+PongsFollow h = FollowsBut nothing nothing h
 
 -- an effect that queues what is still to be queued, or stops
 record Pays (b d : Tally) (h : History) (e : Effect) : Type 0 where
@@ -96,7 +96,7 @@ module _ (b d : Tally) (h : History) (e : Effect) (is : FollowsBut b d h) where
     λ off. over.1,
   )
 
-  paid : Pays b d h e → Follows (with_effect h e)
+  paid : Pays b d h e → PongsFollow (with_effect h e)
   paid pays =
       let all : IsPaid = paid_by pays.goes in
       record {
@@ -131,20 +131,20 @@ module _ (b d : Tally) (h : History) (token : List ℕ) (observe : Bool) (r : Re
   abbrev whole : Message
   whole = response_with_observe token observe r
 
-  sent_follows : MayPay b whole → MayPay b (bare_response whole) → MayPay d whole → MayPay d (bare_response whole) → Follows (sent h whole (bare_response whole))
+  sent_follows : MayPay b whole → MayPay b (bare_response whole) → MayPay d whole → MayPay d (bare_response whole) → PongsFollow (sent h whole (bare_response whole))
   sent_follows first bare all all_bare =
       paid b d h (send (standing_now h) whole (bare_response whole)) is
       (sent_pays b d h whole (bare_response whole) (fit (standing_now h).limit whole (bare_response whole)) (response_no_pong token observe r) (bare_no_pong whole) first bare all all_bare)
 
   -- one that is owed
-  owed_follows : (does : Bool) → does ≡ true → coded r.code ≡ true → OwesToken b token → OwesToken d token → Follows (cond does (sent h whole (bare_response whole)) h)
+  owed_follows : (does : Bool) → does ≡ true → coded r.code ≡ true → OwesToken b token → OwesToken d token → PongsFollow (cond does (sent h whole (bare_response whole)) h)
   owed_follows false does is_coded first all = absurd cc
   owed_follows true does is_coded first all =
       let bare : is_response (bare_response whole) ≡ true = bare_coded r.code is_coded in
       sent_follows (token_pays b whole first is_coded) (token_pays b (bare_response whole) first bare) (token_pays d whole all is_coded) (token_pays d (bare_response whole) all bare)
 
 -- one that nobody waits for
-told_follows : (h : History) (token : List ℕ) (observe : Bool) (r : Response) (does : Bool) → Follows h → Follows (cond does (sent h (response_with_observe token observe r) (bare_response (response_with_observe token observe r))) h)
+told_follows : (h : History) (token : List ℕ) (observe : Bool) (r : Response) (does : Bool) → PongsFollow h → PongsFollow (cond does (sent h (response_with_observe token observe r) (bare_response (response_with_observe token observe r))) h)
 told_follows h token observe r false is = is
 told_follows h token observe r true is =
     let m : Message = response_with_observe token observe r in
@@ -152,7 +152,7 @@ told_follows h token observe r true is =
 
 -- ---- what happens but for messages and settling
 
-stopped_follows : (h k : History) → Queues IsPlain h k → k.handled ≡ h.handled → k.held ≡ [] → takes_messages k.phase ≡ false → Follows h → Follows k
+stopped_follows : (h k : History) → Queues IsPlain h k → k.handled ≡ h.handled → k.held ≡ [] → takes_messages k.phase ≡ false → PongsFollow h → PongsFollow k
 stopped_follows h k queues same none over is = record {
   pongs = subst (λ (ms : List Message). PongsBehind ms nothing k.queued) (sym same) (subst (PongsBehind h.handled nothing) (sym queues.same)
       (pongs_then h.handled nothing (responses h.queued) h.queued queues.more (λ t. omega arith) is.pongs (pongs_other h.handled (responses h.queued) queues.more (plain_no_pong queues.more queues.such))));
@@ -163,7 +163,7 @@ stopped_follows h k queues same none over is = record {
 
 -- ---- a message that is handled
 
-module _ (h : History) (m : Message) (server : h.role ≡ Server) (live : takes_messages h.phase ≡ true) (is : Follows h) where
+module _ (h : History) (m : Message) (server : h.role ≡ Server) (live : takes_messages h.phase ≡ true) (is : PongsFollow h) where
   abbrev s : Standing
   s = standing_now h
 
@@ -368,7 +368,7 @@ opened_answers (phase.Releasing why) opened = absurd cc
 opened_answers (phase.Stopped why) opened = absurd cc
 
 -- its answer is held
-hold_follows : (d : Tally) (h : History) (token : List ℕ) (moment : ℕ) (does : Bool) → does ≡ true → is_open h.phase ≡ true → OwesToken d token → FollowsBut nothing d h → Follows (cond does (record h { held = h.held ++ Answer token moment ∷ [] }) h)
+hold_follows : (d : Tally) (h : History) (token : List ℕ) (moment : ℕ) (does : Bool) → does ≡ true → is_open h.phase ≡ true → OwesToken d token → FollowsBut nothing d h → PongsFollow (cond does (record h { held = h.held ++ Answer token moment ∷ [] }) h)
 hold_follows d h token moment false does opened owes is = absurd cc
 hold_follows d h token moment true does opened owes is = record {
   pongs = is.pongs;
@@ -378,7 +378,7 @@ hold_follows d h token moment true does opened owes is = record {
 }
 
 replied_follows : (store : StoreValue) (now : ℕ) (h : History) (others : List Observer) (m : Message) (hold : Option ℕ) (d : Tally) → is_open h.phase ≡ true → ((seconds : ℕ) → hold ≡ Some seconds → may_hold h ≡ true) → OwesToken d m.token → FollowsBut nothing d h
-    → Follows (side_replied store now h others m hold).history
+    → PongsFollow (side_replied store now h others m hold).history
 replied_follows store now h others m None d opened may owes is =
     let a = prompt_answer store now m in
     owed_follows nothing d h m.token (has_place h.limits.observers others a.watch) a.response is (answers h.phase) (opened_answers h.phase opened) (prompt_coded store now m) (λ t. omega arith) owes
@@ -394,7 +394,7 @@ owed_token true m t = by (is_asking m)
     by true = omega arith
     by false = omega arith
 
-module _ (store : StoreValue) (now : ℕ) (s : Side) (m : Message) (server : s.history.role ≡ Server) (is : Follows s.history) where
+module _ (store : StoreValue) (now : ℕ) (s : Side) (m : Message) (server : s.history.role ≡ Server) (is : PongsFollow s.history) where
   abbrev heard_so : History
   heard_so = after s.history (call.Handle m)
 
@@ -406,22 +406,22 @@ module _ (store : StoreValue) (now : ℕ) (s : Side) (m : Message) (server : s.h
   heard_is true live does = heard_follows s.history m server live is
   heard_is false live does = absurd cc
 
-  no_answer : (asks : Bool) → asks ≡ false → FollowsBut nothing (λ t. one (asks && asks_with t m)) heard_so → Follows heard_so
+  no_answer : (asks : Bool) → asks ≡ false → FollowsBut nothing (λ t. one (asks && asks_with t m)) heard_so → PongsFollow heard_so
   no_answer false other follows = follows
   no_answer true other follows = absurd cc
 
   handled_follows : takes_messages s.history.phase ≡ true → (asks : Bool) → asks_answer s m ≡ asks
-      → Follows (cond asks (side_replied store now heard_so (without_token m.token s.observers) m (held_for heard_so (answer_of store now m).hold)) (with_history s heard_so)).history
+      → PongsFollow (cond asks (side_replied store now heard_so (without_token m.token s.observers) m (held_for heard_so (answer_of store now m).hold)) (with_history s heard_so)).history
   handled_follows live true asks =
       replied_follows store now heard_so (without_token m.token s.observers) m (held_for heard_so (answer_of store now m).hold) owed_so (asked_open s m live asks)
       (λ seconds held. held_at_all heard_so (answer_of store now m).hold seconds held) (owed_token (asks_answer s m) m) (heard_is (takes_messages s.history.phase) refl live)
   handled_follows live false other = no_answer (asks_answer s m) other (heard_is (takes_messages s.history.phase) refl live)
 
-  after_follows : Follows (side_after store now s m).history
+  after_follows : PongsFollow (side_after store now s m).history
   unfolding side_after
   after_follows = by (handles s) refl
     where
-      by : (does : Bool) → handles s ≡ does → Follows (cond does (side_handled store now s m) s).history
+      by : (does : Bool) → handles s ≡ does → PongsFollow (cond does (side_handled store now s m) s).history
       by true does = handled_follows (and_parts (takes_messages s.history.phase) (has_room s) does).0 (asks_answer s m) refl
       by false does = is
 
@@ -433,13 +433,13 @@ unfolding without_due due_index
 none_left now [] none = refl
 none_left now (x ∷ es) none = absurd cc
 
-none_due : (now : ℕ) (e : HeldValue) (es : List HeldValue) → es ≡ [] → first_due now es ≡ Some e → ⊥
+none_due_of_none : (now : ℕ) (e : HeldValue) (es : List HeldValue) → es ≡ [] → first_due now es ≡ Some e → ⊥
 unfolding first_due due_index
-none_due now e [] none found = cc
-none_due now e (x ∷ es) none found = cc
+none_due_of_none now e [] none found = cc
+none_due_of_none now e (x ∷ es) none found = cc
 
 -- what is due first is held no more, and is still to be queued
-let_go : (h : History) (now : ℕ) (token : List ℕ) (moment : ℕ) → first_due now h.held ≡ Some (Answer token moment) → Follows h → FollowsBut (λ t. one (same_bytes token t)) (λ t. one (same_bytes token t)) (with_effect h (stay (standing_due now (standing_now h))))
+let_go : (h : History) (now : ℕ) (token : List ℕ) (moment : ℕ) → first_due now h.held ≡ Some (Answer token moment) → PongsFollow h → FollowsBut (λ t. one (same_bytes token t)) (λ t. one (same_bytes token t)) (with_effect h (stay (standing_due now (standing_now h))))
 let_go h now token moment due is = record {
   pongs = pongs_then h.handled nothing (responses h.queued) h.queued [] (λ t. omega arith) is.pongs tt;
   held = due_moves h.handled (plus nothing (responses h.queued)) (plus (λ t. one (same_bytes token t)) (responses (h.queued ++ []))) h.held now (Answer token moment) due (λ t. omega (arith, more_answered h.queued [] t)) is.held;
@@ -448,11 +448,11 @@ let_go h now token moment due is = record {
 }
 
 -- so it is sent where anything is
-on_by : (h : History) (now : ℕ) (e : HeldValue) → first_due now h.held ≡ Some e → (on : Bool) → answers h.phase ≡ on → Follows h → on ≡ true
+on_by : (h : History) (now : ℕ) (e : HeldValue) → first_due now h.held ≡ Some e → (on : Bool) → answers h.phase ≡ on → PongsFollow h → on ≡ true
 on_by h now e due true is follows = refl
-on_by h now e due false is follows = absurd (none_due now e h.held (follows.quiet is) due)
+on_by h now e due false is follows = absurd (none_due_of_none now e h.held (follows.quiet is) due)
 
-pong_sent_so : (h : History) (now : ℕ) (token : List ℕ) (r : Reply) → h.held ≡ Pong token ∷ without_due now h.held → Follows h → Follows (with_effect h (send_as (standing_due now (standing_now h)) (pong_with true token) (pong_with false token) r))
+pong_sent_so : (h : History) (now : ℕ) (token : List ℕ) (r : Reply) → h.held ≡ Pong token ∷ without_due now h.held → PongsFollow h → PongsFollow (with_effect h (send_as (standing_due now (standing_now h)) (pong_with true token) (pong_with false token) r))
 pong_sent_so h now token r first is =
     let behind : HeldBehind h.handled (plus nothing (responses h.queued)) (Pong token ∷ without_due now h.held) = subst (HeldBehind h.handled (plus nothing (responses h.queued))) first is.held in
     by r behind
@@ -466,7 +466,7 @@ pong_sent_so h now token r first is =
     nothing_left : h.held ≡ [] → without_due now h.held ≡ []
     nothing_left none = (let bad : ◌≡◌ {A = List HeldValue} [] (Pong token ∷ without_due now h.held) = sym none ∙ first in absurd cc)
 
-    by : (r : Reply) → HeldBehind h.handled (plus nothing (responses h.queued)) (Pong token ∷ without_due now h.held) → Follows (with_effect h (send_as (standing_due now (standing_now h)) (pong_with true token) (pong_with false token) r))
+    by : (r : Reply) → HeldBehind h.handled (plus nothing (responses h.queued)) (Pong token ∷ without_due now h.held) → PongsFollow (with_effect h (send_as (standing_due now (standing_now h)) (pong_with true token) (pong_with false token) r))
     by Whole behind = record {
       pongs = pongs_then h.handled nothing (plus nothing (responses h.queued)) h.queued (pong_with true token ∷ []) (λ t. omega arith) is.pongs (λ custody. behind.0, tt);
       held = left (pong_with true token ∷ []) behind;
@@ -486,31 +486,31 @@ pong_sent_so h now token r first is =
       quiet = λ off. refl;
     }
 
-sent_due : (h : History) (now : ℕ) (e : HeldValue) → first_due now h.held ≡ Some e → Follows h → Follows (after_sent h now e)
+sent_due : (h : History) (now : ℕ) (e : HeldValue) → first_due now h.held ≡ Some e → PongsFollow h → PongsFollow (after_sent h now e)
 sent_due h now (Answer token moment) due is =
     let k : History = with_effect h (stay (standing_due now (standing_now h))) in
-    subst (λ (g : History). Follows (after g (call.Reply (held_message token)))) (sym (due_is h now (Some (Answer token moment)) due))
+    subst (λ (g : History). PongsFollow (after g (call.Reply (held_message token)))) (sym (due_is h now (Some (Answer token moment)) due))
     (owed_follows (λ t. one (same_bytes token t)) (λ t. one (same_bytes token t)) k token false held_response (let_go h now token moment due is) (answers k.phase) (on_by h now (Answer token moment) due (answers h.phase) refl is) refl (λ t. omega arith) (λ t. omega arith))
 sent_due h now (Pong token) due is =
     let s : Standing = standing_due now (standing_now h) in
-    subst Follows (sym (due_is h now (Some (Pong token)) due)) (pong_sent_so h now token (fit s.limit (pong_with true token) (pong_with false token)) (due_pong now h.held token due) is)
+    subst PongsFollow (sym (due_is h now (Some (Pong token)) due)) (pong_sent_so h now token (fit s.limit (pong_with true token) (pong_with false token)) (due_pong now h.held token due) is)
 
-notified_follows : (store : StoreValue) (now : ℕ) (s : Side) (found : Option Observer) → Follows s.history → Follows (notified store now s found).history
+notified_follows : (store : StoreValue) (now : ℕ) (s : Side) (found : Option Observer) → PongsFollow s.history → PongsFollow (notified store now s found).history
 notified_follows store now s None is = is
 notified_follows store now s (Some o) is = told_follows s.history o.token (goes_on (notification store now o)) (notification store now o) (answers s.history.phase) is
 
-so_follows : (store : StoreValue) (now : ℕ) (s : Side) (found : Option HeldValue) → next_held now s ≡ found → Follows s.history → Follows (settled_so store now s found).history
+so_follows : (store : StoreValue) (now : ℕ) (s : Side) (found : Option HeldValue) → next_held now s ≡ found → PongsFollow s.history → PongsFollow (settled_so store now s found).history
 so_follows store now s None e is = notified_follows store now s (next_due store now s) is
 so_follows store now s (Some x) e is = sent_due s.history now x (held_room now s x e).1 is
 
-once_follows : (store : StoreValue) (now : ℕ) (s : Side) → Follows s.history → Follows (settled_once store now s).history
+once_follows : (store : StoreValue) (now : ℕ) (s : Side) → PongsFollow s.history → PongsFollow (settled_once store now s).history
 unfolding settled_once
 once_follows store now s is = so_follows store now s (next_held now s) refl is
 
 -- ---- what a connection keeps
 
 -- our Capabilities and Settings are neither a response nor a Pong
-announced_follows : Announces (λ h k. Follows h → Follows k)
+announced_follows : Announces (λ h k. PongsFollow h → PongsFollow k)
 announced_follows h size opened room fit is =
     let more : List Message = own_csm size ∷ [] in
     record {
@@ -520,15 +520,15 @@ announced_follows h size opened room fit is =
       quiet = is.quiet;
     }
 
-follows_keeps : (limits : LimitValues) → Keeps limits (λ s. Follows s.history)
+follows_keeps : (limits : LimitValues) → Keeps limits (λ s. PongsFollow s.history)
 follows_keeps limits = record {
   first = record { pongs = (λ custody. absurd cc, tt); held = tt; all = λ takes t. omega arith; quiet = λ off. refl };
   handled = λ store now s m side is. after_follows store now s m side.is_server is;
-  faulted = faulted_between (λ h k. Follows h → Follows k) (λ h is. is) (λ h fault takes room. stopped_follows h _ (reject_queues h fault takes room) refl refl refl);
-  written = written_between (λ h k. Follows h → Follows k) (λ h is. is) (λ h n within is. record { pongs = is.pongs; held = is.held; all = is.all; quiet = is.quiet });
-  ended = ended_between (λ h k. Follows h → Follows k) (λ h is. is) (λ h cut takes. stopped_follows h _ (end_queues h cut takes) refl refl refl);
-  released = released_between (λ h k. Follows h → Follows k) (λ h is. is) (λ h opened none. stopped_follows h _ (release_queues h opened none) refl refl refl);
-  announced = announced_between (λ h k. Follows h → Follows k) (λ h is. is) announced_follows;
+  faulted = faulted_between (λ h k. PongsFollow h → PongsFollow k) (λ h is. is) (λ h fault takes room. stopped_follows h _ (reject_queues h fault takes room) refl refl refl);
+  written = written_between (λ h k. PongsFollow h → PongsFollow k) (λ h is. is) (λ h n within is. record { pongs = is.pongs; held = is.held; all = is.all; quiet = is.quiet });
+  ended = ended_between (λ h k. PongsFollow h → PongsFollow k) (λ h is. is) (λ h cut takes. stopped_follows h _ (end_queues h cut takes) refl refl refl);
+  released = released_between (λ h k. PongsFollow h → PongsFollow k) (λ h is. is) (λ h opened none. stopped_follows h _ (release_queues h opened none) refl refl refl);
+  announced = announced_between (λ h k. PongsFollow h → PongsFollow k) (λ h is. is) announced_follows;
   told = once_follows;
 }
 
@@ -536,6 +536,6 @@ follows_keeps limits = record {
 pub pong_follows_answers : (c : ConfigValues) (es : List Event) (id : ℕ) (s : Side) (before : List Message) (pong : Message) (behind : List Message) → side_of id (world_after c es).sides ≡ Some s → s.history.queued ≡ before ++ pong ∷ behind → is_custody_pong pong ≡ true
     → FollowsAnswers s.history.handled pong before
 pong_follows_answers c es id s before pong behind there queued custody =
-    let is : Follows s.history = kept_after c (λ t. Follows t.history) (follows_keeps c.limits) es id s there in
+    let is : PongsFollow s.history = kept_after c (λ t. PongsFollow t.history) (follows_keeps c.limits) es id s there in
     let at = pong_at s.history.handled nothing before pong behind (subst (PongsBehind s.history.handled nothing) queued is.pongs) custody in
     record { earlier = at.earlier; ping = at.ping; later = at.later; there = at.there; asks = at.asks; answered = own_answers at.earlier before (λ t. omega (arith, at.few t)) }

@@ -46,8 +46,8 @@ new_shows (Err e) c fits is = tt
 
 -- ---- open
 
-opened_by : (v : ServerValue) (es : List Event) → v.ids + 1 < 2 ^ 64 → open_refusal v ≡ None → Shows v es → Shows (server_opened v) (es ++ Opened (v.ids + 1) ∷ [])
-opened_by v es fits none shows =
+shows_opened_by : (v : ServerValue) (es : List Event) → v.ids + 1 < 2 ^ 64 → open_refusal v ≡ None → Shows v es → Shows (server_opened v) (es ++ Opened (v.ids + 1) ∷ [])
+shows_opened_by v es fits none shows =
     let room = passed (nat_le v.config.connections (length v.sessions)) opening.Full _ none in
     let few = leb-false v.config.connections (length v.sessions) room.0 in
     shows_opened v es shows (omega (arith, fits)) (omega (arith, few))
@@ -56,7 +56,7 @@ pub open_shows : (r : Result ℕ OpenFault) (v new : ServerValue) → IfOk r (λ
     → IfOk r (λ id. (es : List Event) → Shows v es → Shows new (es ++ Opened id ∷ []))
 open_shows (Ok id) v new fits none next is = λ es shows.
     subst (λ (k : ℕ). Shows new (es ++ Opened k ∷ [])) (sym next)
-    (shown_as (server_opened v) new (es ++ Opened (v.ids + 1) ∷ []) is (opened_by v es (omega (arith, fits, next)) none shows))
+    (shown_as (server_opened v) new (es ++ Opened (v.ids + 1) ∷ []) is (shows_opened_by v es (omega (arith, fits, next)) none shows))
 open_shows (Err e) v new fits none next is = tt
 
 -- ---- written
@@ -93,13 +93,13 @@ remove_shows (Err e) v new path none is = tt
 
 -- ---- ended, drop_conn
 
-ended_by : (v : ServerValue) (es : List Event) (id : ℕ) (s : Option SessionValue) → session_of id v.sessions ≡ s → true ≡ is_there s → Shows v es → Shows (server_ended v id) (es ++ Ended id ∷ [])
-ended_by v es id None at there shows = absurd cc
-ended_by v es id (Some s) at there shows = shows_ended v es id s shows at
+shows_ended_by : (v : ServerValue) (es : List Event) (id : ℕ) (s : Option SessionValue) → session_of id v.sessions ≡ s → true ≡ is_there s → Shows v es → Shows (server_ended v id) (es ++ Ended id ∷ [])
+shows_ended_by v es id None at there shows = absurd cc
+shows_ended_by v es id (Some s) at there shows = shows_ended v es id s shows at
 
 pub ended_shows : {T F : Type 0} (r : Result T F) (v new : ServerValue) (id : ℕ) → is_ok r ≡ is_there (session_of id v.sessions) → OnOk r (new ≡ server_ended v id)
     → OnOk r ((es : List Event) → Shows v es → Shows new (es ++ Ended id ∷ []))
-ended_shows (Ok x) v new id there is = λ es shows. shown_as (server_ended v id) new (es ++ Ended id ∷ []) is (ended_by v es id (session_of id v.sessions) refl there shows)
+ended_shows (Ok x) v new id there is = λ es shows. shown_as (server_ended v id) new (es ++ Ended id ∷ []) is (shows_ended_by v es id (session_of id v.sessions) refl there shows)
 ended_shows (Err e) v new id there is = tt
 
 dropped_by : (v : ServerValue) (es : List Event) (id : ℕ) (s : Option SessionValue) → session_of id v.sessions ≡ s → true ≡ is_there s → Shows v es → Shows (server_dropped v id) (es ++ Dropped id ∷ [])
@@ -117,9 +117,9 @@ pub not_refused : (refusal : Option SendFault) → option_map release_fault refu
 not_refused None none = refl
 not_refused (Some f) none = absurd cc
 
-released_by : (v : ServerValue) (es : List Event) (id : ℕ) (s : Option SessionValue) → session_of id v.sessions ≡ s → released_refusal_on s ≡ None → Shows v es → Shows (server_released v id) (es ++ Released id ∷ [])
-released_by v es id None at none shows = absurd cc
-released_by v es id (Some s) at none shows = shows_released v es id s shows at (not_refused (release_refusal s.link) none)
+shows_released_by : (v : ServerValue) (es : List Event) (id : ℕ) (s : Option SessionValue) → session_of id v.sessions ≡ s → released_refusal_on s ≡ None → Shows v es → Shows (server_released v id) (es ++ Released id ∷ [])
+shows_released_by v es id None at none shows = absurd cc
+shows_released_by v es id (Some s) at none shows = shows_released v es id s shows at (not_refused (release_refusal s.link) none)
 
 -- what nothing refuses may be announced
 raises_by : (s : SessionValue) (size : ℕ) (opened lower above ready fit : Bool) → nat_lt size s.link.own_max ≡ lower → nat_lt greatest_size size ≡ above
@@ -132,18 +132,18 @@ raises_where_free : (s : SessionValue) (size : ℕ) → session_refusal s size �
 raises_where_free s size none =
     raises_by s size (is_open s.link.phase) (nat_lt size s.link.own_max) (nat_lt greatest_size size) (session_ready s) (fits (limit_in s.link) (own_csm size)) refl refl none
 
-announced_by : (v : ServerValue) (es : List Event) (id size : ℕ) (s : Option SessionValue) → session_of id v.sessions ≡ s → announced_refusal_on size s ≡ None → Shows v es → Shows (server_announced v id size) (es ++ Announced id size ∷ [])
-announced_by v es id size None at none shows = absurd cc
-announced_by v es id size (Some s) at none shows = shows_announced v es id size s shows at (raises_where_free s size none)
+shows_announced_by : (v : ServerValue) (es : List Event) (id size : ℕ) (s : Option SessionValue) → session_of id v.sessions ≡ s → announced_refusal_on size s ≡ None → Shows v es → Shows (server_announced v id size) (es ++ Announced id size ∷ [])
+shows_announced_by v es id size None at none shows = absurd cc
+shows_announced_by v es id size (Some s) at none shows = shows_announced v es id size s shows at (raises_where_free s size none)
 
 pub announce_shows : {T : Type 0} (r : Result T AnnounceFault) (v new : ServerValue) (id size : ℕ) → IsAnnounced size (session_of id v.sessions) r → OnOk r (new ≡ server_announced v id size)
     → OnOk r ((es : List Event) → Shows v es → Shows new (es ++ Announced id size ∷ []))
-announce_shows (Ok x) v new id size none is = λ es shows. shown_as (server_announced v id size) new (es ++ Announced id size ∷ []) is (announced_by v es id size (session_of id v.sessions) refl none shows)
+announce_shows (Ok x) v new id size none is = λ es shows. shown_as (server_announced v id size) new (es ++ Announced id size ∷ []) is (shows_announced_by v es id size (session_of id v.sessions) refl none shows)
 announce_shows (Err e) v new id size none is = tt
 
 pub release_shows : {T : Type 0} (r : Result T ReleaseFault) (v new : ServerValue) (id : ℕ) → RefusedBy r (released_refusal v id) → OnOk r (new ≡ server_released v id)
     → OnOk r ((es : List Event) → Shows v es → Shows new (es ++ Released id ∷ []))
-release_shows (Ok x) v new id none is = λ es shows. shown_as (server_released v id) new (es ++ Released id ∷ []) is (released_by v es id (session_of id v.sessions) refl none shows)
+release_shows (Ok x) v new id none is = λ es shows. shown_as (server_released v id) new (es ++ Released id ∷ []) is (shows_released_by v es id (session_of id v.sessions) refl none shows)
 release_shows (Err e) v new id none is = tt
 
 -- ---- take
@@ -153,15 +153,15 @@ pub take_takes : (r : Result Taken TakeFault) (v : ServerValue) (id : ℕ) (piec
 take_takes (Ok t) v id piece count = λ es shows. count ∙ takes_shown v es id piece shows
 take_takes (Err e) v id piece count = tt
 
-taken_by : (v : ServerValue) (es : List Event) (id : ℕ) (piece : List ℕ) (s : Option SessionValue) → session_of id v.sessions ≡ s → is_there s ≡ true → Shows v es → Shows (server_taken v id piece) (es ++ Took id (take (count_taken v id piece) piece) ∷ [])
-taken_by v es id piece None at there shows = absurd cc
-taken_by v es id piece (Some s) at there shows = shows_taken v es id piece s shows at
+shows_taken_by : (v : ServerValue) (es : List Event) (id : ℕ) (piece : List ℕ) (s : Option SessionValue) → session_of id v.sessions ≡ s → is_there s ≡ true → Shows v es → Shows (server_taken v id piece) (es ++ Took id (take (count_taken v id piece) piece) ∷ [])
+shows_taken_by v es id piece None at there shows = absurd cc
+shows_taken_by v es id piece (Some s) at there shows = shows_taken v es id piece s shows at
 
 pub take_shows : (r : Result Taken TakeFault) (v new : ServerValue) (id : ℕ) (piece : List ℕ) → IfOk r (λ t. t.bytes ≡ count_taken v id piece) → OnOk r (is_there (session_of id v.sessions) ≡ true) → OnOk r (new ≡ server_taken v id piece)
     → IfOk r (λ t. (es : List Event) → Shows v es → Shows new (es ++ Took id (take t.bytes piece) ∷ []))
 take_shows (Ok t) v new id piece count there is = λ es shows.
     subst (λ (k : ℕ). Shows new (es ++ Took id (take k piece) ∷ [])) (sym count)
-    (shown_as (server_taken v id piece) new (es ++ Took id (take (count_taken v id piece) piece) ∷ []) is (taken_by v es id piece (session_of id v.sessions) refl there shows))
+    (shown_as (server_taken v id piece) new (es ++ Took id (take (count_taken v id piece) piece) ∷ []) is (shows_taken_by v es id piece (session_of id v.sessions) refl there shows))
 take_shows (Err e) v new id piece count there is = tt
 
 refused_by : (v : ServerValue) (es : List Event) (id : ℕ) (piece : List ℕ) (n : ℕ) (s : Option SessionValue) → session_of id v.sessions ≡ s → RefusesPieceOn v piece n s → Shows v es → Shows (server_taken v id (take n piece)) (es ++ Took id (take n piece) ∷ [])

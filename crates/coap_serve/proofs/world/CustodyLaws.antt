@@ -304,9 +304,9 @@ heard_one_more : (h : History) (m : Message) (e : Effect) (takes : Bool) (x : He
 heard_one_more h m e true x takes kept asks stand = subst (λ es. StandFor (h.handled ++ m ∷ []) (es ++ x ∷ [])) (sym kept) (stand_last m x h.handled h.held asks stand)
 heard_one_more h m e false x takes kept asks stand = absurd cc
 
-one_more : (s : Side) (m : Message) (moment : ℕ) → takes_messages s.history.phase ≡ true → asks_answer s m ≡ true → asks_late m ≡ true → Stands s.history
+answer_held_last : (s : Side) (m : Message) (moment : ℕ) → takes_messages s.history.phase ≡ true → asks_answer s m ≡ true → asks_late m ≡ true → Stands s.history
     → StandFor (after s.history (call.Handle m)).handled ((after s.history (call.Handle m)).held ++ Answer m.token moment ∷ [])
-one_more s m moment takes asks late stand =
+answer_held_last s m moment takes asks late stand =
     let quiet = react_asks (standing_now s.history) m (said_request (react (standing_now s.history) m).verdict asks) in
     heard_one_more s.history m (react (standing_now s.history) m).effect (takes_messages s.history.phase) (Answer m.token moment) takes quiet.kept (rw (late, (bytes_decides m.token m.token).1 refl) refl) stand
 
@@ -335,7 +335,7 @@ handled_stands store now s m takes stand =
     let hold : Option ℕ = (answer_of store now m).hold in
     if_stands (asks_answer s m) (with_history s h) (side_replied store now h others m (held_for h hold)) (message_stands s.history m stand)
     (λ asks. replied_stands store now h others m (held_for h hold)
-    (λ seconds moment e. one_more s m moment takes asks (held_of store now m seconds (asked_at_all h hold seconds e)).asked stand) (message_stands s.history m stand))
+    (λ seconds moment e. answer_held_last s m moment takes asks (held_of store now m seconds (asked_at_all h hold seconds e)).asked stand) (message_stands s.history m stand))
 
 pub after_stands : (store : StoreValue) (now : ℕ) (s : Side) (m : Message) → Stands s.history → Stands (side_after store now s m).history
 unfolding side_after

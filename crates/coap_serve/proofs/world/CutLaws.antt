@@ -53,8 +53,8 @@ more_of id before others none =
     ap (λ (ms : List Message). map (step.Handled id) ms ++ new_fault id before.fault others.fault) (drop-append-le (length before.messages) before.messages others.messages (omega arith) ∙ ap (λ (ms : List Message). ms ++ others.messages) (drop_all (length before.messages) before.messages (omega arith)))
     ∙ ap (λ (f : Option StreamFault). map (step.Handled id) others.messages ++ new_fault id f others.fault) none
 
-nothing_beyond : (id : ℕ) (s : Stream) (fault : StreamFault) → s.fault ≡ Some fault → beyond id s s ≡ []
-nothing_beyond id s fault is =
+nothing_beyond_fault : (id : ℕ) (s : Stream) (fault : StreamFault) → s.fault ≡ Some fault → beyond id s s ≡ []
+nothing_beyond_fault id s fault is =
     ap (λ (ms : List Message). map (step.Handled id) ms ++ new_fault id s.fault s.fault) (drop_all (length s.messages) s.messages (omega arith))
     ∙ ap (λ (f : Option StreamFault). new_fault id f f) is
 
@@ -72,7 +72,7 @@ parts id before s t None none is =
     ∙ ap (λ (ss : List Step). map (step.Handled id) s.messages ++ ss) (more_of id after t is))
 parts id before s t (Some fault) none is =
     let after : Stream = record s { messages = before.messages ++ s.messages } in
-    sym (ap (λ (ss : List Step). beyond id before after ++ ss) (nothing_beyond id after fault is) ∙ append-nil (beyond id before after))
+    sym (ap (λ (ss : List Step). beyond id before after ++ ss) (nothing_beyond_fault id after fault is) ∙ append-nil (beyond id before after))
 
 -- a stream gone on with xs and then with ys
 beyond_parts : (M id : ℕ) (before : Stream) (fault : Option StreamFault) (xs ys : List ℕ) → before.fault ≡ fault
@@ -86,7 +86,7 @@ beyond_parts M id before (Some fault) xs ys is =
     let on : (zs : List ℕ) → split_on M before zs ≡ before = λ zs. ap (λ (f : Option StreamFault). gone_on before f (split M (before.rest ++ zs))) is in
     subst (λ (a : Stream). beyond id before (split_on M a ys) ≡ beyond id before a ++ beyond id a (split_on M a ys)) (sym (on xs))
     (ap (beyond id before) (on ys)
-    ∙ sym (ap (λ (ss : List Step). ss ++ beyond id before (split_on M before ys)) (nothing_beyond id before fault is) ∙ ap (beyond id before) (on ys)))
+    ∙ sym (ap (λ (ss : List Step). ss ++ beyond id before (split_on M before ys)) (nothing_beyond_fault id before fault is) ∙ ap (beyond id before) (on ys)))
 
 -- ---- a piece in two parts
 

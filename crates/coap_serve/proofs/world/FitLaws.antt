@@ -28,7 +28,8 @@ use Rattle.coap_serve.specs.world.World.{World, Step, side_of}
 use Rattle.coap_serve.specs.world.World as world
 use Rattle.coap_serve.proofs.world.EntryLemmas.{all_append}
 use Rattle.coap_serve.proofs.world.WalkLaws.{release_fits, holding, without_first, Hears, Replies, Pongs, Between, once_between, after_between, faulted_between, written_between, ended_between, released_between, announced_between}
-use Rattle.coap_serve.proofs.world.AcrossLaws.{some_same, HoldsOf, HoldsFrom, step_across}
+use Rattle.coap_serve.proofs.world.AcrossLaws.{HoldsOf, HoldsFrom, step_across}
+use Rattle.coap_serve.proofs.values.OptionLemmas.{same_there}
 use Rattle.coap_wire.proofs.StreamSteps.{none_or_some}
 
 -- ---- a message that announces a size queues nothing
@@ -49,8 +50,8 @@ abbrev IsQuiet : Message → Reaction → Type 0
 IsQuiet m r = (n : ℕ) → announcement m ≡ Some n → r.effect.queued ≡ []
 
 -- a message with another code announces nothing
-other_code : (m : Message) (r : Reaction) (test : ℕ → Bool) → test m.code ≡ true → test code.csm ≡ false → IsQuiet m r
-other_code m r test here there n e = absurd (both_ways (test code.csm) there (ap test (sym (announces m n e).0) ∙ here))
+quiet_by_code : (m : Message) (r : Reaction) (test : ℕ → Bool) → test m.code ≡ true → test code.csm ≡ false → IsQuiet m r
+quiet_by_code m r test here there n e = absurd (both_ways (test code.csm) there (ap test (sym (announces m n e).0) ∙ here))
 
 no_csm : (m : Message) (r : Reaction) → (m.code == code.csm) ≡ false → IsQuiet m r
 no_csm m r is n e = absurd (both_ways (m.code == code.csm) is (ap (λ (k : ℕ). k == code.csm) (announces m n e).0))
@@ -58,9 +59,9 @@ no_csm m r is n e = absurd (both_ways (m.code == code.csm) is (ap (λ (k : ℕ).
 live_quiet : (s : Standing) (m : Message) → IsQuiet m (live_reaction s m)
 unfolding live_reaction
 live_quiet s m =
-    cond_both (is_reserved m.code) _ _ (IsQuiet m) (λ e. other_code m (aborts s reason.ReservedCode) is_reserved e refl)
+    cond_both (is_reserved m.code) _ _ (IsQuiet m) (λ e. quiet_by_code m (aborts s reason.ReservedCode) is_reserved e refl)
     (λ e. cond_both (m.code == code.empty) _ _ (IsQuiet m) (λ e n is. refl)
-    (λ e. cond_both (m.code == code.abort) _ _ (IsQuiet m) (λ e. other_code m (aborts s reason.PeerAbort) (λ k. k == code.abort) e refl)
+    (λ e. cond_both (m.code == code.abort) _ _ (IsQuiet m) (λ e. quiet_by_code m (aborts s reason.PeerAbort) (λ k. k == code.abort) e refl)
     (λ e. cond_both (m.code == code.csm) _ _ (IsQuiet m) (λ e n is. ap (λ (bad : Option ℕ). (csm_reaction s bad).effect.queued) (announces m n is).1)
     (λ no. cond_both (is_waiting s.phase) _ _ (IsQuiet m) (λ e. no_csm m (aborts s reason.CsmExpected) no) (λ e. no_csm m (open_reaction s m) no)))))
 
@@ -75,28 +76,28 @@ react_quiet s m = unless_quiet s m (stop_of s.phase)
 -- ---- what is queued
 
 -- more is queued, and it fits the greatest message that may be sent afterwards
-pub record Grows (h k : History) : Type 0 where
+pub record GrowsFitting (h k : History) : Type 0 where
   pub more : List Message
   pub queued : k.queued ≡ h.queued ++ more
   pub fit : AllFit (limit_now k) more
 
 -- the same, and as great a message may be sent as before
 pub record GrowsEvenly (h k : History) : Type 0 where
-  pub grows : Grows h k
+  pub grows : GrowsFitting h k
   pub same : limit_now k ≡ limit_now h
 
 evenly_self : (h : History) → GrowsEvenly h h
 evenly_self h = record { grows = record { more = []; queued = sym (append-nil h.queued); fit = tt }; same = refl }
 
-grows_then : (h k g : History) → Grows h k → GrowsEvenly k g → Grows h g
-grows_then h k g p q = record {
+grows_fitting_then : (h k g : History) → GrowsFitting h k → GrowsEvenly k g → GrowsFitting h g
+grows_fitting_then h k g p q = record {
   more = p.more ++ q.grows.more;
   queued = q.grows.queued ∙ ap (λ (ms : List Message). ms ++ q.grows.more) p.queued ∙ append_assoc h.queued p.more q.grows.more;
   fit = all_append _ p.more q.grows.more (subst (λ (n : ℕ). AllFit n p.more) (sym q.same) p.fit) q.grows.fit;
 }
 
 evenly_then : (h k g : History) → GrowsEvenly h k → GrowsEvenly k g → GrowsEvenly h g
-evenly_then h k g p q = record { grows = grows_then h k g p.grows q; same = q.same ∙ p.same }
+evenly_then h k g p q = record { grows = grows_fitting_then h k g p.grows q; same = q.same ∙ p.same }
 
 effect_evenly : (h : History) (e : Effect) → AllFit (limit_now h) e.queued → GrowsEvenly h (with_effect h e)
 effect_evenly h e fit = record { grows = record { more = e.queued; queued = refl; fit = fit }; same = refl }
@@ -120,7 +121,7 @@ heard_fits : (h : History) (m : Message) (said : Option ℕ) → announcement m 
 heard_fits h m None is = reaction_fits h m
 heard_fits h m (Some n) is = subst (AllFit (size_limit h.limits.max_sent n)) (sym (react_quiet (standing_now h) m n is)) tt
 
-message_grows : Hears Grows
+message_grows : Hears GrowsFitting
 message_grows h m takes room = record {
   more = (react (standing_now h) m).effect.queued;
   queued = refl;
@@ -147,28 +148,28 @@ evenly_of w st id none = record {
   told = λ store now s t is. evenly_then s.history t.history _ is (once_evenly store now t);
 }
 
-grows_of : (w : World) (st : Step) (id : ℕ) → HoldsOf (Between Grows) w st id
+grows_of : (w : World) (st : Step) (id : ℕ) → HoldsOf (Between GrowsFitting) w st id
 grows_of w st id = record {
   same = λ s. (evenly_self s.history).grows;
   handled = λ m is s.
-      after_between Grows GrowsEvenly (λ h. (evenly_self h).grows) grows_then message_grows evenly_self reply_evenly (λ h token moment opened may. holding_evenly h _) w.store w.now s m;
+      after_between GrowsFitting GrowsEvenly (λ h. (evenly_self h).grows) grows_fitting_then message_grows evenly_self reply_evenly (λ h token moment opened may. holding_evenly h _) w.store w.now s m;
   faulted = λ fault is s. ((evenly_of w (world.Faulted id fault) id (λ m other. cc)).faulted fault refl s).grows;
   written = λ s n. ((evenly_of w (world.Written id n) id (λ m other. cc)).written s n).grows;
   ended = λ s cut. ((evenly_of w (world.Ended id cut) id (λ m other. cc)).ended s cut).grows;
   released = λ s. ((evenly_of w (world.Released id) id (λ m other. cc)).released s).grows;
   announced = λ size is s. ((evenly_of w (world.Announced id size) id (λ m other. cc)).announced size refl s).grows;
-  told = λ store now s t is. grows_then s.history t.history _ is (once_evenly store now t);
+  told = λ store now s t is. grows_fitting_then s.history t.history _ is (once_evenly store now t);
 }
 
-grows_from : (limits : LimitValues) (w : World) (st : Step) (id : ℕ) (s t : Side) → side_of id w.sides ≡ Some s → HoldsFrom (Between Grows) limits w st id t → Between Grows s t
-grows_from limits w st id s t there (inl old) = subst (λ (u : Side). Between Grows u t) (some_same old.0 s (sym old.1 ∙ there)) old.2
+grows_from : (limits : LimitValues) (w : World) (st : Step) (id : ℕ) (s t : Side) → side_of id w.sides ≡ Some s → HoldsFrom (Between GrowsFitting) limits w st id t → Between GrowsFitting s t
+grows_from limits w st id s t there (inl old) = subst (λ (u : Side). Between GrowsFitting u t) (same_there old.0 s (sym old.1 ∙ there)) old.2
 grows_from limits w st id s t there (inr new) = absurd (none_or_some s (sym new.0 ∙ there))
 
 -- each step only adds to what a connection has queued, and what it adds fits
-pub step_grows : (limits : LimitValues) (w : World) (st : Step) (id : ℕ) (s t : Side) → side_of id w.sides ≡ Some s → side_of id (world.step limits w st).sides ≡ Some t
+pub step_fits : (limits : LimitValues) (w : World) (st : Step) (id : ℕ) (s t : Side) → side_of id w.sides ≡ Some s → side_of id (world.step limits w st).sides ≡ Some t
     → (more : List Message) × (t.history.queued ≡ s.history.queued ++ more) × AllFit (limit_now t.history) more
-step_grows limits w st id s t there then =
-    let grows = grows_from limits w st id s t there (step_across (Between Grows) limits w st id (grows_of w st id) t then) in
+step_fits limits w st id s t there then =
+    let grows = grows_from limits w st id s t there (step_across (Between GrowsFitting) limits w st id (grows_of w st id) t then) in
     (grows.more, grows.queued, grows.fit)
 
 opened_fits : (limits : LimitValues) (t : Side) → AreInRange limits → Between GrowsEvenly (new_side limits) t → AllFit (limit_now t.history) t.history.queued

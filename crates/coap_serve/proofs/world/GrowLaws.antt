@@ -60,8 +60,8 @@ after_grows =
     after_between Grows Grows grows_self grows_then (λ h m takes room. record { more = (react (standing_now h) m).effect.queued; queued = refl; written = refl })
     grows_self reply_grows (λ h token moment opened may. holding_grows h _)
 
-faulted_grows : (s : Side) (fault : StreamFault) → SideGrows s (side_faulted s fault)
-faulted_grows = faulted_between Grows grows_self (λ h fault takes room. effect_grows h _)
+fault_grows : (s : Side) (fault : StreamFault) → SideGrows s (side_faulted s fault)
+fault_grows = faulted_between Grows grows_self (λ h fault takes room. effect_grows h _)
 
 pub settled_grows : (store : StoreValue) (now : ℕ) (s : Side) → SideGrows s (settled store now s)
 settled_grows =
@@ -109,7 +109,7 @@ handled_grown limits w id m s is =
 faulted_grown : (limits : LimitValues) (w : World) (id : ℕ) (fault : StreamFault) (s : Side) → side_of id w.sides ≡ Some s → SomeGrown id (world.step limits w (world.Faulted id fault)) s
 faulted_grown limits w id fault s is =
     let t : Side = side_faulted s fault in
-    (settled w.store w.now t, faulted_there limits w id fault s is, grows_then s.history t.history (settled w.store w.now t).history (faulted_grows s fault) (settled_grows w.store w.now t))
+    (settled w.store w.now t, faulted_there limits w id fault s is, grows_then s.history t.history (settled w.store w.now t).history (fault_grows s fault) (settled_grows w.store w.now t))
 
 fault_grown : (limits : LimitValues) (w : World) (id : ℕ) (before after : Option StreamFault) (s : Side) → side_of id w.sides ≡ Some s → SomeGrown id (after_steps limits w (new_fault id before after)) s
 unfolding after_steps

@@ -49,7 +49,8 @@ use Rattle.coap_serve.proofs.world.SideLaws.{replied_cases}
 use Rattle.coap_serve.proofs.world.ShownLemmas.{taking_stopped, taking_front}
 use Rattle.coap_serve.proofs.world.ShowLaws.{sessions_shown, side_there, no_session, takes_shown, shows_taken}
 use Rattle.coap_serve.proofs.world.WalkLaws.{sent, without_first, Replies, LetsGo, Pongs, Composes, if_between, once_between, settled_between}
-use Rattle.coap_serve.proofs.world.AcrossLaws.{some_same, handled_there, faulted_there}
+use Rattle.coap_serve.proofs.world.AcrossLaws.{handled_there, faulted_there}
+use Rattle.coap_serve.proofs.values.OptionLemmas.{same_there}
 
 -- ---- why a connection stops on a message
 
@@ -78,15 +79,15 @@ abbrev pub HasStopped : History → Reason → Type 0
 HasStopped h why = (h.phase ≡ phase.Stopped why) × (h.held ≡ [])
 
 -- no message was handled in between, and a stop stays
-pub record Rests (h k : History) : Type 0 where
+pub record HandlesNone (h k : History) : Type 0 where
   pub handled : k.handled ≡ h.handled
   pub stopped : (why : Reason) → HasStopped h why → HasStopped k why
   pub stops : StopsAtMost h.phase → StopsAtMost k.phase
 
-pub rests_self : (h : History) → Rests h h
+pub rests_self : (h : History) → HandlesNone h h
 rests_self h = record { handled = refl; stopped = λ why is. is; stops = λ is. is }
 
-pub rests_then : (h k g : History) → Rests h k → Rests k g → Rests h g
+pub rests_then : (h k g : History) → HandlesNone h k → HandlesNone k g → HandlesNone h g
 rests_then h k g p q = record {
   handled = q.handled ∙ p.handled;
   stopped = λ why is. q.stopped why (p.stopped why is);
@@ -96,99 +97,99 @@ rests_then h k g p q = record {
 no_answers : (p : Phase) (why : Reason) → answers p ≡ true → p ≡ phase.Stopped why → ⊥
 no_answers p why does is = let bad : false ≡ true = sym (ap answers is) ∙ does in cc
 
-sent_rests : (h : History) (m less : Message) → ((why : Reason) → HasStopped h why → ⊥) → Rests h (sent h m less)
+sent_rests : (h : History) (m less : Message) → ((why : Reason) → HasStopped h why → ⊥) → HandlesNone h (sent h m less)
 sent_rests h m less live = record {
   handled = refl;
   stopped = λ why is. absurd (live why is);
   stops = sent_stops (standing_now h) m less (fit (standing_now h).limit m less);
 }
 
-reply_rests : (h : History) (m : Message) → Rests h (after h (call.Reply m))
-reply_rests h m = if_between Rests (answers h.phase) h _ (rests_self h) (λ does. sent_rests h m (bare_response m) (λ why is. no_answers h.phase why does is.0))
+reply_rests : (h : History) (m : Message) → HandlesNone h (after h (call.Reply m))
+reply_rests h m = if_between HandlesNone (answers h.phase) h _ (rests_self h) (λ does. sent_rests h m (bare_response m) (λ why is. no_answers h.phase why does is.0))
 
 -- one answer more is held only while the connection is open
 pub open_no_stop : (p : Phase) (why : Reason) → is_open p ≡ true → p ≡ phase.Stopped why → ⊥
 open_no_stop p why does is = let bad : false ≡ true = sym (ap is_open is) ∙ does in cc
 
-hold_rests : (h : History) (token : List ℕ) (moment : ℕ) → Rests h (after h (call.Hold token moment))
+hold_rests : (h : History) (token : List ℕ) (moment : ℕ) → HandlesNone h (after h (call.Hold token moment))
 hold_rests h token moment =
-    if_between Rests (is_open h.phase && may_hold h) h _ (rests_self h)
+    if_between HandlesNone (is_open h.phase && may_hold h) h _ (rests_self h)
     (λ does. record { handled = refl; stopped = λ why is. absurd (open_no_stop h.phase why (and_parts (is_open h.phase) (may_hold h) does).0 is.0); stops = λ is. is })
 
 -- where nothing is held, nothing is due
-none_due : (now : ℕ) → (first_due now [] ≡ None) × (without_due now [] ≡ [])
+none_due_of_nothing : (now : ℕ) → (first_due now [] ≡ None) × (without_due now [] ≡ [])
 unfolding first_due without_due due_index
-none_due now = (refl, refl)
+none_due_of_nothing now = (refl, refl)
 
-first_rests : LetsGo Rests
-first_rests h now = record { handled = refl; stopped = λ why is. (is.0, ap (without_due now) is.1 ∙ (none_due now).1); stops = λ is. is }
+first_rests : LetsGo HandlesNone
+first_rests h now = record { handled = refl; stopped = λ why is. (is.0, ap (without_due now) is.1 ∙ (none_due_of_nothing now).1); stops = λ is. is }
 
-pong_rests : Pongs Rests
+pong_rests : Pongs HandlesNone
 pong_rests h now token due room =
     let k : History = without_first h now in
-    let live : (why : Reason) → HasStopped h why → ⊥ = λ why is. (let bad : ◌≡◌ {A = Option HeldValue} None (Some (held.Pong token)) = sym (none_due now).0 ∙ sym (ap (first_due now) is.1) ∙ due in cc) in
+    let live : (why : Reason) → HasStopped h why → ⊥ = λ why is. (let bad : ◌≡◌ {A = Option HeldValue} None (Some (held.Pong token)) = sym (none_due_of_nothing now).0 ∙ sym (ap (first_due now) is.1) ∙ due in cc) in
     record { handled = refl; stopped = λ why is. absurd (live why is); stops = sent_stops (standing_now k) (pong_with true token) (pong_with false token) (fit (standing_now k).limit (pong_with true token) (pong_with false token)) }
 
-rests : Composes Rests
+rests : Composes HandlesNone
 rests = record { same = rests_self; then = rests_then }
 
-response_rests : Replies Rests
+response_rests : Replies HandlesNone
 response_rests h token observe r does room =
     let m : Message = response_with_observe token observe r in sent_rests h m (bare_response m) (λ why is. no_answers h.phase why does is.0)
 
-pub once_rests : (store : StoreValue) (now : ℕ) (s : Side) → Rests s.history (settled_once store now s).history
-once_rests = once_between Rests Rests rests_self rests_then response_rests first_rests pong_rests
+pub once_rests : (store : StoreValue) (now : ℕ) (s : Side) → HandlesNone s.history (settled_once store now s).history
+once_rests = once_between HandlesNone HandlesNone rests_self rests_then response_rests first_rests pong_rests
 
 -- settling handles nothing
-pub settled_still : (store : StoreValue) (now : ℕ) (s : Side) → Rests s.history (settled store now s).history
-settled_still = settled_between Rests rests response_rests first_rests pong_rests
+pub settled_still : (store : StoreValue) (now : ℕ) (s : Side) → HandlesNone s.history (settled store now s).history
+settled_still = settled_between HandlesNone rests response_rests first_rests pong_rests
 
 -- ---- a message, and a fault
 
 -- one message more was handled, and it does not stop the connection as a fault does
-pub record Hears (m : Message) (h k : History) : Type 0 where
+pub record HasHeard (m : Message) (h k : History) : Type 0 where
   pub handled : k.handled ≡ h.handled ++ m ∷ []
   pub stops : StopsAtMost k.phase
 
-hears_then : (m : Message) (h k g : History) → Hears m h k → Rests k g → Hears m h g
+hears_then : (m : Message) (h k g : History) → HasHeard m h k → HandlesNone k g → HasHeard m h g
 hears_then m h k g p q = record { handled = q.handled ∙ p.handled; stops = q.stops p.stops }
 
-message_by : (h : History) (m : Message) (takes : Bool) → takes ≡ true → StopsAtMost h.phase → Hears m h (cond takes (record (with_effect h (react (standing_now h) m).effect) { handled = h.handled ++ m ∷ [] }) h)
+message_by : (h : History) (m : Message) (takes : Bool) → takes ≡ true → StopsAtMost h.phase → HasHeard m h (cond takes (record (with_effect h (react (standing_now h) m).effect) { handled = h.handled ++ m ∷ [] }) h)
 message_by h m true e is = record { handled = refl; stops = message_stops (standing_now h) m is }
 message_by h m false e is = absurd cc
 
-message_hears : (h : History) (m : Message) → takes_messages h.phase ≡ true → Hears m h (after h (call.Handle m))
+message_hears : (h : History) (m : Message) → takes_messages h.phase ≡ true → HasHeard m h (after h (call.Handle m))
 message_hears h m takes = message_by h m (takes_messages h.phase) takes (live_stop (stop_of h.phase) takes)
 
-asked_hears : (store : StoreValue) (now : ℕ) (s : Side) (m : Message) (asks : Bool) → Hears m s.history (after s.history (call.Handle m))
-    → Hears m s.history (cond asks (side_replied store now (after s.history (call.Handle m)) (without_token m.token s.observers) m (held_for (after s.history (call.Handle m)) (answer_of store now m).hold)) (with_history s (after s.history (call.Handle m)))).history
+asked_hears : (store : StoreValue) (now : ℕ) (s : Side) (m : Message) (asks : Bool) → HasHeard m s.history (after s.history (call.Handle m))
+    → HasHeard m s.history (cond asks (side_replied store now (after s.history (call.Handle m)) (without_token m.token s.observers) m (held_for (after s.history (call.Handle m)) (answer_of store now m).hold)) (with_history s (after s.history (call.Handle m)))).history
 asked_hears store now s m true is =
     let h : History = after s.history (call.Handle m) in
-    replied_cases store now h (without_token m.token s.observers) m (answer_of store now m).hold (λ t. Hears m s.history t.history)
+    replied_cases store now h (without_token m.token s.observers) m (answer_of store now m).hold (λ t. HasHeard m s.history t.history)
     (λ seconds e. hears_then m s.history h _ is (hold_rests h m.token (moment_after now seconds)))
     (λ e. hears_then m s.history h _ is (reply_rests h _))
 asked_hears store now s m false is = is
 
 -- a message that a connection handles
-pub side_hears : (store : StoreValue) (now : ℕ) (s : Side) (m : Message) → handles s ≡ true → Hears m s.history (side_after store now s m).history
+pub side_hears : (store : StoreValue) (now : ℕ) (s : Side) (m : Message) → handles s ≡ true → HasHeard m s.history (side_after store now s m).history
 unfolding side_after
 side_hears store now s m does =
-    subst (λ (t : Side). Hears m s.history t.history) (sym (cond-true (handles s) (side_handled store now s m) s does))
+    subst (λ (t : Side). HasHeard m s.history t.history) (sym (cond-true (handles s) (side_handled store now s m) s does))
     (asked_hears store now s m (asks_answer s m) (message_hears s.history m (and_parts (takes_messages s.history.phase) (has_room s) does).0))
 
 -- a fault stops the connection, and no message was handled
-pub record Rejects (fault : StreamFault) (h k : History) : Type 0 where
+pub record HasRejected (fault : StreamFault) (h k : History) : Type 0 where
   pub handled : k.handled ≡ h.handled
   pub stopped : HasStopped k (reject_reason (reject_of fault))
 
-rejected_by : (h : History) (fault : StreamFault) (takes : Bool) → takes ≡ true → Rejects fault h (cond takes (with_effect h (abort (standing_now h) (reject_reason (reject_of fault)))) h)
+rejected_by : (h : History) (fault : StreamFault) (takes : Bool) → takes ≡ true → HasRejected fault h (cond takes (with_effect h (abort (standing_now h) (reject_reason (reject_of fault)))) h)
 rejected_by h fault true e = record { handled = refl; stopped = (refl, refl) }
 rejected_by h fault false e = absurd cc
 
-pub side_rejects : (s : Side) (fault : StreamFault) → handles s ≡ true → Rejects fault s.history (side_faulted s fault).history
+pub side_rejects : (s : Side) (fault : StreamFault) → handles s ≡ true → HasRejected fault s.history (side_faulted s fault).history
 unfolding side_faulted
 side_rejects s fault does =
-    subst (λ (t : Side). Rejects fault s.history t.history) (sym (cond-true (handles s) (with_history s (after s.history (call.Reject (reject_of fault)))) s does))
+    subst (λ (t : Side). HasRejected fault s.history t.history) (sym (cond-true (handles s) (with_history s (after s.history (call.Reject (reject_of fault)))) s does))
     (rejected_by s.history fault (takes_messages s.history.phase) (and_parts (takes_messages s.history.phase) (has_room s) does).0)
 
 -- only a fault of the bytes has such a reason
@@ -205,56 +206,56 @@ pub data TakesSo (M id : ℕ) (es : List Event) (bytes : List ℕ) (s : Side) (m
   OneFault : message ≡ false → handles s ≡ true → (fault : StreamFault) (rest : List ℕ) → Adds M id es bytes (record { messages = []; rest = rest; fault = Some fault }) → TakesSo M id es bytes s message
 
 module _ (c : ConfigValues) (es : List Event) (id : ℕ) (piece : List ℕ) (s : Side) (is : IsReached c es) (there : side_of id (world_after c es).sides ≡ Some s) where
-  abbrev most : ℕ
-  most = c.limits.max_message
+  abbrev greatest_own : ℕ
+  greatest_own = c.limits.max_message
 
-  abbrev so_far : List ℕ
-  so_far = (stream_on c.limits.max_message id es).rest
+  abbrev rest_before : List ℕ
+  rest_before = (stream_on c.limits.max_message id es).rest
 
-  abbrev in_force : ℕ
-  in_force = size_on c.limits.max_message id es
+  abbrev handling_size : ℕ
+  handling_size = size_on c.limits.max_message id es
 
   -- what is taken of the piece
   abbrev pub bytes_taken : List ℕ
   bytes_taken = take (takes c es id piece) piece
 
   abbrev front_there : List ℕ
-  front_there = take (front_of in_force so_far piece) piece
+  front_there = take (front_of handling_size rest_before piece) piece
 
-  abbrev session_then : SessionValue
-  session_then = session_shown so_far s
+  abbrev session_before : SessionValue
+  session_before = session_shown rest_before s
 
   module _ (host : Host) (does : handles s ≡ true) where
-    no_fault : (stream_on c.limits.max_message id es).fault ≡ None
-    no_fault = handling_goes_on c es id s is there does
+    no_fault_before : (stream_on c.limits.max_message id es).fault ≡ None
+    no_fault_before = handling_goes_on c es id s is there does
 
-    frame_so : (frame : List ℕ) (read : Result Message FormatFault) → (framing in_force so_far piece).finding ≡ AFrame frame → message_of frame ≡ read → TakesSo most id es front_there s (taking_read host session_then (framing in_force so_far piece).taken read).handled
-    frame_so frame (Ok m) e reads = OneMessage refl does m (piece_adds_message most id es piece no_fault frame m e reads)
-    frame_so frame (Err f) e reads = OneFault refl does Format frame (piece_adds_bad most id es piece no_fault frame f e reads)
+    frame_so : (frame : List ℕ) (read : Result Message FormatFault) → (framing handling_size rest_before piece).finding ≡ AFrame frame → message_of frame ≡ read → TakesSo greatest_own id es front_there s (taking_read host session_before (framing handling_size rest_before piece).taken read).handled
+    frame_so frame (Ok m) e reads = OneMessage refl does m (piece_adds_message greatest_own id es piece no_fault_before frame m e reads)
+    frame_so frame (Err f) e reads = OneFault refl does Format frame (piece_adds_bad greatest_own id es piece no_fault_before frame f e reads)
 
-    found_so : (found : Finding) → (framing in_force so_far piece).finding ≡ found → TakesSo most id es front_there s (taking_found host session_then (framing in_force so_far piece) found).handled
+    found_so : (found : Finding) → (framing handling_size rest_before piece).finding ≡ found → TakesSo greatest_own id es front_there s (taking_found host session_before (framing handling_size rest_before piece) found).handled
     found_so Nothing e =
-        let adds = piece_adds_nothing most id es piece no_fault e in
-        NoStep refl adds.steps (ap (λ (u : Stream). u.messages) adds.stream ∙ append-nil (stream_on most id es).messages) (ap (λ (u : Stream). u.fault) adds.stream ∙ sym no_fault)
+        let adds = piece_adds_nothing greatest_own id es piece no_fault_before e in
+        NoStep refl adds.steps (ap (λ (u : Stream). u.messages) adds.stream ∙ append-nil (stream_on greatest_own id es).messages) (ap (λ (u : Stream). u.fault) adds.stream ∙ sym no_fault_before)
     found_so (AFrame frame) e = frame_so frame (message_of frame) e refl
-    found_so (AFault fault) e = OneFault refl does (OfFrame fault) _ (piece_adds_fault most id es piece no_fault fault e)
+    found_so (AFault fault) e = OneFault refl does (OfFrame fault) _ (piece_adds_fault greatest_own id es piece no_fault_before fault e)
 
-    handling_so : TakesSo most id es bytes_taken s (taking host session_then piece).handled
+    handling_so : TakesSo greatest_own id es bytes_taken s (taking host session_before piece).handled
     handling_so =
-        let bytes : bytes_taken ≡ front_there = ap (λ (n : ℕ). take n piece) (takes_there c es id piece s there ∙ ap (λ (b : Bool). cond b (front_of in_force so_far piece) 0) does) in
-        subst (λ (b : List ℕ). TakesSo most id es b s (taking host session_then piece).handled) (sym bytes)
-        (subst (λ (k : Taking). TakesSo most id es front_there s k.handled) (sym (taking_front host in_force so_far piece s (is.sizes id s there) does)) (found_so (framing in_force so_far piece).finding refl))
+        let bytes : bytes_taken ≡ front_there = ap (λ (n : ℕ). take n piece) (takes_there c es id piece s there ∙ ap (λ (b : Bool). cond b (front_of handling_size rest_before piece) 0) does) in
+        subst (λ (b : List ℕ). TakesSo greatest_own id es b s (taking host session_before piece).handled) (sym bytes)
+        (subst (λ (k : Taking). TakesSo greatest_own id es front_there s k.handled) (sym (taking_front host handling_size rest_before piece s (is.sizes id s there) does)) (found_so (framing handling_size rest_before piece).finding refl))
 
-  stopped_so : (host : Host) → handles s ≡ false → TakesSo most id es bytes_taken s (taking host session_then piece).handled
+  stopped_so : (host : Host) → handles s ≡ false → TakesSo greatest_own id es bytes_taken s (taking host session_before piece).handled
   stopped_so host stopped =
-      let bytes : bytes_taken ≡ [] = ap (λ (n : ℕ). take n piece) (takes_there c es id piece s there ∙ ap (λ (b : Bool). cond b (front_of in_force so_far piece) 0) stopped) in
-      subst (λ (b : List ℕ). TakesSo most id es b s (taking host session_then piece).handled) (sym bytes)
-      (NoStep (ap (λ (k : Taking). k.handled) (taking_stopped host session_then piece stopped)) (no_bytes_steps most id es) (ap (λ (u : Stream). u.messages) (no_bytes_stream most id es)) (ap (λ (u : Stream). u.fault) (no_bytes_stream most id es)))
+      let bytes : bytes_taken ≡ [] = ap (λ (n : ℕ). take n piece) (takes_there c es id piece s there ∙ ap (λ (b : Bool). cond b (front_of handling_size rest_before piece) 0) stopped) in
+      subst (λ (b : List ℕ). TakesSo greatest_own id es b s (taking host session_before piece).handled) (sym bytes)
+      (NoStep (ap (λ (k : Taking). k.handled) (taking_stopped host session_before piece stopped)) (no_bytes_steps greatest_own id es) (ap (λ (u : Stream). u.messages) (no_bytes_stream greatest_own id es)) (ap (λ (u : Stream). u.fault) (no_bytes_stream greatest_own id es)))
 
   -- what is taken of any piece
-  pub took_so : (host : Host) → TakesSo most id es bytes_taken s (taking host session_then piece).handled
+  pub took_so : (host : Host) → TakesSo greatest_own id es bytes_taken s (taking host session_before piece).handled
   took_so host =
-      elim (handles s) as (λ b. handles s ≡ b → TakesSo most id es bytes_taken s (taking host session_then piece).handled) [ true ↦ λ does. handling_so host does | false ↦ λ stopped. stopped_so host stopped ] refl
+      elim (handles s) as (λ b. handles s ≡ b → TakesSo greatest_own id es bytes_taken s (taking host session_before piece).handled) [ true ↦ λ does. handling_so host does | false ↦ λ stopped. stopped_so host stopped ] refl
 
 -- ---- the connection after it
 
@@ -262,15 +263,15 @@ module _ (c : ConfigValues) (es : List Event) (id : ℕ) (piece : List ℕ) (s :
 -- and no fault; one message was handled; or the fault stopped it.
 pub data Became (before after : Stream) (s t : Side) (message : Bool) : Type 0 where
   Stayed : message ≡ false → t ≡ s → after.messages ≡ before.messages → after.fault ≡ before.fault → Became before after s t message
-  Heard : message ≡ true → handles s ≡ true → (m : Message) → Hears m s.history t.history → after.messages ≡ before.messages ++ m ∷ [] → after.fault ≡ None → Became before after s t message
-  Rejected : message ≡ false → handles s ≡ true → (fault : StreamFault) → Rejects fault s.history t.history → after.messages ≡ before.messages → after.fault ≡ Some fault → Became before after s t message
+  Heard : message ≡ true → handles s ≡ true → (m : Message) → HasHeard m s.history t.history → after.messages ≡ before.messages ++ m ∷ [] → after.fault ≡ None → Became before after s t message
+  Rejected : message ≡ false → handles s ≡ true → (fault : StreamFault) → HasRejected fault s.history t.history → after.messages ≡ before.messages → after.fault ≡ Some fault → Became before after s t message
 
 module _ (c : ConfigValues) (es : List Event) (id : ℕ) (bytes : List ℕ) (s : Side) (message : Bool) (there : side_of id (world_after c es).sides ≡ Some s) where
-  abbrev stream_then : Stream
-  stream_then = stream_on c.limits.max_message id (es ++ Took id bytes ∷ [])
+  abbrev stream_after_take : Stream
+  stream_after_take = stream_on c.limits.max_message id (es ++ Took id bytes ∷ [])
 
   abbrev BecameOne : Type 0
-  BecameOne = (t : Side) × (side_of id (world_after c (es ++ Took id bytes ∷ [])).sides ≡ Some t) × Became (stream_on c.limits.max_message id es) stream_then s t message
+  BecameOne = (t : Side) × (side_of id (world_after c (es ++ Took id bytes ∷ [])).sides ≡ Some t) × Became (stream_on c.limits.max_message id es) stream_after_take s t message
 
   message_became : message ≡ true → handles s ≡ true → (m : Message) → Adds c.limits.max_message id es bytes (record { messages = m ∷ []; rest = []; fault = None }) → BecameOne
   message_became e does m adds =
@@ -324,8 +325,8 @@ stayed_told s true None = rw (le-ltb (length s.history.handled) (length s.histor
 stayed_told s false None = rw (le-ltb (length s.history.handled) (length s.history.handled) (omega arith)) refl
 stayed_told s room (Some why) = refl
 
-one_more : (m : Message) (s t : Side) → Hears m s.history t.history → nat_lt (length s.history.handled) (length t.history.handled) ≡ true
-one_more m s t is =
+handled_more : (m : Message) (s t : Side) → HasHeard m s.history t.history → nat_lt (length s.history.handled) (length t.history.handled) ≡ true
+handled_more m s t is =
     lt-ltb (length s.history.handled) (length t.history.handled) (omega (arith, ap (λ (ms : List Message). length ms) is.handled, length-append s.history.handled (m ∷ [])))
 
 -- a message, unless the connection stopped
@@ -336,18 +337,18 @@ heard_told s t (Some why) more = refl
 since : (s t : Side) → handles s ≡ true → handled_since s t (stop_of t.history.phase) ≡ handled_between (Some s) (Some t)
 since s t does = rw (and_parts (takes_messages s.history.phase) (has_room s) does).0 refl
 
-told : (before after : Stream) (s t : Side) (message : Bool) → Became before after s t message → handled_so (handles s) message (stop_of t.history.phase) ≡ handled_between (Some s) (Some t)
-told before after s t message (Stayed none same messages fault) =
+tells_what_became : (before after : Stream) (s t : Side) (message : Bool) → Became before after s t message → handled_so (handles s) message (stop_of t.history.phase) ≡ handled_between (Some s) (Some t)
+tells_what_became before after s t message (Stayed none same messages fault) =
     ap (λ (u : Side). handled_so (handles s) message (stop_of u.history.phase)) same
     ∙ ap (λ (b : Bool). handled_so (handles s) b (stop_of s.history.phase)) none
     ∙ stayed_told s (has_room s) (stop_of s.history.phase)
     ∙ ap (λ (u : Side). handled_between (Some s) (Some u)) (sym same)
-told before after s t message (Heard one does m hears messages fault) =
+tells_what_became before after s t message (Heard one does m hears messages fault) =
     ap (λ (b : Bool). handled_so b message (stop_of t.history.phase)) does
     ∙ ap (λ (b : Bool). handled_so true b (stop_of t.history.phase)) one
-    ∙ heard_told s t (stop_of t.history.phase) (one_more m s t hears)
+    ∙ heard_told s t (stop_of t.history.phase) (handled_more m s t hears)
     ∙ since s t does
-told before after s t message (Rejected none does fault rejects messages is) =
+tells_what_became before after s t message (Rejected none does fault rejects messages is) =
     let why : stop_of t.history.phase ≡ Some (reject_reason (reject_of fault)) = ap stop_of rejects.stopped.0 in
     ap (λ (b : Bool). handled_so b message (stop_of t.history.phase)) does
     ∙ ap (handled_so true message) why
@@ -397,24 +398,24 @@ module _ (v : ServerValue) (es : List Event) (id : ℕ) (piece : List ℕ) (show
       let after = became c es id (take (count_taken v id piece) piece) s message there so in
       ap (λ (o : Option SessionValue). handled_on v piece o stop_then) at
       ∙ ap (handled_so (handles s) message) (stop_shown (session_shown rest s) at ∙ ap side_stop after.1)
-      ∙ told _ _ s after.0 message after.2
+      ∙ tells_what_became _ _ s after.0 message after.2
       ∙ ap (handled_between (Some s)) (sym after.1)
       ∙ ap (λ (o : Option Side). handled_between o (side_of id (world_after c (es ++ event_then ∷ [])).sides)) (sym there)
 
-  told_by : (there : Option Side) → side_of id (world_after v.config es).sides ≡ there → handled_on v piece (session_of id v.sessions) stop_then ≡ handled_in v.config es event_then id
-  told_by None none =
+  tells_handled_by : (there : Option Side) → side_of id (world_after v.config es).sides ≡ there → handled_on v piece (session_of id v.sessions) stop_then ≡ handled_in v.config es event_then id
+  tells_handled_by None none =
       ap (λ (o : Option SessionValue). handled_on v piece o stop_then) (no_session v es id shows none)
       ∙ ap (λ (o : Option Side). handled_between o (side_of id (world_after v.config (es ++ event_then ∷ [])).sides)) (sym none)
-  told_by (Some s) there = there_told s there
+  tells_handled_by (Some s) there = there_told s there
 
-  handled_shown : handled_by v id piece ≡ handled_in v.config es event_then id
+  tells_handled : handled_by v id piece ≡ handled_in v.config es event_then id
   unfolding handled_by
-  handled_shown = told_by (side_of id (world_after v.config es).sides) refl
+  tells_handled = tells_handled_by (side_of id (world_after v.config es).sides) refl
 
 pub take_says : (r : Result Taken TakeFault) (v : ServerValue) (id : ℕ) (piece : List ℕ) → IfOk r (λ t. t.bytes ≡ count_taken v id piece) → IfOk r (λ t. t.handled ≡ handled_by v id piece)
     → IfOk r (λ t. (es : List Event) → Shows v es → t.handled ≡ handled_in v.config es (Took id (take t.bytes piece)) id)
 take_says (Ok t) v id piece count says = λ es shows.
-    says ∙ handled_shown v es id piece shows ∙ ap (λ (n : ℕ). handled_in v.config es (Took id (take n piece)) id) (sym count)
+    says ∙ tells_handled v es id piece shows ∙ ap (λ (n : ℕ). handled_in v.config es (Took id (take n piece)) id) (sym count)
 take_says (Err e) v id piece count says = tt
 
 -- ---- how many messages were handled
@@ -432,7 +433,7 @@ counted before after s t message (Stayed none same messages fault) =
     let zero_more = ap (λ (u : Side). count_of (handled_between (Some s) (Some u))) same ∙ stayed_count s (stop_of s.history.phase) in
     omega (arith, ap (λ (u : Side). length u.history.handled) same, zero_more)
 counted before after s t message (Heard one does m hears messages fault) =
-    let one_counted = ap count_of (sym (since s t does)) ∙ heard_count s t (stop_of t.history.phase) (one_more m s t hears) hears.stops in
+    let one_counted = ap count_of (sym (since s t does)) ∙ heard_count s t (stop_of t.history.phase) (handled_more m s t hears) hears.stops in
     omega (arith, ap (λ (ms : List Message). length ms) hears.handled, length-append s.history.handled (m ∷ []), one_counted)
 counted before after s t message (Rejected none does fault rejects messages is) =
     let none_counted = ap count_of (sym (since s t does) ∙ ap (λ (p : Phase). handled_since s t (stop_of p)) rejects.stopped.0) ∙ no_message_reason (reject_of fault) in
@@ -447,7 +448,7 @@ pub bytes_counted : (c : ConfigValues) (es : List Event) (id : ℕ) (bytes : Lis
     → length t.history.handled ≡ length s.history.handled + count_of (handled_in c es (Took id bytes) id)
 bytes_counted c es id bytes s t is all there then =
     let after = took_became c es id bytes s is there all in
-    let same : after.1 ≡ t = some_same after.1 t (sym after.2 ∙ then) in
+    let same : after.1 ≡ t = same_there after.1 t (sym after.2 ∙ then) in
     let count = counted _ _ s after.1 after.0 after.3 in
     let says = counted_there c es id (Took id bytes) s after.1 there after.2 in
     omega (arith, count, ap count_of says, ap (λ (u : Side). length u.history.handled) same)
@@ -464,10 +465,10 @@ messages_counted c es id piece s t accepted there then =
     bytes_counted c es id (take (takes c es id piece) piece) s t is (whole_take c es id (take (takes c es id piece) piece) s there (piece_accepted c es id piece s is there)) there then
 
 -- a take makes no step, or one
-one_step : (M id : ℕ) (es : List Event) (bytes : List ℕ) (s : Side) (message : Bool) → TakesSo M id es bytes s message → (steps_by M es (Took id bytes) ≡ []) ⊎ ((st : Step) × (steps_by M es (Took id bytes) ≡ st ∷ []))
-one_step M id es bytes s message (NoStep e steps messages fault) = inl steps
-one_step M id es bytes s message (OneMessage e does m adds) = inr (world.Handled id m, adds.steps)
-one_step M id es bytes s message (OneFault e does fault rest adds) = inr (world.Faulted id fault, adds.steps)
+step_of_take : (M id : ℕ) (es : List Event) (bytes : List ℕ) (s : Side) (message : Bool) → TakesSo M id es bytes s message → (steps_by M es (Took id bytes) ≡ []) ⊎ ((st : Step) × (steps_by M es (Took id bytes) ≡ st ∷ []))
+step_of_take M id es bytes s message (NoStep e steps messages fault) = inl steps
+step_of_take M id es bytes s message (OneMessage e does m adds) = inr (world.Handled id m, adds.steps)
+step_of_take M id es bytes s message (OneFault e does fault rest adds) = inr (world.Faulted id fault, adds.steps)
 
 -- so what is taken of a piece spells one step at most beyond the bytes before it
 pub one_step_at_most : (c : ConfigValues) (es : List Event) (id : ℕ) (piece : List ℕ) (s : Side) → IsReached c es → side_of id (world_after c es).sides ≡ Some s
@@ -476,4 +477,4 @@ pub one_step_at_most : (c : ConfigValues) (es : List Event) (id : ℕ) (piece : 
 unfolding steps_by
 one_step_at_most c es id piece s is there =
     let host : Host = record { store = (world_after c es).store; now = (world_after c es).now } in
-    one_step c.limits.max_message id es (take (takes c es id piece) piece) s _ (took_so c es id piece s is there host)
+    step_of_take c.limits.max_message id es (take (takes c es id piece) piece) s _ (took_so c es id piece s is there host)

@@ -25,12 +25,12 @@ stopped_end : (s : Side) (cut : Bool) → takes_messages s.history.phase ≡ fal
 unfolding side_ended
 stopped_end s cut is = ap (λ (b : Bool). with_history s (cond b (with_effect s.history (stop (standing_now s.history) (end_reason cut) [])) s.history)) is
 
-ended_by : (s : Side) (cut takes : Bool) → takes_messages s.history.phase ≡ takes → side_ended s (takes && cut) ≡ side_ended s cut
-ended_by s cut true is = refl
-ended_by s cut false is = stopped_end s false is ∙ sym (stopped_end s cut is)
+ends_if_taking : (s : Side) (cut takes : Bool) → takes_messages s.history.phase ≡ takes → side_ended s (takes && cut) ≡ side_ended s cut
+ends_if_taking s cut true is = refl
+ends_if_taking s cut false is = stopped_end s false is ∙ sym (stopped_end s cut is)
 
 ended_same : (s : Side) (cut : Bool) → side_ended s (takes_messages s.history.phase && cut) ≡ side_ended s cut
-ended_same s cut = ended_by s cut (takes_messages s.history.phase) refl
+ended_same s cut = ends_if_taking s cut (takes_messages s.history.phase) refl
 
 -- changes of a connection that do the same to it
 abbrev DoesSame : ℕ → (Side → Side) → (Side → Side) → Place → Type 0

@@ -39,13 +39,13 @@ left_effect : (h : History) (e : Effect) (does : Bool) → (e.held ≡ h.held) �
 left_effect h e true leaves = leaves
 left_effect h e false leaves = inl refl
 
-sent_leaves : (s : Standing) (m less : Message) (r : Reply) → ((send_as s m less r).held ≡ s.held) ⊎ ((why : Reason) × ((send_as s m less r).phase ≡ Stopped why))
-sent_leaves s m less reply.Whole = inl refl
-sent_leaves s m less reply.Bare = inl refl
-sent_leaves s m less reply.Stopped = inr (PeerTooSmall, refl)
+send_leaves_held : (s : Standing) (m less : Message) (r : Reply) → ((send_as s m less r).held ≡ s.held) ⊎ ((why : Reason) × ((send_as s m less r).phase ≡ Stopped why))
+send_leaves_held s m less reply.Whole = inl refl
+send_leaves_held s m less reply.Bare = inl refl
+send_leaves_held s m less reply.Stopped = inr (PeerTooSmall, refl)
 
-reply_leaves : (h : History) (m : Message) → Leaves h (after h (call.Reply m))
-reply_leaves h m = left_effect h (send (standing_now h) m (bare_response m)) (answers h.phase) (sent_leaves (standing_now h) m (bare_response m) (fit (limit_now h) m (bare_response m)))
+reply_leaves_held : (h : History) (m : Message) → Leaves h (after h (call.Reply m))
+reply_leaves_held h m = left_effect h (send (standing_now h) m (bare_response m)) (answers h.phase) (send_leaves_held (standing_now h) m (bare_response m) (fit (limit_now h) m (bare_response m)))
 
 -- so what is held stays
 left_kept : (s t : Side) → Leaves s.history t.history → KeepsHeld s t
@@ -55,17 +55,17 @@ left_kept s t (inr stopped) = inr stopped
 -- ---- a message
 
 -- more is held, each of it asked for by a message
-abbrev Adds : Message → List HeldValue → List HeldValue → Type 0
-Adds m before after = (more : List HeldValue) × (after ≡ before ++ more) × AddsAsked m more
+abbrev AddsHeld : Message → List HeldValue → List HeldValue → Type 0
+AddsHeld m before after = (more : List HeldValue) × (after ≡ before ++ more) × AddsAsked m more
 
-adds_none : (m : Message) (before after : List HeldValue) → after ≡ before → Adds m before after
+adds_none : (m : Message) (before after : List HeldValue) → after ≡ before → AddsHeld m before after
 adds_none m before after same = ([], same ∙ sym (append-nil before), record { few = omega arith; asked = tt })
 
-adds_one : (m : Message) (before : List HeldValue) (e : HeldValue) → asks_held m e ≡ true → Adds m before (before ++ e ∷ [])
+adds_one : (m : Message) (before : List HeldValue) (e : HeldValue) → asks_held m e ≡ true → AddsHeld m before (before ++ e ∷ [])
 adds_one m before e asks = (e ∷ [], refl, record { few = omega arith; asked = (asks, tt) })
 
 abbrev Over : Message → History → History → Type 0
-Over m h k = Adds m h.held k.held ⊎ ((why : Reason) × (k.phase ≡ Stopped why))
+Over m h k = AddsHeld m h.held k.held ⊎ ((why : Reason) × (k.phase ≡ Stopped why))
 
 over_self : (m : Message) (h : History) → Over m h h
 over_self m h = inl (adds_none m h.held h.held refl)
@@ -76,13 +76,13 @@ left_over m h k (inr stopped) = inr stopped
 
 -- behind a history that holds the same
 over_from : (m : Message) (h k g : History) → k.held ≡ h.held → Over m k g → Over m h g
-over_from m h k g same = subst (λ (es : List HeldValue). Adds m es g.held ⊎ ((why : Reason) × (g.phase ≡ Stopped why))) same
+over_from m h k g same = subst (λ (es : List HeldValue). AddsHeld m es g.held ⊎ ((why : Reason) × (g.phase ≡ Stopped why))) same
 
 -- a Ping with Custody asks for its Pong
-react_over : (s : Standing) (m : Message) → Adds m s.held (react s m).effect.held ⊎ ((why : Reason) × ((react s m).effect.phase ≡ Stopped why))
+react_over : (s : Standing) (m : Message) → AddsHeld m s.held (react s m).effect.held ⊎ ((why : Reason) × ((react s m).effect.phase ≡ Stopped why))
 react_over s m =
-    let still : Adds m s.held s.held = adds_none m s.held s.held refl in
-    react_so s m (λ e. Adds m s.held e.held ⊎ ((why : Reason) × (e.phase ≡ Stopped why))) (record {
+    let still : AddsHeld m s.held s.held = adds_none m s.held s.held refl in
+    react_so s m (λ e. AddsHeld m s.held e.held ⊎ ((why : Reason) × (e.phase ≡ Stopped why))) (record {
       stays = inl still;
       stands = λ now outstanding stands. inl still;
       stops = λ why farewell plain one may. inr (why, refl);
@@ -90,7 +90,7 @@ react_over s m =
       keeps = λ ping custody some. inl (adds_one m s.held (Pong m.token) (rw (ping, custody, (bytes_decides m.token m.token).1 refl) refl));
     })
 
-heard_over : (h : History) (m : Message) (e : Effect) (takes : Bool) → Adds m h.held e.held ⊎ ((why : Reason) × (e.phase ≡ Stopped why)) → Over m h (cond takes (record (with_effect h e) { handled = h.handled ++ m ∷ [] }) h)
+heard_over : (h : History) (m : Message) (e : Effect) (takes : Bool) → AddsHeld m h.held e.held ⊎ ((why : Reason) × (e.phase ≡ Stopped why)) → Over m h (cond takes (record (with_effect h e) { handled = h.handled ++ m ∷ [] }) h)
 heard_over h m e true over = over
 heard_over h m e false over = over_self m h
 
@@ -103,7 +103,7 @@ hold_over m h moment true late = inl (adds_one m h.held (Answer m.token moment) 
 hold_over m h moment false late = over_self m h
 
 replied_over : (store : StoreValue) (now : ℕ) (h : History) (others : List Observer) (m : Message) (hold : Option ℕ) → ((seconds : ℕ) → hold ≡ Some seconds → asks_late m ≡ true) → Over m h (side_replied store now h others m hold).history
-replied_over store now h others m None late = left_over m h (side_replied store now h others m None).history (reply_leaves h _)
+replied_over store now h others m None late = left_over m h (side_replied store now h others m None).history (reply_leaves_held h _)
 replied_over store now h others m (Some seconds) late = hold_over m h (moment_after now seconds) (is_open h.phase && may_hold h) (late seconds refl)
 
 handled_by_over : (store : StoreValue) (now : ℕ) (s : Side) (m : Message) (hold : Option ℕ) (asks : Bool) → asks_answer s m ≡ asks → ((seconds : ℕ) → hold ≡ Some seconds → asks_late m ≡ true)
@@ -147,7 +147,7 @@ written_same s n = written_between (λ h k. k.held ≡ h.held) (λ h. refl) (λ 
 
 notified_kept : (store : StoreValue) (now : ℕ) (s : Side) (found : Option Observer) → KeepsHeld s (notified store now s found)
 notified_kept store now s None = left_kept s s (inl refl)
-notified_kept store now s (Some o) = left_kept s (notified store now s (Some o)) (reply_leaves s.history (notification_message o.token (notification store now o)))
+notified_kept store now s (Some o) = left_kept s (notified store now s (Some o)) (reply_leaves_held s.history (notification_message o.token (notification store now o)))
 
 -- where nothing that is held is due, an observer is told
 pub told_keeps : (store : StoreValue) (now : ℕ) (s : Side) → next_held now s ≡ None → KeepsHeld s (settled_once store now s)

@@ -3,7 +3,7 @@ use Rattle.std.proofs.Common.{◌≡◌, ℕ, ◌+◌, ◌≤◌, Bool, true, fa
 use Rattle.std.specs.Fmt.{decimal}
 use Rattle.std.specs.Str.Parse.{digits_value}
 use Rattle.std.specs.Option.{option_eq}
-use Rattle.std.proofs.lemmas.Bool.{not-false, eqb-true, eqb-false, eq-eqb, ne_eqb}
+use Rattle.std.proofs.lemmas.Bool.{not-false, eqb-true, eqb-false, eq-eqb, ne_eqb, and_parts}
 use Rattle.std.proofs.lemmas.Fmt.{decimal_is_IsNumeral}
 use lib.Pointwise.{bytes_decides}
 use Rattle.coap_wire.specs.Message.{Message}
@@ -95,10 +95,6 @@ pub state_itself : (state : Option Representation) → same_state state state �
 state_itself None = refl
 state_itself (Some r) = rw (eq-eqb r.version r.version refl, format_itself r.format, bytes_itself r.bytes) refl
 
-both : (a b : Bool) → (a && b) ≡ true → (a ≡ true) × (b ≡ true)
-both true b e = (refl, e)
-both false b e = absurd cc
-
 format_is : (f g : Option ℕ) → world.same_format f g ≡ true → f ≡ g
 format_is None None e = refl
 format_is None (Some n) e = absurd cc
@@ -111,8 +107,8 @@ state_is None None e = refl
 state_is None (Some q) e = absurd cc
 state_is (Some r) None e = absurd cc
 state_is (Some r) (Some q) e =
-    let first = both (r.version == q.version && world.same_format r.format q.format) (same_bytes r.bytes q.bytes) e in
-    let second = both (r.version == q.version) (world.same_format r.format q.format) first.0 in
+    let first = and_parts (r.version == q.version && world.same_format r.format q.format) (same_bytes r.bytes q.bytes) e in
+    let second = and_parts (r.version == q.version) (world.same_format r.format q.format) first.0 in
     let version : r.version ≡ q.version = eqb-true r.version q.version second.0 in
     let format : r.format ≡ q.format = format_is r.format q.format second.1 in
     let bytes : r.bytes ≡ q.bytes = bytes_is r.bytes q.bytes first.1 in
@@ -240,10 +236,10 @@ pub record IsWatchable (store : StoreValue) (now : ℕ) (path : Path) : Type 0 w
   pub there : state_of store now path ≡ Some representation
 
 -- an observer that is told what is there
-abbrev told_of : List ℕ → Path → Option Representation → Observer
-told_of token path told = record { token = token; path = path; told = told }
+abbrev observer_told : List ℕ → Path → Option Representation → Observer
+observer_told token path told = record { token = token; path = path; told = told }
 
-told_at : (place : Place) (store : StoreValue) (now : ℕ) (token : List ℕ) (path : Path) (r : Representation) → now ≤ 18446744073709551615 → IsVersioned store → is_observable place ≡ true → state_at store now (Some path) place ≡ Some r → IsKnownAt place store (told_of token path (Some r))
+told_at : (place : Place) (store : StoreValue) (now : ℕ) (token : List ℕ) (path : Path) (r : Representation) → now ≤ 18446744073709551615 → IsVersioned store → is_observable place ≡ true → state_at store now (Some path) place ≡ Some r → IsKnownAt place store (observer_told token path (Some r))
 unfolding state_at
 told_at Root store now token path r small is e there = absurd cc
 told_at Time store now token path r small is e there = record { moment = now; was = sym there; small = small }
@@ -261,7 +257,7 @@ told_at Dynamic store now token path r small is e there = record {
 pub told_known : (store : StoreValue) (now : ℕ) (token : List ℕ) (path : Path) → now ≤ 18446744073709551615 → IsVersioned store → IsWatchable store now path → IsKnown store (record { token = token; path = path; told = state_of store now path })
 told_known store now token path small is can =
     let there : state_at store now (Some path) (place_of path) ≡ Some can.representation = subst (λ key. state_at store now key (place_of path) ≡ Some can.representation) can.key can.there in
-    subst (λ told. IsKnown store (told_of token path told)) (sym can.there) (record { key = can.key; state = told_at (place_of path) store now token path can.representation small is can.observable there })
+    subst (λ told. IsKnown store (observer_told token path told)) (sym can.there) (record { key = can.key; state = told_at (place_of path) store now token path can.representation small is can.observable there })
 
 mark_at_place : (place : Place) (store : StoreValue) (now : ℕ) (path : Path) (r : Representation) → now ≤ 18446744073709551615 → IsVersioned store → is_observable place ≡ true → state_at store now (Some path) place ≡ Some r → mark_told (Some r) ≡ mark_at now r
 unfolding state_at

@@ -93,9 +93,9 @@ replied_few : (most : ℕ) (store : StoreValue) (now : ℕ) (h : History) (os : 
 replied_few most store now h os m None same few = answered_few most store now h os m (prompt_answer store now m) same few
 replied_few most store now h os m (Some seconds) same few = omega (arith, few, open_fewer (after h (call.Hold m.token (moment_after now seconds))) os)
 
-handled_few : (limits : LimitValues) (store : StoreValue) (now : ℕ) (s : Side) (m : Message) → IsSide limits s → length s.observers ≤ limits.observers → length (side_after store now s m).observers ≤ limits.observers
+observers_after_few : (limits : LimitValues) (store : StoreValue) (now : ℕ) (s : Side) (m : Message) → IsSide limits s → length s.observers ≤ limits.observers → length (side_after store now s m).observers ≤ limits.observers
 unfolding side_after
-handled_few limits store now s m is few =
+observers_after_few limits store now s m is few =
     let h : History = after s.history (call.Handle m) in
     let same : h.limits.observers ≡ limits.observers = ap (λ (l : LimitValues). l.observers) ((message_goes_on s.history m).limits ∙ is.same_limits) in
     let hold : Option ℕ = held_for h (answer_of store now m).hold in
@@ -119,7 +119,7 @@ few_keeps : (limits : LimitValues) → Keeps limits (λ s. length s.observers �
 unfolding settled_once
 few_keeps limits = let few : List Observer → Type 0 = λ os. length os ≤ limits.observers in record {
   first = omega arith;
-  handled = handled_few limits;
+  handled = observers_after_few limits;
   faulted = observers_faulted few (omega arith);
   written = observers_written few (omega arith);
   ended = observers_ended few (omega arith);

@@ -46,13 +46,13 @@ refused_there v es id piece n s shows e refuses =
       stores = last.stores;
     }
 
-refused_on : (v : ServerValue) (es : List Event) (id : ℕ) (piece : List ℕ) (n : ℕ) (there : Option SessionValue) → Shows v es → session_of id v.sessions ≡ there → RefusesPieceOn v piece n there → IsRefusedStored v.config es id piece n
-refused_on v es id piece n None shows e refuses = absurd refuses
-refused_on v es id piece n (Some s) shows e refuses = refused_there v es id piece n s shows e refuses
+refused_where_there : (v : ServerValue) (es : List Event) (id : ℕ) (piece : List ℕ) (n : ℕ) (there : Option SessionValue) → Shows v es → session_of id v.sessions ≡ there → RefusesPieceOn v piece n there → IsRefusedStored v.config es id piece n
+refused_where_there v es id piece n None shows e refuses = absurd refuses
+refused_where_there v es id piece n (Some s) shows e refuses = refused_there v es id piece n s shows e refuses
 
 -- memory is refused for a message that is stored
 pub refused_is_stored : (v after : ServerValue) (es : List Event) (id : ℕ) (piece : List ℕ) (n : ℕ) → Shows v es → IsNotTaken v id piece (fault.Memory n) after → IsRefusedStored v.config es id piece n
-refused_is_stored v after es id piece n shows not = refused_on v es id piece n (session_of id v.sessions) shows refl not.0
+refused_is_stored v after es id piece n shows not = refused_where_there v es id piece n (session_of id v.sessions) shows refl not.0
 
 -- and so for no other
 pub other_not_refused : (v after : ServerValue) (es : List Event) (id : ℕ) (piece : List ℕ) (n : ℕ) → Shows v es → StoresNothing v.config es id piece → IsNotTaken v id piece (fault.Memory n) after → ⊥

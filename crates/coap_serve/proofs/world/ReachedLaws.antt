@@ -22,12 +22,13 @@ use Rattle.coap_serve.specs.world.Events.{Event, taken_in, size_on, stream_on, s
 use Rattle.coap_serve.specs.world.Events as event
 use Rattle.coap_serve.proofs.world.StepLaws.{world_first, world_same, world_step, by_events, stream_same, size_then, size_stays, announced_here, announced_elsewhere, nothing_spelled, first_spelled, spelled_same, taken_elsewhere, stream_elsewhere}
 use Rattle.coap_serve.proofs.world.TookLaws.{Adds, adds_nothing, adds_message, adds_bad, adds_fault, no_bytes_stream, no_bytes_steps, piece_whole}
-use Rattle.coap_serve.proofs.world.AcrossLaws.{some_same, HoldsOf, HoldsFrom, step_across, announced_there, all_across}
+use Rattle.coap_serve.proofs.world.AcrossLaws.{HoldsOf, HoldsFrom, step_across, announced_there, all_across}
 use Rattle.coap_serve.proofs.world.GoingOn.{GoesOn, all_go_on, was_live}
 use Rattle.coap_serve.proofs.world.WalkLaws.{announcing, Between, once_between, settled_between, after_between, faulted_between, written_between, ended_between, released_between}
 use Rattle.coap_serve.proofs.world.PlaceLaws.{nobody}
 use Rattle.coap_wire.proofs.StreamSteps.{none_or_some}
 use Rattle.coap_serve.proofs.world.WorldLaws.{OpensNext, IsGivenNumber, IsNumbered, new_world_numbered, number_given, step_numbered, ids_grow, faulted_is_stopped}
+use Rattle.coap_serve.proofs.values.OptionLemmas.{same_there}
 
 -- where a connection takes messages, its stream has no fault
 abbrev pub HaveNoFault : ConfigValues → List Event → World → Type 0
@@ -159,16 +160,16 @@ pub handling_goes_on : (c : ConfigValues) (es : List Event) (id : ℕ) (s : Side
 handling_goes_on c es id s is there does = is.goes_on id s there (and_parts (takes_messages s.history.phase) (has_room s) does).0
 
 module _ (c : ConfigValues) (es : List Event) (id : ℕ) (bytes : List ℕ) (s : Side) (before : IsReached c es) (there : side_of id (world_after c es).sides ≡ Some s) where
-  abbrev most : ℕ
-  most = c.limits.max_message
+  abbrev greatest_allowed : ℕ
+  greatest_allowed = c.limits.max_message
 
   abbrev then_on : ℕ → Stream
-  then_on n = stream_on most n (es ++ event.Took id bytes ∷ [])
+  then_on n = stream_on greatest_allowed n (es ++ event.Took id bytes ∷ [])
 
   -- a take of which this is the world afterwards
   take_reached : (w : World) → world_after c (es ++ event.Took id bytes ∷ []) ≡ w → IsNumbered c w → (world_after c es).ids ≤ w.ids
       → ((t : Side) → side_of id w.sides ≡ Some t → takes_messages t.history.phase ≡ true → (then_on id).fault ≡ None)
-      → ((n : ℕ) (t : Side) → side_of n w.sides ≡ Some t → takes_messages t.history.phase ≡ true → (stream_on most n es).fault ≡ None)
+      → ((n : ℕ) (t : Side) → side_of n w.sides ≡ Some t → takes_messages t.history.phase ≡ true → (stream_on greatest_allowed n es).fault ≡ None)
       → HaveSizes c es w
       → IsReached c (es ++ event.Took id bytes ∷ [])
   take_reached w is numbered grow own others sizes =
@@ -178,20 +179,20 @@ module _ (c : ConfigValues) (es : List Event) (id : ℕ) (bytes : List ℕ) (s :
         silent = silent_more c es (event.Took id bytes) w before grow (λ n h. (taken_elsewhere n id bytes (λ (same : id ≡ n). omega (arith, given.within, h, same)), λ M. refl));
         goes_on = λ n t at takes. elim (cases_eq id n) [
           | inl same ↦ subst (λ (k : ℕ). (then_on k).fault ≡ None) same (own t (ap (λ (k : ℕ). side_of k w.sides) same ∙ at) takes)
-          | inr apart ↦ ap (λ (u : Stream). u.fault) (stream_elsewhere most n id es bytes apart) ∙ others n t at takes
+          | inr apart ↦ ap (λ (u : Stream). u.fault) (stream_elsewhere greatest_allowed n id es bytes apart) ∙ others n t at takes
         ];
-        sizes = λ n t at. sizes n t at ∙ sym (size_then most n es (event.Took id bytes));
+        sizes = λ n t at. sizes n t at ∙ sym (size_then greatest_allowed n es (event.Took id bytes));
       })
 
   -- one that makes no step
-  quiet_reached : steps_by most es (event.Took id bytes) ≡ [] → (takes_messages s.history.phase ≡ true → (then_on id).fault ≡ None) → IsReached c (es ++ event.Took id bytes ∷ [])
+  quiet_reached : steps_by greatest_allowed es (event.Took id bytes) ≡ [] → (takes_messages s.history.phase ≡ true → (then_on id).fault ≡ None) → IsReached c (es ++ event.Took id bytes ∷ [])
   quiet_reached none own =
       take_reached (world_after c es) (world_same c es (event.Took id bytes) none) before.numbered (omega arith)
       (λ t at takes. own (let same : Some t ≡ Some s = sym at ∙ there in let is : t ≡ s = cc in ap (λ (u : Side). takes_messages u.history.phase) (sym is) ∙ takes))
       before.goes_on before.sizes
 
   -- one that makes a step
-  stepped_reached : (st : Step) → steps_by most es (event.Took id bytes) ≡ st ∷ [] → OpensNext c (world_after c es) st → ((n : ℕ) → IsUnannounced st n)
+  stepped_reached : (st : Step) → steps_by greatest_allowed es (event.Took id bytes) ≡ st ∷ [] → OpensNext c (world_after c es) st → ((n : ℕ) → IsUnannounced st n)
       → ((t : Side) → side_of id (world.step c.limits (world_after c es) st).sides ≡ Some t → takes_messages t.history.phase ≡ true → (then_on id).fault ≡ None)
       → IsReached c (es ++ event.Took id bytes ∷ [])
   stepped_reached st one next quiet own =
@@ -199,41 +200,41 @@ module _ (c : ConfigValues) (es : List Event) (id : ℕ) (bytes : List ℕ) (s :
       (step_numbered c (world_after c es) st before.numbered next) (ids_grow c (world_after c es) st next)
       own (λ n t at takes. step_live c es st n t before next at takes) (λ n t at. step_sized c es st n t before next (quiet n) at)
 
-  fault_of : (added : Stream) → Adds most id es bytes added → (then_on id).fault ≡ added.fault
+  fault_of : (added : Stream) → Adds greatest_allowed id es bytes added → (then_on id).fault ≡ added.fault
   fault_of added adds = ap (λ (u : Stream). u.fault) adds.stream
 
-  nothing_reached : (rest : List ℕ) → Adds most id es bytes (record { messages = []; rest = rest; fault = None }) → IsReached c (es ++ event.Took id bytes ∷ [])
+  nothing_reached : (rest : List ℕ) → Adds greatest_allowed id es bytes (record { messages = []; rest = rest; fault = None }) → IsReached c (es ++ event.Took id bytes ∷ [])
   nothing_reached rest adds = quiet_reached adds.steps (λ takes. fault_of _ adds)
 
-  message_reached : (m : Message) → Adds most id es bytes (record { messages = m ∷ []; rest = []; fault = None }) → IsReached c (es ++ event.Took id bytes ∷ [])
+  message_reached : (m : Message) → Adds greatest_allowed id es bytes (record { messages = m ∷ []; rest = []; fault = None }) → IsReached c (es ++ event.Took id bytes ∷ [])
   message_reached m adds = stepped_reached (world.Handled id m) adds.steps tt (λ n size is. cc) (λ t at takes. fault_of _ adds)
 
-  fault_reached : (rest : List ℕ) (fault : StreamFault) → handles s ≡ true → Adds most id es bytes (record { messages = []; rest = rest; fault = Some fault }) → IsReached c (es ++ event.Took id bytes ∷ [])
+  fault_reached : (rest : List ℕ) (fault : StreamFault) → handles s ≡ true → Adds greatest_allowed id es bytes (record { messages = []; rest = rest; fault = Some fault }) → IsReached c (es ++ event.Took id bytes ∷ [])
   fault_reached rest fault does adds =
       stepped_reached (world.Faulted id fault) adds.steps tt (λ n size is. cc)
       (λ t at takes. absurd (let bad : true ≡ false = sym takes ∙ faulted_is_stopped c.limits (world_after c es) id fault s t there does at in cc))
 
   -- a frame with what it spells
-  frame_reached : (frame : List ℕ) (read : Result Message FormatFault) → handles s ≡ true → (stream_on most id es).fault ≡ None → (framing (size_on most id es) (stream_on most id es).rest bytes).finding ≡ AFrame frame → (framing (size_on most id es) (stream_on most id es).rest bytes).taken ≡ length bytes → message_of frame ≡ read
+  frame_reached : (frame : List ℕ) (read : Result Message FormatFault) → handles s ≡ true → (stream_on greatest_allowed id es).fault ≡ None → (framing (size_on greatest_allowed id es) (stream_on greatest_allowed id es).rest bytes).finding ≡ AFrame frame → (framing (size_on greatest_allowed id es) (stream_on greatest_allowed id es).rest bytes).taken ≡ length bytes → message_of frame ≡ read
       → IsReached c (es ++ event.Took id bytes ∷ [])
-  frame_reached frame (Ok m) does none e all is = message_reached m (adds_message most id es bytes none frame m e all is)
-  frame_reached frame (Err f) does none e all is = fault_reached frame _ does (adds_bad most id es bytes none frame f e all is)
+  frame_reached frame (Ok m) does none e all is = message_reached m (adds_message greatest_allowed id es bytes none frame m e all is)
+  frame_reached frame (Err f) does none e all is = fault_reached frame _ does (adds_bad greatest_allowed id es bytes none frame f e all is)
 
-  found_reached : (found : Finding) → handles s ≡ true → (stream_on most id es).fault ≡ None → (framing (size_on most id es) (stream_on most id es).rest bytes).finding ≡ found → (framing (size_on most id es) (stream_on most id es).rest bytes).taken ≡ length bytes
+  found_reached : (found : Finding) → handles s ≡ true → (stream_on greatest_allowed id es).fault ≡ None → (framing (size_on greatest_allowed id es) (stream_on greatest_allowed id es).rest bytes).finding ≡ found → (framing (size_on greatest_allowed id es) (stream_on greatest_allowed id es).rest bytes).taken ≡ length bytes
       → IsReached c (es ++ event.Took id bytes ∷ [])
-  found_reached Nothing does none e all = nothing_reached _ (adds_nothing most id es bytes none e)
+  found_reached Nothing does none e all = nothing_reached _ (adds_nothing greatest_allowed id es bytes none e)
   found_reached (AFrame frame) does none e all = frame_reached frame (message_of frame) does none e all refl
-  found_reached (AFault fault) does none e all = fault_reached _ _ does (adds_fault most id es bytes none fault e)
+  found_reached (AFault fault) does none e all = fault_reached _ _ does (adds_fault greatest_allowed id es bytes none fault e)
 
   -- one of no bytes
   no_bytes_reached : bytes ≡ [] → IsReached c (es ++ event.Took id bytes ∷ [])
   no_bytes_reached none =
-      quiet_reached (ap (λ (b : List ℕ). steps_by most es (event.Took id b)) none ∙ no_bytes_steps most id es)
-      (λ takes. ap (λ (b : List ℕ). (stream_on most id (es ++ event.Took id b ∷ [])).fault) none ∙ ap (λ (u : Stream). u.fault) (no_bytes_stream most id es) ∙ before.goes_on id s there takes)
+      quiet_reached (ap (λ (b : List ℕ). steps_by greatest_allowed es (event.Took id b)) none ∙ no_bytes_steps greatest_allowed id es)
+      (λ takes. ap (λ (b : List ℕ). (stream_on greatest_allowed id (es ++ event.Took id b ∷ [])).fault) none ∙ ap (λ (u : Stream). u.fault) (no_bytes_stream greatest_allowed id es) ∙ before.goes_on id s there takes)
 
   -- all bytes of what the connection takes
-  whole_reached : (does : Bool) → handles s ≡ does → cond does (front_of (size_on most id es) (stream_on most id es).rest bytes) 0 ≡ length bytes → IsReached c (es ++ event.Took id bytes ∷ [])
-  whole_reached true e all = found_reached (framing (size_on most id es) (stream_on most id es).rest bytes).finding e (handling_goes_on c es id s before there e) refl all
+  whole_reached : (does : Bool) → handles s ≡ does → cond does (front_of (size_on greatest_allowed id es) (stream_on greatest_allowed id es).rest bytes) 0 ≡ length bytes → IsReached c (es ++ event.Took id bytes ∷ [])
+  whole_reached true e all = found_reached (framing (size_on greatest_allowed id es) (stream_on greatest_allowed id es).rest bytes).finding e (handling_goes_on c es id s before there e) refl all
   whole_reached false e all = no_bytes_reached (nil_from_length bytes (sym all))
 
 -- what is taken of a piece, where this connection is there
@@ -264,15 +265,15 @@ raised_to : (N size : ℕ) (greater : Bool) → nat_lt N size ≡ greater → N 
 raised_to N size true is within = refl
 raised_to N size false is within = omega (arith, ltb-false N size is, within)
 
-announced_sizes : (c : ConfigValues) (es : List Event) (id size : ℕ) (s : Side) → side_of id (world_after c es).sides ≡ Some s → IsReached c es → may_raise s size ≡ true → HaveSizes c (es ++ event.Announced id size ∷ []) (world.step c.limits (world_after c es) (world.Announced id size))
-announced_sizes c es id size s there before may k t at =
+announcing_has_sizes : (c : ConfigValues) (es : List Event) (id size : ℕ) (s : Side) → side_of id (world_after c es).sides ≡ Some s → IsReached c es → may_raise s size ≡ true → HaveSizes c (es ++ event.Announced id size ∷ []) (world.step c.limits (world_after c es) (world.Announced id size))
+announcing_has_sizes c es id size s there before may k t at =
     let w : World = world_after c es in
     let M : ℕ = c.limits.max_message in
     let e : Event = event.Announced id size in
     elim (cases_eq id k) [
       | inl same ↦
           let there_now : side_of id (world.step c.limits w (world.Announced id size)).sides ≡ Some t = ap (λ (n : ℕ). side_of n (world.step c.limits w (world.Announced id size)).sides) same ∙ at in
-          let now : settled w.store w.now (side_announced s size) ≡ t = some_same _ t (sym (announced_there c.limits w id size s there) ∙ there_now) in
+          let now : settled w.store w.now (side_announced s size) ≡ t = same_there _ t (sym (announced_there c.limits w id size s there) ∙ there_now) in
           let own : t.history.own_max ≡ size = ap (λ (u : Side). u.history.own_max) (sym now) ∙ settled_size w.store w.now (side_announced s size) ∙ announced_size s size may in
           let lower : s.history.own_max ≤ size = leb-true s.history.own_max size (and_parts (nat_le s.history.own_max size) (nat_le size greatest_size) (and_parts (nat_le s.history.own_max size && nat_le size greatest_size) (has_room s && may_announce (link_of s.history) size) may).0).0 in
           let N : ℕ = size_on M id es in
@@ -283,10 +284,10 @@ announced_sizes c es id size s there before may k t at =
           ∙ sym (size_then M k es e ∙ announced_elsewhere k id size apart (size_on M k es))
     ]
 
-announced_by : (c : ConfigValues) (es : List Event) (id size : ℕ) (there : Option Side) → side_of id (world_after c es).sides ≡ there → IsReached c es → IfSide there (λ s. may_raise s size ≡ true)
+announced_sizes_by : (c : ConfigValues) (es : List Event) (id size : ℕ) (there : Option Side) → side_of id (world_after c es).sides ≡ there → IsReached c es → IfSide there (λ s. may_raise s size ≡ true)
     → HaveSizes c (es ++ event.Announced id size ∷ []) (world.step c.limits (world_after c es) (world.Announced id size))
-announced_by c es id size None at before holds = absurd holds
-announced_by c es id size (Some s) at before holds = announced_sizes c es id size s at before holds
+announced_sizes_by c es id size None at before holds = absurd holds
+announced_sizes_by c es id size (Some s) at before holds = announcing_has_sizes c es id size s at before holds
 
 event_reached : (c : ConfigValues) (es : List Event) (e : Event) → IsReached c es → IsAccepted c es e → IsReached c (es ++ e ∷ [])
 unfolding IsAccepted steps_by
@@ -301,7 +302,7 @@ event_reached c es (event.Released id) before is = plain_reached c es (event.Rel
 event_reached c es (event.Announced id size) before is =
     step_reached c es (event.Announced id size) (world.Announced id size) before refl tt (λ k. refl)
     (λ k h N. announced_elsewhere k id size (given_apart _ c es id k (side_of id (world_after c es).sides) refl before h is) N)
-    (announced_by c es id size (side_of id (world_after c es).sides) refl before is)
+    (announced_sizes_by c es id size (side_of id (world_after c es).sides) refl before is)
 event_reached c es (event.Dropped id) before is = plain_reached c es (event.Dropped id) (world.Dropped id) before refl tt (λ k. refl) (λ k N. refl) (λ k size is. cc)
 
 -- each list of accepted events leads to such a world
@@ -315,14 +316,14 @@ unfolding IsAccepted
 takes_accepted c es id bytes s there all = subst (λ (o : Option Side). IfSide o (λ t. takes c es id bytes ≡ length bytes)) (sym there) all
 
 module _ (c : ConfigValues) (es : List Event) (id : ℕ) (piece : List ℕ) (s : Side) (there : side_of id (world_after c es).sides ≡ Some s) (handling : handles s ≡ true) where
-  abbrev pub so_far : Stream
-  so_far = stream_on c.limits.max_message id es
+  abbrev pub stream_so_far : Stream
+  stream_so_far = stream_on c.limits.max_message id es
 
-  takes_handling : (bytes : List ℕ) → takes c es id bytes ≡ front_of (size_on c.limits.max_message id es) so_far.rest bytes
-  takes_handling bytes = takes_there c es id bytes s there ∙ ap (λ (does : Bool). cond does (front_of (size_on c.limits.max_message id es) so_far.rest bytes) 0) handling
+  takes_handling : (bytes : List ℕ) → takes c es id bytes ≡ front_of (size_on c.limits.max_message id es) stream_so_far.rest bytes
+  takes_handling bytes = takes_there c es id bytes s there ∙ ap (λ (does : Bool). cond does (front_of (size_on c.limits.max_message id es) stream_so_far.rest bytes) 0) handling
 
   -- what a connection that handles messages takes of a piece
-  pub front_accepted : so_far.fault ≡ None → IsAccepted c es (event.Took id (take (front_of (size_on c.limits.max_message id es) so_far.rest piece) piece))
+  pub front_accepted : stream_so_far.fault ≡ None → IsAccepted c es (event.Took id (take (front_of (size_on c.limits.max_message id es) stream_so_far.rest piece) piece))
   front_accepted none = takes_accepted c es id _ s there (takes_handling _ ∙ piece_whole c.limits.max_message id es piece none)
 
 -- where none is taken, no byte is

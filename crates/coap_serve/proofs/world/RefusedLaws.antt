@@ -72,27 +72,27 @@ cut_by piece n (last ∷ behind) within e =
 
 -- a stream with no fault, and a piece that ends a frame at its first n + 1 bytes
 module _ (M : ℕ) (so_far : Stream) (piece frame : List ℕ) (n : ℕ) (none : so_far.fault ≡ None) (unfinished : beginning M so_far.rest ≡ Unfinished) (is : (framing M so_far.rest piece).finding ≡ AFrame frame) (count : front_of M so_far.rest piece ≡ n + 1) where
-  goes_on : (more : List ℕ) → split_on M so_far more ≡ stream.behind so_far.messages (split M (so_far.rest ++ more))
-  goes_on more = ap (λ (f : Option StreamFault). gone_on so_far f (split M (so_far.rest ++ more))) none
+  splits_on : (more : List ℕ) → split_on M so_far more ≡ stream.behind so_far.messages (split M (so_far.rest ++ more))
+  splits_on more = ap (λ (f : Option StreamFault). gone_on so_far f (split M (so_far.rest ++ more))) none
 
   within : n + 1 ≤ length piece
   within = subst (λ (k : ℕ). k ≤ length piece) count (taken_within M so_far.rest piece unfinished)
 
-  but_last : without_last (take (front_of M so_far.rest piece) piece) ≡ take n piece
-  but_last =
+  front_but_last : without_last (take (front_of M so_far.rest piece) piece) ≡ take n piece
+  front_but_last =
       let one_less : length (take (n + 1) piece) - 1 ≡ n = omega (arith, length-take-le (n + 1) piece within) in
       ap (λ (k : ℕ). without_last (take k piece)) count ∙ ap (λ (k : ℕ). take k (take (n + 1) piece)) one_less ∙ take-take n (n + 1) piece (omega arith)
 
   -- the first n bytes add to the rest alone
-  stream_before : split_on M so_far (take n piece) ≡ stream.behind so_far.messages (record { messages = []; rest = so_far.rest ++ take n piece; fault = None })
-  stream_before =
+  stream_before_last : split_on M so_far (take n piece) ≡ stream.behind so_far.messages (record { messages = []; rest = so_far.rest ++ take n piece; fault = None })
+  stream_before_last =
       let open_still : beginning M (so_far.rest ++ take n piece) ≡ Unfinished =
-      ap (λ (s : List ℕ). beginning M (so_far.rest ++ s)) (sym but_last) ∙ but_last_unfinished M so_far.rest piece frame unfinished is in
-      goes_on (take n piece) ∙ ap (stream.behind so_far.messages) (split_unfinished M (so_far.rest ++ take n piece) open_still)
+      ap (λ (s : List ℕ). beginning M (so_far.rest ++ s)) (sym front_but_last) ∙ but_last_unfinished M so_far.rest piece frame unfinished is in
+      splits_on (take n piece) ∙ ap (stream.behind so_far.messages) (split_unfinished M (so_far.rest ++ take n piece) open_still)
 
   nothing_beyond : (id : ℕ) → beyond id so_far (split_on M so_far (take n piece)) ≡ []
   nothing_beyond id =
-      ap (beyond id so_far) stream_before
+      ap (beyond id so_far) stream_before_last
       ∙ ap (λ (ms : List Message). map (world.Handled id) ms ++ new_fault id so_far.fault None) (drop-append_seam so_far.messages [])
 
   -- one byte more makes the frame whole
@@ -103,7 +103,7 @@ module _ (M : ℕ) (so_far : Stream) (piece frame : List ℕ) (n : ℕ) (none : 
       split_message M (so_far.rest ++ take (n + 1) piece) frame [] m whole read ∙ ap (with_message m) (split_unfinished M [] (unfinished_empty M))
 
   stream_behind : (m : Message) → message_of frame ≡ Ok m → split_on M so_far (take (n + 1) piece) ≡ stream.behind so_far.messages (record { messages = m ∷ []; rest = []; fault = None })
-  stream_behind m read = goes_on (take (n + 1) piece) ∙ ap (stream.behind so_far.messages) (last_spells m read)
+  stream_behind m read = splits_on (take (n + 1) piece) ∙ ap (stream.behind so_far.messages) (last_spells m read)
 
   message_beyond : (m : Message) (id : ℕ) → message_of frame ≡ Ok m → beyond id so_far (split_on M so_far (take (n + 1) piece)) ≡ world.Handled id m ∷ []
   message_beyond m id read =
@@ -114,10 +114,10 @@ module _ (M : ℕ) (so_far : Stream) (piece frame : List ℕ) (n : ℕ) (none : 
       → split_on M (split_on M so_far (take n piece)) (last ∷ []) ≡ record { messages = (split_on M so_far (take n piece)).messages ++ m ∷ []; rest = []; fault = None }
   message_more m last with_last read =
       let half : Stream = stream.behind so_far.messages (record { messages = []; rest = so_far.rest ++ take n piece; fault = None }) in
-      ap (λ (s : Stream). split_on M s (last ∷ [])) stream_before
+      ap (λ (s : Stream). split_on M s (last ∷ [])) stream_before_last
       ∙ ap (λ (b : List ℕ). stream.behind half.messages (split M b)) (append_assoc so_far.rest (take n piece) (last ∷ []) ∙ ap (λ (b : List ℕ). so_far.rest ++ b) (sym with_last))
       ∙ ap (stream.behind half.messages) (last_spells m read)
-      ∙ ap (λ (ms : List Message). record { messages = ms ++ m ∷ []; rest = []; fault = None }) (sym (ap (λ (s : Stream). s.messages) stream_before))
+      ∙ ap (λ (ms : List Message). record { messages = ms ++ m ∷ []; rest = []; fault = None }) (sym (ap (λ (s : Stream). s.messages) stream_before_last))
 
 -- ---- what the message stores
 

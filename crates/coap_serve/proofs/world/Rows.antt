@@ -79,7 +79,7 @@ pub record Row : Type 0 where
 
 infixr 70 ◌=>◌
 abbrev pub ◌=>◌ : Call → Told → Row
-c => t = record { call = c; wanted = t }
+call => wanted = record { call = call; wanted = wanted }
 
 -- ---- the events of a call behind others
 

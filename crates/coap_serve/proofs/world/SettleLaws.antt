@@ -142,8 +142,8 @@ module _ (store : StoreValue) (now : ℕ) (small : now ≤ 18446744073709551615)
 
 -- ---- nothing is left that is due
 
-pub next_found : (store : StoreValue) (now : ℕ) (s : Side) (o : Observer) → next_due store now s ≡ Some o → find (is_due store now) s.observers ≡ Some o
-next_found store now s o e =
+pub next_due_found : (store : StoreValue) (now : ℕ) (s : Side) (o : Observer) → next_due store now s ≡ Some o → find (is_due store now) s.observers ≡ Some o
+next_due_found store now s o e =
     elim (has_room s) as (λ b. (if b then find (is_due store now) s.observers else None) ≡ Some o → find (is_due store now) s.observers ≡ Some o) [ true ↦ λ is. is | false ↦ λ is. absurd cc ] e
 
 count_if : (due : Observer → Bool) (b : Bool) (os : List Observer) → count_due due (cond b os []) ≤ count_due due os
@@ -190,7 +190,7 @@ at_rest (suc turns) store now s rests = ap (settled_within turns store now) (onc
 told_less : (store : StoreValue) (now : ℕ) (s : Side) (o : Observer) → next_due store now s ≡ Some o
     → length (notified store now s (Some o)).history.held + count_due (is_due store now) (notified store now s (Some o)).observers + 1 ≤ length s.history.held + count_due (is_due store now) s.observers
 told_less store now s o is =
-    omega (arith, reply_leaves s.history (notification_message o.token (notification store now o)), notified_less store now s o (next_found store now s o is))
+    omega (arith, reply_leaves s.history (notification_message o.token (notification store now o)), notified_less store now s o (next_due_found store now s o is))
 
 -- how much a connection holds and how many observers are due on it, together
 abbrev pub left_on : StoreValue → ℕ → Side → ℕ
@@ -234,14 +234,14 @@ pub settled_hears : (store : StoreValue) (now : ℕ) (s : Side) → HearsAll sto
 settled_hears store now s = hears_at_rest store now (settled store now s) (settled_rests store now s)
 
 -- what holds nothing that is due has nothing to send
-none_come : (now : ℕ) (held : List HeldValue) → AllByRecursion (λ e. come now e ≡ None) held → filter_map (come now) held ≡ []
-none_come now [] none = refl
-none_come now (e ∷ held) none = rw none.0 (none_come now held none.1)
+none_come_listed : (now : ℕ) (held : List HeldValue) → AllByRecursion (λ e. come now e ≡ None) held → filter_map (come now) held ≡ []
+none_come_listed now [] none = refl
+none_come_listed now (e ∷ held) none = rw none.0 (none_come_listed now held none.1)
 
 pub nothing_first : (now : ℕ) (held : List HeldValue) → HoldsNothingDue now held → first_due now held ≡ None
 unfolding first_due due_index
 nothing_first now held none =
-    ap (λ moments. held_at held (else_index (answer_index (reduce min moments) held) (pong_index held))) (none_come now held none.0) ∙ ap (held_at held) none.1
+    ap (λ moments. held_at held (else_index (answer_index (reduce min moments) held) (pong_index held))) (none_come_listed now held none.0) ∙ ap (held_at held) none.1
 
 pub hears_sent : (store : StoreValue) (now : ℕ) (s : Side) → HearsAll store now s → next_held now s ≡ None
 hears_sent store now s hears =

@@ -32,7 +32,7 @@ use Rattle.coap_serve.proofs.world.WorldLaws.{opens}
 use Rattle.coap_serve.proofs.world.ReachedLaws.{IsReached, accepted_is, takes_there, piece_accepted}
 use Rattle.coap_serve.proofs.world.SideLaws.{host_of, written_shown, ended_shown, released_shown, announced_shown}
 use Rattle.coap_serve.proofs.world.HearingLaws.{world_hears}
-use Rattle.coap_serve.proofs.world.ShownLemmas.{session_found, dropped_shown, bare_step_server, changed_server, known_there, taking_front, taking_count, put_has_frame, server_takes, but_last_front}
+use Rattle.coap_serve.proofs.world.ShownLemmas.{session_found, dropped_shown, bare_step_server, server_after_one_step, known_there, taking_front, taking_count, put_has_frame, server_takes, but_last_front}
 
 -- ---- the connections of a server are those of its world
 
@@ -111,7 +111,7 @@ server_wrote : (c : ConfigValues) (es : List Event) (id n : ℕ) (t : Side) → 
 unfolding server_of acted steps_by
 server_wrote c es id n t small there few =
     let M : ℕ = c.limits.max_message in
-    sym (changed_server c es (Wrote id n) (world.Written id n) id t (λ s. side_written s n) (λ v. session_written v n) (world_after c es).store small refl refl there
+    sym (server_after_one_step c es (Wrote id n) (world.Written id n) id t (λ s. side_written s n) (λ v. session_written v n) (world_after c es).store small refl refl there
     (λ k apart. stream_same M k es (Wrote id n) refl)
     (ap (λ (u : Stream). session_shown u.rest (side_written t n)) (stream_same M id es (Wrote id n) refl) ∙ written_shown (stream_on M id es).rest t n (known_there c es id t small there).is_history few))
 
@@ -135,7 +135,7 @@ unfolding server_of acted steps_by
 server_did_end c es id t small there =
     let M : ℕ = c.limits.max_message in
     let cut : Bool = is_cut (stream_on M id es).rest in
-    sym (changed_server c es (Ended id) (world.Ended id cut) id t (λ s. side_ended s cut) session_ended (world_after c es).store small refl refl there
+    sym (server_after_one_step c es (Ended id) (world.Ended id cut) id t (λ s. side_ended s cut) session_ended (world_after c es).store small refl refl there
     (λ k apart. stream_same M k es (Ended id) refl)
     (ap (λ (u : Stream). session_shown u.rest (side_ended t cut)) (stream_same M id es (Ended id) refl) ∙ ended_shown (stream_on M id es).rest t (known_there c es id t small there).is_history))
 
@@ -157,7 +157,7 @@ server_did_release : (c : ConfigValues) (es : List Event) (id : ℕ) (t : Side) 
 unfolding server_of acted steps_by
 server_did_release c es id t small there none =
     let M : ℕ = c.limits.max_message in
-    sym (changed_server c es (Released id) (world.Released id) id t side_released session_released (world_after c es).store small refl refl there
+    sym (server_after_one_step c es (Released id) (world.Released id) id t side_released session_released (world_after c es).store small refl refl there
     (λ k apart. stream_same M k es (Released id) refl)
     (ap (λ (u : Stream). session_shown u.rest (side_released t)) (stream_same M id es (Released id) refl) ∙ released_shown (stream_on M id es).rest t (known_there c es id t small there).is_history none))
 
@@ -180,7 +180,7 @@ server_did_announce : (c : ConfigValues) (es : List Event) (id size : ℕ) (t : 
 unfolding server_of acted steps_by
 server_did_announce c es id size t small there none =
     let M : ℕ = c.limits.max_message in
-    sym (changed_server c es (Announced id size) (world.Announced id size) id t (λ u. side_announced u size) (λ v. session_announced v size) (world_after c es).store small refl refl there
+    sym (server_after_one_step c es (Announced id size) (world.Announced id size) id t (λ u. side_announced u size) (λ v. session_announced v size) (world_after c es).store small refl refl there
     (λ k apart. stream_same M k es (Announced id size) refl)
     (ap (λ (u : Stream). session_shown u.rest (side_announced t size)) (stream_same M id es (Announced id size) refl) ∙ announced_shown (stream_on M id es).rest t size (known_there c es id t small there).is_history none))
 
@@ -345,9 +345,9 @@ server_took c es id piece t small is there =
     ∙ ap (λ (n : ℕ). server_of c (es ++ Took id (take n piece) ∷ [])) (taking_count host (size_on M id es) rest piece t (is.sizes id t there) ∙ sym (takes_there c es id piece t there))
 
 -- a server that is the one after accepted events shows them
-shows_as : (c : ConfigValues) (v : ServerValue) (es : List Event) → v ≡ server_of c es → AreAccepted c es → c.starts.moment ≤ 18446744073709551615 → Shows v es
+shows_where_same : (c : ConfigValues) (v : ServerValue) (es : List Event) → v ≡ server_of c es → AreAccepted c es → c.starts.moment ≤ 18446744073709551615 → Shows v es
 unfolding server_of
-shows_as c v es same accepted small = subst (λ (u : ServerValue). Shows u es) (sym same) (record { accepted = accepted; same = refl; moment = small })
+shows_where_same c v es same accepted small = subst (λ (u : ServerValue). Shows u es) (sym same) (record { accepted = accepted; same = refl; moment = small })
 
 pub shows_taken : (v : ServerValue) (es : List Event) (id : ℕ) (piece : List ℕ) (s : SessionValue) → Shows v es → session_of id v.sessions ≡ Some s → Shows (server_taken v id piece) (es ++ Took id (take (count_taken v id piece) piece) ∷ [])
 shows_taken v es id piece s shows e =
@@ -355,7 +355,7 @@ shows_taken v es id piece s shows e =
     let at = session_there v es id s shows e in
     let is : IsReached c es = accepted_is c es shows.accepted in
     subst (λ (n : ℕ). Shows (server_taken v id piece) (es ++ Took id (take n piece) ∷ [])) (sym (takes_shown v es id piece shows))
-    (shows_as c (server_taken v id piece) (es ++ Took id (take (takes c es id piece) piece) ∷ [])
+    (shows_where_same c (server_taken v id piece) (es ++ Took id (take (takes c es id piece) piece) ∷ [])
     (ap (λ (u : ServerValue). server_taken u id piece) shows.same ∙ server_took c es id piece at.side shows.moment is at.there)
     (accepted_more c es (Took id (take (takes c es id piece) piece)) shows.accepted (piece_accepted c es id piece at.side is at.there))
     shows.moment)

@@ -30,7 +30,6 @@ use Rattle.coap_serve.proofs.world.StepLaws.{world_same, world_step, streams_sam
 use Rattle.coap_frame.proofs.FrontLaws.{nothing_kept, front_framing}
 use Rattle.coap_serve.proofs.world.TookLaws.{Adds, no_bytes_stream, no_bytes_steps, piece_adds_nothing, piece_adds_message, piece_adds_bad, piece_adds_fault, but_last_whole}
 use Rattle.coap_serve.proofs.world.PlaceLaws.{but, AreDistinct, of_number, of_each}
-use Rattle.coap_serve.proofs.world.AcrossLaws.{some_same}
 use Rattle.coap_serve.proofs.world.GoingOn.{side_is}
 use Rattle.coap_serve.proofs.world.WorldLaws.{events_distinct}
 use Rattle.coap_serve.proofs.world.ReachedLaws.{IsReached, handling_goes_on}
@@ -38,6 +37,7 @@ use Rattle.coap_serve.proofs.world.KnownLaws.{IsVersioned, not_due}
 use Rattle.coap_serve.proofs.world.SideLaws.{host_of, IsKnownSide, handles_parts, faulted_shown, handled_shown, change_shown}
 use Rattle.coap_serve.proofs.world.SettleLaws.{settled_shown, at_rest, hears_sent}
 use Rattle.coap_serve.proofs.world.HearingLaws.{IsKnownPlace, IsKnownWorld, acted_known, world_known, world_hears}
+use Rattle.coap_serve.proofs.values.OptionLemmas.{same_there}
 
 -- ---- connections by their numbers
 
@@ -95,7 +95,7 @@ pub one_becomes : (M id : ℕ) (es fs : List Event) (f : Side → Side) (g : Ses
 one_becomes M id es fs f g t ps distinct there same becomes =
     places_become M id es fs f g ps same
     (of_each (λ n s. n ≡ id → BecomesAs M id es fs f g s) ps distinct
-    (λ n s at here. subst (BecomesAs M id es fs f g) (some_same t s (sym there ∙ ap (λ (k : ℕ). side_of k ps) (sym here) ∙ at)) becomes))
+    (λ n s at here. subst (BecomesAs M id es fs f g) (same_there t s (sym there ∙ ap (λ (k : ℕ). side_of k ps) (sym here) ∙ at)) becomes))
 
 -- where nothing happens to it, no connection changes
 pub unchanged : (id : ℕ) (ps : List Place) → map (changed_at id (λ s. s)) ps ≡ ps
@@ -114,14 +114,14 @@ settled_places M es store now (p ∷ ps) small is known =
     ∙ ap (λ (os : List (ℕ × SessionValue)). settled_entry (host_of store now) (place_shown M es p) ∷ os) (settled_places M es store now ps small is known.1)
 
 -- a server settles as its world does
-pub settled_server : (c : ConfigValues) (es : List Event) (w : World) → IsKnownWorld w → server_shown c es (all_settled w) ≡ server_settled (server_shown c es w)
-settled_server c es w known =
+pub server_after_settling : (c : ConfigValues) (es : List Event) (w : World) → IsKnownWorld w → server_shown c es (all_settled w) ≡ server_settled (server_shown c es w)
+server_after_settling c es w known =
     ap (λ (os : List (ℕ × SessionValue)). record (server_shown c es w) { sessions = os }) (settled_places c.limits.max_message es w.store w.now w.sides known.moment known.versioned known.places)
 
 -- a connection on which no change is lost has nothing to settle
-none_found : (due : Observer → Bool) (os : List Observer) → AllByRecursion (λ o. due o ≡ false) os → find due os ≡ None
-none_found due [] quiet = refl
-none_found due (o ∷ os) quiet = ap (λ (b : Bool). if b then Some o else find due os) quiet.0 ∙ none_found due os quiet.1
+none_due_found : (due : Observer → Bool) (os : List Observer) → AllByRecursion (λ o. due o ≡ false) os → find due os ≡ None
+none_due_found due [] quiet = refl
+none_due_found due (o ∷ os) quiet = ap (λ (b : Bool). if b then Some o else find due os) quiet.0 ∙ none_due_found due os quiet.1
 
 all_quiet : (store : StoreValue) (now : ℕ) (os : List Observer) → AllByRecursion (λ o. o.told ≡ state_of store now o.path) os → AllByRecursion (λ o. is_due store now o ≡ false) os
 all_quiet store now [] told = tt
@@ -130,13 +130,13 @@ all_quiet store now (o ∷ os) told = (not_due store now o told.0, all_quiet sto
 hears_rests : (store : StoreValue) (now : ℕ) (s : Side) → HearsAll store now s → next_due store now s ≡ None
 hears_rests store now s hears =
     elim (has_room s) as (λ b. (b ≡ true → AllByRecursion (λ o. o.told ≡ state_of store now o.path) s.observers) → (if b then find (is_due store now) s.observers else None) ≡ None) [
-      | true ↦ λ told. none_found (is_due store now) s.observers (all_quiet store now s.observers (told refl))
+      | true ↦ λ told. none_due_found (is_due store now) s.observers (all_quiet store now s.observers (told refl))
       | false ↦ λ told. refl
     ] hears.told
 
-pub settled_stays : (store : StoreValue) (now : ℕ) (s : Side) → HearsAll store now s → settled store now s ≡ s
+pub side_at_rest_stays : (store : StoreValue) (now : ℕ) (s : Side) → HearsAll store now s → settled store now s ≡ s
 unfolding settled
-settled_stays store now s hears = at_rest (length s.history.held + length s.observers) store now s (hears_sent store now s hears, hears_rests store now s hears)
+side_at_rest_stays store now s hears = at_rest (length s.history.held + length s.observers) store now s (hears_sent store now s hears, hears_rests store now s hears)
 
 resting_places : (M : ℕ) (es : List Event) (store : StoreValue) (now : ℕ) (ps : List Place) → now ≤ 18446744073709551615 → IsVersioned store → AllByRecursion (IsKnownPlace store) ps → AllByRecursion (λ p. HearsAll store now p.side) ps
     → map (settled_entry (host_of store now)) (map (place_shown M es) ps) ≡ map (place_shown M es) ps
@@ -144,7 +144,7 @@ resting_places M es store now [] small is known hear = refl
 resting_places M es store now (p ∷ ps) small is known hear =
     let rest : List ℕ = (stream_on M p.id es).rest in
     ap (λ (v : SessionValue). (p.id, v) ∷ map (settled_entry (host_of store now)) (map (place_shown M es) ps))
-    (sym (settled_shown store now small is rest p.side known.0) ∙ ap (session_shown rest) (settled_stays store now p.side hear.0))
+    (sym (settled_shown store now small is rest p.side known.0) ∙ ap (session_shown rest) (side_at_rest_stays store now p.side hear.0))
     ∙ ap (λ (os : List (ℕ × SessionValue)). place_shown M es p ∷ os) (resting_places M es store now ps small is known.1 hear.1)
 
 -- the server of any world that was reached is settled, whatever is left of the bytes
@@ -167,7 +167,7 @@ pub step_server : (c : ConfigValues) (es : List Event) (e : Event) (st : Step) �
 unfolding server_of world.step
 step_server c es e st small one =
     ap (server_shown c (es ++ e ∷ [])) (world_step c es e st one)
-    ∙ settled_server c (es ++ e ∷ []) (acted c.limits (world_after c es) st) (acted_known c.limits (world_after c es) st (world_known c es small))
+    ∙ server_after_settling c (es ++ e ∷ []) (acted c.limits (world_after c es) st) (acted_known c.limits (world_after c es) st (world_known c es small))
 
 -- and takes no byte
 pub bare_step_server : (c : ConfigValues) (es : List Event) (e : Event) (st : Step) → c.starts.moment ≤ 18446744073709551615 → steps_by c.limits.max_message es e ≡ st ∷ [] → ((id : ℕ) → taken_in id e ≡ [])
@@ -175,13 +175,13 @@ pub bare_step_server : (c : ConfigValues) (es : List Event) (e : Event) (st : St
 bare_step_server c es e st small one none = step_server c es e st small one ∙ ap server_settled (same_server c es e (acted c.limits (world_after c es) st) none)
 
 -- one whose step changes one connection, and perhaps what is stored
-pub changed_server : (c : ConfigValues) (es : List Event) (e : Event) (st : Step) (id : ℕ) (t : Side) (f : Side → Side) (g : SessionValue → SessionValue) (store : StoreValue) → c.starts.moment ≤ 18446744073709551615
+pub server_after_one_step : (c : ConfigValues) (es : List Event) (e : Event) (st : Step) (id : ℕ) (t : Side) (f : Side → Side) (g : SessionValue → SessionValue) (store : StoreValue) → c.starts.moment ≤ 18446744073709551615
     → steps_by c.limits.max_message es e ≡ st ∷ [] → acted c.limits (world_after c es) st ≡ record (on_side id f (world_after c es)) { store = store } → side_of id (world_after c es).sides ≡ Some t
     → OthersSame c.limits.max_message id es (es ++ e ∷ [])
     → session_shown (stream_on c.limits.max_message id (es ++ e ∷ [])).rest (f t) ≡ g (session_shown (stream_on c.limits.max_message id es).rest t)
     → server_of c (es ++ e ∷ []) ≡ server_settled (record (on_session id g (server_of c es)) { host = host_of store (world_after c es).now })
 unfolding server_of
-changed_server c es e st id t f g store small one acts there same becomes =
+server_after_one_step c es e st id t f g store small one acts there same becomes =
     let w : World = world_after c es in
     let fs : List Event = es ++ e ∷ [] in
     let host = host_of store w.now in
@@ -271,11 +271,11 @@ module _ (c : ConfigValues) (es : List Event) (id : ℕ) (piece : List ℕ) (t :
   abbrev in_force : ℕ
   in_force = size_on c.limits.max_message id es
 
-  abbrev found_there : Framing
-  found_there = framing in_force so_far piece
+  abbrev framing_then : Framing
+  framing_then = framing in_force so_far piece
 
-  abbrev front_there : List ℕ
-  front_there = take (front_of in_force so_far piece) piece
+  abbrev front_taken_then : List ℕ
+  front_taken_then = take (front_of in_force so_far piece) piece
 
   -- the server that took so is the one after the bytes taken
   abbrev pub TakesAs : Taking → Type 0
@@ -294,60 +294,60 @@ module _ (c : ConfigValues) (es : List Event) (id : ℕ) (piece : List ℕ) (t :
     no_fault : (stream_on c.limits.max_message id es).fault ≡ None
     no_fault = handling_goes_on c es id t is there does
 
-    nothing_takes : found_there.finding ≡ Nothing → TakesAs (taking_found host_then session_then found_there Nothing)
+    nothing_takes : framing_then.finding ≡ Nothing → TakesAs (taking_found host_then session_then framing_then Nothing)
     unfolding server_of
     nothing_takes e =
         let adds = piece_adds_nothing most id es piece no_fault e in
-        let same : framing in_force so_far front_there ≡ found_there = front_framing in_force so_far piece (rest_unfinished most id es no_fault) in
-        let kept : found_there.kept ≡ so_far ++ front_there =
-        ap (λ (f : Framing). f.kept) (sym same) ∙ nothing_kept in_force so_far front_there (ap (λ (f : Framing). f.finding) same ∙ e) in
-        sym (quiet_server c es (Took id front_there) id t (λ v. record session_then { frame = found_there.kept }) small adds.steps there (elsewhere front_there)
+        let same : framing in_force so_far front_taken_then ≡ framing_then = front_framing in_force so_far piece (rest_unfinished most id es no_fault) in
+        let kept : framing_then.kept ≡ so_far ++ front_taken_then =
+        ap (λ (f : Framing). f.kept) (sym same) ∙ nothing_kept in_force so_far front_taken_then (ap (λ (f : Framing). f.finding) same ∙ e) in
+        sym (quiet_server c es (Took id front_taken_then) id t (λ v. record session_then { frame = framing_then.kept }) small adds.steps there (elsewhere front_taken_then)
         (ap (λ (u : Stream). session_shown u.rest t) adds.stream
-        ∙ ap (λ (b : Bool). record session_then { frame = if b then so_far ++ front_there else [] }) (handles_parts t does).0
+        ∙ ap (λ (b : Bool). record session_then { frame = if b then so_far ++ front_taken_then else [] }) (handles_parts t does).0
         ∙ ap (λ (k : List ℕ). record session_then { frame = k }) (sym kept)))
 
-    fault_takes : (fault : StreamFault) (rest : List ℕ) → Adds most id es front_there (record { messages = []; rest = rest; fault = Some fault })
-        → TakesAs (record { count = found_there.taken; handled = false; session = session_rejected session_then (reject_of fault); change = store_change.Nothing })
+    fault_takes : (fault : StreamFault) (rest : List ℕ) → Adds most id es front_taken_then (record { messages = []; rest = rest; fault = Some fault })
+        → TakesAs (record { count = framing_then.taken; handled = false; session = session_rejected session_then (reject_of fault); change = store_change.Nothing })
     unfolding server_of acted
     fault_takes fault rest adds =
-        sym (changed_server c es (Took id front_there) (world.Faulted id fault) id t (λ u. side_faulted u fault) (λ v. session_rejected session_then (reject_of fault)) (world_after c es).store small adds.steps refl there (elsewhere front_there)
+        sym (server_after_one_step c es (Took id front_taken_then) (world.Faulted id fault) id t (λ u. side_faulted u fault) (λ v. session_rejected session_then (reject_of fault)) (world_after c es).store small adds.steps refl there (elsewhere front_taken_then)
         (ap (λ (u : Stream). session_shown u.rest (side_faulted t fault)) adds.stream
         ∙ faulted_shown so_far rest t fault (known_there c es id t small there).is_history does))
 
-    message_takes : (m : Message) → Adds most id es front_there (record { messages = m ∷ []; rest = []; fault = None }) → TakesAs (taking_read host_then session_then found_there.taken (Ok m))
+    message_takes : (m : Message) → Adds most id es front_taken_then (record { messages = m ∷ []; rest = []; fault = None }) → TakesAs (taking_read host_then session_then framing_then.taken (Ok m))
     unfolding server_of acted
     message_takes m adds =
         let w : World = world_after c es in
         let known : IsKnownWorld w = world_known c es small in
         let store : StoreValue = changed w.store (change_by host_then session_then.link m) in
-        sym (changed_server c es (Took id front_there) (world.Handled id m) id t (λ u. side_after w.store w.now u m) (λ v. session_handled host_then session_then m) store small adds.steps
+        sym (server_after_one_step c es (Took id front_taken_then) (world.Handled id m) id t (λ u. side_after w.store w.now u m) (λ v. session_handled host_then session_then m) store small adds.steps
         (ap (λ (s : StoreValue). record (on_side id (λ u. side_after w.store w.now u m) w) { store = s }) (ap (stored_after w m) there ∙ ap (changed w.store) (change_shown w.store w.now t m does)))
-        there (elsewhere front_there)
+        there (elsewhere front_taken_then)
         (ap (λ (u : Stream). session_shown u.rest (side_after w.store w.now t m)) adds.stream
         ∙ handled_shown w.store w.now known.moment known.versioned so_far t m (known_there c es id t small there).is_history does))
 
-    frame_takes : (frame : List ℕ) (read : Result Message FormatFault) → found_there.finding ≡ AFrame frame → message_of frame ≡ read → TakesAs (taking_read host_then session_then found_there.taken read)
-    frame_takes frame (Ok m) e reads = message_takes m (piece_adds_message most id es piece no_fault frame m e reads)
-    frame_takes frame (Err f) e reads = fault_takes Format frame (piece_adds_bad most id es piece no_fault frame f e reads)
+    frame_takes_as : (frame : List ℕ) (read : Result Message FormatFault) → framing_then.finding ≡ AFrame frame → message_of frame ≡ read → TakesAs (taking_read host_then session_then framing_then.taken read)
+    frame_takes_as frame (Ok m) e reads = message_takes m (piece_adds_message most id es piece no_fault frame m e reads)
+    frame_takes_as frame (Err f) e reads = fault_takes Format frame (piece_adds_bad most id es piece no_fault frame f e reads)
 
-    found_takes : (found : Finding) → found_there.finding ≡ found → TakesAs (taking_found host_then session_then found_there found)
+    found_takes : (found : Finding) → framing_then.finding ≡ found → TakesAs (taking_found host_then session_then framing_then found)
     found_takes Nothing e = nothing_takes e
-    found_takes (AFrame frame) e = frame_takes frame (message_of frame) e refl
+    found_takes (AFrame frame) e = frame_takes_as frame (message_of frame) e refl
     found_takes (AFault fault) e = fault_takes (OfFrame fault) _ (piece_adds_fault most id es piece no_fault fault e)
 
   -- what is taken of any piece
   pub server_takes : TakesAs (taking host_then session_then piece)
   server_takes =
       elim (handles t) as (λ b. handles t ≡ b → TakesAs (taking host_then session_then piece)) [
-        | true ↦ λ does. subst TakesAs (sym (taking_front host_then in_force so_far piece t (is.sizes id t there) does)) (found_takes does found_there.finding refl)
+        | true ↦ λ does. subst TakesAs (sym (taking_front host_then in_force so_far piece t (is.sizes id t there) does)) (found_takes does framing_then.finding refl)
         | false ↦ λ stopped. subst TakesAs (sym (taking_stopped host_then session_then piece stopped)) stopped_takes
       ] refl
 
   -- all but the last byte of a frame are taken whole
-  pub but_last_front : (n : ℕ) (frame : List ℕ) → handles t ≡ true → found_there.finding ≡ AFrame frame → front_of in_force so_far piece ≡ n + 1 → front_of in_force so_far (take n piece) ≡ n
+  pub but_last_front : (n : ℕ) (frame : List ℕ) → handles t ≡ true → framing_then.finding ≡ AFrame frame → front_of in_force so_far piece ≡ n + 1 → front_of in_force so_far (take n piece) ≡ n
   but_last_front n frame does e all =
       let none = handling_goes_on c es id t is there does in
       let within : n + 1 ≤ length piece = subst (λ (k : ℕ). k ≤ length piece) all (taken_within in_force so_far piece (rest_unfinished most id es none)) in
       let count : length (take (n + 1) piece) - 1 ≡ n = omega (arith, length-take-le (n + 1) piece within) in
-      let front : without_last front_there ≡ take n piece = ap (λ (k : ℕ). without_last (take k piece)) all ∙ ap (λ (k : ℕ). take k (take (n + 1) piece)) count ∙ take-take n (n + 1) piece (omega arith) in
+      let front : without_last front_taken_then ≡ take n piece = ap (λ (k : ℕ). without_last (take k piece)) all ∙ ap (λ (k : ℕ). take k (take (n + 1) piece)) count ∙ take-take n (n + 1) piece (omega arith) in
       subst (λ (bytes : List ℕ). front_of in_force so_far bytes ≡ length bytes) front (but_last_whole most id es piece none frame e) ∙ length-take-le n piece (omega (arith, within))

@@ -167,9 +167,9 @@ module _ (store : StoreValue) (now : ℕ) (small : now ≤ 18446744073709551615)
       ∙ ap (λ n. session_answered_as (host_of store now) (link_of h) (map observer_shown os) m a (asks_entry a.watch && nat_lt n h.limits.observers)) (sym (length-map os observer_shown))
 
   -- it is held where there is room
-  held_shown : (h : History) (hold : Option ℕ) → held_for h hold ≡ held_in (link_of h) hold
-  held_shown h None = refl
-  held_shown h (Some seconds) = refl
+  held_for_shown : (h : History) (hold : Option ℕ) → held_for h hold ≡ held_in (link_of h) hold
+  held_for_shown h None = refl
+  held_for_shown h (Some seconds) = refl
 
   replied_shown : (h : History) (os : List Observer) (m : Message) (hold : Option ℕ) → IsHistory h
       → session_shown [] (side_replied store now h os m hold) ≡ session_replied (host_of store now) (link_of h) (map observer_shown os) m hold
@@ -187,7 +187,7 @@ module _ (store : StoreValue) (now : ℕ) (small : now ≤ 18446744073709551615)
       let vs = without_entry m.token (map observer_shown s.observers) in
       replied_shown h (without_token m.token s.observers) m (held_for h hold) ((message_goes_on s.history m).history history)
       ∙ ap (λ others. session_replied (host_of store now) (link_of h) others m (held_for h hold)) (without_shown m.token s.observers)
-      ∙ ap (session_replied (host_of store now) (link_of h) vs m) (held_shown h hold)
+      ∙ ap (session_replied (host_of store now) (link_of h) vs m) (held_for_shown h hold)
       ∙ ap (λ l. session_replied (host_of store now) l vs m (held_in l hold)) (after_link s.history (call.Handle m) tt history)
   handled_by rest s m false history =
       shown_with [] (after s.history (call.Handle m)) s.observers ∙ ap (λ l. session_with [] l (map observer_shown s.observers)) (after_link s.history (call.Handle m) tt history)

@@ -36,7 +36,7 @@ use Rattle.coap_serve.proofs.world.SideLaws.{replied_cases, settled_cases, held_
 use Rattle.coap_serve.proofs.world.WalkLaws.{if_between, ended_between}
 use Rattle.coap_serve.proofs.world.GoingOn.{IsSide, Keeps, kept_after}
 use Rattle.coap_serve.proofs.world.ToldMessages.{other_bytes, last_is, last_stays, Queues, queues_none, queues_to, IsNoResponse, IsPlain, message_queues, reject_queues, end_queues, release_queues, holding_queues, due_queues, reply_queues, whole_last, announcing_queues}
-use Rattle.coap_serve.proofs.world.SettleLaws.{next_found}
+use Rattle.coap_serve.proofs.world.SettleLaws.{next_due_found}
 use Rattle.coap_serve.proofs.world.CustodyLaws.{Stands, stand_asked, stands_keeps}
 use Rattle.coap_serve.proofs.world.ToldAnswers.{tells_responds, entry_tells, notification_tells}
 use Rattle.coap_conn.specs.Calls.{may_announce}
@@ -60,8 +60,8 @@ still_told : (o : Observer) (queued more : List Message) → AllByRecursion (λ 
 still_told o queued more none told = (told.0, last_stays o.token queued more none ∙ told.1, told.2)
 
 -- a message that tells it a state is queued
-told_by : (o : Observer) (queued : List Message) (m : Message) → TellsState o o.told m → WasToldLast (queued ++ m ∷ []) o
-told_by o queued m tells = (m, last_is o.token queued m (tells_responds o o.told m tells), tells)
+told_by_last : (o : Observer) (queued : List Message) (m : Message) → TellsState o o.told m → WasToldLast (queued ++ m ∷ []) o
+told_by_last o queued m tells = (m, last_is o.token queued m (tells_responds o o.told m tells), tells)
 
 no_response : (token : List ℕ) (m : Message) → IsNoResponse m → responds token m ≡ false
 no_response token m e = ap (λ b. b && same_bytes m.token token) e
@@ -110,10 +110,10 @@ late_told token h k os queues asked are = record {
 
 -- ---- lists of observers
 
-abbrev pub AreOthers : List ℕ → List Observer → Type 0
-AreOthers token os = AllByRecursion (λ o. token ≢ o.token) os
+abbrev pub HaveOtherTokens : List ℕ → List Observer → Type 0
+HaveOtherTokens token os = AllByRecursion (λ o. token ≢ o.token) os
 
-others_told : (token : List ℕ) (h k : History) (os : List Observer) → Queues (HasToken token) h k → AreOthers token os → AllByRecursion (ToldOn h) os → AllByRecursion (ToldOn k) os
+others_told : (token : List ℕ) (h k : History) (os : List Observer) → Queues (HasToken token) h k → HaveOtherTokens token os → AllByRecursion (ToldOn h) os → AllByRecursion (ToldOn k) os
 others_told token h k [] queues others told = tt
 others_told token h k (o ∷ os) queues others told = (other_told token h k o queues others.0 told.0, others_told token h k os queues others.1 told.1)
 
@@ -125,7 +125,7 @@ own_filter test (o ∷ os) own =
       | false ↦ own_filter test os own.1
     ]
 
-own_last : (os : List Observer) (e : Observer) → AreOthers e.token os → HaveOwnTokens os → HaveOwnTokens (os ++ e ∷ [])
+own_last : (os : List Observer) (e : Observer) → HaveOtherTokens e.token os → HaveOwnTokens os → HaveOwnTokens (os ++ e ∷ [])
 own_last [] e others own = (tt, tt)
 own_last (o ∷ os) e others own =
     (all_append (λ other. o.token ≢ other.token) os (e ∷ []) own.0 ((λ same. others.0 (sym same)), tt), own_last os e others.1 own.1)
@@ -134,15 +134,15 @@ own_last (o ∷ os) e others own =
 kept_other : (token : List ℕ) (o : Observer) → not (same_bytes o.token token) ≡ true → token ≢ o.token
 kept_other token o e same = let is : same_bytes o.token token ≡ true = (bytes_decides o.token token).1 (sym same) in absurd cc
 
-filter_others : (token : List ℕ) (os : List Observer) → AreOthers token (filter (λ o. not (same_bytes o.token token)) os)
+filter_others : (token : List ℕ) (os : List Observer) → HaveOtherTokens token (filter (λ o. not (same_bytes o.token token)) os)
 filter_others token [] = tt
 filter_others token (o ∷ os) =
-    elim (not (same_bytes o.token token)) as (λ b. not (same_bytes o.token token) ≡ b → AreOthers token (if b then o ∷ filter (λ o. not (same_bytes o.token token)) os else filter (λ o. not (same_bytes o.token token)) os)) [
+    elim (not (same_bytes o.token token)) as (λ b. not (same_bytes o.token token) ≡ b → HaveOtherTokens token (if b then o ∷ filter (λ o. not (same_bytes o.token token)) os else filter (λ o. not (same_bytes o.token token)) os)) [
       | true ↦ λ e. (kept_other token o e, filter_others token os)
       | false ↦ λ e. filter_others token os
     ] refl
 
-without_others : (token : List ℕ) (os : List Observer) → AreOthers token (without_token token os)
+without_others : (token : List ℕ) (os : List Observer) → HaveOtherTokens token (without_token token os)
 unfolding without_token
 without_others token os = filter_others token os
 
@@ -156,11 +156,11 @@ without_told token h os are = record { own = own_filter _ os are.own; told = all
 kept_told : (h : History) (os : List Observer) → (is_open h.phase ≡ true → AreTold h os) → IsTold (side_with h os)
 kept_told h os go = cond_both (is_open h.phase) os [] (λ ps. AreTold h ps) go (λ e. record { own = tt; told = tt })
 
-replied_told : (h : History) (os : List Observer) (m : Message) → AreOthers m.token os → AreTold h os → AreTold (after h (call.Reply m)) os
+replied_told : (h : History) (os : List Observer) (m : Message) → HaveOtherTokens m.token os → AreTold h os → AreTold (after h (call.Reply m)) os
 replied_told h os m others are = record { own = are.own; told = others_told m.token h (after h (call.Reply m)) os (reply_queues h m) others are.told }
 
 -- the entry of a request goes last, where this was told
-entered_told : (h : History) (os : List Observer) (entry : Observer) (enters : Bool) → AreOthers entry.token os → AreTold h os → (enters ≡ true → WasToldLast h.queued entry) → AreTold h (with_entry enters os entry)
+entered_told : (h : History) (os : List Observer) (entry : Observer) (enters : Bool) → HaveOtherTokens entry.token os → AreTold h os → (enters ≡ true → WasToldLast h.queued entry) → AreTold h (with_entry enters os entry)
 entered_told h os entry true others are new = record { own = own_last os entry others are.own; told = all_append (ToldOn h) os (entry ∷ []) are.told ((λ none. new refl), tt) }
 entered_told h os entry false others are new = are
 
@@ -172,10 +172,10 @@ entry_told : (store : StoreValue) (now : ℕ) (h : History) (m : Message) (obser
 entry_told store now h m true e asked whole opened =
     let response : Message = response_with_observe m.token true (prompt_answer store now m).response in
     subst (λ queued. WasToldLast queued (entry_for store now m)) (sym (whole_last h response whole opened))
-    (told_by (entry_for store now m) h.queued response (entry_tells store now m asked))
+    (told_by_last (entry_for store now m) h.queued response (entry_tells store now m asked))
 entry_told store now h m false e asked whole opened = absurd cc
 
-answered_told : (store : StoreValue) (now : ℕ) (h : History) (os : List Observer) (m : Message) → AreOthers m.token os → AreTold h os → IsTold (side_answered store now h os m (prompt_answer store now m))
+answered_told : (store : StoreValue) (now : ℕ) (h : History) (os : List Observer) (m : Message) → HaveOtherTokens m.token os → AreTold h os → IsTold (side_answered store now h os m (prompt_answer store now m))
 answered_told store now h os m others are =
     let a : answer.Answer = prompt_answer store now m in
     let observes : Bool = has_place h.limits.observers os a.watch in
@@ -206,7 +206,7 @@ held_told h os token moment are =
     kept_told (after h (call.Hold token moment)) os
     (λ opened. signalled_told h (after h (call.Hold token moment)) os (if_between (Queues IsNoResponse) (is_open h.phase && may_hold h) h _ (queues_none IsNoResponse h) (λ does. holding_queues IsNoResponse h _)) are)
 
-request_told : (store : StoreValue) (now : ℕ) (h : History) (others : List Observer) (m : Message) → AreOthers m.token others → AreTold h others → IsTold (side_replied store now h others m (held_for h (answer_of store now m).hold))
+request_told : (store : StoreValue) (now : ℕ) (h : History) (others : List Observer) (m : Message) → HaveOtherTokens m.token others → AreTold h others → IsTold (side_replied store now h others m (held_for h (answer_of store now m).hold))
 request_told store now h others m apart are =
     replied_cases store now h others m (answer_of store now m).hold IsTold (λ seconds e. held_told h others m.token (moment_after now seconds) are) (λ e. answered_told store now h others m apart are)
 
@@ -253,7 +253,7 @@ module _ (store : StoreValue) (now : ℕ) (o : Observer) (stays : Bool) (due : O
   told_become h k (p ∷ os) queues e own told new =
       elim (due p) as (λ b. (if b then Some p else find due os) ≡ Some o → AllByRecursion (ToldOn k) (if b then left_of store now o stays ++ os else p ∷ first_becomes due (left_of store now o stays) os)) [
         | true ↦ λ is. (let same : p ≡ o = cc in
-            all_append (ToldOn k) (left_of store now o stays) os new (others_told o.token h k os queues (subst (λ q. AreOthers q.token os) same own.0) told.1))
+            all_append (ToldOn k) (left_of store now o stays) os new (others_told o.token h k os queues (subst (λ q. HaveOtherTokens q.token os) same own.0) told.1))
         | false ↦ λ is. (
           other_told o.token h k p queues (λ same. found_all (λ q. p.token ≢ q.token) due os o own.0 is (sym same)) told.0,
           told_become h k os queues is own.1 told.1 new,
@@ -268,7 +268,7 @@ left_told : (store : StoreValue) (now : ℕ) (h : History) (o : Observer) (stays
 left_told store now h o true on whole opened =
     let m : Message = notification_message o.token (notification store now o) in
     let left : Observer = record o { told = state_of store now o.path } in
-    ((λ none. subst (λ queued. WasToldLast queued left) (sym (whole_last h m (whole refl) opened)) (told_by left h.queued m (notification_tells store now o (on refl)))), tt)
+    ((λ none. subst (λ queued. WasToldLast queued left) (sym (whole_last h m (whole refl) opened)) (told_by_last left h.queued m (notification_tells store now o (on refl)))), tt)
 left_told store now h o false on whole opened = tt
 
 notified_told : (store : StoreValue) (now : ℕ) (s : Side) (found : Option Observer) → ((o : Observer) → found ≡ Some o → find (is_due store now) s.observers ≡ Some o) → IsTold s → IsTold (notified store now s found)
@@ -303,7 +303,7 @@ sent_told s now (Pong token) found stand are = signalled_side s (after s.history
 
 once_told : (store : StoreValue) (now : ℕ) (s : Side) → Stands s.history → IsTold s → IsTold (settled_once store now s)
 once_told store now s stand are =
-    settled_cases store now s IsTold (λ e is. sent_told s now e (held_room now s e is).1 stand are) (λ is. notified_told store now s (next_due store now s) (next_found store now s) are)
+    settled_cases store now s IsTold (λ e is. sent_told s now e (held_room now s e is).1 stand are) (λ is. notified_told store now s (next_due store now s) (next_due_found store now s) are)
 
 -- ---- what each connection keeps
 
@@ -341,8 +341,8 @@ announced_told s size are =
     if_told (may_raise s size) s (with_history s (after h (call.Announce size))) are
     (λ does. plain_side s (after h (call.Announce size)) (if_between (Queues IsPlain) (may_announce (link_of h) size) h _ (queues_none IsPlain h) (λ may. announcing_queues h size)) are)
 
-told_keeps : (limits : LimitValues) → Keeps limits IsToldSide
-told_keeps limits = let stands : Keeps limits (λ s. Stands s.history) = stands_keeps limits in record {
+told_side_keeps : (limits : LimitValues) → Keeps limits IsToldSide
+told_side_keeps limits = let stands : Keeps limits (λ s. Stands s.history) = stands_keeps limits in record {
   first = record { stand = stands.first; are = record { own = tt; told = tt } };
   handled = λ store now s m is of. record { stand = stands.handled store now s m is of.stand; are = after_told limits store now s m is of.are };
   faulted = λ s fault of. record { stand = stands.faulted s fault of.stand; are = faulted_told s fault of.are };
@@ -354,7 +354,7 @@ told_keeps limits = let stands : Keeps limits (λ s. Stands s.history) = stands_
 }
 
 are_told : (c : ConfigValues) (es : List Event) (id : ℕ) (s : Side) → side_of id (world_after c es).sides ≡ Some s → AreTold s.history s.observers
-are_told c es id s there = (kept_after c IsToldSide (told_keeps c.limits) es id s there).are
+are_told c es id s there = (kept_after c IsToldSide (told_side_keeps c.limits) es id s there).are
 
 pub observers_told_last : (c : ConfigValues) (es : List Event) (id : ℕ) (s : Side) → side_of id (world_after c es).sides ≡ Some s → AllByRecursion (λ o. asked_late o.token s.history.handled ≡ false → WasToldLast s.history.queued o) s.observers
 observers_told_last c es id s there = (are_told c es id s there).told

@@ -46,22 +46,22 @@ module _ (M id : ℕ) (es : List Event) (bytes : List ℕ) (none : (stream_on M 
       record { steps = beyond_added id (stream_on M id es) (stream_on M id (es ++ Took id bytes ∷ [])) added none after; stream = after }
 
   -- what is found of the bytes
-  abbrev pub found : Framing
-  found = framing N (stream_on M id es).rest bytes
+  abbrev pub framing_found : Framing
+  framing_found = framing N (stream_on M id es).rest bytes
 
-  pub adds_nothing : found.finding ≡ Nothing → Adds M id es bytes (record { messages = []; rest = (stream_on M id es).rest ++ bytes; fault = None })
+  pub adds_nothing : framing_found.finding ≡ Nothing → Adds M id es bytes (record { messages = []; rest = (stream_on M id es).rest ++ bytes; fault = None })
   adds_nothing e = adds _ (split_unfinished N ((stream_on M id es).rest ++ bytes) (nothing_finished N (stream_on M id es).rest bytes e))
 
-  pub adds_message : (frame : List ℕ) (m : Message) → found.finding ≡ AFrame frame → found.taken ≡ length bytes → message_of frame ≡ Ok m → Adds M id es bytes (record { messages = m ∷ []; rest = []; fault = None })
+  pub adds_message : (frame : List ℕ) (m : Message) → framing_found.finding ≡ AFrame frame → framing_found.taken ≡ length bytes → message_of frame ≡ Ok m → Adds M id es bytes (record { messages = m ∷ []; rest = []; fault = None })
   adds_message frame m e all read =
       adds _ (split_message N ((stream_on M id es).rest ++ bytes) frame [] m (frame_alone N (stream_on M id es).rest bytes frame (rest_unfinished M id es none) e all) read
       ∙ ap (with_message m) (split_unfinished N [] (unfinished_empty N)))
 
-  pub adds_bad : (frame : List ℕ) (f : FormatFault) → found.finding ≡ AFrame frame → found.taken ≡ length bytes → message_of frame ≡ Err f → Adds M id es bytes (record { messages = []; rest = frame; fault = Some Format })
+  pub adds_bad : (frame : List ℕ) (f : FormatFault) → framing_found.finding ≡ AFrame frame → framing_found.taken ≡ length bytes → message_of frame ≡ Err f → Adds M id es bytes (record { messages = []; rest = frame; fault = Some Format })
   adds_bad frame f e all read =
       adds _ (split_bad N ((stream_on M id es).rest ++ bytes) frame [] f (frame_alone N (stream_on M id es).rest bytes frame (rest_unfinished M id es none) e all) read)
 
-  pub adds_fault : (fault : FrameFault) → found.finding ≡ AFault fault → Adds M id es bytes (record { messages = []; rest = fault_bytes fault ((stream_on M id es).rest ++ bytes); fault = Some (OfFrame fault) })
+  pub adds_fault : (fault : FrameFault) → framing_found.finding ≡ AFault fault → Adds M id es bytes (record { messages = []; rest = fault_bytes fault ((stream_on M id es).rest ++ bytes); fault = Some (OfFrame fault) })
   adds_fault fault e = adds _ (split_faulty N ((stream_on M id es).rest ++ bytes) fault (fault_taken N (stream_on M id es).rest bytes fault (rest_unfinished M id es none) e).0)
 
 -- ---- no bytes
@@ -107,8 +107,8 @@ module _ (M : ℕ) (kept piece frame : List ℕ) (u : beginning M kept ≡ Unfin
 -- ---- what is taken of a piece on a connection
 
 module _ (M id : ℕ) (es : List Event) (piece : List ℕ) (none : (stream_on M id es).fault ≡ None) where
-  abbrev in_force : ℕ
-  in_force = size_on M id es
+  abbrev size_before : ℕ
+  size_before = size_on M id es
 
   -- the bytes kept of an unfinished frame
   abbrev pub kept_so_far : List ℕ
@@ -116,26 +116,26 @@ module _ (M id : ℕ) (es : List Event) (piece : List ℕ) (none : (stream_on M 
 
   -- the bytes taken of the piece
   abbrev pub piece_front : List ℕ
-  piece_front = take (front_of in_force kept_so_far piece) piece
+  piece_front = take (front_of size_before kept_so_far piece) piece
 
-  piece_found : (finding : Finding) → (framing in_force kept_so_far piece).finding ≡ finding → (framing in_force kept_so_far piece_front).finding ≡ finding
-  piece_found finding e = ap (λ (f : Framing). f.finding) (front_framing in_force kept_so_far piece (rest_unfinished M id es none)) ∙ e
+  piece_found : (finding : Finding) → (framing size_before kept_so_far piece).finding ≡ finding → (framing size_before kept_so_far piece_front).finding ≡ finding
+  piece_found finding e = ap (λ (f : Framing). f.finding) (front_framing size_before kept_so_far piece (rest_unfinished M id es none)) ∙ e
 
-  pub piece_whole : (framing in_force kept_so_far piece_front).taken ≡ length piece_front
-  piece_whole = front_whole in_force kept_so_far piece (rest_unfinished M id es none)
+  pub piece_whole : (framing size_before kept_so_far piece_front).taken ≡ length piece_front
+  piece_whole = front_whole size_before kept_so_far piece (rest_unfinished M id es none)
 
-  pub piece_adds_nothing : (framing in_force kept_so_far piece).finding ≡ Nothing → Adds M id es piece_front (record { messages = []; rest = kept_so_far ++ piece_front; fault = None })
+  pub piece_adds_nothing : (framing size_before kept_so_far piece).finding ≡ Nothing → Adds M id es piece_front (record { messages = []; rest = kept_so_far ++ piece_front; fault = None })
   piece_adds_nothing e = adds_nothing M id es piece_front none (piece_found Nothing e)
 
-  pub piece_adds_message : (frame : List ℕ) (m : Message) → (framing in_force kept_so_far piece).finding ≡ AFrame frame → message_of frame ≡ Ok m → Adds M id es piece_front (record { messages = m ∷ []; rest = []; fault = None })
+  pub piece_adds_message : (frame : List ℕ) (m : Message) → (framing size_before kept_so_far piece).finding ≡ AFrame frame → message_of frame ≡ Ok m → Adds M id es piece_front (record { messages = m ∷ []; rest = []; fault = None })
   piece_adds_message frame m e read = adds_message M id es piece_front none frame m (piece_found (AFrame frame) e) piece_whole read
 
-  pub piece_adds_bad : (frame : List ℕ) (f : FormatFault) → (framing in_force kept_so_far piece).finding ≡ AFrame frame → message_of frame ≡ Err f → Adds M id es piece_front (record { messages = []; rest = frame; fault = Some Format })
+  pub piece_adds_bad : (frame : List ℕ) (f : FormatFault) → (framing size_before kept_so_far piece).finding ≡ AFrame frame → message_of frame ≡ Err f → Adds M id es piece_front (record { messages = []; rest = frame; fault = Some Format })
   piece_adds_bad frame f e read = adds_bad M id es piece_front none frame f (piece_found (AFrame frame) e) piece_whole read
 
-  pub piece_adds_fault : (fault : FrameFault) → (framing in_force kept_so_far piece).finding ≡ AFault fault → Adds M id es piece_front (record { messages = []; rest = fault_bytes fault (kept_so_far ++ piece_front); fault = Some (OfFrame fault) })
+  pub piece_adds_fault : (fault : FrameFault) → (framing size_before kept_so_far piece).finding ≡ AFault fault → Adds M id es piece_front (record { messages = []; rest = fault_bytes fault (kept_so_far ++ piece_front); fault = Some (OfFrame fault) })
   piece_adds_fault fault e = adds_fault M id es piece_front none fault (piece_found (AFault fault) e)
 
   -- all bytes but the last are taken
-  pub but_last_whole : (frame : List ℕ) → (framing in_force kept_so_far piece).finding ≡ AFrame frame → (framing in_force kept_so_far (without_last piece_front)).taken ≡ length (without_last piece_front)
-  but_last_whole frame e = ap (λ (f : Framing). f.taken) (but_last in_force kept_so_far piece frame (rest_unfinished M id es none) e)
+  pub but_last_whole : (frame : List ℕ) → (framing size_before kept_so_far piece).finding ≡ AFrame frame → (framing size_before kept_so_far (without_last piece_front)).taken ≡ length (without_last piece_front)
+  but_last_whole frame e = ap (λ (f : Framing). f.taken) (but_last size_before kept_so_far piece frame (rest_unfinished M id es none) e)

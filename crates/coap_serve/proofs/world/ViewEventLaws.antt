@@ -22,7 +22,7 @@ use Rattle.coap_serve.proofs.world.StepLaws.{taken_here, taken_elsewhere, stream
 use Rattle.coap_serve.proofs.world.PlaceLaws.{nobody}
 use Rattle.coap_serve.proofs.world.WorldLaws.{OpensNext, IsNumbered, number_given, opens, ids_grow}
 use Rattle.coap_serve.proofs.world.ReachedLaws.{accepted_is}
-use Rattle.coap_serve.proofs.world.ViewLaws.{IsNotRefused, by_passes, Share, share, share_of, settled_share, Rests, step_share, step_rests, did, own_did, other_did, new_rests}
+use Rattle.coap_serve.proofs.world.ViewLaws.{IsNotRefused, by_passes, Share, share, share_of, settled_share, SettlesAlike, step_share, step_rests, did, own_did, other_did, new_rests}
 
 -- ---- lists
 
@@ -175,7 +175,7 @@ module _ (c : ConfigValues) (id : ℕ) where
     stored_alike s x own makes =
         ap settled_share (sym makes ∙ ap (did c.limits s) is.alike ∙ sym (own_did c.limits n (world_after c vs) s own)) ∙ sym (step_share c.limits n (world_after c vs) s)
 
-    view_change : (w' : World) (change : Change) → Rests id w → IsNotRefused w.store change → share_of id w' ≡ settled_share (share (changed w.store change) w.now (side_of id w.sides)) → IsView w' spelled ids (vs ++ change_events change)
+    view_change : (w' : World) (change : Change) → SettlesAlike id w → IsNotRefused w.store change → share_of id w' ≡ settled_share (share (changed w.store change) w.now (side_of id w.sides)) → IsView w' spelled ids (vs ++ change_events change)
     unfolding steps_by concerns IsAccepted
     view_change w' Nothing rests passes same =
         subst (IsView w' spelled ids) (sym (append-nil vs)) (record { alike = same ∙ rests ∙ is.alike; spells = is.spells; accepted = is.accepted; fresh = is.fresh })
@@ -187,12 +187,12 @@ module _ (c : ConfigValues) (id : ℕ) where
         view_stored w' (Removed path) (world.Removed path) refl tt refl (λ N. refl) (subst (λ (s : StoreValue). remove_refusal s path ≡ None) same_store passes) (same ∙ stored_alike (world.Removed path) _ refl refl)
 
     -- a step of another connection
-    view_other : (s : Step) → concerns id s ≡ false → Rests id w → IsView (world.step c.limits w s) spelled ids (vs ++ change_events (change_by w s))
+    view_other : (s : Step) → concerns id s ≡ false → SettlesAlike id w → IsView (world.step c.limits w s) spelled ids (vs ++ change_events (change_by w s))
     view_other s apart rests =
         view_change (world.step c.limits w s) (change_by w s) rests (by_passes w s) (step_share c.limits id w s ∙ ap settled_share (other_did c.limits id w s apart))
 
   -- steps of another connection
-  view_others : (ss : List Step) (w : World) (spelled : Stream × ℕ) (ids : ℕ) (vs : List Event) → AllByRecursion (λ s. concerns id s ≡ false) ss → Rests id w → IsView w spelled ids vs → IsView (after_steps c.limits w ss) spelled ids (vs ++ changes_of c.limits w ss)
+  view_others : (ss : List Step) (w : World) (spelled : Stream × ℕ) (ids : ℕ) (vs : List Event) → AllByRecursion (λ s. concerns id s ≡ false) ss → SettlesAlike id w → IsView w spelled ids vs → IsView (after_steps c.limits w ss) spelled ids (vs ++ changes_of c.limits w ss)
   unfolding after_steps changes_of
   view_others [] w spelled ids vs each rests is = subst (IsView w spelled ids) (sym (append-nil vs)) is
   view_others (s ∷ ss) w spelled ids vs each rests is =
@@ -202,9 +202,9 @@ module _ (c : ConfigValues) (id : ℕ) where
   -- ---- one event more
 
   abbrev Sees : List Event → List Event → Type 0
-  Sees es vs = IsView (world_after c es) (spelled_on M id es) (world_after c es).ids vs × Rests id (world_after c es)
+  Sees es vs = IsView (world_after c es) (spelled_on M id es) (world_after c es).ids vs × SettlesAlike id (world_after c es)
 
-  rests_more : (ss : List Step) (w : World) → Rests id w → Rests id (after_steps c.limits w ss)
+  rests_more : (ss : List Step) (w : World) → SettlesAlike id w → SettlesAlike id (after_steps c.limits w ss)
   unfolding after_steps
   rests_more [] w rests = rests
   rests_more (s ∷ ss) w rests = rests_more ss (world.step c.limits w s) (step_rests c.limits id w s)
@@ -222,16 +222,16 @@ module _ (c : ConfigValues) (id : ℕ) where
     abbrev w : World
     w = world_after c es
 
-    abbrev made : List Step
-    made = steps_by M es e
+    abbrev steps_made : List Step
+    steps_made = steps_by M es e
 
-    rest_after : Rests id (world_after c (es ++ e ∷ []))
-    rest_after = subst (Rests id) (sym (world_more c es e)) (rests_more made w sees.1)
+    rest_after : SettlesAlike id (world_after c (es ++ e ∷ []))
+    rest_after = subst (SettlesAlike id) (sym (world_more c es e)) (rests_more steps_made w sees.1)
 
     -- an event of another connection
-    unseen : AllByRecursion (λ s. concerns id s ≡ false) made → w.ids ≤ (after_steps c.limits w made).ids → taken_in id e ≡ [] → size_stays id e → Sees (es ++ e ∷ []) (vs ++ changes_of c.limits w made)
+    unseen : AllByRecursion (λ s. concerns id s ≡ false) steps_made → w.ids ≤ (after_steps c.limits w steps_made).ids → taken_in id e ≡ [] → size_stays id e → Sees (es ++ e ∷ []) (vs ++ changes_of c.limits w steps_made)
     unseen each grow quiet stays =
-        let is = view_others made w (spelled_on M id es) w.ids vs each sees.1 sees.0 in (
+        let is = view_others steps_made w (spelled_on M id es) w.ids vs each sees.1 sees.0 in (
           record {
             alike = ap (share_of id) (world_more c es e) ∙ is.alike;
             spells = spelled_same M id es e quiet stays ∙ is.spells;
@@ -255,10 +255,10 @@ module _ (c : ConfigValues) (id : ℕ) where
         ∙ sym (spelled_then M n vs e')
 
     -- an event of the connection itself
-    seen : (e' : Event) → steps_by M vs e' ≡ map (renamed n) made → AllByRecursion (λ s. concerns id s ≡ true) made → SpellSame e' → IsAccepted c vs e' → ((after_steps c.limits w made).ids < id → IsFresh c (world_after c (vs ++ e' ∷ []))) → Sees (es ++ e ∷ []) (vs ++ e' ∷ [])
+    seen : (e' : Event) → steps_by M vs e' ≡ map (renamed n) steps_made → AllByRecursion (λ s. concerns id s ≡ true) steps_made → SpellSame e' → IsAccepted c vs e' → ((after_steps c.limits w steps_made).ids < id → IsFresh c (world_after c (vs ++ e' ∷ []))) → Sees (es ++ e ∷ []) (vs ++ e' ∷ [])
     seen e' makes each bytes ok fresh = (
       record {
-        alike = ap (share_of id) (world_more c es e) ∙ own_steps c.limits id n made w (world_after c vs) each sees.0.alike
+        alike = ap (share_of id) (world_more c es e) ∙ own_steps c.limits id n steps_made w (world_after c vs) each sees.0.alike
             ∙ ap (λ (ss : List Step). share_of n (after_steps c.limits (world_after c vs) ss)) (sym makes) ∙ ap (share_of n) (sym (world_more c vs e'));
         spells = spells_on e' bytes;
         accepted = accepted_more c vs e' sees.0.accepted ok;
@@ -272,9 +272,9 @@ module _ (c : ConfigValues) (id : ℕ) where
     was_given P None at holds = absurd holds
     was_given P (Some s) at holds = (number_given c w id s (accepted_is c es all).numbered at).within
 
-    own : (e' : Event) (P : Side → Type 0) → steps_by M vs e' ≡ map (renamed n) made → AllByRecursion (λ s. concerns id s ≡ true) made → AllByRecursion OpensSo made → SpellSame e' → IsAccepted c vs e' → IfSide (side_of id w.sides) P → Sees (es ++ e ∷ []) (vs ++ e' ∷ [])
-    own e' P makes each opening bytes ok holds =
-        seen e' makes each bytes ok (λ low. absurd (omega (arith, low, was_given P (side_of id w.sides) refl holds, ids_more made w opening)))
+    sees_own : (e' : Event) (P : Side → Type 0) → steps_by M vs e' ≡ map (renamed n) steps_made → AllByRecursion (λ s. concerns id s ≡ true) steps_made → AllByRecursion OpensSo steps_made → SpellSame e' → IsAccepted c vs e' → IfSide (side_of id w.sides) P → Sees (es ++ e ∷ []) (vs ++ e' ∷ [])
+    sees_own e' P makes each opening bytes ok holds =
+        seen e' makes each bytes ok (λ low. absurd (omega (arith, low, was_given P (side_of id w.sides) refl holds, ids_more steps_made w opening)))
 
   -- ---- each event
 
@@ -345,7 +345,7 @@ module _ (c : ConfigValues) (id : ℕ) where
         ∙ ap (λ (s : Stream × ℕ). beyond n s.0 (split_on s.1 s.0 bytes)) (sym sees.0.spells)
         ∙ ap (beyond n before) (sym (stream_more M id es bytes))
         ∙ beyond_renamed id n before after in
-        own es vs all sees (Took id bytes) (Took n bytes) (λ s. takes c es id bytes ≡ length bytes) makes
+        sees_own es vs all sees (Took id bytes) (Took n bytes) (λ s. takes c es id bytes ≡ length bytes) makes
         (each_beyond (λ s. concerns id s ≡ true) id before after (λ m. eq-eqb id id refl) (λ fault. eq-eqb id id refl))
         (each_beyond OpensSo id before after (λ m w. tt) (λ fault w. tt))
         (taken_here id bytes ∙ sym (taken_here n bytes), λ N. refl)
@@ -389,7 +389,7 @@ module _ (c : ConfigValues) (id : ℕ) where
     event_seen (Wrote other k) ok =
         if_here other (Wrote n k) es (λ fs. Sees (es ++ Wrote other k ∷ []) (vs ++ fs))
         (λ same. subst (λ i. IsAccepted c es (Wrote i k) → Sees (es ++ Wrote i k ∷ []) (vs ++ Wrote n k ∷ [])) (sym same)
-        (λ here. own es vs all sees (Wrote id k) (Wrote n k) (λ s. k ≤ length (waiting_on s)) refl (eq-eqb id id refl, tt) (λ w. tt, tt) (refl, λ N. refl) (on_view (λ s. k ≤ length (waiting_on s)) here) here) ok)
+        (λ here. sees_own es vs all sees (Wrote id k) (Wrote n k) (λ s. k ≤ length (waiting_on s)) refl (eq-eqb id id refl, tt) (λ w. tt, tt) (refl, λ N. refl) (on_view (λ s. k ≤ length (waiting_on s)) here) here) ok)
         (λ apart. blind (Wrote other k) (world.Written other k) refl (ne_eqb other id apart) refl tt refl (λ N. refl))
     event_seen (Ticked now) ok = common (Ticked now) (world.Ticked now) refl refl refl refl tt (λ w. tt) (refl, λ N. refl) (subst (λ t. ticks t now ≡ true) same_now ok)
     event_seen (Stored path format bytes) ok =
@@ -398,22 +398,22 @@ module _ (c : ConfigValues) (id : ℕ) where
     event_seen (Ended other) ok =
         if_here other (Ended n) es (λ fs. Sees (es ++ Ended other ∷ []) (vs ++ fs))
         (λ same. subst (λ i. IsAccepted c es (Ended i) → Sees (es ++ Ended i ∷ []) (vs ++ Ended n ∷ [])) (sym same)
-        (λ here. own es vs all sees (Ended id) (Ended n) (λ s. Unit {0}) (ap (λ (s : Stream). world.Ended n (is_cut s.rest) ∷ []) (sym same_stream)) (eq-eqb id id refl, tt) (λ w. tt, tt) (refl, λ N. refl) (on_view (λ s. Unit {0}) here) here) ok)
+        (λ here. sees_own es vs all sees (Ended id) (Ended n) (λ s. Unit {0}) (ap (λ (s : Stream). world.Ended n (is_cut s.rest) ∷ []) (sym same_stream)) (eq-eqb id id refl, tt) (λ w. tt, tt) (refl, λ N. refl) (on_view (λ s. Unit {0}) here) here) ok)
         (λ apart. blind (Ended other) (world.Ended other (is_cut (stream_on M other es).rest)) refl (ne_eqb other id apart) refl tt refl (λ N. refl))
     event_seen (Released other) ok =
         if_here other (Released n) es (λ fs. Sees (es ++ Released other ∷ []) (vs ++ fs))
         (λ same. subst (λ i. IsAccepted c es (Released i) → Sees (es ++ Released i ∷ []) (vs ++ Released n ∷ [])) (sym same)
-        (λ here. own es vs all sees (Released id) (Released n) (λ s. release_refusal (link_of s.history) ≡ None) refl (eq-eqb id id refl, tt) (λ w. tt, tt) (refl, λ N. refl) (on_view (λ s. release_refusal (link_of s.history) ≡ None) here) here) ok)
+        (λ here. sees_own es vs all sees (Released id) (Released n) (λ s. release_refusal (link_of s.history) ≡ None) refl (eq-eqb id id refl, tt) (λ w. tt, tt) (refl, λ N. refl) (on_view (λ s. release_refusal (link_of s.history) ≡ None) here) here) ok)
         (λ apart. blind (Released other) (world.Released other) refl (ne_eqb other id apart) refl tt refl (λ N. refl))
     event_seen (Announced other size) ok =
         if_here other (Announced n size) es (λ fs. Sees (es ++ Announced other size ∷ []) (vs ++ fs))
         (λ same. subst (λ i. IsAccepted c es (Announced i size) → Sees (es ++ Announced i size ∷ []) (vs ++ Announced n size ∷ [])) (sym same)
-        (λ here. own es vs all sees (Announced id size) (Announced n size) (λ s. may_raise s size ≡ true) refl (eq-eqb id id refl, tt) (λ w. tt, tt) (refl, same_announced size) (on_view (λ s. may_raise s size ≡ true) here) here) ok)
+        (λ here. sees_own es vs all sees (Announced id size) (Announced n size) (λ s. may_raise s size ≡ true) refl (eq-eqb id id refl, tt) (λ w. tt, tt) (refl, same_announced size) (on_view (λ s. may_raise s size ≡ true) here) here) ok)
         (λ apart. blind (Announced other size) (world.Announced other size) refl (ne_eqb other id apart) refl tt refl (announced_elsewhere id other size apart))
     event_seen (Dropped other) ok =
         if_here other (Dropped n) es (λ fs. Sees (es ++ Dropped other ∷ []) (vs ++ fs))
         (λ same. subst (λ i. IsAccepted c es (Dropped i) → Sees (es ++ Dropped i ∷ []) (vs ++ Dropped n ∷ [])) (sym same)
-        (λ here. own es vs all sees (Dropped id) (Dropped n) (λ s. Unit {0}) refl (eq-eqb id id refl, tt) (λ w. tt, tt) (refl, λ N. refl) (on_view (λ s. Unit {0}) here) here) ok)
+        (λ here. sees_own es vs all sees (Dropped id) (Dropped n) (λ s. Unit {0}) refl (eq-eqb id id refl, tt) (λ w. tt, tt) (refl, λ N. refl) (on_view (λ s. Unit {0}) here) here) ok)
         (λ apart. blind (Dropped other) (world.Dropped other) refl (ne_eqb other id apart) refl tt refl (λ N. refl))
 
   -- ---- all events
@@ -428,7 +428,7 @@ module _ (c : ConfigValues) (id : ℕ) where
           accepted = accepted_none c;
           fresh = λ low. subst (IsFresh c) (sym first) (record { empty = refl; ids = refl });
         },
-        subst (Rests id) (sym first) (new_rests c id),
+        subst (SettlesAlike id) (sym first) (new_rests c id),
       )
 
   all_seen : (es : List Event) → AreAccepted c es → Sees es (view_events c id es)

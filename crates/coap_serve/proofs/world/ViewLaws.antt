@@ -21,6 +21,7 @@ use Rattle.coap_serve.proofs.world.PlaceLaws.{first_there, later_there, nobody, 
 use Rattle.coap_serve.proofs.world.AcrossLaws.{opened_world}
 use Rattle.coap_serve.proofs.world.EntryLemmas.{all_append}
 use Rattle.coap_serve.proofs.world.SettleLaws.{IsAtRest, at_rest, settled_rests}
+use Rattle.coap_conn.proofs.AskingLaws.{none_where}
 
 -- ---- the store refuses nothing that a message puts
 
@@ -129,8 +130,8 @@ settled_again store now None = refl
 settled_again store now (Some s) = ap (λ (t : Side). Some t) (settled_same store now (settled store now s) (settled_rests store now s))
 
 -- settling changes nothing of it
-abbrev pub Rests : ℕ → World → Type 0
-Rests id w = settled_share (share_of id w) ≡ share_of id w
+abbrev pub SettlesAlike : ℕ → World → Type 0
+SettlesAlike id w = settled_share (share_of id w) ≡ share_of id w
 
 -- ---- steps
 
@@ -138,7 +139,7 @@ pub step_share : (limits : LimitValues) (id : ℕ) (w : World) (s : Step) → sh
 unfolding world.step
 step_share limits id w s = all_settled_share id (acted limits w s)
 
-pub step_rests : (limits : LimitValues) (id : ℕ) (w : World) (s : Step) → Rests id (world.step limits w s)
+pub step_rests : (limits : LimitValues) (id : ℕ) (w : World) (s : Step) → SettlesAlike id (world.step limits w s)
 step_rests limits id w s =
     let did : Share = share_of id (acted limits w s) in
     ap settled_share (step_share limits id w s) ∙ ap (share did.store did.now) (settled_again did.store did.now did.side) ∙ sym (step_share limits id w s)
@@ -170,12 +171,8 @@ did limits (world.Dropped id) x = record x { side = None }
 abbrev DidSo : LimitValues → ℕ → World → Step → Type 0
 DidSo limits id w s = share_of id (acted limits w s) ≡ did limits s (share_of id w)
 
-none_there : (there : Option Side) → is_none there ≡ true → there ≡ None
-none_there None none = refl
-none_there (Some s) none = absurd cc
-
-opened_there : (limits : LimitValues) (id : ℕ) (w : World) → side_of id w.sides ≡ None → side_of id (opened_world limits w id).sides ≡ Some (new_side limits)
-opened_there limits id w none =
+side_where_opened : (limits : LimitValues) (id : ℕ) (w : World) → side_of id w.sides ≡ None → side_of id (opened_world limits w id).sides ≡ Some (new_side limits)
+side_where_opened limits id w none =
     let new : world.Place = record { id = id; side = new_side limits } in
     new_there id w.sides (new ∷ []) none ∙ first_there id new [] refl
 
@@ -183,7 +180,7 @@ opened_so : (limits : LimitValues) (id : ℕ) (w : World) → DidSo limits id w 
 unfolding acted
 opened_so limits id w =
     share_if id (is_none (side_of id w.sides)) (opened_world limits w id) w _ (share_of id w)
-    (λ none. ap (share w.store w.now) (opened_there limits id w (none_there (side_of id w.sides) none))) refl
+    (λ none. ap (share w.store w.now) (side_where_opened limits id w (none_where (side_of id w.sides) none))) refl
 
 stored_so : (w : World) (m : Message) (there : Option Side) → stored_after w m there ≡ stored_on (share w.store w.now there) m there
 stored_so w m None = refl
@@ -269,7 +266,7 @@ module _ (limits : LimitValues) (id : ℕ) (w v : World) (alike : share_of id w 
   own_alike s same = step_share limits id w s ∙ same_step s (share_of id (acted limits w s)) same (sym (own_did limits id w s same))
 
   -- a change of the store that another connection made
-  change_alike : (change : Change) → Rests id w → IsNotRefused w.store change → settled_share (share (changed w.store change) w.now (side_of id w.sides)) ≡ share_of id (after_steps limits v (change_steps change))
+  change_alike : (change : Change) → SettlesAlike id w → IsNotRefused w.store change → settled_share (share (changed w.store change) w.now (side_of id w.sides)) ≡ share_of id (after_steps limits v (change_steps change))
   unfolding after_steps concerns
   change_alike Nothing rests passes = rests ∙ alike
   change_alike (Put path format bytes) rests passes =
@@ -277,7 +274,7 @@ module _ (limits : LimitValues) (id : ℕ) (w v : World) (alike : share_of id w 
       (ap (λ (r : Option _). cond (is_none r) (share (put_in w.store path format bytes) w.now (side_of id w.sides)) (share_of id w)) passes)
   change_alike (Delete path) rests passes = same_step (world.Removed path) _ refl refl
 
-  view_alike : (s : Step) → Rests id w → share_of id (world.step limits w s) ≡ share_of id (after_steps limits v (view_step id w s))
+  view_alike : (s : Step) → SettlesAlike id w → share_of id (world.step limits w s) ≡ share_of id (after_steps limits v (view_step id w s))
   unfolding view_step
   view_alike s rests =
       elim (concerns id s) as (λ b. concerns id s ≡ b → share_of id (world.step limits w s) ≡ share_of id (after_steps limits v (if b then s ∷ [] else change_steps (change_by w s)))) [
@@ -286,7 +283,7 @@ module _ (limits : LimitValues) (id : ℕ) (w v : World) (alike : share_of id w 
       ] refl
 
 -- each step in turn, from two worlds of which the connection has the same
-views_alike : (limits : LimitValues) (id : ℕ) (ss : List Step) (w v : World) → Rests id w → share_of id w ≡ share_of id v → share_of id (after_steps limits w ss) ≡ share_of id (after_steps limits v (view_of limits id w ss))
+views_alike : (limits : LimitValues) (id : ℕ) (ss : List Step) (w v : World) → SettlesAlike id w → share_of id w ≡ share_of id v → share_of id (after_steps limits w ss) ≡ share_of id (after_steps limits v (view_of limits id w ss))
 unfolding after_steps view_of
 views_alike limits id [] w v rests alike = alike
 views_alike limits id (s ∷ ss) w v rests alike =
@@ -316,7 +313,7 @@ view_seen limits id w (s ∷ ss) = all_append (λ t. concerns id t ≡ true) (vi
 
 -- ---- from the first world on
 
-pub new_rests : (c : ConfigValues) (id : ℕ) → Rests id (new_world c)
+pub new_rests : (c : ConfigValues) (id : ℕ) → SettlesAlike id (new_world c)
 new_rests c id =
     let w : World = new_world c in
     ap (λ (there : Option Side). share w.store w.now (option_map (settled w.store w.now) there)) (nobody id) ∙ ap (share w.store w.now) (sym (nobody id))

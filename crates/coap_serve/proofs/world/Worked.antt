@@ -248,14 +248,14 @@ unfolding told
 cut = refl
 
 -- where our Capabilities and Settings leave no room for the greatest message, nothing is taken
-no_room : Plays (config_with (narrow_limits 65536) 0) (
+no_room_for_pong : Plays (config_with (narrow_limits 65536) 0) (
     Open 1 => Done
     ∷ In 1 (hex "00e1") => Taken 0
     ∷ Drain 1 => Out (hex "40e123010000")
     ∷ In 1 (hex "00e1") => Taken 2
     ∷ [])
 unfolding told
-no_room = refl
+no_room_for_pong = refl
 
 -- an open connection is released, and then it is dropped
 released : Plays usual (opened 1

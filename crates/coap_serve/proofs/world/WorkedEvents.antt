@@ -12,8 +12,8 @@ use Rattle.coap_serve.proofs.world.Rows.{hex, Open, In, Drain, told, events_of}
 use Rattle.coap_serve.proofs.world.Worked.{usual, config_with, narrow_limits}
 
 -- a connection is opened, and its Capabilities and Settings are written
-abbrev opened : List Event
-opened = Opened 1 ∷ Wrote 1 6 ∷ []
+abbrev opened_event : List Event
+opened_event = Opened 1 ∷ Wrote 1 6 ∷ []
 
 -- Capabilities and Settings and a GET of / in one piece are two events, up to the end of each message.
 root_events : events_of usual (Open 1 ∷ Drain 1 ∷ In 1 (hex "00e1010101") ∷ Drain 1 ∷ Drain 1 ∷ [])
@@ -21,16 +21,16 @@ root_events : events_of usual (Open 1 ∷ Drain 1 ∷ In 1 (hex "00e1010101") �
 unfolding events_of
 root_events = refl
 
-takes_first : takes usual opened 1 (hex "00e1010101") ≡ 2
+takes_first : takes usual opened_event 1 (hex "00e1010101") ≡ 2
 unfolding told
 takes_first = refl
 
-takes_second : takes usual (opened ++ Took 1 (hex "00e1") ∷ []) 1 (hex "010101") ≡ 3
+takes_second : takes usual (opened_event ++ Took 1 (hex "00e1") ∷ []) 1 (hex "010101") ≡ 3
 unfolding told
 takes_second = refl
 
 -- a part of a frame is taken whole
-takes_part : takes usual (opened ++ Took 1 (hex "00e1") ∷ []) 1 (hex "3101") ≡ 2
+takes_part : takes usual (opened_event ++ Took 1 (hex "00e1") ∷ []) 1 (hex "3101") ≡ 2
 unfolding told
 takes_part = refl
 
@@ -39,16 +39,16 @@ takes_without_room : takes (config_with (narrow_limits 65536) 0) (Opened 1 ∷ [
 unfolding told
 takes_without_room = refl
 
-takes_with_room : takes (config_with (narrow_limits 65536) 0) opened 1 (hex "00e1") ≡ 2
+takes_with_room : takes (config_with (narrow_limits 65536) 0) opened_event 1 (hex "00e1") ≡ 2
 unfolding told
 takes_with_room = refl
 
 -- a GET of /time in one piece, and byte by byte
 in_one_piece : List Event
-in_one_piece = opened ++ Took 1 (hex "00e1") ∷ Took 1 (hex "510107b474696d65") ∷ []
+in_one_piece = opened_event ++ Took 1 (hex "00e1") ∷ Took 1 (hex "510107b474696d65") ∷ []
 
 byte_by_byte : List Event
-byte_by_byte = opened ++ Took 1 (hex "00e1") ∷ Took 1 (hex "51") ∷ Took 1 (hex "01") ∷ Took 1 (hex "07") ∷ Took 1 (hex "b4")
+byte_by_byte = opened_event ++ Took 1 (hex "00e1") ∷ Took 1 (hex "51") ∷ Took 1 (hex "01") ∷ Took 1 (hex "07") ∷ Took 1 (hex "b4")
     ∷ Took 1 (hex "74") ∷ Took 1 (hex "69") ∷ Took 1 (hex "6d") ∷ Took 1 (hex "65") ∷ []
 
 same_worlds : world_after usual in_one_piece ≡ world_after usual byte_by_byte
@@ -56,11 +56,11 @@ unfolding told in_one_piece byte_by_byte
 same_worlds = refl
 
 -- behind a fault the bytes make no step
-faulted : List Event
-faulted = opened ++ Took 1 (hex "00e1") ∷ Took 1 (hex "09") ∷ []
+faulted_events : List Event
+faulted_events = opened_event ++ Took 1 (hex "00e1") ∷ Took 1 (hex "09") ∷ []
 
-behind_a_fault : steps_of 65536 (faulted ++ Took 1 (hex "09010101") ∷ []) ≡ steps_of 65536 faulted
-unfolding told faulted
+behind_a_fault : steps_of 65536 (faulted_events ++ Took 1 (hex "09010101") ∷ []) ≡ steps_of 65536 faulted_events
+unfolding told faulted_events
 behind_a_fault = refl
 
 -- ---- connections and their numbers
@@ -84,7 +84,7 @@ numbers_left = refl
 -- ---- steps that change nothing
 
 -- a connection that waits for the peer's Capabilities and Settings is not released: the step changes nothing
-not_released : step usual.limits (world_after usual opened) (step.Released 1) ≡ world_after usual opened
+not_released : step usual.limits (world_after usual opened_event) (step.Released 1) ≡ world_after usual opened_event
 unfolding told
 not_released = refl
 
@@ -92,12 +92,12 @@ not_released = refl
 narrow : ConfigValues
 narrow = config_with (narrow_limits 65536) 1
 
-answered : List Event
-answered = opened ++ Took 1 (hex "00e1") ∷ Took 1 (hex "010101") ∷ []
+answered_events : List Event
+answered_events = opened_event ++ Took 1 (hex "00e1") ∷ Took 1 (hex "010101") ∷ []
 
 put_b : Message
 put_b = record { code = code.put; token = []; options = record { number = numbers.uri_path; value = codes "b" } ∷ []; payload = codes "y" }
 
-not_handled : step narrow.limits (world_after narrow answered) (step.Handled 1 put_b) ≡ world_after narrow answered
-unfolding told narrow answered put_b
+not_handled : step narrow.limits (world_after narrow answered_events) (step.Handled 1 put_b) ≡ world_after narrow answered_events
+unfolding told narrow answered_events put_b
 not_handled = refl

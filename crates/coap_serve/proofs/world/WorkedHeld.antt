@@ -12,8 +12,8 @@ use Rattle.coap_serve.proofs.world.Rows.{hex, In, Drain, Put, Tick, End, Release
 use Rattle.coap_serve.proofs.world.Worked.{usual, usual_limits, one_resource, narrow_limits, config_with, opened, path_a}
 
 -- so many answers and Pongs may be held on a connection
-abbrev holding : ℕ → ConfigValues
-holding most = record usual { limits = record usual_limits { pending = most } }
+abbrev config_holding : ℕ → ConfigValues
+config_holding most = record usual { limits = record usual_limits { pending = most } }
 
 -- ---- messages with a token of one byte
 
@@ -118,15 +118,15 @@ pong_behind_pong = refl
 two_answers : List Event
 two_answers = Opened 1 ∷ Wrote 1 6 ∷ Took 1 (hex "00e1") ∷ Ticked 4 ∷ Took 1 (asked "05" "3") ∷ Took 1 (ping "06") ∷ Took 1 (asked "07" "1") ∷ []
 
-held_in_order : option_map (λ s. s.history.held) (side_of 1 (world_after usual two_answers).sides)
+answers_and_pong_held : option_map (λ s. s.history.held) (side_of 1 (world_after usual two_answers).sides)
     ≡ Some (Answer (5 ∷ []) 7 ∷ Pong (6 ∷ []) ∷ Answer (7 ∷ []) 5 ∷ [])
 unfolding told two_answers
-held_in_order = refl
+answers_and_pong_held = refl
 
 -- ---- how much is held
 
 -- One is held: a Ping with Custody gets a Pong without it, and a second request 5.03. Then there is room again.
-one_held : Plays (holding 1) (begun 1
+one_held : Plays (config_holding 1) (begun 1
     ++ In 1 (asked "05" "3") => Taken 11
     ∷ In 1 (ping "06") => Taken 4
     ∷ Drain 1 => Out (bare_pong "06")
@@ -142,7 +142,7 @@ unfolding told
 one_held = refl
 
 -- nothing is held: 5.03, and a Pong with Custody at once
-none_held : Plays (holding 0) (begun 1
+nothing_may_be_held : Plays (config_holding 0) (begun 1
     ++ In 1 (asked "05" "3") => Taken 11
     ∷ In 1 (ping "06") => Taken 4
     ∷ Drain 1 => Out (refused "05" ++ pong "06")
@@ -152,10 +152,10 @@ none_held : Plays (holding 0) (begun 1
     ∷ Drain 1 => Out []
     ∷ [])
 unfolding told
-none_held = refl
+nothing_may_be_held = refl
 
 -- each connection holds its own
-each_its_own : Plays (holding 1) (begun 1 ++ (begun 2
+each_its_own : Plays (config_holding 1) (begun 1 ++ (begun 2
     ++ In 1 (asked "05" "1") => Taken 11
     ∷ In 2 (asked "06" "2") => Taken 11
     ∷ In 2 (asked_plainly "07") => Taken 9

@@ -19,7 +19,7 @@ unfolding told
 bad_token = refl
 
 -- the input ends between frames: the observers go, and no notification follows
-ended : Plays one_resource (opened 1 ++ (stored_x ++ (observed 1
+observer_ended : Plays one_resource (opened 1 ++ (stored_x ++ (observed 1
     ++ Look 1 => Stands phase.Open 0 0 0 1
     ∷ End 1 => Done
     ∷ Look 1 => Stands (phase.Stopped reason.Ended) 0 0 0 0
@@ -27,7 +27,7 @@ ended : Plays one_resource (opened 1 ++ (stored_x ++ (observed 1
     ∷ Drain 1 => Out []
     ∷ [])))
 unfolding told
-ended = refl
+observer_ended = refl
 
 -- the peer releases the connection: the same, and nothing more is taken
 released_by_peer : Plays one_resource (opened 1 ++ (stored_x ++ (observed 1

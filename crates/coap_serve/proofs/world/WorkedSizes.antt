@@ -15,11 +15,11 @@ use Rattle.coap_serve.specs.world.Shows.{session_shown}
 use Rattle.coap_serve.proofs.world.Rows.{hex, Open, In, Drain, Announce, Look, Done, Taken, Out, Stands, ◌=>◌, told, Plays}
 use Rattle.coap_serve.proofs.world.Worked.{config_with, narrow_limits}
 
-narrow : ConfigValues
-narrow = config_with (narrow_limits 1152) 0
+narrow_config : ConfigValues
+narrow_config = config_with (narrow_limits 1152) 0
 
 -- A length whose last byte is taken behind the announcement is judged by the size announced.
-within_a_length : Plays narrow (
+within_a_length : Plays narrow_config (
     Open 1 => Done
     ∷ Drain 1 => Out (hex "30e1220480")
     ∷ In 1 (hex "00e1") => Taken 2
@@ -29,11 +29,11 @@ within_a_length : Plays narrow (
     ∷ In 1 (hex "6f") => Taken 1
     ∷ Look 1 => Stands phase.Open 3 0 0 0
     ∷ [])
-unfolding told narrow
+unfolding told narrow_config
 within_a_length = refl
 
 -- One that was taken before it was judged then, and another connection keeps its own size.
-each_by_its_own : Plays narrow (
+each_by_its_own : Plays narrow_config (
     Open 1 => Done
     ∷ Open 2 => Done
     ∷ Drain 1 => Out (hex "30e1220480")
@@ -47,11 +47,11 @@ each_by_its_own : Plays narrow (
     ∷ In 1 (hex "e106bf") => Taken 3
     ∷ Look 1 => Stands (phase.Stopped reason.TooLarge) 3 21 0 0
     ∷ [])
-unfolding told narrow
+unfolding told narrow_config
 each_by_its_own = refl
 
 -- The size in force is announced again as it is, and then there is no room until that is written.
-again : Plays narrow (
+again : Plays narrow_config (
     Open 1 => Done
     ∷ Drain 1 => Out (hex "30e1220480")
     ∷ In 1 (hex "00e1") => Taken 2
@@ -60,59 +60,59 @@ again : Plays narrow (
     ∷ Drain 1 => Out (hex "30e1220480")
     ∷ In 1 (hex "0000") => Taken 2
     ∷ [])
-unfolding told narrow
+unfolding told narrow_config
 again = refl
 
 -- ---- why it is not announced
 
 -- the connection with a number, as a server has it after events
 abbrev there : List Event → ℕ → Option SessionValue
-there events id = found (side_of id (world_after narrow events).sides)
+there events id = found (side_of id (world_after narrow_config events).sides)
   where
     found : Option Side → Option SessionValue
     found None = None
     found (Some s) = Some (session_shown (stream_on 1152 id events).rest s)
 
-greeted : List Event
-greeted = Opened 1 ∷ Wrote 1 5 ∷ []
+greeted_events : List Event
+greeted_events = Opened 1 ∷ Wrote 1 5 ∷ []
 
-opened : List Event
-opened = greeted ++ Took 1 (hex "00e1") ∷ []
+opened_events : List Event
+opened_events = greeted_events ++ Took 1 (hex "00e1") ∷ []
 
 -- before the peer's Capabilities and Settings, and on no connection
-not_open : announced_refusal_on 2000 (there greeted 1) ≡ Some fault.NotOpen
-unfolding told narrow greeted
+not_open : announced_refusal_on 2000 (there greeted_events 1) ≡ Some fault.NotOpen
+unfolding told narrow_config greeted_events
 not_open = refl
 
-no_such : announced_refusal_on 2000 (there greeted 2) ≡ Some fault.NoSuch
-unfolding told narrow greeted
+no_such : announced_refusal_on 2000 (there greeted_events 2) ≡ Some fault.NoSuch
+unfolding told narrow_config greeted_events
 no_such = refl
 
-too_large : announced_refusal_on 1048577 (there opened 1) ≡ Some fault.TooLarge
-unfolding told narrow greeted opened
+too_large : announced_refusal_on 1048577 (there opened_events 1) ≡ Some fault.TooLarge
+unfolding told narrow_config greeted_events opened_events
 too_large = refl
 
-lower : announced_refusal_on 1000 (there opened 1) ≡ Some fault.Lower
-unfolding told narrow greeted opened
+lower : announced_refusal_on 1000 (there opened_events 1) ≡ Some fault.Lower
+unfolding told narrow_config greeted_events opened_events
 lower = refl
 
 -- before the announcement is written
-no_room : announced_refusal_on 2000 (there (opened ++ Announced 1 1152 ∷ []) 1) ≡ Some fault.NoRoom
-unfolding told narrow greeted opened
+no_room : announced_refusal_on 2000 (there (opened_events ++ Announced 1 1152 ∷ []) 1) ≡ Some fault.NoRoom
+unfolding told narrow_config greeted_events opened_events
 no_room = refl
 
 -- a peer that takes 4 bytes does not take the 5 of an announcement
-too_small : announced_refusal_on 2000 (there (greeted ++ Took 1 (hex "20e12104") ∷ []) 1) ≡ Some fault.PeerTooSmall
-unfolding told narrow greeted
+too_small : announced_refusal_on 2000 (there (greeted_events ++ Took 1 (hex "20e12104") ∷ []) 1) ≡ Some fault.PeerTooSmall
+unfolding told narrow_config greeted_events
 too_small = refl
 
 -- a lower size is no refusal of the room, and none of the peer
-lower_first : announced_refusal_on 1000 (there (greeted ++ Took 1 (hex "20e12104") ∷ []) 1) ≡ Some fault.Lower
-unfolding told narrow greeted
+lower_first : announced_refusal_on 1000 (there (greeted_events ++ Took 1 (hex "20e12104") ∷ []) 1) ≡ Some fault.Lower
+unfolding told narrow_config greeted_events
 lower_first = refl
 
-none_refuses : announced_refusal_on 2000 (there opened 1) ≡ None
-unfolding told narrow greeted opened
+none_refuses : announced_refusal_on 2000 (there opened_events 1) ≡ None
+unfolding told narrow_config greeted_events opened_events
 none_refuses = refl
 
 -- ---- the sizes in force

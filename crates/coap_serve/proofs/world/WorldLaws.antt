@@ -12,8 +12,9 @@ use Rattle.coap_serve.specs.world.World.{Place, World, Step, new_world, side_of,
 use Rattle.coap_serve.specs.world.World as world
 use Rattle.coap_serve.specs.world.Events.{Event, steps_of, world_after}
 use Rattle.coap_serve.proofs.world.PlaceLaws.{changed_id, AreDistinct, distinct_mapped, distinct_more, distinct_but, of_number, each_weaker, each_mapped, each_more, each_but, fewer}
-use Rattle.coap_serve.proofs.world.AcrossLaws.{opened_world, some_same, faulted_there}
+use Rattle.coap_serve.proofs.world.AcrossLaws.{opened_world, faulted_there}
 use Rattle.coap_serve.proofs.world.GoingOn.{settled_goes_on, faulted_stops}
+use Rattle.coap_serve.proofs.values.OptionLemmas.{same_there}
 
 -- ---- after any steps
 
@@ -163,5 +164,5 @@ ids_grow c w other next = omega arith
 -- a fault stops the connection that it is on, where that handles messages
 pub faulted_is_stopped : (limits : LimitValues) (w : World) (id : ℕ) (fault : StreamFault) (s t : Side) → side_of id w.sides ≡ Some s → handles s ≡ true → side_of id (world.step limits w (world.Faulted id fault)).sides ≡ Some t → takes_messages t.history.phase ≡ false
 faulted_is_stopped limits w id fault s t before does e =
-    let same : settled w.store w.now (side_faulted s fault) ≡ t = some_same _ t (sym (faulted_there limits w id fault s before) ∙ e) in
+    let same : settled w.store w.now (side_faulted s fault) ≡ t = same_there _ t (sym (faulted_there limits w id fault s before) ∙ e) in
     ap (λ (u : Side). takes_messages u.history.phase) (sym same) ∙ (settled_goes_on w.store w.now (side_faulted s fault)).over (faulted_stops s fault does)

@@ -1,11 +1,11 @@
 use Rattle.std.proofs.Common.{◌≡◌, false, length}
-use Rattle.coap_serve.proofs.streams.WriteLemmas.{Writes}
+use Rattle.coap_serve.proofs.streams.WriteLemmas.{WritesFront}
 use Rattle.coap_serve.proofs.output.write_all.Given as goal
 
 abbrev pub invariant-loop-left : goal.invariant-loop-left
 invariant-loop-left g l =
     record {
-      writes : Writes l.fn.bytes l.left (g.W.Outlet.written l.fn.writer) (g.W.Outlet.written l.writer);
+      writes : WritesFront l.fn.bytes l.left (g.W.Outlet.written l.fn.writer) (g.W.Outlet.written l.writer);
       works : g.W.Outlet.is_failed l.writer ≡ false;
     }
 

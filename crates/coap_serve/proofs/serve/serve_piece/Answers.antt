@@ -2,9 +2,10 @@ use Rattle.std.proofs.Common.{◌+◌, ◌≤◌, ℕ, List, sym, subst, ◌∙�
 use Rattle.std.proofs.lemmas.List.{length-drop}
 use Rattle.coap_serve.proofs.scripting.ReplayLemmas.{rest_of}
 use Rattle.coap_serve.proofs.streams.TakeLemmas.{WasTaken, front_served, front_cut, front_some, handled_few}
-use Rattle.coap_serve.proofs.streams.PieceLemmas.{Serves, serves_none, served_all, serves_more, serves_last, cut_off, piece_refused, is_filled, is_used_up, stop_given, no_stop_given}
+use Rattle.coap_serve.proofs.streams.PieceLemmas.{Serves, serves_none, served_all, serves_more, serves_last, cut_off, piece_refused, is_filled, is_used_up}
 use Rattle.coap_serve.proofs.serve.serve_piece.Given.{Over}
 use Rattle.coap_serve.proofs.serve.serve_piece.Goals as goal
+use Rattle.coap_serve.proofs.values.OptionLemmas.{there_is, there_is_none}
 
 pub loop-rest-init : goal.loop-rest-init
 loop-rest-init g c = record { serves = λ k bytes goes. serves_none k c.args.server.now c.args.id bytes c.args.piece.now _ goes; works = c.requires.works; few = omega arith }
@@ -24,7 +25,7 @@ pub returns-then-is_some-clause-served : goal.returns-then-is_some-clause-served
 returns-then-is_some-clause-served g c = λ k bytes goes.
     let so_far = c.loop-rest.invariant.serves k bytes goes in
     let took : WasTaken c.loop-rest.server c.take.new.self c.args.id c.loop-rest.rest.now c.in-Ok.taken = record { after_is = c.in-Ok.ensures.ok; takes_so = c.in-Ok.ensures.takes; says = c.in-Ok.ensures.says; shows = c.in-Ok.ensures.shows } in
-    let stopped = stop_given c.in-Ok-flush.stop c.if-is_some.ensures in
+    let stopped = there_is c.in-Ok-flush.stop (sym c.if-is_some.ensures) in
     serves_last k c.args.id bytes c.args.piece.now c.loop-rest.server c.loop-rest.rest.now _ _ c.loop-rest.messages so_far c.in-Ok.taken.bytes _ c.flush.new.server _ stopped.0
     (front_served k c.loop-rest.server c.args.id _ c.loop-rest.rest.now so_far.goes c.take.new.self c.in-Ok.taken took c.flush.new.server _ c.handled-messages.result c.handled-messages.ensures c.in-Ok-flush.ensures.ok)
     (sym c.in-Ok-flush.ensures.stop ∙ stopped.1)
@@ -48,7 +49,7 @@ loop-rest-preserved g c = record {
       subst (λ (rest : List ℕ). Serves k c.args.id bytes c.args.piece.now c.flush.new.server rest (g.W.Outlet.written c.args.writer.now) (g.W.Outlet.written c.flush.new.writer) (c.loop-rest.messages + c.handled-messages.result)) (sym (rest_of c.in-Ok.taken.bytes c.loop-rest.rest.now))
       (serves_more k c.args.id bytes c.args.piece.now c.loop-rest.server c.loop-rest.rest.now _ _ c.loop-rest.messages so_far c.in-Ok.taken.bytes _ c.flush.new.server _
       (front_served k c.loop-rest.server c.args.id _ c.loop-rest.rest.now so_far.goes c.take.new.self c.in-Ok.taken took c.flush.new.server _ c.handled-messages.result c.handled-messages.ensures c.in-Ok-flush.ensures.ok)
-      (sym c.in-Ok-flush.ensures.stop ∙ no_stop_given c.in-Ok-flush.stop c.if-is_some.ensures));
+      (sym c.in-Ok-flush.ensures.stop ∙ there_is_none c.in-Ok-flush.stop (sym c.if-is_some.ensures)));
   works = c.in-Ok-flush.ensures.failure;
   few = rw (rest_of c.in-Ok.taken.bytes c.loop-rest.rest.now) (omega (arith, some g c, c.in-Ok.ensures.within, length-drop c.in-Ok.taken.bytes c.loop-rest.rest.now, c.handled-messages.ensures, handled_few c.in-Ok.taken.handled, c.loop-rest.invariant.few));
 }

@@ -1,5 +1,5 @@
 use Rattle.coap_serve.proofs.streams.NotedLemmas.{noted_with_one_more}
-use Rattle.coap_serve.proofs.streams.PartLemmas.{one_more}
+use Rattle.coap_serve.proofs.streams.PartLemmas.{one_more_opened}
 use Rattle.coap_serve.proofs.door.turn.accept.Goals as goal
 
 pub returns-clause-noted : goal.returns-clause-noted
@@ -9,4 +9,4 @@ returns-clause-noted g c =
 
 pub returns-clause-opened : goal.returns-clause-opened
 returns-clause-opened g c =
-    one_more c.args.server.now c.open.new.self c.in-Ok-open.id _ c.args.peers.now.entries c.insert.new.self.entries c.in-Ok-open.ensures.answer c.in-Ok-open.ensures.id c.in-Ok-open.ensures.ok c.in-Ok-insert.ensures.entries c.in-Ok.ensures
+    one_more_opened c.args.server.now c.open.new.self c.in-Ok-open.id _ c.args.peers.now.entries c.insert.new.self.entries c.in-Ok-open.ensures.answer c.in-Ok-open.ensures.id c.in-Ok-open.ensures.ok c.in-Ok-insert.ensures.entries c.in-Ok.ensures

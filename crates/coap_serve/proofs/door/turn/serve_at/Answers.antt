@@ -4,12 +4,12 @@ use Rattle.coap_serve.specs.declared.door.peer.Course.TheVariants.{Open}
 use Rattle.coap_serve.specs.streams.Turns.{IsServed, wants_of}
 use Rattle.coap_serve.proofs.streams.AgendaLemmas.{served_so}
 use Rattle.coap_serve.proofs.streams.NotedLemmas.{beside_written, others_noted, all_noted}
-use Rattle.coap_serve.proofs.streams.PeerLemmas.{written_there, is_written, before_written}
+use Rattle.coap_serve.proofs.streams.PeerLemmas.{peer_written_there, is_written, before_written}
 use Rattle.coap_serve.proofs.door.turn.serve_at.Goals as goal
 
 pub returns-clause-part : goal.returns-clause-part
 returns-clause-part g c =
-    written_there c.args.peers.now.entries c.args.at c.serve_peer.new.peer _ _ c.pair_mut-peer.ensures.value
+    peer_written_there c.args.peers.now.entries c.args.at c.serve_peer.new.peer _ _ c.pair_mut-peer.ensures.value
     (λ was is. IfOk c.serve_peer.result (λ course. IsServed (g.W.Ready.readable was.1.wire) (g.W.Ready.writable was.1.wire) c.args.server.now was.0 was.1.rest c.serve_peer.new.server is.1.rest course))
     (served_so c.serve_peer.result _ _ _ _ _ _ _ _ _ c.may_read-may_read.ensures c.may_write-may_write.ensures c.serve_peer.ensures.part)
 

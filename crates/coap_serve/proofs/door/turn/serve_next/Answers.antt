@@ -1,8 +1,9 @@
 use Rattle.std.proofs.Common.{◌≡◌, length, map, take, remove, slice_get, IfSome, sym, ap, subst, arith}
+use Rattle.std.proofs.lemmas.List.Edits.{length-remove}
 use Rattle.coap_serve.specs.declared.door.peer.Peer.{Peer}
 use Rattle.coap_serve.specs.values.Dues.{stamp_of}
 use Rattle.coap_serve.specs.streams.Turns.{end_of, IsAgendaOf}
-use Rattle.coap_serve.proofs.streams.AgendaLemmas.{served_later, dropped_step, open_step, stamp_noted, same_length, length_without}
+use Rattle.coap_serve.proofs.streams.AgendaLemmas.{served_later, dropped_step, open_step, stamp_noted, same_length}
 use Rattle.coap_serve.specs.declared.door.peer.Course.{Course}
 use Rattle.coap_serve.specs.streams.Turns.{IsServed}
 use Rattle.coap_serve.proofs.streams.PartLemmas.{one_open, one_over}
@@ -23,7 +24,7 @@ returns-in-Over-clause-agenda g c seen =
 pub returns-in-Over-clause-fewer : goal.returns-in-Over-clause-fewer
 returns-in-Over-clause-fewer g c =
     let as_many = same_length c.serve_at.new.peers.entries c.args.peers.now.entries c.serve_at.ensures.same in
-    let less = length_without c.serve_at.new.peers.entries c.args.seen.at (omega (arith, as_many, c.requires.there)) in
+    let less = length-remove c.serve_at.new.peers.entries c.args.seen.at (omega (arith, as_many, c.requires.there)) in
     let left : length c.drop_at.new.peers.entries ≡ length (remove c.serve_at.new.peers.entries c.args.seen.at) = ap (λ es. length es) c.drop_at.ensures.peers in
     omega (arith, as_many, less, left, c.requires.there)
 

@@ -1,5 +1,5 @@
-use Rattle.coap_serve.proofs.scripting.ScriptLaws.{goes_on}
+use Rattle.coap_serve.proofs.scripting.ScriptLaws.{script_goes_on}
 use Rattle.coap_serve.proofs.scripts.laws.scripts_go_on_behind_whole_lines.Goals as goal
 
 pub returns : goal.returns
-returns c = goes_on
+returns c = script_goes_on

@@ -2,7 +2,7 @@ use Rattle.std.proofs.Common.{sym, ◌∙◌, rules, tests}
 use Rattle.std.specs.Char.{is_ascii_digit}
 use Rattle.std.proofs.lemmas.Iterator.{YieldsList-from_slice}
 use Rattle.std.proofs.lemmas.Iterator.Search.{all_from_yields_List}
-use Rattle.coap_serve.proofs.scripting.WordLemmas.{too_many_digits, other_bytes, digits_are_text, text_was_read, number_read}
+use Rattle.coap_serve.proofs.scripting.WordLemmas.{too_many_digits, no_decimal_bytes, digits_are_text, text_was_read, number_read}
 use Rattle.coap_serve.proofs.scripts.words.number_in.Goals as goal
 use Rattle.coap_serve.proofs.scripts.words.number_in.Goals.{then-word-gt-MAX_DIGITS-via-then-word-gt-MAX_DIGITS, then-word-gt-MAX_DIGITS-via-else-word-gt-MAX_DIGITS+then-not-all}
 
@@ -11,7 +11,7 @@ returns-then-word-gt-MAX_DIGITS c =
     elim c.then-word-gt-MAX_DIGITS.branch [
       | then-word-gt-MAX_DIGITS-via-then-word-gt-MAX_DIGITS w ↦ too_many_digits c.args.word.now w.if-word-gt-MAX_DIGITS.true
       | then-word-gt-MAX_DIGITS-via-else-word-gt-MAX_DIGITS+then-not-all w ↦
-          other_bytes c.args.word.now (sym (all_from_yields_List is_ascii_digit _ _ w.all.result w.all.ensures.ran (YieldsList-from_slice c.args.word.now cc) (λ x b q k. search (rules, tests))) ∙ w.if-not-all.true)
+          no_decimal_bytes c.args.word.now (sym (all_from_yields_List is_ascii_digit _ _ w.all.result w.all.ensures.ran (YieldsList-from_slice c.args.word.now cc) (λ x b q k. search (rules, tests))) ∙ w.if-not-all.true)
     ]
 
 pub returns-in_err-text : goal.returns-in_err-text

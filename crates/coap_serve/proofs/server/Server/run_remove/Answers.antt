@@ -5,14 +5,14 @@ use Rattle.coap_serve.specs.script.Events.{Remove}
 use Rattle.coap_serve.specs.script.Replay.{event_ran, store_number}
 use Rattle.coap_serve.specs.script.Shown.{events_made}
 use Rattle.coap_serve.specs.world.Events.{Removed}
-use Rattle.coap_serve.proofs.scripting.ReplayLemmas.{allowed, denied, no_such, unrun}
+use Rattle.coap_serve.proofs.scripting.ReplayLemmas.{allowed, denied, no_such_path, unrun}
 use Rattle.coap_serve.proofs.scripting.ShownLemmas.{shows_same, shows_as, made, unmade, nothing_made, run_refused}
 use Rattle.coap_serve.proofs.server.Server.run_remove.Goals as goal
 use Rattle.coap_conn.proofs.AskingLaws.{none_where}
 
 -- the store refuses
 refused : (c : goal.After-fault_line) → remove_refusal c.args.self.now.host.store c.args.path.now ≡ Some NoSuch
-refused c = no_such c.args.self.now.host.store c.args.path.now (sym c.can_remove.ensures ∙ c.if-not-can_remove.true)
+refused c = no_such_path c.args.self.now.host.store c.args.path.now (sym c.can_remove.ensures ∙ c.if-not-can_remove.true)
 
 pub returns-then-not-can_remove-clause-run : goal.returns-then-not-can_remove-clause-run
 unfolding event_ran

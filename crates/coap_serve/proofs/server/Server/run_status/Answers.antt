@@ -6,20 +6,21 @@ use Rattle.coap_serve.specs.script.Events as event
 use Rattle.coap_serve.specs.values.Servers.{session_of}
 use Rattle.coap_serve.specs.values.ServerAnswers.{session_status}
 use Rattle.coap_serve.specs.declared.server.Status.{Status}
-use Rattle.coap_serve.proofs.scripting.ReplayLemmas.{on_it, on_none, told_none, told_of}
+use Rattle.coap_serve.proofs.scripting.ReplayLemmas.{on_it, on_none, none_told_of_none}
 use Rattle.coap_serve.proofs.scripting.ShownLemmas.{shows_same, nothing_made, run_refused}
 use Rattle.coap_serve.proofs.server.Server.run_status.Goals as goal
+use Rattle.coap_serve.proofs.values.OptionLemmas.{one_made}
 
 pub returns-in_default-clause-run : goal.returns-in_default-clause-run
 unfolding event_ran
 returns-in_default-clause-run c =
-    let none = told_none session_status (session_of c.args.id c.args.self.now.sessions) (sym c.status.ensures ∙ c.in_default.is) in
+    let none = none_told_of_none session_status (session_of c.args.id c.args.self.now.sessions) (sym c.status.ensures ∙ c.in_default.is) in
     on_none c.args.self.now (codes "status") c.args.id _ _ c.args.self.now c.fault_line.result.items none refl c.fault_line.ensures
 
 pub returns-clause-run : goal.returns-clause-run
 unfolding event_ran
 returns-clause-run c =
-    let it = told_of session_status (session_of c.args.id c.args.self.now.sessions) c.in-Some.status (sym c.status.ensures ∙ c.in-Some.is) in
+    let it = one_made session_status (session_of c.args.id c.args.self.now.sessions) c.in-Some.status (sym c.status.ensures ∙ c.in-Some.is) in
     on_it c.args.self.now (codes "status") c.args.id (status_ran c.args.self.now c.args.id) _ it.0 c.args.self.now c.in_ok-line.line.items it.1 refl
     (c.in_ok-line.ensures ∙ ap (λ (s : Status). status_line c.args.id s.phase s.kept s.waiting s.pending s.observers) (sym it.2))
 

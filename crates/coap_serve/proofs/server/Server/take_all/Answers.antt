@@ -7,7 +7,7 @@ use Rattle.coap_serve.specs.world.Events.{Took}
 use Rattle.coap_serve.specs.world.Shows.{ShowsRefused}
 use Rattle.coap_serve.specs.declared.server.TakeFault.{TakeFault}
 use Rattle.coap_serve.specs.declared.server.TakeFault.TheVariants as taking
-use Rattle.coap_serve.proofs.scripting.ReplayLemmas.{rest_of, nothing_fed, further, stopped, short, used_up, none_there, take_shown, no_take_shown, stopped_shows, short_shows, used_up_shows}
+use Rattle.coap_serve.proofs.scripting.ReplayLemmas.{rest_of, nothing_fed, feeds_more, fed_and_stopped, short, used_up, take_where_none, take_shown, no_take_shown, stopped_shows, short_shows, used_up_shows}
 use Rattle.coap_serve.proofs.server.Server.take_all.Goals as goal
 
 pub loop-taken-init : goal.loop-taken-init
@@ -18,7 +18,7 @@ none_taken : (c : goal.Then-piece-eq0) → fed c.args.self.now c.args.id c.args.
 none_taken c =
     let rest = rest_of c.loop-taken.taken c.args.bytes.now in
     let t = c.in-Ok.ensures in
-    stopped c.args.self.now c.args.id c.args.bytes.now c.loop-taken.self c.loop-taken.taken c.loop-taken.invariant c.loop-taken-test.true c.take.new.self
+    fed_and_stopped c.args.self.now c.args.id c.args.bytes.now c.loop-taken.self c.loop-taken.taken c.loop-taken.invariant c.loop-taken-test.true c.take.new.self
     (ap (count_taken c.loop-taken.self c.args.id) (sym rest) ∙ sym t.count ∙ c.if-piece-eq0.true)
     (t.ok ∙ ap (server_taken c.loop-taken.self c.args.id) rest)
 
@@ -32,7 +32,7 @@ pub loop-taken-preserved : goal.loop-taken-preserved
 loop-taken-preserved c =
     let rest = rest_of c.loop-taken.taken c.args.bytes.now in
     let t = c.in-Ok.ensures in
-    further c.args.self.now c.args.id c.args.bytes.now c.loop-taken.self c.loop-taken.taken c.loop-taken.invariant c.loop-taken-test.true c.in-Ok.piece.bytes c.take.new.self
+    feeds_more c.args.self.now c.args.id c.args.bytes.now c.loop-taken.self c.loop-taken.taken c.loop-taken.invariant c.loop-taken-test.true c.in-Ok.piece.bytes c.take.new.self
     (subst (λ (p : List ℕ). c.in-Ok.piece.bytes ≤ length p) rest t.within)
     (t.count ∙ ap (count_taken c.loop-taken.self c.args.id) rest)
     c.if-piece-eq0.false
@@ -44,8 +44,8 @@ loop-taken-preserved c =
 none_found : (c : goal.In-Err-NoSuch) → fed c.args.self.now c.args.id c.args.bytes.now ≡ record { server = c.take.new.self; count = c.loop-taken.taken; done = true }
 none_found c =
     let rest = rest_of c.loop-taken.taken c.args.bytes.now in
-    let none = none_there c.loop-taken.self c.args.id (take (length c.args.bytes.now - c.loop-taken.taken) (drop c.loop-taken.taken c.args.bytes.now)) c.take.new.self (subst (λ (f : TakeFault). IsNotTaken c.loop-taken.self c.args.id (take (length c.args.bytes.now - c.loop-taken.taken) (drop c.loop-taken.taken c.args.bytes.now)) f c.take.new.self) c.in-Err-NoSuch.field-0-is c.in-Err-NoSuch.ensures.refused) in
-    stopped c.args.self.now c.args.id c.args.bytes.now c.loop-taken.self c.loop-taken.taken c.loop-taken.invariant c.loop-taken-test.true c.take.new.self
+    let none = take_where_none c.loop-taken.self c.args.id (take (length c.args.bytes.now - c.loop-taken.taken) (drop c.loop-taken.taken c.args.bytes.now)) c.take.new.self (subst (λ (f : TakeFault). IsNotTaken c.loop-taken.self c.args.id (take (length c.args.bytes.now - c.loop-taken.taken) (drop c.loop-taken.taken c.args.bytes.now)) f c.take.new.self) c.in-Err-NoSuch.field-0-is c.in-Err-NoSuch.ensures.refused) in
+    fed_and_stopped c.args.self.now c.args.id c.args.bytes.now c.loop-taken.self c.loop-taken.taken c.loop-taken.invariant c.loop-taken-test.true c.take.new.self
     (ap (count_taken c.loop-taken.self c.args.id) (sym rest) ∙ none.0)
     (none.1 ∙ ap (server_taken c.loop-taken.self c.args.id) rest)
 
@@ -92,7 +92,7 @@ returns-in-Err-NoSuch-clause-shows c =
     let no : IsNotTaken c.loop-taken.self c.args.id left taking.NoSuch c.take.new.self =
     subst (λ (p : List ℕ). IsNotTaken c.loop-taken.self c.args.id p taking.NoSuch c.take.new.self) rest
     (subst (λ (f : TakeFault). IsNotTaken c.loop-taken.self c.args.id (take (length c.args.bytes.now - c.loop-taken.taken) left) f c.take.new.self) c.in-Err-NoSuch.field-0-is c.in-Err-NoSuch.ensures.refused) in
-    let none = none_there c.loop-taken.self c.args.id left c.take.new.self no in
+    let none = take_where_none c.loop-taken.self c.args.id left c.take.new.self no in
     stopped_shows c.args.self.now c.args.id c.args.bytes.now c.loop-taken.self c.loop-taken.taken c.loop-taken.invariant c.loop-taken-test.true c.take.new.self none.0 none.1
     (no_take_shown c.loop-taken.self c.args.id left c.take.new.self no)
 

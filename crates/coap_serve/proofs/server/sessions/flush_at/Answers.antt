@@ -1,7 +1,8 @@
 use Rattle.std.proofs.Common.{ℕ, List, length, sym, ap, ◌∙◌}
+use Rattle.std.proofs.lemmas.List.{nil_from_length}
 use Rattle.coap_serve.specs.values.Sessions.{SessionValue, session_written}
 use Rattle.coap_serve.proofs.streams.DeviceLemmas.{bytes_none}
-use Rattle.coap_serve.proofs.values.FlushLemmas.{none_left, on_any_fault}
+use Rattle.coap_serve.proofs.values.FlushLemmas.{on_any_fault}
 use Rattle.coap_serve.proofs.values.ServerLemmas.{written_back}
 use Rattle.coap_serve.proofs.values.TurnLemmas.{same_session, turn_back, adds_same}
 use Rattle.coap_serve.proofs.server.sessions.flush_at.Goals as goal
@@ -9,7 +10,7 @@ use Rattle.coap_serve.proofs.server.sessions.flush_at.Goals as goal
 pub returns-then-count-eq0-clause-ok : goal.returns-then-count-eq0-clause-ok
 returns-then-count-eq0-clause-ok g c = λ s here.
     let same = same_session _ _ s c.index_mut-session.ensures.value here in (
-      sym (c.front-waiting.ensures.front ∙ ap (λ (u : SessionValue). u.link.waiting) same) ∙ none_left _ c.if-count-eq0.true,
+      sym (c.front-waiting.ensures.front ∙ ap (λ (u : SessionValue). u.link.waiting) same) ∙ nil_from_length _ c.if-count-eq0.true,
       written_back _ _ _ _ c.index_mut-session.ensures.value c.front-waiting.follows.holds-at-none,
       bytes_none _,
     )

@@ -4,8 +4,9 @@ use Rattle.coap_conn.specs.LinkValue.{LinkValue}
 use Rattle.coap_serve.specs.values.Sessions.{ObserverValue, SessionValue, next_held_in, next_stale, session_ready, session_notified, session_settled_once}
 use Rattle.coap_serve.specs.views.SessionViews.{session_value}
 use Rattle.coap_serve.proofs.values.SettleLemmas.{stays_once}
-use Rattle.coap_serve.proofs.values.SessionLemmas.{given_up, ready_is, settled_unready, held_ready, there_is_none, IsSent, held_found, due_sizes, sent_once, settles_by_notice}
+use Rattle.coap_serve.proofs.values.SessionLemmas.{given_up, ready_is, settled_unready, held_ready, IsSent, held_found, due_sizes, sent_once, settles_by_notice}
 use Rattle.coap_serve.proofs.session.Session.settle_once.Goals as goal
+use Rattle.coap_serve.proofs.values.OptionLemmas.{there_is_none}
 
 pub returns-then-not-ready : goal.returns-then-not-ready
 returns-then-not-ready c =

@@ -7,7 +7,7 @@ use Rattle.coap_conn.specs.LinkValue.{LinkValue}
 use Rattle.coap_serve.specs.values.Sessions.{ObserversValue, SessionValue, RefusesPiece, session_takes, sizes_of, taking}
 use Rattle.coap_serve.specs.views.SessionViews.{session_value}
 use Rattle.coap_serve.proofs.values.LinkLemmas.{reject_sizes}
-use Rattle.coap_serve.proofs.values.SessionLemmas.{given_up, reframed, some_taken, may_unread, unread_framer, refused, kept_but_last}
+use Rattle.coap_serve.proofs.values.SessionLemmas.{given_up, reframed, frame_takes_some, may_unread, unread_framer, put_refused, kept_but_last}
 use Rattle.coap_serve.proofs.session.Session.take.Goals as goal
 
 pub invariant_of-self-in-Err : goal.invariant_of-self-in-Err
@@ -52,7 +52,7 @@ unread-requires c =
 pub overflow_sub-result : goal.overflow_sub-result
 overflow_sub-result c =
     let found = sym c.next-framed.ensures.framed.what ∙ sym c.frame.ensures ∙ ap finding_read c.in-Ok-Some.is ∙ ap (λ o. finding_read (Ok o)) c.in-Ok-Some.field-0-is in
-    let some = some_taken c.self.inside c.self.invariant c.args.piece.now c.in-Ok-Some.frame.now found in
+    let some = frame_takes_some c.self.inside c.self.invariant c.args.piece.now c.in-Ok-Some.frame.now found in
     omega (arith, some, c.next-framed.ensures.framed.taken)
 
 pub invariant_of-self-in-Err-handle : goal.invariant_of-self-in-Err-handle
@@ -76,7 +76,7 @@ returns-in-Err-handle-clause-refused c =
     let piece = c.args.piece.now in
     let found = sym c.next-framed.ensures.framed.what ∙ sym c.frame.ensures ∙ ap finding_read c.in-Ok-Some.is ∙ ap (λ o. finding_read (Ok o)) c.in-Ok-Some.field-0-is in
     let takes = ap session_takes c.self.view_is ∙ sym c.takes.ensures ∙ c.if-not-takes.false in
-    let here = refused s c.self.invariant piece c.in-Ok-Some.frame.now found host c.in-Ok.message takes (sym c.in-Ok.ensures.exact) c.in-Err-handle.ensures.put in
+    let here = put_refused s c.self.invariant piece c.in-Ok-Some.frame.now found host c.in-Ok.message takes (sym c.in-Ok.ensures.exact) c.in-Err-handle.ensures.put in
     let counted = subst (λ (n : ℕ). RefusesPiece host (session_value s) piece (n - 1)) (sym c.next-framed.ensures.framed.taken) here in
     subst (λ (v : SessionValue). RefusesPiece host v piece (c.next-framed.result.taken - 1)) c.self.view_is counted
 
