@@ -6,10 +6,10 @@ number behind such a name has the peer announce then that it takes so many bytes
 
 The events: `hear` a message, `reply` with one, `hold` the answer to a token until a moment, `due` at a moment, `release`, `request`
 with a message (`plain`, `observe`), `cancel` with one that has the token, `ping` (`plain`, `custody`), `reject` bytes (`format`,
- `large`, `token`), `end` (`cut`, `whole`), `announce` another greatest message that is taken, `write` so many bytes, `count` what is
- pending and outstanding, `part` a front of what waits, and `look`. What is told is the event's answer (of `announce` the size in force),
- or `-`, and then the phase, the greatest message that the peer takes, the bytes that are free, whether the link is
-ready, whether it is finished, and the bytes that wait.
+`large`, `token`), `end` (`cut`, `whole`), `announce` another greatest message that is taken, `write` so many bytes, `count` what is
+pending and outstanding, `token` the longest token that the peer takes, `part` a front of what waits, and `look`. What is told is the
+event's answer (of `announce` the size in force), or `-`, and then the phase, the greatest message that the peer takes, the bytes that
+are free, whether the link is ready, whether it is finished, and the bytes that wait.
 """
 
 import re
@@ -20,7 +20,7 @@ from spelling import digits
 PROBE = "coap_probe"
 
 # What only asks.
-LOOKS = ("look", "count", "part")
+LOOKS = ("look", "count", "token", "part")
 
 LIMITS = {
     "small": "server 1152 1152 1152 16 16 16",

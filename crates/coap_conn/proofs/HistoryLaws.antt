@@ -15,7 +15,7 @@ use Rattle.coap_conn.specs.declared.phase.Reply.TheVariants.{Whole, Bare, Stoppe
 use Rattle.coap_wire.specs.Codes as code
 use Rattle.coap_conn.specs.Phases.{stop_of, is_waiting}
 use Rattle.coap_conn.specs.Reasons.{abort_of}
-use Rattle.coap_conn.specs.Announced.{announcement, announced, last_or, has_critical_option, bad_csm_option}
+use Rattle.coap_conn.specs.Announced.{announcement, announced, token_announcement, announced_token, last_or, last_told, has_critical_option, bad_csm_option}
 use Rattle.coap_conn.specs.Fit.{AllFit, fit, fitted, abort_fitted, without_payload, without_options, bare_response}
 use Rattle.coap_conn.specs.Limits.{LimitValues, AreInRange}
 use Rattle.coap_conn.specs.Held.{HeldValue, Answer, Pong}
@@ -30,27 +30,39 @@ use Rattle.coap_conn.proofs.SmallLemmas.{csm_small, release_small}
 
 -- ---- the last announcement
 
-nothing_announced : (n : ℕ) (ms : List Message) → AllByRecursion (λ m. announcement m ≡ None) ms → last_or n (filter_map announcement ms) ≡ n
-nothing_announced n [] each = refl
-nothing_announced n (m ∷ ms) each = rw each.0 (nothing_announced n ms each.1)
-
-pub base_where_none : (ms : List Message) → AllByRecursion (λ m. announcement m ≡ None) ms → announced ms ≡ 1152
-unfolding announced
-base_where_none ms each = nothing_announced 1152 ms each
-
 last_behind : (n x : ℕ) (xs ys : List ℕ) → last_or n (xs ++ x ∷ ys) ≡ last_or x ys
 last_behind n x [] ys = refl
 last_behind n x (y ∷ xs) ys = last_behind y x xs ys
 
-announced_first : (m : Message) (n : ℕ) (ms : List Message) → announcement m ≡ Some n → filter_map announcement (m ∷ ms) ≡ n ∷ filter_map announcement ms
-announced_first m n ms e = rw e refl
+module _ (tells : Message → Option ℕ) where
+  nothing_told : (n : ℕ) (ms : List Message) → AllByRecursion (λ m. tells m ≡ None) ms → last_told tells n ms ≡ n
+  nothing_told n [] each = refl
+  nothing_told n (m ∷ ms) each = rw each.0 (nothing_told n ms each.1)
 
-pub last_counts : (before after : List Message) (m : Message) (n : ℕ) → announcement m ≡ Some n → AllByRecursion (λ m. announcement m ≡ None) after → announced (before ++ m ∷ after) ≡ n
+  told_first : (m : Message) (n : ℕ) (ms : List Message) → tells m ≡ Some n → filter_map tells (m ∷ ms) ≡ n ∷ filter_map tells ms
+  told_first m n ms e = rw e refl
+
+  last_counts : (base : ℕ) (before after : List Message) (m : Message) (n : ℕ) → tells m ≡ Some n → AllByRecursion (λ m. tells m ≡ None) after → last_told tells base (before ++ m ∷ after) ≡ n
+  last_counts base before after m n e each =
+      ap (last_or base) (filter_map-append tells before (m ∷ after) ∙ ap (λ (xs : List ℕ). filter_map tells before ++ xs) (told_first m n after e))
+      ∙ last_behind base n (filter_map tells before) (filter_map tells after)
+      ∙ nothing_told n after each
+
+pub base_where_none : (ms : List Message) → AllByRecursion (λ m. announcement m ≡ None) ms → announced ms ≡ 1152
 unfolding announced
-last_counts before after m n e each =
-    ap (last_or 1152) (filter_map-append announcement before (m ∷ after) ∙ ap (λ (xs : List ℕ). filter_map announcement before ++ xs) (announced_first m n after e))
-    ∙ last_behind 1152 n (filter_map announcement before) (filter_map announcement after)
-    ∙ nothing_announced n after each
+base_where_none ms each = nothing_told announcement 1152 ms each
+
+pub last_announced : (before after : List Message) (m : Message) (n : ℕ) → announcement m ≡ Some n → AllByRecursion (λ m. announcement m ≡ None) after → announced (before ++ m ∷ after) ≡ n
+unfolding announced
+last_announced before after m n e each = last_counts announcement 1152 before after m n e each
+
+pub base_token_where_none : (ms : List Message) → AllByRecursion (λ m. token_announcement m ≡ None) ms → announced_token ms ≡ 8
+unfolding announced_token
+base_token_where_none ms each = nothing_told token_announcement 8 ms each
+
+pub last_token : (before after : List Message) (m : Message) (n : ℕ) → token_announcement m ≡ Some n → AllByRecursion (λ m. token_announcement m ≡ None) after → announced_token (before ++ m ∷ after) ≡ n
+unfolding announced_token
+last_token before after m n e each = last_counts token_announcement 8 before after m n e each
 
 -- ---- whatever is queued fits
 

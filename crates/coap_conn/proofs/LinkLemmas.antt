@@ -10,7 +10,7 @@ use Rattle.coap_wire.specs.Spelling.{spelling}
 use Rattle.coap_conn.specs.declared.phase.Phase.{Phase}
 use Rattle.coap_conn.specs.declared.phase.Role.{Role}
 use Rattle.coap_conn.specs.Limits.{LimitValues}
-use Rattle.coap_conn.specs.Announced.{announcement, announced, last_or}
+use Rattle.coap_conn.specs.Announced.{announcement, announced, token_announcement, announced_token, last_or, last_told}
 use Rattle.coap_conn.specs.Held.{HeldValue}
 use Rattle.coap_conn.specs.Outstanding.{OutstandingValue}
 use Rattle.coap_conn.specs.Reaction.{Effect}
@@ -29,15 +29,15 @@ waiting_more h ms is = ap (drop h.written) (bytes_more h.queued ms) ∙ drop-app
 pub history_more : (h : History) (ms : List Message) → IsHistory h → h.written ≤ length (bytes_of (h.queued ++ ms))
 history_more h ms is = omega (arith, is, ap (λ (t : List ℕ). length t) (bytes_more h.queued ms), length-append (bytes_of h.queued) (bytes_of ms))
 
--- the link that shows a history, with other bytes, another phase, another size of the peer, and where something else is held or
--- outstanding
-abbrev link_at : History → List ℕ → Phase → List HeldValue → List OutstandingValue → ℕ → LinkValue
-link_at h waiting phase held outstanding peer_max =
-    record { role = h.role; limits = h.limits; waiting = waiting; phase = phase; own_max = h.own_max; peer_max = peer_max; held = held; outstanding = outstanding; tokens = h.tokens }
+-- the link that shows a history, with other bytes, another phase, where something else is held or outstanding, and with another size
+-- and another longest token of the peer
+abbrev link_at : History → List ℕ → Phase → List HeldValue → List OutstandingValue → ℕ → ℕ → LinkValue
+link_at h waiting phase held outstanding peer_max peer_token =
+    record { role = h.role; limits = h.limits; waiting = waiting; phase = phase; own_max = h.own_max; peer_max = peer_max; peer_token = peer_token; held = held; outstanding = outstanding; tokens = h.tokens }
 
 -- an effect shows as the same effect
 effect_of : (h : History) (e : Effect) → IsHistory h → link_with (link_of h) e ≡ link_of (with_effect h e)
-effect_of h e is = ap (λ (w : List ℕ). link_at h w e.phase e.held e.outstanding (announced h.handled)) (sym (waiting_more h e.queued is))
+effect_of h e is = ap (λ (w : List ℕ). link_at h w e.phase e.held e.outstanding (announced h.handled) (announced_token h.handled)) (sym (waiting_more h e.queued is))
 
 -- ---- what is announced
 
@@ -45,38 +45,54 @@ last_more : (n x : ℕ) (xs : List ℕ) → last_or n (xs ++ x ∷ []) ≡ x
 last_more n x [] = refl
 last_more n x (y ∷ xs) = last_more y x xs
 
-announced_by : (xs : List ℕ) (m : Message) (o : Option ℕ) → announcement m ≡ o → last_or 1152 (xs ++ filter_map announcement (m ∷ [])) ≡ unwrap_or o (last_or 1152 xs)
-announced_by xs m None e = rw e (ap (last_or 1152) (append-nil xs))
-announced_by xs m (Some n) e = rw e (last_more 1152 n xs)
+module _ (tells : Message → Option ℕ) (base : ℕ) where
+  told_by : (xs : List ℕ) (m : Message) (o : Option ℕ) → tells m ≡ o → last_or base (xs ++ filter_map tells (m ∷ [])) ≡ unwrap_or o (last_or base xs)
+  told_by xs m None e = rw e (ap (last_or base) (append-nil xs))
+  told_by xs m (Some n) e = rw e (last_more base n xs)
 
--- a message more announces what it says, or leaves what was announced
+  -- a message more tells what it says, or leaves what was told
+  told_more : (ms : List Message) (m : Message) → last_told tells base (ms ++ m ∷ []) ≡ unwrap_or (tells m) (last_told tells base ms)
+  told_more ms m = ap (last_or base) (filter_map-append tells ms (m ∷ [])) ∙ told_by (filter_map tells ms) m (tells m) refl
+
 pub announced_more : (ms : List Message) (m : Message) → announced (ms ++ m ∷ []) ≡ unwrap_or (announcement m) (announced ms)
 unfolding announced
-announced_more ms m = ap (last_or 1152) (filter_map-append announcement ms (m ∷ [])) ∙ announced_by (filter_map announcement ms) m (announcement m) refl
+announced_more ms m = told_more announcement 1152 ms m
+
+token_more : (ms : List Message) (m : Message) → announced_token (ms ++ m ∷ []) ≡ unwrap_or (token_announcement m) (announced_token ms)
+unfolding announced_token
+token_more ms m = told_more token_announcement 8 ms m
 
 -- with no message the base size is announced
 pub announced_none : announced [] ≡ 1152
 unfolding announced
 announced_none = refl
 
+token_none : announced_token [] ≡ 8
+unfolding announced_token
+token_none = refl
+
 -- ---- what is done
 
 heard_of : (h : History) (m : Message) (e : Effect) → IsHistory h → link_with_deed (link_of h) (Handles m e) ≡ link_of (with_deed h (Handles m e))
 heard_of h m e is =
-    ap (λ (w : List ℕ). link_at h w e.phase e.held e.outstanding (unwrap_or (announcement m) (announced h.handled))) (sym (waiting_more h e.queued is))
-    ∙ ap (λ (n : ℕ). link_at h (drop h.written (bytes_of (h.queued ++ e.queued))) e.phase e.held e.outstanding n) (sym (announced_more h.handled m))
+    let max : ℕ = unwrap_or (announcement m) (announced h.handled) in
+    let token : ℕ = unwrap_or (token_announcement m) (announced_token h.handled) in
+    let waiting : List ℕ = drop h.written (bytes_of (h.queued ++ e.queued)) in
+    ap (λ (w : List ℕ). link_at h w e.phase e.held e.outstanding max token) (sym (waiting_more h e.queued is))
+    ∙ ap (λ (n : ℕ). link_at h waiting e.phase e.held e.outstanding n token) (sym (announced_more h.handled m))
+    ∙ ap (link_at h waiting e.phase e.held e.outstanding (announced (h.handled ++ m ∷ []))) (sym (token_more h.handled m))
 
 asked_of : (h : History) (m : Message) (outstanding : List OutstandingValue) (tokens : ℕ) → IsHistory h
     → link_with_deed (link_of h) (Asks m outstanding tokens) ≡ link_of (with_deed h (Asks m outstanding tokens))
 asked_of h m outstanding tokens is =
-    ap (λ (w : List ℕ). link_at (record h { tokens = tokens }) w h.phase h.held outstanding (announced h.handled)) (sym (waiting_more h (m ∷ []) is))
+    ap (λ (w : List ℕ). link_at (record h { tokens = tokens }) w h.phase h.held outstanding (announced h.handled) (announced_token h.handled)) (sym (waiting_more h (m ∷ []) is))
 
 announces_of : (h : History) (size : ℕ) → IsHistory h → link_with_deed (link_of h) (Announces size) ≡ link_of (with_deed h (Announces size))
 announces_of h size is =
-    ap (λ (w : List ℕ). link_at (record h { own_max = size }) w h.phase h.held h.outstanding (announced h.handled)) (sym (waiting_more h (own_csm size ∷ []) is))
+    ap (λ (w : List ℕ). link_at (record h { own_max = size }) w h.phase h.held h.outstanding (announced h.handled) (announced_token h.handled)) (sym (waiting_more h (own_csm size ∷ []) is))
 
 written_of : (h : History) (n : ℕ) → link_with_deed (link_of h) (Writes n) ≡ link_of (with_deed h (Writes n))
-written_of h n = ap (λ (w : List ℕ). link_at h w h.phase h.held h.outstanding (announced h.handled)) (drop-drop n h.written (bytes_of h.queued))
+written_of h n = ap (λ (w : List ℕ). link_at h w h.phase h.held h.outstanding (announced h.handled) (announced_token h.handled)) (drop-drop n h.written (bytes_of h.queued))
 
 -- a deed shows as the same deed
 deed_of : (h : History) (d : Deed) → IsHistory h → link_with_deed (link_of h) d ≡ link_of (with_deed h d)
@@ -107,7 +123,8 @@ done_shown new h false d same is within = record { is_history = is; same = same 
 pub new_shown : (role : Role) (limits : LimitValues) (tokens : ℕ) (new : LinkValue) → new ≡ new_link role limits tokens → LinkShows new (new_history role limits tokens)
 new_shown role limits tokens new is = record {
   is_history = omega arith;
-  same = is ∙ ap (λ (n : ℕ). link_at (new_history role limits tokens) (bytes_of (own_csm limits.max_message ∷ [])) (new_history role limits tokens).phase [] [] n) (sym announced_none);
+  same = is ∙ ap (λ (n : ℕ). link_at (new_history role limits tokens) (bytes_of (own_csm limits.max_message ∷ [])) (new_history role limits tokens).phase [] [] n 8) (sym announced_none)
+      ∙ ap (link_at (new_history role limits tokens) (bytes_of (own_csm limits.max_message ∷ [])) (new_history role limits tokens).phase [] [] (announced [])) (sym token_none);
 }
 
 -- a link that shows a history shows after any call what the history is after it

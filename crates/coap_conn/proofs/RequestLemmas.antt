@@ -14,13 +14,13 @@ use Rattle.coap_conn.specs.declared.phase.Reply.{Reply}
 use Rattle.coap_conn.specs.declared.phase.Reply.TheVariants.{Whole, Bare, Stopped}
 use Rattle.coap_wire.specs.Codes as code
 use Rattle.coap_conn.specs.Phases.{stop_of, takes_messages, IsLive, IsAnswering, is_waiting}
-use Rattle.coap_conn.specs.Announced.{has_critical_option, bad_csm_option, csm_size, announcement}
+use Rattle.coap_conn.specs.Announced.{has_critical_option, bad_csm_option, csm_size, csm_token, announcement, token_announcement}
 use Rattle.coap_conn.specs.Fit.{fit, bare_response, without_options}
 use Rattle.coap_conn.specs.Held.{HeldValue}
 use Rattle.coap_conn.specs.Outstanding.{OutstandingValue, is_asked, is_last, is_pinged}
 use Rattle.coap_conn.specs.Verdicts as verdict
 use Rattle.coap_conn.specs.Reaction.{Standing, Effect, Reaction, react, reaction_unless, live_reaction, open_reaction, csm_reaction, request_reaction, told_of, becomes, is_reserved, is_signal, is_method, minds_critical_options, asks_custody, pong_with, pong_of, late_pong, ping_reaction, not_implemented, answered, pong_reaction}
-use Rattle.coap_conn.specs.LinkValue.{bytes_of, LinkValue, standing_in, link_with, link_handled}
+use Rattle.coap_conn.specs.LinkValue.{bytes_of, LinkValue, standing_in, link_with, link_handled, link_heard}
 use Rattle.coap_conn.specs.Calls.{link_after}
 use Rattle.coap_conn.specs.Calls as call
 
@@ -33,7 +33,7 @@ react_live s m live = ap (reaction_unless s m) live
 pub handled_is : (v : LinkValue) (m : Message) → IsLive v.phase → link_after v (call.Handle m) ≡ link_handled v m
 unfolding react
 handled_is v m live =
-    ap (λ (over : Option Reason). cond (is_none over) (record (link_with v (reaction_unless (standing_in v) m over).effect) { peer_max = unwrap_or (announcement m) v.peer_max }) v) live
+    ap (λ (over : Option Reason). cond (is_none over) (link_heard v m (reaction_unless (standing_in v) m over).effect) v) live
 
 -- ---- requests
 
@@ -46,6 +46,7 @@ pub record IsQuiet (s : Standing) (m : Message) (e : Effect) : Type 0 where
   pub kept_asked : e.outstanding ≡ s.outstanding
   pub not_waiting : is_waiting s.phase ≡ false
   pub announces : announcement m ≡ None
+  pub tells_none : token_announcement m ≡ None
 
 -- what a reaction is that says so
 abbrev Asks : Standing → Message → Reaction → Type 0
@@ -65,7 +66,7 @@ csm_no_request s None e = opened_no_request (is_waiting s.phase) s e
 csm_no_request s (Some number) e = cc
 
 request_asks : (s : Standing) (m : Message) (role : Role) → is_waiting s.phase ≡ false → (m.code == code.csm) ≡ false → Asks s m (request_reaction s m role)
-request_asks s m Server now other e = record { nothing = refl; same = refl; kept = refl; kept_asked = refl; not_waiting = now; announces = ap (λ (b : Bool). if b then csm_size m else None) other }
+request_asks s m Server now other e = record { nothing = refl; same = refl; kept = refl; kept_asked = refl; not_waiting = now; announces = ap (λ (b : Bool). if b then csm_size m else None) other; tells_none = ap (λ (b : Bool). if b then csm_token m else None) other }
 request_asks s m Client now other e = absurd (told_no_request (fit s.limit (not_implemented m) (bare_response (not_implemented m))) e)
 
 late_pong_asks : (s : Standing) (m : Message) → Asks s m (late_pong s m)
@@ -111,13 +112,16 @@ pub react_asks : (s : Standing) (m : Message) → Asks s m (react s m)
 unfolding react
 react_asks s m = unless_asks s m (stop_of s.phase)
 
-stays_by : (v : LinkValue) (m : Message) (e : Effect) (takes : Bool) → IsQuiet (standing_in v) m e → cond takes (record (link_with v e) { peer_max = unwrap_or (announcement m) v.peer_max }) v ≡ v
+stays_by : (v : LinkValue) (m : Message) (e : Effect) (takes : Bool) → IsQuiet (standing_in v) m e → cond takes (link_heard v m e) v ≡ v
 stays_by v m e true quiet =
-    ap (λ (w : List ℕ). record v { waiting = w; phase = e.phase; held = e.held; outstanding = e.outstanding; peer_max = unwrap_or (announcement m) v.peer_max }) (ap (λ (ms : List Message). v.waiting ++ bytes_of ms) quiet.nothing ∙ append-nil v.waiting)
-    ∙ ap (λ (p : Phase). record v { phase = p; held = e.held; outstanding = e.outstanding; peer_max = unwrap_or (announcement m) v.peer_max }) quiet.same
-    ∙ ap (λ (held : List HeldValue). record v { held = held; outstanding = e.outstanding; peer_max = unwrap_or (announcement m) v.peer_max }) quiet.kept
-    ∙ ap (λ (outstanding : List OutstandingValue). record v { outstanding = outstanding; peer_max = unwrap_or (announcement m) v.peer_max }) quiet.kept_asked
-    ∙ ap (λ (n : Option ℕ). record v { peer_max = unwrap_or n v.peer_max }) quiet.announces
+    let max : ℕ = unwrap_or (announcement m) v.peer_max in
+    let token : ℕ = unwrap_or (token_announcement m) v.peer_token in
+    ap (λ (w : List ℕ). record v { waiting = w; phase = e.phase; held = e.held; outstanding = e.outstanding; peer_max = max; peer_token = token }) (ap (λ (ms : List Message). v.waiting ++ bytes_of ms) quiet.nothing ∙ append-nil v.waiting)
+    ∙ ap (λ (p : Phase). record v { phase = p; held = e.held; outstanding = e.outstanding; peer_max = max; peer_token = token }) quiet.same
+    ∙ ap (λ (held : List HeldValue). record v { held = held; outstanding = e.outstanding; peer_max = max; peer_token = token }) quiet.kept
+    ∙ ap (λ (outstanding : List OutstandingValue). record v { outstanding = outstanding; peer_max = max; peer_token = token }) quiet.kept_asked
+    ∙ ap (λ (n : Option ℕ). record v { peer_max = unwrap_or n v.peer_max; peer_token = token }) quiet.announces
+    ∙ ap (λ (n : Option ℕ). record v { peer_token = unwrap_or n v.peer_token }) quiet.tells_none
 stays_by v m e false quiet = refl
 
 -- a request leaves the link as it is

@@ -1,5 +1,5 @@
--- The greatest message that the peer takes, as it announced it (RFC 8323 section 5.3).
-use Rattle.std.specs.Prelude.{ℕ, Bool, false, ◌&&◌, ◌||◌, List, [], ◌∷◌, length, Option, Some, None, option_map, nat_lt, ◌==◌, if◌then◌else◌, find, min}
+-- The greatest message and the longest token that the peer takes, as it announced them (RFC 8323 section 5.3, RFC 8974 section 2.2.1).
+use Rattle.std.specs.Prelude.{ℕ, Bool, false, ◌&&◌, ◌||◌, List, [], ◌∷◌, length, Option, Some, None, option_map, nat_le, nat_lt, ◌==◌, if◌then◌else◌, find, min}
 use Rattle.std.specs.List.{list_any, filter_map}
 use Rattle.coap_wire.specs.Message.{CoapOption, Message}
 use Rattle.coap_wire.specs.Recognition.{is_critical}
@@ -53,9 +53,53 @@ last_or n (x ∷ xs) = last_or x xs
 abbrev pub base_size : ℕ
 base_size = 1152
 
+-- the last that messages told, and this where none told anything
+abbrev pub last_told : (Message → Option ℕ) → ℕ → List Message → ℕ
+last_told tells base ms = last_or base (filter_map tells ms)
+
 -- what messages announced: the last announcement, and the base size where there is none
 unfoldable pub announced : List Message → ℕ
-announced ms = last_or base_size (filter_map announcement ms)
+announced ms = last_told announcement base_size ms
+
+-- ---- tokens (RFC 8974 section 2.2.1)
+
+-- Extended-Token-Length
+abbrev pub is_token_length : CoapOption → Bool
+is_token_length o = o.number == option.extended_token_length
+
+-- the first one, if there is one
+abbrev pub first_token_length : Message → Option CoapOption
+first_token_length m = find is_token_length m.options
+
+-- the longest token that a message can have, and of a peer that has told none
+abbrev pub greatest_token : ℕ
+greatest_token = 65804
+
+abbrev pub base_token : ℕ
+base_token = 8
+
+-- What a value tells: one of more than 3 bytes, or of less than the base value, nothing, and one above the longest token that.
+abbrev pub token_length : List ℕ → Option ℕ
+token_length value = if nat_le (length value) 3 && nat_le base_token (uint_of value) then Some (min (uint_of value) greatest_token) else None
+
+abbrev pub token_told : Option CoapOption → Option ℕ
+token_told None = None
+token_told (Some o) = token_length o.value
+
+-- what Capabilities and Settings tell by their first Extended-Token-Length, unless they stop the connection
+abbrev pub token_unless : Option ℕ → Message → Option ℕ
+token_unless (Some bad) m = None
+token_unless None m = token_told (first_token_length m)
+
+abbrev pub csm_token : Message → Option ℕ
+csm_token m = token_unless (bad_csm_option m) m
+
+abbrev pub token_announcement : Message → Option ℕ
+token_announcement m = if m.code == code.csm then csm_token m else None
+
+-- the longest token that the peer takes, as messages told it last
+unfoldable pub announced_token : List Message → ℕ
+announced_token ms = last_told token_announcement base_token ms
 
 -- the greatest message that may be sent: within what the peer takes and our greatest one
 abbrev pub size_limit : ℕ → ℕ → ℕ

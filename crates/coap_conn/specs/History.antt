@@ -5,7 +5,7 @@ use Rattle.coap_conn.specs.declared.phase.Phase.{Phase}
 use Rattle.coap_conn.specs.declared.phase.Phase.TheVariants.{Waiting}
 use Rattle.coap_conn.specs.declared.phase.Role.{Role}
 use Rattle.coap_conn.specs.Limits.{LimitValues}
-use Rattle.coap_conn.specs.Announced.{announced}
+use Rattle.coap_conn.specs.Announced.{announced, announced_token}
 use Rattle.coap_conn.specs.Held.{HeldValue}
 use Rattle.coap_conn.specs.Outstanding.{OutstandingValue}
 use Rattle.coap_conn.specs.Asking.{Asking}
@@ -47,10 +47,10 @@ IsHistory h = h.written ≤ length (bytes_of h.queued)
 abbrev pub waiting_of : History → List ℕ
 waiting_of h = drop h.written (bytes_of h.queued)
 
--- the link that a history leaves: the bytes that wait, and the last size announced
+-- the link that a history leaves: the bytes that wait, and the last size and token length announced
 abbrev pub link_of : History → LinkValue
 link_of h =
-    record { role = h.role; limits = h.limits; waiting = waiting_of h; phase = h.phase; own_max = h.own_max; peer_max = announced h.handled; held = h.held; outstanding = h.outstanding; tokens = h.tokens }
+    record { role = h.role; limits = h.limits; waiting = waiting_of h; phase = h.phase; own_max = h.own_max; peer_max = announced h.handled; peer_token = announced_token h.handled; held = h.held; outstanding = h.outstanding; tokens = h.tokens }
 
 -- the link shows the history
 pub record LinkShows (v : LinkValue) (h : History) : Type 0 where

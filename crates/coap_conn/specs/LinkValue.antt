@@ -11,14 +11,14 @@ use Rattle.coap_conn.specs.declared.phase.Phase.TheVariants.{Waiting}
 use Rattle.coap_conn.specs.declared.phase.Role.{Role}
 use Rattle.coap_conn.specs.Phases.{is_over, answers}
 use Rattle.coap_conn.specs.Limits.{LimitValues}
-use Rattle.coap_conn.specs.Announced.{base_size, bad_csm_option, csm_size, announcement, size_limit}
+use Rattle.coap_conn.specs.Announced.{base_size, base_token, bad_csm_option, csm_size, csm_token, announcement, token_announcement, size_limit}
 use Rattle.coap_conn.specs.Held.{HeldValue}
 use Rattle.coap_conn.specs.Outstanding.{OutstandingValue}
 use Rattle.coap_conn.specs.Asking.{Asking}
 use Rattle.coap_conn.specs.Reaction.{Standing, Effect, csm_reaction, live_reaction}
 
 -- waiting are the bytes to be written, own_max the greatest message that we take, as announced last, peer_max the one that the peer
--- takes, held what is sent later, outstanding what was asked; tokens is the number of the last token given
+-- takes, peer_token its longest token, held what is sent later, outstanding what was asked; tokens is the number of the last token given
 pub record LinkValue : Type 0 where
   pub role : Role
   pub limits : LimitValues
@@ -26,6 +26,7 @@ pub record LinkValue : Type 0 where
   pub phase : Phase
   pub own_max : ℕ
   pub peer_max : ℕ
+  pub peer_token : ℕ
   pub held : List HeldValue
   pub outstanding : List OutstandingValue
   pub tokens : ℕ
@@ -87,7 +88,7 @@ own_csm M = csm_with (bytes_of_uint M)
 -- a new link: our Capabilities and Settings wait
 abbrev pub new_link : Role → LimitValues → ℕ → LinkValue
 new_link role limits tokens =
-    record { role = role; limits = limits; waiting = bytes_of (own_csm limits.max_message ∷ []); phase = Waiting; own_max = limits.max_message; peer_max = base_size; held = []; outstanding = []; tokens = tokens }
+    record { role = role; limits = limits; waiting = bytes_of (own_csm limits.max_message ∷ []); phase = Waiting; own_max = limits.max_message; peer_max = base_size; peer_token = base_token; held = []; outstanding = []; tokens = tokens }
 
 -- an effect
 abbrev pub link_with : LinkValue → Effect → LinkValue
@@ -95,7 +96,8 @@ link_with v e = record v { waiting = v.waiting ++ bytes_of e.queued; phase = e.p
 
 -- a message was handled, with this effect
 abbrev pub link_heard : LinkValue → Message → Effect → LinkValue
-link_heard v m e = record (link_with v e) { peer_max = unwrap_or (announcement m) v.peer_max }
+link_heard v m e =
+    record (link_with v e) { peer_max = unwrap_or (announcement m) v.peer_max; peer_token = unwrap_or (token_announcement m) v.peer_token }
 
 -- ---- a message that is taken
 
@@ -105,4 +107,4 @@ link_handled v m = link_heard v m (live_reaction (standing_in v) m).effect
 -- the same of Capabilities and Settings
 abbrev pub link_after_csm : LinkValue → Message → LinkValue
 link_after_csm v m =
-    record (link_with v (csm_reaction (standing_in v) (bad_csm_option m)).effect) { peer_max = unwrap_or (csm_size m) v.peer_max }
+    record (link_with v (csm_reaction (standing_in v) (bad_csm_option m)).effect) { peer_max = unwrap_or (csm_size m) v.peer_max; peer_token = unwrap_or (csm_token m) v.peer_token }

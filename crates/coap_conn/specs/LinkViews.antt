@@ -9,7 +9,7 @@ use Rattle.coap_conn.specs.declared.link.Link.TheInside.{Inside}
 
 abbrev pub link_value : Inside → LinkValue
 link_value l =
-    record { role = l.role; limits = l.limits; waiting = l.queue.waiting; phase = l.phase; own_max = l.own_max; peer_max = l.peer_max; held = l.pending.held; outstanding = l.asked.entries; tokens = l.tokens }
+    record { role = l.role; limits = l.limits; waiting = l.queue.waiting; phase = l.phase; own_max = l.own_max; peer_max = l.peer_max; peer_token = l.peer_token; held = l.pending.held; outstanding = l.asked.entries; tokens = l.tokens }
 
 -- the queue, what is held and what is outstanding have the room that the limits name
 abbrev pub is_link : Inside → Type 0

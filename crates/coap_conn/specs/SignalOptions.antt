@@ -5,6 +5,10 @@ use Rattle.std.specs.Prelude.{ℕ}
 abbrev pub max_message_size : ℕ
 max_message_size = 2
 
+-- Extended-Token-Length of Capabilities and Settings (RFC 8974 section 2.2.1)
+abbrev pub extended_token_length : ℕ
+extended_token_length = 6
+
 -- Custody of Ping and Pong (RFC 8323 section 5.4.1)
 abbrev pub custody : ℕ
 custody = 2

@@ -3,13 +3,22 @@
 ghost use Rattle.std.specs.Prelude.{◌≡◌, Some, None, option_map, find, IfOk, IfErr, OnOk};
 ghost use Rattle.coap_wire.specs.Uint.{uint_of};
 ghost use Rattle.coap_wire.specs.Views.{coap_option};
-ghost use Rattle.coap_conn.specs.Announced.{is_bad, first_size as first_size_in, has_critical_option as critical_option_in, bad_csm_option as bad_option_in};
+ghost use Rattle.coap_conn.specs.Announced.{is_bad, first_size as first_size_in, has_critical_option as critical_option_in, bad_csm_option as bad_option_in, first_token_length as first_token_length_in, token_length as told_length, token_told};
 ghost use Rattle.coap_conn.specs.Reaction.{asks_custody as custody_asked};
 
 use coap_wire::{MessageRef, OptionRef, uint_value};
 
 /// Max-Message-Size, an option of Capabilities and Settings (RFC 8323 section 5.3.1).
 pub(crate) const MAX_MESSAGE_SIZE: u16 = 2;
+
+/// Extended-Token-Length, an option of Capabilities and Settings (RFC 8974 section 2.2.1).
+const EXTENDED_TOKEN_LENGTH: u16 = 6;
+
+/// The longest token of a peer that has told none, and the least that it may tell.
+pub(crate) const BASE_TOKEN: u32 = 8;
+
+/// The longest token that a message can have.
+const GREATEST_TOKEN: u32 = 65_804;
 
 /// Custody, an option of Ping and Pong (RFC 8323 section 5.4.1).
 pub(crate) const CUSTODY: u16 = 2;
@@ -67,5 +76,44 @@ pub(crate) fn announced_size(message: &MessageRef) -> Result<Option<u32>, u16>
     match bad_option(message, bytes.is_none()) {
         Some(number) => Err(number),
         None => Ok(bytes),
+    }
+}
+
+/// The first Extended-Token-Length, if there is one.
+fn first_token_length<'a>(message: &MessageRef<'a>) -> Option<OptionRef<'a>>
+    ensures { option_map coap_option result ≡ first_token_length_in message.now }
+{
+    message
+        .options()
+        .find(|option| option.number == EXTENDED_TOKEN_LENGTH)
+}
+
+/// What the value of Extended-Token-Length tells: nothing where it has more than 3 bytes or is below 8, and the longest
+/// token that a message can have where it is above that.
+fn token_length(value: &[u8]) -> Option<u32>
+    ensures { result ≡ told_length value.now }
+{
+    if value.len() > 3 {
+        return None;
+    }
+    match uint_value(value) {
+        None => None,
+        Some(length) => {
+            if length < BASE_TOKEN {
+                None
+            } else {
+                Some(length.min(GREATEST_TOKEN))
+            }
+        }
+    }
+}
+
+/// What Capabilities and Settings tell as the longest token that the peer takes.
+pub(crate) fn announced_token(message: &MessageRef) -> Option<u32>
+    ensures { result ≡ token_told (first_token_length_in message.now) }
+{
+    match first_token_length(message) {
+        None => None,
+        Some(option) => token_length(option.value),
     }
 }

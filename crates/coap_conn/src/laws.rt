@@ -4,7 +4,7 @@ ghost use Rattle.std.specs.Prelude.{◌≡◌, ℕ, ◌+◌, ◌<◌, ◌≤◌,
 ghost use Rattle.std.specs.List.{AllByRecursion, list_any};
 ghost use Rattle.coap_wire.specs.Message.{Message};
 ghost use Rattle.coap_conn.specs.LinkValue.{own_csm};
-ghost use Rattle.coap_conn.specs.Announced.{bad_csm_option, has_critical_option, announcement, announced};
+ghost use Rattle.coap_conn.specs.Announced.{bad_csm_option, has_critical_option, announcement, announced, token_announcement, announced_token};
 ghost use Rattle.coap_conn.specs.Fit.{AllFit};
 ghost use Rattle.coap_conn.specs.Limits.{LimitValues, AreInRange};
 ghost use Rattle.coap_conn.specs.History.{History, AnnouncedFirst, link_of, new_history, limit_now, standing_now, after, after_send, asking_now, after_asking};
@@ -25,11 +25,16 @@ ghost use Rattle.coap_conn.specs.declared.phase.Role.{Role};
 ghost use Rattle.coap_conn.specs.declared.reason.Reason.{Reason};
 
 /// The greatest message that the peer takes is the one that it announced last, and 1,152 bytes where it announced none
-/// (RFC 8323 section 5.3.1).
+/// (RFC 8323 section 5.3.1). The longest token is the one that it told last, and 8 bytes where it told none (RFC 8974
+/// section 2.2.1).
 pub fn last_announcement_counts()
     ensures none { (ms : List Message) → AllByRecursion (λ m. announcement m ≡ None) ms → announced ms ≡ 1152 }
     ensures last { (before after : List Message) (m : Message) (n : ℕ) → announcement m ≡ Some n →
         AllByRecursion (λ m. announcement m ≡ None) after → announced (before ++ m ∷ after) ≡ n }
+    ensures no_token { (ms : List Message) → AllByRecursion (λ m. token_announcement m ≡ None) ms →
+        announced_token ms ≡ 8 }
+    ensures last_token { (before after : List Message) (m : Message) (n : ℕ) → token_announcement m ≡ Some n →
+        AllByRecursion (λ m. token_announcement m ≡ None) after → announced_token (before ++ m ∷ after) ≡ n }
 {}
 
 /// Whatever is queued is at most as great as the peer takes at that moment, and as our greatest message.

@@ -6,6 +6,7 @@ mod holding;
 mod sending;
 
 use crate::asked::Asked;
+use crate::csm::BASE_TOKEN;
 use crate::limits::Limits;
 use crate::messages::announce;
 use crate::pending::Pending;
@@ -27,6 +28,7 @@ pub struct Link {
     phase: Phase,
     own_max: usize,
     peer_max: u32,
+    peer_token: u32,
     pending: Pending,
     asked: Asked,
     tokens: u64,
@@ -82,6 +84,7 @@ impl Link {
             phase: Phase::Waiting,
             own_max: limits.max_message(),
             peer_max: BASE_SIZE,
+            peer_token: BASE_TOKEN,
             pending,
             asked,
             tokens: tokens_from,
@@ -155,6 +158,13 @@ impl Link {
         ensures { result ≡ self.now.peer_max }
     {
         self.peer_max
+    }
+
+    /// The bytes of the longest token that the peer takes, as it told it last, or 8 (RFC 8974 section 2.2.1).
+    pub fn peer_token(&self) -> u32
+        ensures { result ≡ self.now.peer_token }
+    {
+        self.peer_token
     }
 
     /// How many answers and Pongs are held.

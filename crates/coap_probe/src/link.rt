@@ -1,7 +1,7 @@
 //! Links: `= link ROLE` and the six limits, and then `hear MESSAGE`, `reply MESSAGE`, `request MESSAGE plain` (or
 //! `observe`), `cancel MESSAGE`, `ping - plain` (or `custody`), `hold TOKEN MOMENT`, `due - MOMENT`, `release`, `reject
-//! - FAULT`, `end - cut` or `end - whole`, `announce - SIZE`, `write - COUNT`, `count`, `part` and `look`. Answers are
-//! told as Debug has them.
+//! - FAULT`, `end - cut` or `end - whole`, `announce - SIZE`, `write - COUNT`, `count`, `token`, `part` and `look`.
+//! Answers are told as Debug has them.
 
 use crate::limits::limits_of;
 use coap_conn::{Link, Phase, Reject, Role};
@@ -158,6 +158,10 @@ fn act(link: &mut Link, word: &str, bytes: &[u8], last: &str, told: &mut Told) {
         "count" => {
             let (pending, outstanding) = (link.pending(), link.outstanding());
             let _ = write!(told, "pending {pending} outstanding {outstanding} ");
+        }
+        "token" => {
+            told.word("token");
+            told.number(u64::from(link.peer_token()));
         }
         "part" => told.hex(link.next_part()),
         "look" => told.word("-"),

@@ -14,7 +14,7 @@ ghost use Rattle.coap_conn.specs.Calls as call;
 ghost use Rattle.coap_conn.specs.LinkViews.{verdict_value};
 
 use super::Link;
-use crate::csm::{announced_size, asks_custody, has_critical_option};
+use crate::csm::{announced_size, announced_token, asks_custody, has_critical_option};
 use crate::messages::bare_of;
 use crate::pending::Held;
 use crate::phase::{Phase, Reject, Role, Verdict};
@@ -96,6 +96,9 @@ impl Link {
             Ok(size) => {
                 if let Some(bytes) = size {
                     self.peer_max = bytes;
+                }
+                if let Some(length) = announced_token(message) {
+                    self.peer_token = length;
                 }
                 self.open_now()
             }

@@ -1,0 +1,10 @@
+use Rattle.std.proofs.Common.{rules, tests}
+use Rattle.std.proofs.lemmas.Iterator.Consumers.{YieldsList-from_first}
+use Rattle.std.proofs.lemmas.Iterator.Search.{find_from_yields_List}
+use Rattle.coap_wire.specs.Views.{coap_option}
+use Rattle.coap_conn.specs.Announced.{is_token_length}
+use Rattle.coap_conn.proofs.csm.first_token_length.Goals as goal
+
+pub returns : goal.returns
+returns c =
+    find_from_yields_List is_token_length _ _ c.find.result c.find.ensures.ran (YieldsList-from_first coap_option (λ os. os) _ c.options.ensures.all) (λ x b q k. search (rules, tests))
