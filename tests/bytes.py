@@ -22,7 +22,8 @@ from concurrent.futures import ProcessPoolExecutor
 
 # The greatest message that the server takes here, and its own Capabilities and Settings.
 GREATEST = 1_152
-OWN = "30e1220480"
+GREATEST_TOKEN = 64
+OWN = "50e12204804140"
 WORDS = ["--script", "-", "--max-message", str(GREATEST)]
 
 SETTINGS = bytes.fromhex("00e1")
@@ -62,26 +63,30 @@ class Stop(Exception):
 
 
 def spelled(code, token=b"", options=b"", payload=b""):
-    """A message of fewer than 269 bytes of options and payload (RFC 8323 section 3.2)."""
+    """A message of fewer than 269 bytes of options and payload (RFC 8323 section 3.2, RFC 8974 section 2.1)."""
     body = options + (b"\xff" + payload if payload else b"")
+    nibble, behind = (len(token), b"") if len(token) < 13 else (13, bytes([len(token) - 13]))
     if len(body) < 13:
-        return bytes([len(body) << 4 | len(token), code]) + token + body
-    return bytes([13 << 4 | len(token), len(body) - 13, code]) + token + body
+        return bytes([len(body) << 4 | nibble, code]) + behind + token + body
+    return bytes([13 << 4 | nibble, len(body) - 13, code]) + behind + token + body
 
 
 def front_size(stream):
-    """The size of the message at the front of a stream, or None where bytes of its length are missing (RFC 8323 section 3.2)."""
-    length, token = stream[0] >> 4, stream[0] & 15
-    if token > 8:
+    """The size of the message at the front of a stream, or None where bytes that state it are missing (RFC 8323 section 3.2, RFC 8974
+    section 2.1)."""
+    if stream[0] & 15 == 15:
         raise Stop(TOKEN_LENGTH, taken=1)
-    if length < 13:
-        return 2 + length + token
-    count, base = {13: (1, 13), 14: (2, 269), 15: (4, 65_805)}[length]
-    if len(stream) <= count:
+    count, base = {13: (1, 13), 14: (2, 269), 15: (4, 65_805)}.get(stream[0] >> 4, (0, stream[0] >> 4))
+    more, least = {13: (1, 13), 14: (2, 269)}.get(stream[0] & 15, (0, stream[0] & 15))
+    stated = 1 + count + (1 + more if more else 0)
+    if len(stream) < stated:
         return None
-    size = 2 + count + token + base + int.from_bytes(stream[1 : 1 + count], "big")
+    token = least + int.from_bytes(stream[2 + count : 2 + count + more], "big")
+    if token > GREATEST_TOKEN:
+        raise Stop(TOKEN_LENGTH, taken=stated)
+    size = 2 + count + more + token + base + int.from_bytes(stream[1 : 1 + count], "big")
     if size > GREATEST:
-        raise Stop(TOO_LARGE, taken=1 + count)
+        raise Stop(TOO_LARGE, taken=stated)
     return size
 
 
@@ -98,7 +103,8 @@ def extended(nibble, rest):
 def parts_of(frame):
     """The code, the token and the options of a message; its payload is not looked at (RFC 8323 section 3.2, RFC 7252 section 3.1)."""
     begin = 1 + {13: 1, 14: 2, 15: 4}.get(frame[0] >> 4, 0)
-    code, token, rest = frame[begin], frame[begin + 1 : begin + 1 + (frame[0] & 15)], frame[begin + 1 + (frame[0] & 15) :]
+    length, behind = extended(frame[0] & 15, frame[begin + 1 :])
+    code, token, rest = frame[begin], behind[:length], behind[length:]
     options, number = [], 0
     while rest and rest[0] != 0xFF:
         first = rest[0]

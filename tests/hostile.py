@@ -145,8 +145,9 @@ async def too_long(peer, number, over):
 
 
 async def long_token(peer, number, over):
-    """A token length of 9 to 15."""
-    await peer.send(PEER_SETTINGS + bytes([9 + number % 7]) + GET_ROOT)
+    """A token length of nibble 15, or a token of 65 bytes and more."""
+    head = [b"\x0f", b"\x0d\x01\x34", b"\x0e\x01\x00\x00"][number % 3]
+    await peer.send(PEER_SETTINGS + head + GET_ROOT)
     return await peer.rest(), aborted("bad token length")
 
 
@@ -220,9 +221,10 @@ def earned(stream):
     """The text of the Abort that a stream earns, or nothing where it earns none. Signalling is not looked into."""
     is_open = False
     while stream:
-        if stream[0] & 15 > 8:
+        try:
+            size = messages.length_of(stream)
+        except messages.Malformed:
             return "bad token length"
-        size = messages.length_of(stream)
         if size is not None and size > GREATEST:
             return "message too large"
         if size is None or len(stream) < size:

@@ -1,4 +1,4 @@
-"""Reads CoAP messages over a reliable transport (RFC 8323 section 3.2) and tells what they mean.
+"""Reads CoAP messages over a reliable transport (RFC 8323 section 3.2, RFC 8974 section 2.1) and tells what they mean.
 
 It shares no line with the programs, so that what they write is read by somebody else.
 """
@@ -14,7 +14,7 @@ CODES = {
 }
 
 SIGNAL_OPTIONS = {
-    (0xE1, 2): "Max-Message-Size", (0xE1, 4): "Block-Wise-Transfer",
+    (0xE1, 2): "Max-Message-Size", (0xE1, 4): "Block-Wise-Transfer", (0xE1, 6): "Extended-Token-Length",
     (0xE2, 2): "Custody", (0xE3, 2): "Custody",
     (0xE4, 2): "Alternative-Address", (0xE4, 4): "Hold-Off",
     (0xE5, 2): "Bad-CSM-Option",
@@ -36,19 +36,34 @@ class Malformed(Exception):
     """The bytes spell no message."""
 
 
+# The bytes that extend a nibble and what is added to their number, and the longest token that is taken (RFC 8974 section 2.1).
+EXTENSIONS = {13: (1, 13), 14: (2, 269)}
+GREATEST_TOKEN = 64
+
+
+def token_at(nibble, behind):
+    """The length of a token, where behind the code stands `behind`."""
+    extension, least = EXTENSIONS.get(nibble, (0, nibble))
+    return least + int.from_bytes(behind[:extension], "big")
+
+
 def length_of(stream):
     """The size that the first bytes of `stream` declare, or None where bytes are missing."""
     if not stream:
         return None
-    nibble, token = stream[0] >> 4, stream[0] & 15
-    if token > 8:
-        raise Malformed("token length %d" % token)
+    nibble, token_nibble = stream[0] >> 4, stream[0] & 15
+    if token_nibble == 15:
+        raise Malformed("token length of nibble 15")
     extension = {13: 1, 14: 2, 15: 4}.get(nibble, 0)
-    if len(stream) < 1 + extension:
+    code, behind = 1 + extension, EXTENSIONS.get(token_nibble, (0, 0))[0]
+    if len(stream) < (code + 1 + behind if behind else code):
         return None
+    token = token_at(token_nibble, stream[code + 1:])
+    if token > GREATEST_TOKEN:
+        raise Malformed("token length %d" % token)
     number = int.from_bytes(stream[1:1 + extension], "big")
     length = number + {13: 13, 14: 269, 15: 65805}[nibble] if extension else nibble
-    return 1 + extension + 1 + token + length
+    return code + 1 + behind + token + length
 
 
 def split(stream):
@@ -76,9 +91,11 @@ def number_of(nibble, bytes_left):
 
 def parse(frame):
     """Code, token, options (number, value) and payload of a frame."""
-    nibble, token_length = frame[0] >> 4, frame[0] & 15
+    nibble, token_nibble = frame[0] >> 4, frame[0] & 15
     at = 1 + {13: 1, 14: 2, 15: 4}.get(nibble, 0)
     code, at = frame[at], at + 1
+    token_length = token_at(token_nibble, frame[at:])
+    at += EXTENSIONS.get(token_nibble, (0, 0))[0]
     token, rest = frame[at:at + token_length], frame[at + token_length:]
     options, number = [], 0
     while rest and rest[0] != 0xFF:
@@ -98,7 +115,7 @@ def parse(frame):
 def tell_option(code, number, value):
     """What one option means in a message with this code."""
     if code >> 5 == 7:
-        name, is_number = SIGNAL_OPTIONS.get((code, number), "option %d" % number), number == 2 and code == 0xE1
+        name, is_number = SIGNAL_OPTIONS.get((code, number), "option %d" % number), number in (2, 6) and code == 0xE1
     else:
         name, is_number = OPTIONS.get(number, ("option %d" % number, False))
     if is_number:

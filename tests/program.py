@@ -13,7 +13,7 @@ import tempfile
 
 ROOT = os.path.dirname(os.path.dirname(os.path.abspath(__file__)))
 
-CSM = "40e123010000"
+CSM = "60e1230100004140"
 
 
 def run(program, words, stream=b"", stdin=None, stdout=subprocess.PIPE):
@@ -199,7 +199,7 @@ CLIENT_HELP = (
 
 # the words before --stdio, what is sent, and what is answered behind our Capabilities and Settings
 STDIO_WORDS = [
-    (["--max-message", "1152"], "00e1", "30e1220480", ""),
+    (["--max-message", "1152"], "00e1", "50e12204804140", ""),
     (["-d", "1"], "00e1410301b161ff78210102b161", CSM, "0141014145024101ff78"),
     (["--pending", "0"], "00e1610105b56173796e63", CSM, "01a305"),
     (["--observers", "0", "-d", "1"], "00e1410301b161ff78310102605161", CSM, "0141014145024101ff78"),

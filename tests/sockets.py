@@ -70,6 +70,28 @@ def check_requests(checks, programs):
         checks.same("/time is the seconds since 1970", abs(int(told[1] or 0) - started) <= 2, True)
 
 
+def asked_by(length):
+    """A GET of the root with a token of so many bytes behind Capabilities and Settings, and all that a server says to it."""
+    token = bytes(range(100, 100 + length))
+    nibble, extension = (length, b"") if length < 13 else (13, bytes([length - 13]))
+    sent = bytes.fromhex("00e1") + bytes([nibble, 1]) + extension + token
+    return sent, bytes.fromhex(CSM) + bytes([10 << 4 | nibble, 0x45]) + extension + token + bytes.fromhex(GREETING)
+
+
+def check_tokens(checks, programs):
+    """Requests with long tokens are answered with them, and one whose token is too long by an Abort (RFC 8974 section 2.1)."""
+    with Server(programs.server) as server:
+        for length in (8, 9, 12, 13, 64):
+            with server.connect() as peer:
+                sent, wanted = asked_by(length)
+                peer.sendall(sent)
+                checks.same("a token of %d bytes" % length, read_bytes(peer, len(wanted)), wanted)
+        with server.connect() as peer:
+            # Capabilities and Settings, and the message up to the byte that states its token's length
+            peer.sendall(asked_by(65)[0][:5])
+            checks.same("a token of 65 bytes", read_to_end(peer), (bytes.fromhex(CSM + ABORTS["bad token length"]), "the end"))
+
+
 def check_observers(checks, programs):
     """Notifications as the moment goes on, and as another connection changes a resource."""
     with Server(programs.server, ["-d", "16"]) as server:
@@ -351,7 +373,7 @@ class Programs:
 
 
 CHECKS = [
-    check_requests, check_observers, check_bodies, check_connecting, check_ended, check_silent, check_address, check_files, check_close,
+    check_requests, check_tokens, check_observers, check_bodies, check_connecting, check_ended, check_silent, check_address, check_files, check_close,
     check_flooded_client, check_addresses, check_closed, check_urgent,
 ]
 

@@ -4,7 +4,7 @@ Bytes in a row are hex digits, and beside these, one behind the other in one wor
     -                         no bytes, alone
     ff+3*7879+00              parts with `+` between them; a count and `*` before what is repeated
     'coap+tcp'                the bytes of a text
-    (GET /time observe 0)     a message in words, spelled as RFC 8323 section 3.2 has it
+    (GET /time observe 0)     a message in words, spelled as RFC 8323 section 3.2 and RFC 8974 section 2.1 have it
 
 A message in words is its code (`GET`, `CSM`, `2.05`), `token HEX`, its options, and behind ` | ` its payload. A path `/a/b` is two
 options Uri-Path, and `/` is none. An option is a name and, but for those that are always empty, its value: a number, a text between
@@ -26,7 +26,7 @@ OPTIONS = {
     "proxy-scheme": (39, False), "size1": (60, True),
     # those of signalling messages
     "max-message-size": (2, True), "custody": (2, None), "block-wise-transfer": (4, None), "alternative-address": (2, False),
-    "hold-off": (4, True), "bad-csm-option": (2, True),
+    "hold-off": (4, True), "bad-csm-option": (2, True), "extended-token-length": (6, True),
 }
 
 
@@ -36,7 +36,8 @@ def uint(number):
 
 
 def nibble(value):
-    """The nibble of a delta or a length in an option's first byte, and its extension (RFC 7252 section 3.1)."""
+    """The nibble of a delta or a length in an option's first byte, or of a token's length, and its extension (RFC 7252 section 3.1, RFC
+    8974 section 2.1)."""
     if value < 13:
         return value, b""
     if value < 269:
@@ -61,7 +62,8 @@ def encoded(code, token, options, payload):
         head, more = 14, (size - 269).to_bytes(2, "big")
     else:
         head, more = 15, (size - 65_805).to_bytes(4, "big")
-    return bytes([head << 4 | len(token)]) + more + bytes([code]) + token + body
+    token_head, behind_code = nibble(len(token))
+    return bytes([head << 4 | token_head]) + more + bytes([code]) + behind_code + token + body
 
 
 def code_of(word):

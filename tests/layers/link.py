@@ -30,8 +30,8 @@ LIMITS = {
 
 # What a link queues first, and that it is written.
 FIRST = {
-    "small": ("look => - Waiting 1152 1147 unready unfinished 30e1220480", "write 5 => - Waiting 1152 1152 ready unfinished -"),
-    "usual": ("look => - Waiting 1152 131066 ready unfinished 40e123010000", "write 6 => - Waiting 1152 131072 ready unfinished -"),
+    "small": ("look => - Waiting 1152 1145 unready unfinished 50e12204804140", "write 7 => - Waiting 1152 1152 ready unfinished -"),
+    "usual": ("look => - Waiting 1152 131064 ready unfinished 60e1230100004140", "write 8 => - Waiting 1152 131072 ready unfinished -"),
 }
 
 FREE = {"small": 1_152, "usual": 131_072}

@@ -33,7 +33,7 @@ DEVICES = {"by": ALL, "cut": 0, "cut-again": 0, "read-fails": ALL, "taking": ALL
 LIMITS = {"max": 65536, "sent": 65536, "queue": 131072, "pending": 16, "observers": 16, "outstanding": 16, "connections": 16, "dynamic": 0,
           "rep": 65000, "turns": 10**12, "moment": 0, "versions": 0, "ids": 0}
 
-OWN = bytes.fromhex("40e123010000")
+OWN = bytes.fromhex("60e1230100004140")
 
 
 @dataclass

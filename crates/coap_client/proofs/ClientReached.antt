@@ -178,7 +178,7 @@ module _ (h : History) (is : IsHistory h) (live : takes_messages h.phase ≡ tru
   taken_found : (f : Framing) (found : Finding) → (found ≡ Nothing → f.kept ≡ kept ++ bytes) → IsTaken h (taking_found (shown h kept) f found) f.taken (steps_found found) (added_by kept bytes found)
   taken_found f Nothing all = taken_nothing f (all refl)
   taken_found f (AFrame frame) all = taken_read f.taken frame (message_of frame)
-  taken_found f (AFault fault) all = taken_fault f.taken (OfFrame fault) (fault_bytes fault (kept ++ bytes))
+  taken_found f (AFault fault) all = taken_fault f.taken (OfFrame fault) (fault_bytes (kept ++ bytes))
 
 -- ---- what accepted calls lead to
 

@@ -21,7 +21,7 @@ use Rattle.coap_conn.specs.History.{History, IsHistory, new_history, limit_now, 
 use Rattle.coap_conn.specs.LinkValue.{bytes_of}
 use Rattle.coap_conn.specs.Calls.{end_reason}
 use Rattle.coap_conn.specs.Calls as call
-use Rattle.coap_conn.proofs.SmallLemmas.{csm_bytes_small}
+use Rattle.coap_conn.proofs.SmallLemmas.{first_csm_bytes_small}
 use Rattle.coap_conn.proofs.AskingLaws.{none_where, asked_size, cancel_size}
 use Rattle.coap_conn.proofs.AskedLaws.{asked_no_more, asked_few}
 use Rattle.coap_conn.proofs.HistoryLaws.{reaction_fits, stopped_fits}
@@ -188,7 +188,7 @@ module _ (limits : LimitValues) (tokens : ℕ) where
 
   none_wait : AreInRange limits → FewWait []
   none_wait ranges =
-      omega (arith, ap (λ (h : History). wait h) (client_first limits tokens), csm_bytes_small limits.max_message, ranges.sent_low, ranges.queue_low)
+      omega (arith, ap (λ (h : History). wait h) (client_first limits tokens), first_csm_bytes_small limits.max_message, ranges.sent_low, ranges.queue_low)
 
   module _ (calls : List ClientCall) (all : AreAccepted limits tokens calls) (few : FewWait calls) where
     abbrev now : History

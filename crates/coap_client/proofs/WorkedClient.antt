@@ -88,7 +88,7 @@ response code token = record { code = code; token = token; options = []; payload
 
 -- our Capabilities and Settings were written
 abbrev drained : List ClientCall
-drained = Wrote 5 ∷ []
+drained = Wrote 7 ∷ []
 
 all_drained : waits drained ≡ []
 unfolding waits
@@ -234,9 +234,14 @@ unfolding told
 nothing_taken = refl
 
 -- a fault in the bytes is a stop too, told at its byte
-is_fault : told (pinged ++ Took (hex "09") ∷ []) ≡ None ∷ Some value.Ready ∷ None ∷ Some (value.Stopped reason.TokenLength) ∷ []
+is_fault : told (pinged ++ Took (hex "0f") ∷ []) ≡ None ∷ Some value.Ready ∷ None ∷ Some (value.Stopped reason.TokenLength) ∷ []
 unfolding told
 is_fault = refl
+
+-- a response with a token of 13 bytes answers nothing
+long_token_is_stranger : told (asked ++ Took (hex "0d450011111111111111111111111111") ∷ []) ≡ None ∷ Some value.Ready ∷ None ∷ Some value.Stranger ∷ []
+unfolding told
+long_token_is_stranger = refl
 
 -- the calls that a client accepts
 all_accepted : AreAccepted narrow 0 answered

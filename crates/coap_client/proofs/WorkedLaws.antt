@@ -75,15 +75,15 @@ unfolding bytes_computed calls_computed
 none_taken = refl
 
 -- and all of a message once they are written
-then_taken : takes narrow 0 (Wrote 5 ∷ []) (0 ∷ 225 ∷ 0 ∷ []) ≡ 2
+then_taken : takes narrow 0 (Wrote 7 ∷ []) (0 ∷ 225 ∷ 0 ∷ []) ≡ 2
 unfolding bytes_computed calls_computed
 then_taken = refl
 
 -- ---- a fault
 
--- a token length of 9 stops the connection, and then nothing more is taken and nothing is kept
+-- a token length of nibble 15 stops the connection, and then nothing more is taken and nothing is kept
 abbrev faulty : List ClientCall
-faulty = Took (0 ∷ 225 ∷ []) ∷ Took (9 ∷ []) ∷ []
+faulty = Took (0 ∷ 225 ∷ []) ∷ Took (15 ∷ []) ∷ []
 
 fault_accepted : AreAccepted limits 0 faulty
 unfolding bytes_computed calls_computed

@@ -33,8 +33,8 @@ abbrev pub event_value : Event → EventValue
 event_value Ready = value.Ready
 event_value (Response m) = value.Response m
 event_value (Notification m) = value.Notification m
-event_value (Rejected token number) = value.Rejected token.items number
-event_value (Pong token custody) = value.Pong token.items custody
+event_value (Rejected token number) = value.Rejected token number
+event_value (Pong token custody) = value.Pong token custody
 event_value Stranger = value.Stranger
 event_value (Stopped why) = value.Stopped why
 

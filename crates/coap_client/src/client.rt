@@ -18,7 +18,7 @@ use crate::request::{Extras, Method, cancellation, formats_of, request};
 use crate::target::Target;
 use coap_conn::{Limits, Link, Phase, Reason, Reject, RequestFault, Role, Verdict};
 use coap_frame::Framer;
-use coap_wire::{MessageRef, Token, copy_of, parse};
+use coap_wire::{MessageRef, Token, TokenRef, parse};
 use std::alloc::{AllocError, Global};
 use std::marker::Model;
 
@@ -34,15 +34,15 @@ pub enum Event<'a> {
     /// A response to a request or an observation, which is ended by it, with a critical option that is not recognised
     /// (RFC 7252 section 5.4.1).
     Rejected {
-        /// The request's token.
-        token: Token,
+        /// The request's token, where it lies in the response.
+        token: TokenRef<'a>,
         /// The number of the first such option.
         number: u16,
     },
     /// The Pong to a Ping (RFC 8323 section 5.4).
     Pong {
-        /// The Ping's token.
-        token: Token,
+        /// The Ping's token, where it lies in the Pong.
+        token: TokenRef<'a>,
         /// Whether it has Custody.
         custody: bool,
     },
@@ -395,7 +395,7 @@ fn answer<'a>(message: MessageRef<'a>, last: bool) -> Event<'a>
 {
     if let Some(number) = message.first_critical() {
         return Event::Rejected {
-            token: copy_of(message.token()),
+            token: message.token().again(),
             number,
         };
     }
@@ -412,7 +412,7 @@ fn pong_in<'a>(frame: &'a [u8], custody: bool) -> Option<Event<'a>>
 {
     match parse(frame) {
         Ok(message) => Some(Event::Pong {
-            token: copy_of(message.token()),
+            token: message.token().again(),
             custody,
         }),
         Err(_) => None,

@@ -11,7 +11,7 @@ ghost use Rattle.coap_client.specs.TargetViews.{IsShort, byte_lists};
 use crate::target::Target;
 use arrayvec::ArrayVec;
 use coap_wire::option_numbers::{ACCEPT, CONTENT_FORMAT, OBSERVE, URI_HOST, URI_PATH, URI_QUERY};
-use coap_wire::{Builder, Code, OptionRef, Token, UintBytes, uint_bytes};
+use coap_wire::{Builder, Code, OptionRef, TokenRef, UintBytes, uint_bytes};
 
 /// The most options of a request: Uri-Host, Observe, 16 Uri-Path, Content-Format, 16 Uri-Query, Accept and one more.
 const MAX_OPTIONS: usize = 37;
@@ -323,7 +323,7 @@ fn built<'a>(code: Code, options: &[OptionRef<'a>]) -> Builder<'a>
     requires few { length options.now ≤ 37 }
     ensures { result ≡ record { code = code; token = []; options = coap_options options.now; payload = [] } }
 {
-    let mut message = Builder::new(code, &Token::new());
+    let mut message = Builder::to(code, TokenRef::empty());
     for option in options {
         add(&mut message, option.number, option.value);
     }

@@ -37,7 +37,7 @@ pub(crate) fn opened(alloc: Global, text: &str) -> Option<Result<Client, AllocEr
 fn tell_message(message: &MessageRef, told: &mut Told) {
     let code = message.code();
     let _ = write!(told, "{}.{:02} ", code.class(), code.detail());
-    told.hex(message.token().as_slice());
+    told.hex(message.token().bytes());
     told.hex(message.payload());
 }
 
@@ -55,12 +55,12 @@ pub(crate) fn tell_event(event: &Event, told: &mut Told) {
         }
         Event::Rejected { token, number } => {
             told.word("rejected");
-            told.hex(token.as_slice());
+            told.hex(token.bytes());
             told.number(u64::from(*number));
         }
         Event::Pong { token, custody } => {
             told.word("pong");
-            told.hex(token.as_slice());
+            told.hex(token.bytes());
             told.word(if *custody { "true" } else { "false" });
         }
         Event::Stranger => told.word("stranger"),

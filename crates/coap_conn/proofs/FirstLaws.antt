@@ -9,13 +9,13 @@ use Rattle.coap_conn.specs.Verdicts as verdict
 use Rattle.coap_wire.specs.Codes as code
 use Rattle.coap_conn.specs.Phases.{stop_of, is_waiting}
 use Rattle.coap_conn.specs.Reaction.{Standing, Reaction, live_reaction, react, csm_reaction, is_reserved}
-use Rattle.coap_conn.specs.LinkValue.{own_csm}
+use Rattle.coap_conn.specs.LinkValue.{own_csm, first_csm}
 use Rattle.coap_conn.specs.Calls.{Call, Deed, Handles, Does, Holds, Asks, Announces, Writes, Doing, doing}
 use Rattle.coap_conn.specs.History.{History, AnnouncedFirst, link_of, with_deed, after}
 use Rattle.coap_conn.proofs.RequestLemmas.{react_live, react_asks}
 
 -- whatever is queued later stands behind
-pub first_stays : (h : History) (more : List Message) → AnnouncedFirst h → (others : List Message) × (h.queued ++ more ≡ own_csm h.limits.max_message ∷ others)
+pub first_stays : (h : History) (more : List Message) → AnnouncedFirst h → (others : List Message) × (h.queued ++ more ≡ first_csm h.limits.max_message ∷ others)
 first_stays h more first = (first.0 ++ more, ap (λ (q : List Message). q ++ more) first.1)
 
 -- and where nothing is queued

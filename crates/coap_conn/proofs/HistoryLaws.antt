@@ -26,7 +26,7 @@ use Rattle.coap_conn.specs.History.{History, new_history, limit_now, standing_no
 use Rattle.coap_conn.specs.Calls.{release}
 use Rattle.coap_conn.proofs.AskingLaws.{asked_size, cancel_size}
 use Rattle.coap_conn.proofs.LinkLemmas.{announced_none}
-use Rattle.coap_conn.proofs.SmallLemmas.{csm_small, release_small}
+use Rattle.coap_conn.proofs.SmallLemmas.{first_csm_small, release_small}
 
 -- ---- the last announcement
 
@@ -142,7 +142,7 @@ react_fit s m = unless_fit s m (stop_of s.phase)
 pub new_fits : (role : Role) (limits : LimitValues) (tokens : ℕ) → AreInRange limits → AllFit (limit_now (new_history role limits tokens)) (new_history role limits tokens).queued
 new_fits role limits tokens ranges =
     let low = ranges.sent_low in
-    (omega (arith, low, csm_small limits.max_message, ap (λ (n : ℕ). min limits.max_sent n) announced_none), tt)
+    (omega (arith, low, first_csm_small limits.max_message, ap (λ (n : ℕ). min limits.max_sent n) announced_none), tt)
 
 pub reaction_fits : (h : History) (m : Message) → AllFit (limit_now h) (react (standing_now h) m).effect.queued
 reaction_fits h m = react_fit (standing_now h) m

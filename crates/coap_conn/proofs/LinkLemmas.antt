@@ -14,7 +14,7 @@ use Rattle.coap_conn.specs.Announced.{announcement, announced, token_announcemen
 use Rattle.coap_conn.specs.Held.{HeldValue}
 use Rattle.coap_conn.specs.Outstanding.{OutstandingValue}
 use Rattle.coap_conn.specs.Reaction.{Effect}
-use Rattle.coap_conn.specs.LinkValue.{LinkValue, bytes_of, own_csm, new_link, link_with}
+use Rattle.coap_conn.specs.LinkValue.{LinkValue, bytes_of, own_csm, first_csm, new_link, link_with}
 use Rattle.coap_conn.specs.Calls.{Call, Deed, Handles, Does, Holds, Asks, Announces, Writes, doing, link_with_deed, link_after, IsWithin}
 use Rattle.coap_conn.specs.History.{History, IsHistory, LinkShows, link_of, new_history, with_effect, with_deed, after}
 
@@ -123,8 +123,8 @@ done_shown new h false d same is within = record { is_history = is; same = same 
 pub new_shown : (role : Role) (limits : LimitValues) (tokens : ℕ) (new : LinkValue) → new ≡ new_link role limits tokens → LinkShows new (new_history role limits tokens)
 new_shown role limits tokens new is = record {
   is_history = omega arith;
-  same = is ∙ ap (λ (n : ℕ). link_at (new_history role limits tokens) (bytes_of (own_csm limits.max_message ∷ [])) (new_history role limits tokens).phase [] [] n 8) (sym announced_none)
-      ∙ ap (link_at (new_history role limits tokens) (bytes_of (own_csm limits.max_message ∷ [])) (new_history role limits tokens).phase [] [] (announced [])) (sym token_none);
+  same = is ∙ ap (λ (n : ℕ). link_at (new_history role limits tokens) (bytes_of (first_csm limits.max_message ∷ [])) (new_history role limits tokens).phase [] [] n 8) (sym announced_none)
+      ∙ ap (link_at (new_history role limits tokens) (bytes_of (first_csm limits.max_message ∷ [])) (new_history role limits tokens).phase [] [] (announced [])) (sym token_none);
 }
 
 -- a link that shows a history shows after any call what the history is after it

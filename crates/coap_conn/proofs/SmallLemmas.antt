@@ -4,12 +4,12 @@ use Rattle.std.specs.Int.{w64, to_be_bytes}
 use Rattle.std.proofs.lemmas.Bool.{cond_both}
 use Rattle.std.proofs.lemmas.List.{append-nil, length-append}
 use Rattle.coap_wire.specs.Message.{CoapOption, Message}
-use Rattle.coap_wire.specs.Forms.{length_form, option_form}
+use Rattle.coap_wire.specs.Forms.{length_form, option_form, token_form}
 use Rattle.coap_wire.specs.Spelling.{spelling, option_spelling, body_spelling, head_spelling}
 use Rattle.coap_wire.specs.Uint.{bytes_of_uint, without_leading_zeros}
 use Rattle.coap_wire.specs.Codes as code
 use Rattle.coap_conn.specs.SignalOptions as option
-use Rattle.coap_conn.specs.LinkValue.{own_csm}
+use Rattle.coap_conn.specs.LinkValue.{own_csm, own_token_length, first_csm}
 use Rattle.coap_conn.specs.Calls.{release}
 
 abbrev IsShort : ℕ → ℕ × List ℕ → Type 0
@@ -26,10 +26,12 @@ option_size : (base : ℕ) (o : CoapOption) → length (option_spelling base o) 
 option_size base o =
     omega (arith, option_extension (o.number - base), option_extension (length o.value), length-append (option_form (o.number - base)).1 ((option_form (length o.value)).1 ++ o.value), length-append (option_form (length o.value)).1 o.value)
 
-head_size : (code : ℕ) (token : List ℕ) (n : ℕ) → length (head_spelling code token n) ≤ 6 + length token
-head_size code token n = omega (arith, length_extension n, length-append (length_form n).1 (code ∷ token))
+head_size : (code : ℕ) (token : List ℕ) (n : ℕ) → length (head_spelling code token n) ≤ 8 + length token
+head_size code token n =
+    let extension = (token_form (length token)).1 in
+    omega (arith, length_extension n, option_extension (length token), length-append (length_form n).1 (code ∷ (extension ++ token)), length-append extension token)
 
-one_option : (code : ℕ) (token : List ℕ) (o : CoapOption) → length (spelling (record { code = code; token = token; options = o ∷ []; payload = [] })) ≤ 11 + (length token + length o.value)
+one_option : (code : ℕ) (token : List ℕ) (o : CoapOption) → length (spelling (record { code = code; token = token; options = o ∷ []; payload = [] })) ≤ 13 + (length token + length o.value)
 unfolding spelling
 one_option code token o =
     let m : Message = record { code = code; token = token; options = o ∷ []; payload = [] } in
@@ -44,12 +46,23 @@ pub csm_small : (M : ℕ) → length (spelling (own_csm M)) ≤ 24
 unfolding bytes_of_uint
 csm_small M = omega (arith, one_option code.csm [] (record { number = option.max_message_size; value = bytes_of_uint M }), few_zeros (to_be_bytes w64 M))
 
+pub first_csm_small : (M : ℕ) → length (spelling (first_csm M)) ≤ 32
+unfolding spelling bytes_of_uint
+first_csm_small M =
+    let size : CoapOption = record { number = option.max_message_size; value = bytes_of_uint M } in
+    let body = body_spelling (first_csm M) in
+    let last = option_spelling option.max_message_size own_token_length ++ [] in
+    omega (arith, head_size code.csm [] (length body), option_size 0 size, option_size option.max_message_size own_token_length, few_zeros (to_be_bytes w64 M), length-append (head_spelling code.csm [] (length body)) body, length-append (option_spelling 0 size ++ last) [], length-append (option_spelling 0 size) last, length-append (option_spelling option.max_message_size own_token_length) [])
+
 pub release_small : length (spelling release) ≡ 2
 unfolding spelling
 release_small = refl
 
 pub csm_bytes_small : (M : ℕ) → length (spelling (own_csm M) ++ []) ≤ 24
 csm_bytes_small M = omega (arith, csm_small M, ap (λ (t : List ℕ). length t) (append-nil (spelling (own_csm M))))
+
+pub first_csm_bytes_small : (M : ℕ) → length (spelling (first_csm M) ++ []) ≤ 32
+first_csm_bytes_small M = omega (arith, first_csm_small M, ap (λ (t : List ℕ). length t) (append-nil (spelling (first_csm M))))
 
 pub release_bytes_small : length (spelling release ++ []) ≡ 2
 release_bytes_small = ap (λ (t : List ℕ). length t) (append-nil (spelling release)) ∙ release_small

@@ -72,15 +72,15 @@ abbrev pub first_token_length : Message → Option CoapOption
 first_token_length m = find is_token_length m.options
 
 -- the longest token that a message can have, and of a peer that has told none
-abbrev pub greatest_token : ℕ
-greatest_token = 65804
+abbrev pub longest_stated_token : ℕ
+longest_stated_token = 65804
 
 abbrev pub base_token : ℕ
 base_token = 8
 
 -- What a value tells: one of more than 3 bytes, or of less than the base value, nothing, and one above the longest token that.
 abbrev pub token_length : List ℕ → Option ℕ
-token_length value = if nat_le (length value) 3 && nat_le base_token (uint_of value) then Some (min (uint_of value) greatest_token) else None
+token_length value = if nat_le (length value) 3 && nat_le base_token (uint_of value) then Some (min (uint_of value) longest_stated_token) else None
 
 abbrev pub token_told : Option CoapOption → Option ℕ
 token_told None = None

@@ -10,7 +10,7 @@ use Rattle.coap_conn.specs.Held.{HeldValue}
 use Rattle.coap_conn.specs.Outstanding.{OutstandingValue}
 use Rattle.coap_conn.specs.Asking.{Asking}
 use Rattle.coap_conn.specs.Reaction.{Standing, Effect}
-use Rattle.coap_conn.specs.LinkValue.{LinkValue, bytes_of, own_csm, limit_in, standing_in, asking_in, can_hold}
+use Rattle.coap_conn.specs.LinkValue.{LinkValue, bytes_of, own_csm, first_csm, limit_in, standing_in, asking_in, can_hold}
 use Rattle.coap_conn.specs.Calls.{Call, Deed, Handles, Does, Holds, Asks, Announces, Writes, Doing, doing, sends_one, asks_one}
 
 -- the messages handled and the messages queued, in order, how many bytes of the queued ones were written, how the connection
@@ -28,14 +28,14 @@ pub record History : Type 0 where
   pub outstanding : List OutstandingValue
   pub tokens : ℕ
 
--- the connection begins with our Capabilities and Settings
+-- the connection begins with our first Capabilities and Settings
 abbrev pub new_history : Role → LimitValues → ℕ → History
 new_history role limits tokens =
-    record { role = role; limits = limits; handled = []; queued = own_csm limits.max_message ∷ []; written = 0; phase = Waiting; own_max = limits.max_message; held = []; outstanding = []; tokens = tokens }
+    record { role = role; limits = limits; handled = []; queued = first_csm limits.max_message ∷ []; written = 0; phase = Waiting; own_max = limits.max_message; held = []; outstanding = []; tokens = tokens }
 
--- our Capabilities and Settings are the first message queued
+-- they are the first message queued
 abbrev pub AnnouncedFirst : History → Type 0
-AnnouncedFirst h = (others : List Message) × (h.queued ≡ own_csm h.limits.max_message ∷ others)
+AnnouncedFirst h = (others : List Message) × (h.queued ≡ first_csm h.limits.max_message ∷ others)
 
 -- no more was written than was queued
 abbrev pub IsHistory : History → Type 0

@@ -1,7 +1,8 @@
 -- A link as the code holds it, and what is seen of it.
 use Rattle.std.specs.Prelude.{◌≡◌, ◌⊎◌, ℕ, ◌-◌, ◌<◌, ◌≤◌, ◌^◌, Bool, true, ◌&&◌, List, [], ◌∷◌, ◌++◌, length, unwrap_or, nat_lt, ◌==◌}
 use Rattle.std.specs.List.{flat_map}
-use Rattle.coap_wire.specs.Message.{Message}
+use Rattle.coap_wire.specs.Message.{CoapOption, Message}
+use Rattle.coap_wire.specs.Forms.{greatest_token}
 use Rattle.coap_wire.specs.Spelling.{spelling}
 use Rattle.coap_wire.specs.Uint.{bytes_of_uint}
 use Rattle.coap_wire.specs.Codes as code
@@ -77,7 +78,7 @@ asking_in v = record { phase = v.phase; outstanding = v.outstanding; most = v.li
 abbrev pub bytes_of : List Message → List ℕ
 bytes_of ms = flat_map spelling ms
 
--- our Capabilities and Settings: Max-Message-Size with these bytes, and nothing else (RFC 8323 section 5.3)
+-- our Capabilities and Settings: Max-Message-Size with these bytes, and nothing else (RFC 8323 section 5.3.1)
 abbrev pub csm_with : List ℕ → Message
 csm_with size = record { code = code.csm; token = []; options = record { number = option.max_message_size; value = size } ∷ []; payload = [] }
 
@@ -85,10 +86,21 @@ csm_with size = record { code = code.csm; token = []; options = record { number 
 abbrev pub own_csm : ℕ → Message
 own_csm M = csm_with (bytes_of_uint M)
 
--- a new link: our Capabilities and Settings wait
+-- the longest token that we take, as an option (RFC 8974 section 2.2.1)
+abbrev pub own_token_length : CoapOption
+own_token_length = record { number = option.extended_token_length; value = greatest_token ∷ [] }
+
+-- our first Capabilities and Settings have it too
+abbrev pub first_csm_with : List ℕ → Message
+first_csm_with size = record (csm_with size) { options = (csm_with size).options ++ own_token_length ∷ [] }
+
+abbrev pub first_csm : ℕ → Message
+first_csm M = first_csm_with (bytes_of_uint M)
+
+-- a new link: our first Capabilities and Settings wait
 abbrev pub new_link : Role → LimitValues → ℕ → LinkValue
 new_link role limits tokens =
-    record { role = role; limits = limits; waiting = bytes_of (own_csm limits.max_message ∷ []); phase = Waiting; own_max = limits.max_message; peer_max = base_size; peer_token = base_token; held = []; outstanding = []; tokens = tokens }
+    record { role = role; limits = limits; waiting = bytes_of (first_csm limits.max_message ∷ []); phase = Waiting; own_max = limits.max_message; peer_max = base_size; peer_token = base_token; held = []; outstanding = []; tokens = tokens }
 
 -- an effect
 abbrev pub link_with : LinkValue → Effect → LinkValue

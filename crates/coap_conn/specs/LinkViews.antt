@@ -20,7 +20,7 @@ abbrev pub verdict_value : Verdict → VerdictValue
 verdict_value Opened = value.Opened
 verdict_value Done = value.Done
 verdict_value Request = value.Request
-verdict_value (Answer token last) = value.Answer token.items last
-verdict_value (Pong token custody) = value.Pong token.items custody
+verdict_value (Answer token last) = value.Answer token last
+verdict_value (Pong token custody) = value.Pong token custody
 verdict_value Stranger = value.Stranger
 verdict_value (Stopped why) = value.Stopped why

@@ -7,7 +7,7 @@ ghost use Rattle.coap_conn.specs.Outstanding.{is_asked as asks, is_pinged as pin
 ghost use Rattle.coap_conn.specs.OutstandingViews.{outstanding_value};
 
 use coap_wire::option_numbers::OBSERVE;
-use coap_wire::{MessageRef, Token};
+use coap_wire::{MessageRef, Token, TokenRef};
 use std::alloc::{AllocError, Global};
 use std::marker::Model;
 
@@ -33,37 +33,37 @@ impl Outstanding {
     ghost use Rattle.coap_conn.specs.OutstandingViews.{outstanding_value};
 
     /// Whether a response with this token answers it.
-    fn is_asked(&self, token: &Token) -> bool
-        ensures { result ≡ asks token.now.items (outstanding_value self.now) }
+    fn is_asked(&self, token: &TokenRef) -> bool
+        ensures { result ≡ asks token.now (outstanding_value self.now) }
     {
         match self {
-            Outstanding::Request(asked) => *asked == *token,
-            Outstanding::Observation { token: asked, .. } => *asked == *token,
+            Outstanding::Request(asked) => token.is(asked),
+            Outstanding::Observation { token: asked, .. } => token.is(asked),
             Outstanding::Ping(_) => false,
         }
     }
 
     /// Whether a Pong with this token answers it.
-    fn is_pinged(&self, token: &Token) -> bool
-        ensures { result ≡ pings token.now.items (outstanding_value self.now) }
+    fn is_pinged(&self, token: &TokenRef) -> bool
+        ensures { result ≡ pings token.now (outstanding_value self.now) }
     {
         match self {
             Outstanding::Request(_) => false,
             Outstanding::Observation { .. } => false,
-            Outstanding::Ping(pinged) => *pinged == *token,
+            Outstanding::Ping(pinged) => token.is(pinged),
         }
     }
 
     /// Whether it is an observation with this token that was not cancelled.
-    fn may_cancel(&self, token: &Token) -> bool
-        ensures { result ≡ cancellable token.now.items (outstanding_value self.now) }
+    fn may_cancel(&self, token: &TokenRef) -> bool
+        ensures { result ≡ cancellable token.now (outstanding_value self.now) }
     {
         match self {
             Outstanding::Request(_) => false,
             Outstanding::Observation {
                 token: asked,
                 cancelled,
-            } => *asked == *token && !*cancelled,
+            } => token.is(asked) && !*cancelled,
             Outstanding::Ping(_) => false,
         }
     }
@@ -80,8 +80,8 @@ impl Outstanding {
     }
 
     /// It was cancelled, where it is an observation with this token.
-    fn cancel(&mut self, token: &Token)
-        ensures { outstanding_value self.new ≡ cancelled_by token.now.items (outstanding_value self.old) }
+    fn cancel(&mut self, token: &TokenRef)
+        ensures { outstanding_value self.new ≡ cancelled_by token.now (outstanding_value self.old) }
     {
         match self {
             Outstanding::Request(_) => {}
@@ -89,7 +89,7 @@ impl Outstanding {
                 token: asked,
                 cancelled,
             } => {
-                if *asked == *token {
+                if token.is(asked) {
                     *cancelled = true;
                 }
             }
@@ -169,36 +169,36 @@ impl Asked {
     }
 
     /// Whether a Ping with this token is outstanding.
-    pub(crate) fn has_ping(&self, token: &Token) -> bool
-        ensures { result ≡ list_any (is_pinged token.now.items) self.now.entries }
+    pub(crate) fn has_ping(&self, token: &TokenRef) -> bool
+        ensures { result ≡ list_any (is_pinged token.now) self.now.entries }
     {
         has_ping_in(&self.entries, token)
     }
 
     /// Whether an observation with this token is outstanding and was not cancelled.
-    pub(crate) fn may_cancel(&self, token: &Token) -> bool
-        ensures { result ≡ list_any (cancellable token.now.items) self.now.entries }
+    pub(crate) fn may_cancel(&self, token: &TokenRef) -> bool
+        ensures { result ≡ list_any (cancellable token.now) self.now.entries }
     {
         may_cancel_in(&self.entries, token)
     }
 
     /// The observation with this token was cancelled.
-    pub(crate) fn cancel(&mut self, token: &Token)
-        ensures { self.new ≡ record self.old { entries = with_cancelled token.now.items self.old.entries } }
+    pub(crate) fn cancel(&mut self, token: &TokenRef)
+        ensures { self.new ≡ record self.old { entries = with_cancelled token.now self.old.entries } }
     {
         cancel_in(&mut self.entries, token);
     }
 
     /// The request or observation with this token goes.
-    pub(crate) fn forget_asked(&mut self, token: &Token)
-        ensures { self.new ≡ record self.old { entries = without_asked token.now.items self.old.entries } }
+    pub(crate) fn forget_asked(&mut self, token: &TokenRef)
+        ensures { self.new ≡ record self.old { entries = without_asked token.now self.old.entries } }
     {
         forget_asked_in(&mut self.entries, token);
     }
 
     /// The Ping with this token goes.
-    pub(crate) fn forget_pinged(&mut self, token: &Token)
-        ensures { self.new ≡ record self.old { entries = without_pinged token.now.items self.old.entries } }
+    pub(crate) fn forget_pinged(&mut self, token: &TokenRef)
+        ensures { self.new ≡ record self.old { entries = without_pinged token.now self.old.entries } }
     {
         forget_pinged_in(&mut self.entries, token);
     }
@@ -223,23 +223,23 @@ fn last_in(entries: &[Outstanding], response: &MessageRef) -> Option<bool>
 }
 
 /// Whether one of these is a Ping with this token.
-fn has_ping_in(entries: &[Outstanding], token: &Token) -> bool
-    ensures { result ≡ list_any (pings token.now.items) (map outstanding_value entries.now) }
+fn has_ping_in(entries: &[Outstanding], token: &TokenRef) -> bool
+    ensures { result ≡ list_any (pings token.now) (map outstanding_value entries.now) }
 {
     entries.iter().any(|entry| entry.is_pinged(token))
 }
 
 /// Whether one of these is an observation with this token that was not cancelled.
-fn may_cancel_in(entries: &[Outstanding], token: &Token) -> bool
-    ensures { result ≡ list_any (cancellable token.now.items) (map outstanding_value entries.now) }
+fn may_cancel_in(entries: &[Outstanding], token: &TokenRef) -> bool
+    ensures { result ≡ list_any (cancellable token.now) (map outstanding_value entries.now) }
 {
     entries.iter().any(|entry| entry.may_cancel(token))
 }
 
 /// The observation with this token was cancelled.
-fn cancel_in(entries: &mut Vec<Outstanding>, token: &Token)
+fn cancel_in(entries: &mut Vec<Outstanding>, token: &TokenRef)
     ensures cancelled { map outstanding_value entries.new.items
-        ≡ with_cancelled token.now.items (map outstanding_value entries.old.items) }
+        ≡ with_cancelled token.now (map outstanding_value entries.old.items) }
     ensures as_many { length entries.new.items ≡ length entries.old.items }
     ensures capacity { vec_capacity entries.new ≡ vec_capacity entries.old }
 {
@@ -249,9 +249,9 @@ fn cancel_in(entries: &mut Vec<Outstanding>, token: &Token)
 }
 
 /// All stay but the requests and observations with this token.
-fn forget_asked_in(entries: &mut Vec<Outstanding>, token: &Token)
+fn forget_asked_in(entries: &mut Vec<Outstanding>, token: &TokenRef)
     ensures others { map outstanding_value entries.new.items
-        ≡ without_asked token.now.items (map outstanding_value entries.old.items) }
+        ≡ without_asked token.now (map outstanding_value entries.old.items) }
     ensures fewer { length entries.new.items ≤ length entries.old.items }
     ensures capacity { vec_capacity entries.new ≡ vec_capacity entries.old }
 {
@@ -259,9 +259,9 @@ fn forget_asked_in(entries: &mut Vec<Outstanding>, token: &Token)
 }
 
 /// All stay but the Pings with this token.
-fn forget_pinged_in(entries: &mut Vec<Outstanding>, token: &Token)
+fn forget_pinged_in(entries: &mut Vec<Outstanding>, token: &TokenRef)
     ensures others { map outstanding_value entries.new.items
-        ≡ without_pinged token.now.items (map outstanding_value entries.old.items) }
+        ≡ without_pinged token.now (map outstanding_value entries.old.items) }
     ensures fewer { length entries.new.items ≤ length entries.old.items }
     ensures capacity { vec_capacity entries.new ≡ vec_capacity entries.old }
 {

@@ -12,7 +12,7 @@ use coap_wire::{MessageRef, OptionRef, uint_value};
 pub(crate) const MAX_MESSAGE_SIZE: u16 = 2;
 
 /// Extended-Token-Length, an option of Capabilities and Settings (RFC 8974 section 2.2.1).
-const EXTENDED_TOKEN_LENGTH: u16 = 6;
+pub(crate) const EXTENDED_TOKEN_LENGTH: u16 = 6;
 
 /// The longest token of a peer that has told none, and the least that it may tell.
 pub(crate) const BASE_TOKEN: u32 = 8;

@@ -8,7 +8,7 @@ mod sending;
 use crate::asked::Asked;
 use crate::csm::BASE_TOKEN;
 use crate::limits::Limits;
-use crate::messages::announce;
+use crate::messages::announce_first;
 use crate::pending::Pending;
 use crate::phase::{Phase, Role};
 use crate::queue::OutQueue;
@@ -76,7 +76,7 @@ impl Link {
         let mut queue = OutQueue::new(alloc, limits.queue())?;
         let pending = Pending::new(alloc, limits.pending())?;
         let asked = Asked::new(alloc, limits.outstanding())?;
-        announce(&mut queue, limits.max_message());
+        announce_first(&mut queue, limits.max_message());
         Ok(Link {
             role,
             limits,

@@ -6,25 +6,44 @@ ghost use Rattle.coap_conn.specs.Asking.{ping_with};
 ghost use Rattle.coap_conn.specs.Reaction.{pong_with};
 ghost use Rattle.coap_conn.specs.Fit.{bare_response};
 ghost use Rattle.coap_wire.specs.Spelling.{spelling};
-ghost use Rattle.coap_conn.specs.LinkValue.{bytes_of, csm_with as csm_of, own_csm};
+ghost use Rattle.coap_conn.specs.LinkValue.{bytes_of, csm_with as csm_of, own_csm, first_csm_with as first_csm_of, first_csm};
 ghost use Rattle.coap_conn.specs.Calls.{release};
 ghost use Rattle.coap_conn.specs.QueueValue.{free_of};
 
-use crate::csm::{CUSTODY, MAX_MESSAGE_SIZE};
+use crate::csm::{CUSTODY, EXTENDED_TOKEN_LENGTH, MAX_MESSAGE_SIZE};
 use crate::queue::OutQueue;
 use crate::reason::Reason;
-use coap_wire::{Code, MessageBuilder, Token, uint_bytes};
+use coap_wire::{Code, MessageBuilder, Token, TokenRef, uint_bytes};
 
 /// Bad-CSM-Option, an option of Abort (RFC 8323 section 5.6).
 const BAD_CSM_OPTION: u16 = 2;
 
-/// Our Capabilities and Settings: Max-Message-Size with these bytes, and nothing else (RFC 8323 section 5.3).
+/// The longest token that we take, as the one byte of Extended-Token-Length (RFC 8974 section 2.2.1).
+const OWN_TOKEN_LENGTH: [u8; 1] = [64];
+
+/// Our Capabilities and Settings: Max-Message-Size with these bytes, and nothing else (RFC 8323 section 5.3.1).
 fn csm_with<'a>(size: &'a [u8]) -> MessageBuilder<'a, 1>
     requires { length size.now ≤ 8 }
     ensures { result ≡ csm_of size.now }
 {
-    let mut csm = MessageBuilder::new(Code::CSM, &Token::new());
+    let mut csm = MessageBuilder::to(Code::CSM, TokenRef::empty());
     let Ok(()) = csm.option(MAX_MESSAGE_SIZE, size) else {
+        unreachable!()
+    };
+    csm
+}
+
+/// Our first Capabilities and Settings: Max-Message-Size with these bytes, and the longest token that we take (RFC 8974
+/// section 2.2.1).
+fn first_csm_with<'a>(size: &'a [u8]) -> MessageBuilder<'a, 2>
+    requires { length size.now ≤ 8 }
+    ensures { result ≡ first_csm_of size.now }
+{
+    let mut csm = MessageBuilder::to(Code::CSM, TokenRef::empty());
+    let (Ok(()), Ok(())) = (
+        csm.option(MAX_MESSAGE_SIZE, size),
+        csm.option(EXTENDED_TOKEN_LENGTH, &OWN_TOKEN_LENGTH),
+    ) else {
         unreachable!()
     };
     csm
@@ -38,7 +57,19 @@ pub(crate) fn announcement_size(max_message: usize) -> u64
     csm_with(&size).size()
 }
 
-/// Queues our Capabilities and Settings with this size.
+/// Queues our first Capabilities and Settings, with this size and the longest token that we take (RFC 8323 section 5.3,
+/// RFC 8974 section 2.2.1).
+pub(crate) fn announce_first(queue: &mut OutQueue, max_message: usize)
+    requires { 32 ≤ free_of queue.old }
+    ensures csm { queue.new ≡ record queue.old { waiting = queue.old.waiting ++ bytes_of (first_csm max_message ∷ []) } }
+    ensures small { length (bytes_of (first_csm max_message ∷ [])) ≤ 32 }
+{
+    let size = uint_bytes(max_message as u64);
+    let csm = first_csm_with(&size);
+    queue.put(&csm);
+}
+
+/// Queues our Capabilities and Settings with this size alone.
 pub(crate) fn announce(queue: &mut OutQueue, max_message: usize)
     requires { 24 ≤ free_of queue.old }
     ensures csm { queue.new ≡ record queue.old { waiting = queue.old.waiting ++ bytes_of (own_csm max_message ∷ []) } }
@@ -55,15 +86,15 @@ pub(crate) fn queue_release(queue: &mut OutQueue)
     ensures queued { queue.new ≡ record queue.old { waiting = queue.old.waiting ++ bytes_of (release ∷ []) } }
     ensures small { length (bytes_of (release ∷ [])) ≡ 2 }
 {
-    let release: MessageBuilder<0> = MessageBuilder::new(Code::RELEASE, &Token::new());
+    let release: MessageBuilder<0> = MessageBuilder::to(Code::RELEASE, TokenRef::empty());
     queue.put(&release);
 }
 
 /// A Pong to the Ping with this token, with Custody or not (RFC 8323 section 5.4).
-pub(crate) fn pong_to(token: &Token, custody: bool) -> MessageBuilder<'static, 1>
-    ensures { result ≡ pong_with custody token.now.items }
+pub(crate) fn pong_to<'a>(token: &TokenRef<'a>, custody: bool) -> MessageBuilder<'a, 1>
+    ensures { result ≡ pong_with custody token.now }
 {
-    let mut pong = MessageBuilder::new(Code::PONG, token);
+    let mut pong = MessageBuilder::to(Code::PONG, token.again());
     if custody {
         let Ok(()) = pong.option(CUSTODY, &[]) else {
             unreachable!()
@@ -73,7 +104,7 @@ pub(crate) fn pong_to(token: &Token, custody: bool) -> MessageBuilder<'static, 1
 }
 
 /// A Ping with this token, with Custody or not (RFC 8323 section 5.4).
-pub(crate) fn ping_to(token: &Token, custody: bool) -> MessageBuilder<'static, 1>
+pub(crate) fn ping_to<'a>(token: &'a Token, custody: bool) -> MessageBuilder<'a, 1>
     ensures { result ≡ ping_with custody token.now.items }
 {
     let mut ping = MessageBuilder::new(Code::PING, token);
@@ -87,7 +118,7 @@ pub(crate) fn ping_to(token: &Token, custody: bool) -> MessageBuilder<'static, 1
 
 /// What is sent in place of a response that is too large: its code and token, where a code other than 2.01, 2.02 and
 /// 2.04 becomes 5.00.
-pub(crate) fn bare_of<const N: usize>(response: &MessageBuilder<N>) -> MessageBuilder<'static, 0>
+pub(crate) fn bare_of<'a, const N: usize>(response: &MessageBuilder<'a, N>) -> MessageBuilder<'a, 0>
     ensures { result ≡ bare_response response.now }
 {
     let code = response.code();
@@ -96,7 +127,7 @@ pub(crate) fn bare_of<const N: usize>(response: &MessageBuilder<N>) -> MessageBu
     } else {
         Code::INTERNAL_SERVER_ERROR
     };
-    MessageBuilder::new(bare, response.token())
+    MessageBuilder::to(bare, response.token().again())
 }
 
 /// The number that Bad-CSM-Option tells.
@@ -140,7 +171,7 @@ pub(crate) fn abort_with<'a>(
     requires small { length text.now ≤ 100 }
     ensures { result ≡ abort_message (told_options number bytes.now) text.now }
 {
-    let mut abort = MessageBuilder::new(Code::ABORT, &Token::new());
+    let mut abort = MessageBuilder::to(Code::ABORT, TokenRef::empty());
     if let Some(_) = number {
         let Ok(()) = abort.option(BAD_CSM_OPTION, bytes) else {
             unreachable!()

@@ -4,7 +4,7 @@ ghost use Rattle.std.specs.Prelude.{◌≡◌};
 ghost use Rattle.coap_conn.specs.Phases.{stop_of};
 
 use crate::reason::Reason;
-use coap_wire::{FrameFault, Token};
+use coap_wire::{FrameFault, Token, TokenRef};
 use thiserror::Error;
 
 /// Which end of the connection this is.
@@ -46,7 +46,7 @@ impl Phase {
 
 /// What a message was.
 #[derive(Debug, Drop)]
-pub enum Verdict {
+pub enum Verdict<'m> {
     /// The peer's first Capabilities and Settings: the connection is open.
     Opened,
     /// It is dealt with.
@@ -55,15 +55,15 @@ pub enum Verdict {
     Request,
     /// The response to an outstanding request.
     Answer {
-        /// The request's token.
-        token: Token,
+        /// The request's token, where it lies in the response.
+        token: TokenRef<'m>,
         /// Whether it is the last one, so that the request is outstanding no more.
         last: bool,
     },
     /// The Pong to an outstanding Ping.
     Pong {
-        /// The Ping's token.
-        token: Token,
+        /// The Ping's token, where it lies in the Pong.
+        token: TokenRef<'m>,
         /// Whether it has Custody (RFC 8323 section 5.4.1).
         custody: bool,
     },
@@ -107,7 +107,7 @@ pub enum Reject {
     Format,
     /// A frame of more bytes than our Max-Message-Size.
     TooLarge,
-    /// A token length above 8.
+    /// A token length above 64, or of nibble 15.
     TokenLength,
 }
 

@@ -10,7 +10,7 @@ pub enum Reason {
     Format,
     /// 2: a frame of more bytes than our Max-Message-Size (RFC 8323 section 5.3.1).
     TooLarge,
-    /// 3: a token length above 8 (RFC 8323 section 3.2).
+    /// 3: a token length above 64, or of nibble 15 (RFC 8974 section 2.1).
     TokenLength,
     /// 4: a message whose code has the reserved class 1 or 6 (RFC 7252 section 12.1).
     ReservedCode,

@@ -7,8 +7,8 @@ use Rattle.coap_wire.specs.declared.frame.Declared.{Declared}
 use Rattle.coap_wire.specs.declared.frame.Declared.TheVariants.{Unknown, Size, BadToken}
 use Rattle.coap_wire.specs.declared.fault.FrameFault.{FrameFault}
 use Rattle.coap_wire.specs.declared.fault.FrameFault.TheVariants.{TokenLength, TooLarge}
-use Rattle.coap_wire.specs.Beginning.{Beginning, Unfinished, Whole, Faulty, beginning, fault_size, fault_bytes, size_bytes}
-use Rattle.coap_wire.proofs.StreamSteps.{begin_unknown, begin_bad_token, begin_too_large, begin_short, begin_whole, size_has_bytes, size_at_last, declared_more, faulty_more, fault_bytes_more, fault_at_last, bad_has_byte}
+use Rattle.coap_wire.specs.Beginning.{Beginning, Unfinished, Whole, Faulty, beginning, fault_bytes, size_bytes}
+use Rattle.coap_wire.proofs.StreamSteps.{begin_unknown, begin_bad_token, begin_too_large, begin_short, begin_whole, size_has_bytes, size_at_last, declared_more, faulty_more, fault_bytes_more, fault_at_last, fault_has_bytes}
 use Rattle.coap_frame.specs.Filling.{IsTakenTo, IsFilled}
 use Rattle.coap_frame.specs.declared.filling.Standing.TheVariants as standing
 use Rattle.std.proofs.Math.Seq.{take-append-add}
@@ -57,18 +57,18 @@ module _ (M : ℕ) (old piece new : List ℕ) (taken : ℕ) (size : Declared) (u
             omega (arith, ap (λ (s : List ℕ). length s) e, ap size_bytes e, last, few))
       ]
 
-  fault_is_new : (fault : FrameFault) → beginning M new ≡ Faulty fault → fault_bytes fault new ≡ new
+  fault_is_new : (fault : FrameFault) → beginning M new ≡ Faulty fault → fault_bytes new ≡ new
   fault_is_new fault faulty =
       elim h.first [
         | inl none ↦ (let bad : ◌≡◌ {A = Beginning} Unfinished (Faulty fault) = sym unfinished ∙ ap (beginning M) (sym (none_taken none)) ∙ faulty in absurd cc)
         | inr more ↦ (let e = one_more more.0 more.1 in
             let last = fault_at_last M (old ++ take more.0 piece) (get_or piece more.0 0) fault (begin_unknown M (old ++ take more.0 piece) more.2) (ap (beginning M) (sym e) ∙ faulty) in
-            ap (fault_bytes fault) e ∙ last ∙ sym e)
+            ap fault_bytes e ∙ last ∙ sym e)
       ]
 
   fault_stands : (fault : FrameFault) → beginning M new ≡ Faulty fault → IsFilled M old piece new taken (standing.Fault fault)
   fault_stands fault faulty =
-      let bytes : fault_bytes fault (old ++ piece) ≡ new = ap (fault_bytes fault) all_bytes ∙ fault_bytes_more M new behind fault faulty ∙ fault_is_new fault faulty in
+      let bytes : fault_bytes (old ++ piece) ≡ new = ap fault_bytes all_bytes ∙ fault_bytes_more M new behind fault faulty ∙ fault_is_new fault faulty in
       record {
         within = h.within;
         stands = (ap (beginning M) all_bytes ∙ faulty_more M new behind fault faulty, sym length_new ∙ sym (ap (λ (s : List ℕ). length s) bytes));
@@ -126,18 +126,20 @@ module _ (M : ℕ) (piece : List ℕ) where
     stands = (unfinished, refl, take_all (length piece) piece (omega arith));
   }
 
-  -- a fault is known at the last of so many bytes
-  stands_fault : (fault : FrameFault) → beginning M piece ≡ Faulty fault → fault_size fault piece ≤ length piece → IsFilled M [] piece (take (fault_size fault piece) piece) (fault_size fault piece) (standing.Fault fault)
-  stands_fault fault faulty some = record {
-    within = some;
-    stands = (faulty, omega (arith, length-take (fault_size fault piece) piece, some));
-  }
+  -- a fault is known at the last of the bytes that state the size
+  stands_fault : (fault : FrameFault) → beginning M piece ≡ Faulty fault → IsFilled M [] piece (take (size_bytes piece) piece) (size_bytes piece) (standing.Fault fault)
+  stands_fault fault faulty =
+      let there = fault_has_bytes M piece fault faulty in
+      record {
+        within = there;
+        stands = (faulty, omega (arith, length-take (size_bytes piece) piece, there));
+      }
 
-  pub stands_bad_token : declared_of piece ≡ BadToken → IsFilled M [] piece (take 1 piece) 1 (standing.Fault TokenLength)
-  stands_bad_token is = stands_fault TokenLength (begin_bad_token M piece is) (bad_has_byte piece is)
+  pub stands_bad_token : declared_of piece ≡ BadToken → IsFilled M [] piece (take (size_bytes piece) piece) (size_bytes piece) (standing.Fault TokenLength)
+  stands_bad_token is = stands_fault TokenLength (begin_bad_token M piece is)
 
   pub stands_too_large : (n : ℕ) → declared_of piece ≡ Size n → M < n → IsFilled M [] piece (take (size_bytes piece) piece) (size_bytes piece) (standing.Fault TooLarge)
-  stands_too_large n is large = stands_fault TooLarge (begin_too_large M piece n is large) (size_has_bytes piece n is).1
+  stands_too_large n is large = stands_fault TooLarge (begin_too_large M piece n is large)
 
   pub stands_whole : (n : ℕ) → declared_of piece ≡ Size n → n ≤ M → n ≤ length piece → IsFilled M [] piece (take n piece) n standing.Whole
   stands_whole n is fits long = record {

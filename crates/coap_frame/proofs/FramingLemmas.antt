@@ -36,7 +36,7 @@ module _ (max : ℕ) (kept piece new : List ℕ) (taken : ℕ) where
   unfolding framing
   framing_fault fault filled =
       let s = filled.stands in
-      let count : length (fault_bytes fault (kept ++ piece)) - length kept ≡ taken = omega (arith, s.1) in
+      let count : length (fault_bytes (kept ++ piece)) - length kept ≡ taken = omega (arith, s.1) in
       ap (framing_at kept piece) s.0
       ∙ ap (λ (n : ℕ). record { taken = n; finding = AFault fault; kept = []; spent = [] }) count
 

@@ -49,7 +49,7 @@ nothing_kept M kept piece e = ap (λ (b : Beginning). (framing_at kept piece b).
 
 -- behind what is unfinished, the bytes of a fault have that fault
 fault_bytes_step : (M : ℕ) (kept : List ℕ) (b : ℕ) (piece : List ℕ) (fault : FrameFault) (at : Beginning) → beginning M kept ≡ Unfinished → beginning M ((kept ++ b ∷ []) ++ piece) ≡ Faulty fault → beginning M (kept ++ b ∷ []) ≡ at
-    → (beginning M (kept ++ b ∷ []) ≡ Unfinished → beginning M (fault_bytes fault ((kept ++ b ∷ []) ++ piece)) ≡ Faulty fault) → beginning M (fault_bytes fault ((kept ++ b ∷ []) ++ piece)) ≡ Faulty fault
+    → (beginning M (kept ++ b ∷ []) ≡ Unfinished → beginning M (fault_bytes ((kept ++ b ∷ []) ++ piece)) ≡ Faulty fault) → beginning M (fault_bytes ((kept ++ b ∷ []) ++ piece)) ≡ Faulty fault
 fault_bytes_step M kept b piece fault Unfinished u e is again = again is
 fault_bytes_step M kept b piece fault (Whole frame rest) u e is again =
     let bad : ◌≡◌ {A = Beginning} (Whole frame (rest ++ piece)) (Faulty fault) = sym (whole_more M (kept ++ b ∷ []) piece frame rest is) ∙ e in
@@ -58,14 +58,14 @@ fault_bytes_step M kept b piece fault (Faulty first) u e is again =
     let now : beginning M (kept ++ b ∷ []) ≡ Faulty fault = is ∙ sym (faulty_more M (kept ++ b ∷ []) piece first is) ∙ e in
     ap (beginning M) (fault_bytes_more M (kept ++ b ∷ []) piece fault now ∙ fault_at_last M kept b fault u now) ∙ now
 
-fault_bytes_faulty : (M : ℕ) (kept piece : List ℕ) (fault : FrameFault) → beginning M kept ≡ Unfinished → beginning M (kept ++ piece) ≡ Faulty fault → beginning M (fault_bytes fault (kept ++ piece)) ≡ Faulty fault
+fault_bytes_faulty : (M : ℕ) (kept piece : List ℕ) (fault : FrameFault) → beginning M kept ≡ Unfinished → beginning M (kept ++ piece) ≡ Faulty fault → beginning M (fault_bytes (kept ++ piece)) ≡ Faulty fault
 fault_bytes_faulty M kept [] fault u e =
     let bad : ◌≡◌ {A = Beginning} Unfinished (Faulty fault) = sym u ∙ ap (beginning M) (sym (append-nil kept)) ∙ e in
     absurd cc
 fault_bytes_faulty M kept (b ∷ piece) fault u e =
     let same : (kept ++ b ∷ []) ++ piece ≡ kept ++ b ∷ piece = append_assoc kept (b ∷ []) piece in
     let cut : beginning M ((kept ++ b ∷ []) ++ piece) ≡ Faulty fault = ap (beginning M) same ∙ e in
-    ap (λ (s : List ℕ). beginning M (fault_bytes fault s)) (sym same)
+    ap (λ (s : List ℕ). beginning M (fault_bytes s)) (sym same)
     ∙ fault_bytes_step M kept b piece fault (beginning M (kept ++ b ∷ [])) u cut refl (λ is. fault_bytes_faulty M (kept ++ b ∷ []) piece fault is cut)
 
 -- the framing of a front of a piece, where this stands at the front of what was kept and the piece
@@ -81,13 +81,13 @@ front_at M kept piece (Whole frame rest) u e is =
     ap (framing_at kept (take n piece)) (ap (beginning M) (sym bytes) ∙ whole_itself M (kept ++ piece) frame rest e)
     ∙ ap (λ (k : ℕ). record { taken = k; finding = AFrame frame; kept = []; spent = split_frame kept frame }) count
 front_at M kept piece (Faulty fault) u e is =
-    let n : ℕ = length (fault_bytes fault (kept ++ piece)) - length kept in
+    let n : ℕ = length (fault_bytes (kept ++ piece)) - length kept in
     let finding : (framing M kept piece).finding ≡ AFault fault = ap (λ (f : Framing). f.finding) is in
     let taken : (framing M kept piece).taken ≡ n = ap (λ (f : Framing). f.taken) is in
-    let bytes : kept ++ take n piece ≡ fault_bytes fault (kept ++ piece) = ap (λ (k : ℕ). kept ++ take k piece) (sym taken) ∙ (fault_taken M kept piece fault u finding).1 in
+    let bytes : kept ++ take n piece ≡ fault_bytes (kept ++ piece) = ap (λ (k : ℕ). kept ++ take k piece) (sym taken) ∙ (fault_taken M kept piece fault u finding).1 in
     let faulty : beginning M (kept ++ take n piece) ≡ Faulty fault = ap (beginning M) bytes ∙ fault_bytes_faulty M kept piece fault u e in
     let whole : (kept ++ take n piece) ++ drop n piece ≡ kept ++ piece = append_assoc kept (take n piece) (drop n piece) ∙ ap (λ (p : List ℕ). kept ++ p) (take-append-drop n piece) in
-    let same : fault_bytes fault (kept ++ take n piece) ≡ fault_bytes fault (kept ++ piece) = sym (fault_bytes_more M (kept ++ take n piece) (drop n piece) fault faulty) ∙ ap (fault_bytes fault) whole in
+    let same : fault_bytes (kept ++ take n piece) ≡ fault_bytes (kept ++ piece) = sym (fault_bytes_more M (kept ++ take n piece) (drop n piece) fault faulty) ∙ ap fault_bytes whole in
     ap (framing_at kept (take n piece)) faulty
     ∙ ap (λ (s : List ℕ). record { taken = length s - length kept; finding = AFault fault; kept = []; spent = [] }) same
 
@@ -127,7 +127,7 @@ some_in_front M kept piece u some = some_fronted M kept piece (framing M kept pi
 abbrev pub added_by : List ℕ → List ℕ → Finding → Stream
 added_by kept bytes Nothing = record { messages = []; rest = kept ++ bytes; fault = None }
 added_by kept bytes (AFrame frame) = frame_then frame (message_of frame) (record { messages = []; rest = []; fault = None })
-added_by kept bytes (AFault fault) = record { messages = []; rest = fault_bytes fault (kept ++ bytes); fault = Some (OfFrame fault) }
+added_by kept bytes (AFault fault) = record { messages = []; rest = fault_bytes (kept ++ bytes); fault = Some (OfFrame fault) }
 
 added_at : (M : ℕ) (kept bytes : List ℕ) (b : Beginning) → beginning M kept ≡ Unfinished → beginning M (kept ++ bytes) ≡ b → framing M kept bytes ≡ framing_at kept bytes b → (framing M kept bytes).taken ≡ length bytes
     → split M (kept ++ bytes) ≡ added_by kept bytes (framing_at kept bytes b).finding

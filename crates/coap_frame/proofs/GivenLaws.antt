@@ -22,7 +22,7 @@ record IsKnown (M : ℕ) (kept piece : List ℕ) (fault : FrameFault) : Type 0 w
   more : List ℕ
   bytes : piece ≡ front ++ more
   faulty : beginning M (kept ++ front) ≡ Faulty fault
-  is : fault_bytes fault (kept ++ front) ≡ kept ++ front
+  is : fault_bytes (kept ++ front) ≡ kept ++ front
 
 known_step : (M : ℕ) (kept : List ℕ) (b : ℕ) (piece : List ℕ) (fault : FrameFault) (at : Beginning) → beginning M kept ≡ Unfinished → beginning M ((kept ++ b ∷ []) ++ piece) ≡ Faulty fault → (beginning M (kept ++ b ∷ []) ≡ Unfinished → IsKnown M (kept ++ b ∷ []) piece fault) → beginning M (kept ++ b ∷ []) ≡ at → IsKnown M kept (b ∷ piece) fault
 known_step M kept b piece fault Unfinished u e again is =
@@ -33,7 +33,7 @@ known_step M kept b piece fault Unfinished u e again is =
       more = next.more;
       bytes = ap (λ (s : List ℕ). b ∷ s) next.bytes;
       faulty = ap (beginning M) (sym same) ∙ next.faulty;
-      is = ap (fault_bytes fault) (sym same) ∙ next.is ∙ same;
+      is = ap fault_bytes (sym same) ∙ next.is ∙ same;
     }
 known_step M kept b piece fault (Whole frame rest) u e again is =
     let bad : ◌≡◌ {A = Beginning} (Whole frame (rest ++ piece)) (Faulty fault) = sym (whole_more M (kept ++ b ∷ []) piece frame rest is) ∙ e in
@@ -71,7 +71,7 @@ abbrev IsFoundAt : ℕ → List ℕ → List ℕ → ℕ → List ℕ → Findin
 IsFoundAt max kept piece taken after Nothing = (taken ≡ length piece) × (after ≡ kept ++ take taken piece)
 IsFoundAt max kept piece taken after (AFrame frame) = (frame ≡ kept ++ take taken piece) × (beginning max frame ≡ Whole frame []) × (after ≡ [])
 IsFoundAt max kept piece taken after (AFault fault) =
-    (beginning max (kept ++ piece) ≡ Faulty fault) × (kept ++ take taken piece ≡ fault_bytes fault (kept ++ piece)) × (beginning max (kept ++ take taken piece) ≡ Faulty fault) × (after ≡ [])
+    (beginning max (kept ++ piece) ≡ Faulty fault) × (kept ++ take taken piece ≡ fault_bytes (kept ++ piece)) × (beginning max (kept ++ take taken piece) ≡ Faulty fault) × (after ≡ [])
 
 record IsCall (max : ℕ) (kept piece : List ℕ) (f : Framing) : Type 0 where
   within : f.taken ≤ length piece
@@ -93,9 +93,9 @@ call_at max kept piece (Whole frame rest) u e =
 call_at max kept piece (Faulty fault) u e =
     let k = known max kept piece fault u e in
     let cut : kept ++ piece ≡ (kept ++ k.front) ++ k.more = ap (λ (p : List ℕ). kept ++ p) k.bytes ∙ sym (append_assoc kept k.front k.more) in
-    let bytes : fault_bytes fault (kept ++ piece) ≡ kept ++ k.front = ap (fault_bytes fault) cut ∙ fault_bytes_more max (kept ++ k.front) k.more fault k.faulty ∙ k.is in
-    let count : length (fault_bytes fault (kept ++ piece)) - length kept ≡ length k.front = omega (arith, ap (λ (s : List ℕ). length s) bytes, length-append kept k.front) in
-    let taken : take (length (fault_bytes fault (kept ++ piece)) - length kept) piece ≡ k.front = ap (λ (n : ℕ). take n piece) count ∙ ap (take (length k.front)) k.bytes ∙ take_at k.front k.more (length k.front) refl in
+    let bytes : fault_bytes (kept ++ piece) ≡ kept ++ k.front = ap fault_bytes cut ∙ fault_bytes_more max (kept ++ k.front) k.more fault k.faulty ∙ k.is in
+    let count : length (fault_bytes (kept ++ piece)) - length kept ≡ length k.front = omega (arith, ap (λ (s : List ℕ). length s) bytes, length-append kept k.front) in
+    let taken : take (length (fault_bytes (kept ++ piece)) - length kept) piece ≡ k.front = ap (λ (n : ℕ). take n piece) count ∙ ap (take (length k.front)) k.bytes ∙ take_at k.front k.more (length k.front) refl in
     record {
       within = omega (arith, count, ap (λ (s : List ℕ). length s) k.bytes, length-append k.front k.more);
       found = (e, ap (λ (p : List ℕ). kept ++ p) taken ∙ sym bytes, ap (λ (p : List ℕ). beginning max (kept ++ p)) taken ∙ k.faulty, refl);
@@ -255,7 +255,7 @@ module _ (max : ℕ) (kept piece : List ℕ) where
   pub frame_taken : (frame : List ℕ) → beginning max kept ≡ Unfinished → (framing max kept piece).finding ≡ AFrame frame → frame ≡ kept ++ take (framing max kept piece).taken piece
   frame_taken frame u e = (found_is max kept piece (AFrame frame) u e).0
 
-  pub fault_taken : (fault : FrameFault) → beginning max kept ≡ Unfinished → (framing max kept piece).finding ≡ AFault fault → (beginning max (kept ++ piece) ≡ Faulty fault) × (kept ++ take (framing max kept piece).taken piece ≡ fault_bytes fault (kept ++ piece))
+  pub fault_taken : (fault : FrameFault) → beginning max kept ≡ Unfinished → (framing max kept piece).finding ≡ AFault fault → (beginning max (kept ++ piece) ≡ Faulty fault) × (kept ++ take (framing max kept piece).taken piece ≡ fault_bytes (kept ++ piece))
   fault_taken fault u e = let found = found_is max kept piece (AFault fault) u e in (found.0, found.1)
 
 -- ---- an unread frame

@@ -3,11 +3,11 @@ use Rattle.std.proofs.Common.{◌≡◌, ℕ, List, [], ◌∷◌, ◌++◌, Som
 use Rattle.coap_wire.specs.Beginning.{beginning}
 use Rattle.coap_wire.specs.Frames.{always, sizes_first, frames_within, sized_frames}
 use Rattle.coap_wire.specs.Stream.{OfFrame, sized_split}
-use Rattle.coap_wire.specs.Reading.{declared_of, length_at, one_byte_at, two_bytes_at}
-use Rattle.coap_wire.specs.declared.fault.FrameFault.TheVariants.{TooLarge}
+use Rattle.coap_wire.specs.Reading.{declared_of, length_at, option_number_at, one_byte_at, two_bytes_at}
+use Rattle.coap_wire.specs.declared.fault.FrameFault.TheVariants.{TokenLength, TooLarge}
 use Rattle.coap_frame.specs.declared.fault.RaiseFault.TheVariants as raise
 use Rattle.coap_frame.specs.Raising.{raise_refusal, asked_for}
-use Rattle.coap_frame.specs.Framing.{FramerValue, AFrame, framing, framing_of, framer_after, with_frame_back}
+use Rattle.coap_frame.specs.Framing.{FramerValue, AFrame, AFault, framing, framing_of, framer_after, with_frame_back}
 
 -- a framer of which nothing was asked yet
 abbrev fresh : FramerValue
@@ -29,19 +29,19 @@ abbrev third : FramerValue
 third = record { max = 1152; kept = []; spent = second.kept ++ rest; copied = 17 }
 
 first_is : framer_after fresh (0xd1 ∷ []) ≡ first
-unfolding framing beginning declared_of length_at one_byte_at
+unfolding framing beginning declared_of length_at option_number_at one_byte_at
 first_is = refl
 
 second_is : framer_after first (0x00 ∷ 0x01 ∷ 0x05 ∷ []) ≡ second
-unfolding framing beginning declared_of length_at one_byte_at
+unfolding framing beginning declared_of length_at option_number_at one_byte_at
 second_is = refl
 
 third_is : framing_of second rest ≡ record { taken = 13; finding = AFrame third.spent; kept = []; spent = third.spent }
-unfolding framing beginning declared_of length_at one_byte_at
+unfolding framing beginning declared_of length_at option_number_at one_byte_at
 third_is = refl
 
 third_after : framer_after second rest ≡ third
-unfolding framing beginning declared_of length_at one_byte_at
+unfolding framing beginning declared_of length_at option_number_at one_byte_at
 third_after = refl
 
 -- taken back it is not copied, and given again one byte is
@@ -52,17 +52,17 @@ fourth_copied : fourth.copied ≡ 17
 fourth_copied = refl
 
 again : framer_after fourth (0x78 ∷ []) ≡ record { max = 1152; kept = []; spent = third.spent; copied = 18 }
-unfolding framing beginning declared_of length_at one_byte_at
+unfolding framing beginning declared_of length_at option_number_at one_byte_at
 again = refl
 
 -- ---- a frame that lies whole in its piece
 
 whole : framing_of fresh (0x00 ∷ 0xe1 ∷ 0x00 ∷ []) ≡ record { taken = 2; finding = AFrame (0x00 ∷ 0xe1 ∷ []); kept = []; spent = [] }
-unfolding framing beginning declared_of length_at
+unfolding framing beginning declared_of length_at option_number_at
 whole = refl
 
 whole_after : framer_after fresh (0x00 ∷ 0xe1 ∷ 0x00 ∷ []) ≡ fresh
-unfolding framing beginning declared_of length_at
+unfolding framing beginning declared_of length_at option_number_at
 whole_after = refl
 
 whole_back : with_frame_back fresh (0x00 ∷ 0xe1 ∷ []) ≡ record { max = 1152; kept = 0x00 ∷ []; spent = []; copied = 1 }
@@ -70,7 +70,7 @@ whole_back = refl
 
 -- the count stays at its last value
 last : framer_after (record fresh { copied = 18446744073709551615 }) (0xd1 ∷ []) ≡ record first { copied = 18446744073709551615 }
-unfolding framing beginning declared_of length_at one_byte_at
+unfolding framing beginning declared_of length_at option_number_at one_byte_at
 last = refl
 
 -- ---- a greater size in the life of a stream
@@ -93,21 +93,38 @@ abbrev begun : FramerValue
 begun = record { max = 1152; kept = 0xe1 ∷ 0x03 ∷ []; spent = []; copied = 2 }
 
 begun_is : framer_after fresh (0xe1 ∷ 0x03 ∷ []) ≡ begun
-unfolding framing beginning declared_of length_at two_bytes_at
+unfolding framing beginning declared_of length_at option_number_at two_bytes_at
 begun_is = refl
 
 begun_raised : asked_for begun 2000 ≡ record { max = 2000; kept = 0xe1 ∷ 0x03 ∷ []; spent = []; copied = 2 }
 begun_raised = refl
 
 judged_by_the_greater : framer_after (asked_for begun 2000) (0x6f ∷ []) ≡ record { max = 2000; kept = 0xe1 ∷ 0x03 ∷ 0x6f ∷ []; spent = []; copied = 3 }
-unfolding framing beginning declared_of length_at two_bytes_at
+unfolding framing beginning declared_of length_at option_number_at two_bytes_at
 judged_by_the_greater = refl
 
 -- the same of the stream, and where the last byte of the length came before
 told_after : sized_split (sizes_first 2 1152 (always 2000)) (0xe1 ∷ 0x03 ∷ 0x6f ∷ []) ≡ record { messages = []; rest = 0xe1 ∷ 0x03 ∷ 0x6f ∷ []; fault = None }
-unfolding sized_split sized_frames frames_within beginning declared_of length_at two_bytes_at
+unfolding sized_split sized_frames frames_within beginning declared_of length_at option_number_at two_bytes_at
 told_after = refl
 
 told_before : sized_split (sizes_first 3 1152 (always 2000)) (0xe1 ∷ 0x03 ∷ 0x6f ∷ []) ≡ record { messages = []; rest = 0xe1 ∷ 0x03 ∷ 0x6f ∷ []; fault = Some (OfFrame TooLarge) }
-unfolding sized_split sized_frames frames_within beginning declared_of length_at two_bytes_at
+unfolding sized_split sized_frames frames_within beginning declared_of length_at option_number_at two_bytes_at
 told_before = refl
+
+-- ---- a token's length that a byte extends
+
+-- a frame of 1,165 bytes with a token of 13 bytes is known to be too large at the byte that extends the token's length
+large_with_token : framing_of fresh (0xed ∷ 0x03 ∷ 0x6e ∷ 0x01 ∷ 0x00 ∷ []) ≡ record { taken = 5; finding = AFault TooLarge; kept = []; spent = [] }
+unfolding framing beginning declared_of length_at option_number_at one_byte_at two_bytes_at
+large_with_token = refl
+
+-- and a token of 65 bytes is told before it
+long_token : framing_of fresh (0xed ∷ 0x03 ∷ 0x6e ∷ 0x01 ∷ 0x34 ∷ []) ≡ record { taken = 5; finding = AFault TokenLength; kept = []; spent = [] }
+unfolding framing beginning declared_of length_at option_number_at one_byte_at two_bytes_at
+long_token = refl
+
+-- nibble 15 at once
+no_token_length : framing_of fresh (0x0f ∷ 0x00 ∷ []) ≡ record { taken = 1; finding = AFault TokenLength; kept = []; spent = [] }
+unfolding framing beginning declared_of
+no_token_length = refl

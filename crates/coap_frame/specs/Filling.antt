@@ -24,7 +24,7 @@ abbrev pub StandsAs : ℕ → List ℕ → List ℕ → List ℕ → ℕ → Sta
 StandsAs M old piece new taken standing.Unfinished = (beginning M (old ++ piece) ≡ Unfinished) × (taken ≡ length piece) × (new ≡ old ++ piece)
 StandsAs M old piece new taken standing.Whole = (rest : List ℕ) × (beginning M (old ++ piece) ≡ Whole new rest) × (taken + length rest ≡ length piece)
 StandsAs M old piece new taken (standing.Fault fault) =
-    (beginning M (old ++ piece) ≡ Faulty fault) × (length old + taken ≡ length (fault_bytes fault (old ++ piece)))
+    (beginning M (old ++ piece) ≡ Faulty fault) × (length old + taken ≡ length (fault_bytes (old ++ piece)))
 
 pub record IsFilled (M : ℕ) (old piece new : List ℕ) (taken : ℕ) (s : Standing) : Type 0 where
   pub within : taken ≤ length piece

@@ -43,7 +43,7 @@ framing_at kept piece Unfinished = record { taken = length piece; finding = Noth
 framing_at kept piece (Whole frame rest) =
     record { taken = length piece - length rest; finding = AFrame frame; kept = []; spent = split_frame kept frame }
 framing_at kept piece (Faulty fault) =
-    record { taken = length (fault_bytes fault (kept ++ piece)) - length kept; finding = AFault fault; kept = []; spent = [] }
+    record { taken = length (fault_bytes (kept ++ piece)) - length kept; finding = AFault fault; kept = []; spent = [] }
 
 -- what the kept bytes and the piece spell, as one stream of frames of at most max bytes
 unfoldable pub framing : ℕ → List ℕ → List ℕ → Framing

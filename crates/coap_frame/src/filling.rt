@@ -2,7 +2,8 @@
 
 ghost use Rattle.std.specs.Prelude.{◌≡◌, ◌+◌, ◌≤◌, ◌<◌, ◌++◌, [], length, take};
 ghost use Rattle.std.specs.Vec.{vec_len, vec_capacity};
-ghost use Rattle.coap_wire.specs.Beginning.{Unfinished, beginning, extension_of, size_bytes as size_bytes_of};
+ghost use Rattle.coap_wire.specs.Beginning.{Unfinished, beginning, token_bytes, size_bytes as size_bytes_of};
+ghost use Rattle.coap_wire.specs.Forms.{extension_of};
 ghost use Rattle.coap_frame.specs.Filling.{IsHead, IsFilled};
 
 use coap_wire::{Declared, FrameFault, declared};
@@ -24,7 +25,7 @@ pub(crate) fn stand(piece: &[u8], max: usize) -> (usize, Standing)
 {
     match declared(piece) {
         Declared::Unknown => (piece.len(), Standing::Unfinished),
-        Declared::BadToken => (1, Standing::Fault(FrameFault::TokenLength)),
+        Declared::BadToken => (size_bytes(piece), Standing::Fault(FrameFault::TokenLength)),
         Declared::Size(size) => {
             if size > max as u64 {
                 return (size_bytes(piece), Standing::Fault(FrameFault::TooLarge));
@@ -37,14 +38,18 @@ pub(crate) fn stand(piece: &[u8], max: usize) -> (usize, Standing)
     }
 }
 
-/// How many bytes a frame has up to the last byte of its length (RFC 8323 section 3.2).
+/// How many bytes a frame has up to the one at which its size is known: the last that extends its length or, where bytes
+/// extend the token's length, the last of these (RFC 8323 section 3.2, RFC 8974 section 2.1).
 fn size_bytes(frame: &[u8]) -> usize
     ensures { result ≡ size_bytes_of frame.now }
 {
-    match frame.first() {
-        None => 0,
-        Some(first) => 1 + extension(*first / 16),
+    let Some(first) = frame.first() else {
+        return 0;
+    };
+    if *first % 16 == 15 {
+        return 1;
     }
+    1 + extension(*first / 16) + code_and_extension(*first % 16)
 }
 
 /// How many bytes extend the nibble of a length.
@@ -59,6 +64,17 @@ fn extension(nibble: u8) -> usize
     }
 }
 
+/// How many bytes the code and the extension of a token's length have, 0 where no byte extends that.
+fn code_and_extension(nibble: u8) -> usize
+    ensures { result ≡ token_bytes nibble }
+{
+    match nibble {
+        0..=12 => 0,
+        13 => 2,
+        _ => 3,
+    }
+}
+
 /// Appends bytes for which there is room.
 pub(crate) fn append(buffer: &mut Vec<u8>, bytes: &[u8])
     requires { vec_len buffer.old + length bytes.now ≤ vec_capacity buffer.old }
@@ -70,10 +86,10 @@ pub(crate) fn append(buffer: &mut Vec<u8>, bytes: &[u8])
     };
 }
 
-/// Takes bytes until the buffer declares its size, or has a token length above 8, or the piece is used up. At most 5
-/// bytes are taken one by one.
+/// Takes bytes until the buffer declares its size, or a token length that is not taken, or the piece is used up. At most
+/// 8 bytes are taken one by one.
 fn fill_head(buffer: &mut Vec<u8>, piece: &[u8]) -> (usize, Declared)
-    requires { 5 ≤ vec_capacity buffer.old }
+    requires { 8 ≤ vec_capacity buffer.old }
     ensures head { IsHead buffer.old.items piece.now buffer.new.items result.0 result.1 }
     ensures capacity { vec_capacity buffer.old ≤ vec_capacity buffer.new }
 {

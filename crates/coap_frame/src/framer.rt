@@ -153,8 +153,8 @@ impl Framer {
         self.held = Held::Beginning;
     }
 
-    /// Takes frames of at most `new` bytes from now on. A frame that has begun is judged by it, where the last byte of
-    /// its length is yet to come. What is kept stays, with the count of the bytes copied, and nothing is spent then.
+    /// Takes frames of at most `new` bytes from now on. A frame that has begun is judged by it, where the last byte that
+    /// states its size is yet to come. What is kept stays, with the count of the bytes copied, and nothing is spent then.
     ///
     /// # Errors
     ///

@@ -25,7 +25,7 @@ pub fn framer_takes_each_piece_to_its_end()
         (framing max kept piece).finding ≡ AFrame frame → frame ≡ kept ++ take (framing max kept piece).taken piece }
     ensures fault { (max : ℕ) (kept piece : List ℕ) (fault : FrameFault) → beginning max kept ≡ Unfinished →
         (framing max kept piece).finding ≡ AFault fault → (beginning max (kept ++ piece) ≡ Faulty fault)
-        × (kept ++ take (framing max kept piece).taken piece ≡ fault_bytes fault (kept ++ piece)) }
+        × (kept ++ take (framing max kept piece).taken piece ≡ fault_bytes (kept ++ piece)) }
 {}
 
 /// A framer stays one, whatever piece comes.

@@ -39,7 +39,7 @@ fn hear(link: &mut Link, bytes: &[u8], told: &mut Told) {
 
 /// The message that another one spells.
 fn built<'a>(message: &MessageRef<'a>) -> Result<Builder<'a>, BuildFault> {
-    let mut built = Builder::new(message.code(), message.token());
+    let mut built = Builder::to(message.code(), message.token().again());
     for option in message.options() {
         built.option(option.number, option.value)?;
     }
@@ -57,7 +57,11 @@ fn send(link: &mut Link, word: &str, bytes: &[u8], how: &str, told: &mut Told) {
     };
     let _ = match (word, link.phase()) {
         ("request", _) => write!(told, "{:?} ", link.request(&built, how == "observe")),
-        ("cancel", _) => write!(told, "{:?} ", link.cancel(message.token(), &built)),
+        ("cancel", _) => write!(
+            told,
+            "{:?} ",
+            link.cancel(&message.token().to_token(), &built)
+        ),
         (_, Phase::Open | Phase::Releasing(_)) if link.ready() => {
             write!(told, "{:?} ", link.reply(&built))
         }

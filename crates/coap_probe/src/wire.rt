@@ -60,7 +60,7 @@ fn read(bytes: &[u8], told: &mut Told) {
     match parse(bytes) {
         Ok(message) => {
             told.hex(&[message.code().byte()]);
-            told.hex(message.token());
+            told.hex(message.token().bytes());
             let mut options = message.options();
             for option in options.by_ref() {
                 tell_option(&option, told);
@@ -94,10 +94,24 @@ fn known(bytes: &[u8], told: &mut Told) {
     }
 }
 
+/// Tells a message with another token.
+fn tell_with(message: &Builder, bytes: &[u8], room: &mut [u8], told: &mut Told) {
+    match Token::try_from(bytes) {
+        Ok(token) => tell_other(message, &token, room, told),
+        Err(_) => told.word("strange"),
+    }
+}
+
+/// Tells a message with this token.
+fn tell_other(message: &Builder, token: &Token, room: &mut [u8], told: &mut Told) {
+    let other = message.with_token(token);
+    tell_built(&other, room, told);
+}
+
 /// Tells the code, the token, the size and the bytes of a message.
 fn tell_built(message: &Builder, room: &mut [u8], told: &mut Told) {
     told.hex(&[message.code().byte()]);
-    told.hex(message.token());
+    told.hex(message.token().bytes());
     told.number(message.size());
     let mut sink = SliceSink::new(room);
     if message.size() > sink.room() as u64 {
@@ -132,13 +146,29 @@ fn write(text: &str, bytes: &mut Vec<u8>, told: &mut Told) {
     let Some((code, rest)) = read.split_first() else {
         return told.word("strange");
     };
-    let Some((token, mut rest)) = rest.split_at_checked(length) else {
+    let Some((token, rest)) = rest.split_at_checked(length) else {
         return told.word("strange");
     };
     let Ok(token) = Token::try_from(token) else {
         return told.word("strange");
     };
-    let mut message = Builder::new(Code::new(*code), &token);
+    build(
+        Builder::new(Code::new(*code), &token),
+        rest,
+        text,
+        room,
+        told,
+    );
+}
+
+/// Adds to a message what words name, whose values stand one behind the other, and tells what they ask for.
+fn build<'a>(
+    mut message: Builder<'a>,
+    mut rest: &'a [u8],
+    text: &str,
+    room: &mut [u8],
+    told: &mut Told,
+) {
     for word in text.split(' ') {
         let (name, length) = word.split_once('=').unwrap_or((word, ""));
         let Some((value, behind)) = rest.split_at_checked(number(length).unwrap_or(0)) else {
@@ -147,10 +177,7 @@ fn write(text: &str, bytes: &mut Vec<u8>, told: &mut Told) {
         rest = behind;
         match name {
             "look" => tell_built(&message, room, told),
-            "token" => match Token::try_from(value) {
-                Ok(token) => tell_built(&message.with_token(&token), room, told),
-                Err(_) => told.word("strange"),
-            },
+            "token" => tell_with(&message, value, room, told),
             _ => add(&mut message, name, value, told),
         }
     }

@@ -24,7 +24,7 @@ use crate::path_set::hash_of;
 use crate::response::respond;
 use coap_conn::{Due, Link, Reply};
 use coap_store::{Change, Plan, State, Store, Watch, held_response, request_path};
-use coap_wire::{Code, MessageRef, copy_of};
+use coap_wire::{Code, MessageRef, TokenRef};
 use std::alloc::AllocError;
 
 /// Answers a request, or holds its answer, and answers the hash of the path where that put or deleted a resource, if it
@@ -129,7 +129,7 @@ fn answer_late(
         ≡ record observers.old { entries = without_entry request.now.token observers.old.entries } }
 {
     observers.forget(request.token());
-    if link.hold(copy_of(request.token()), moment).is_err() {
+    if link.hold(request.token().to_token(), moment).is_err() {
         respond(link, request.token(), &plan.unheld(), false);
     }
 }
@@ -145,7 +145,7 @@ pub(crate) fn send_due(link: &mut Link, now: u64) -> bool
         Due::Nothing => false,
         Due::Pong => true,
         Due::Answer(token) => {
-            respond(link, &token, &held_response(), false);
+            respond(link, &TokenRef::of(&token), &held_response(), false);
             true
         }
     }
@@ -196,7 +196,7 @@ fn entry_for(host: &Host, request: &MessageRef) -> Observer
         unreachable!()
     };
     Observer {
-        token: copy_of(request.token()),
+        token: request.token().to_token(),
         format: there.format(),
         mark: mark_at(host.now, &there),
         path,
@@ -220,7 +220,7 @@ pub(crate) fn notify(link: &mut Link, observers: &mut Observers, host: &Host, st
         .store
         .notification(&observer.path, observer.format, host.now);
     let goes_on = plan.code() == Code::CONTENT;
-    let reply = respond(link, &observer.token, &plan, goes_on);
+    let reply = respond(link, &TokenRef::of(&observer.token), &plan, goes_on);
     if goes_on && is_whole(reply) {
         observers.tell(stale.index, stale.mark);
     } else {

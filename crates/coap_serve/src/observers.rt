@@ -11,7 +11,7 @@ ghost use Rattle.coap_serve.specs.views.ObserverViews.{observer_value};
 use crate::host::Host;
 use crate::path_set::{PathSet, paths_of};
 use coap_store::PathKey;
-use coap_wire::Token;
+use coap_wire::{Token, TokenRef};
 use std::alloc::{AllocError, Global};
 use std::marker::Model;
 
@@ -175,8 +175,8 @@ impl Observers {
     }
 
     /// The entry with this token goes.
-    pub(crate) fn forget(&mut self, token: &Token)
-        ensures { self.new ≡ record self.old { entries = without_entry token.now.items self.old.entries } }
+    pub(crate) fn forget(&mut self, token: &TokenRef)
+        ensures { self.new ≡ record self.old { entries = without_entry token.now self.old.entries } }
     {
         if keep_others(&mut self.entries, token) {
             self.paths = paths_of(&self.entries);
@@ -225,14 +225,14 @@ fn tells_time(observers: &[Observer]) -> bool
 }
 
 /// All stay but those with this token, and whether there were any is answered.
-fn keep_others(observers: &mut Vec<Observer>, token: &Token) -> bool
+fn keep_others(observers: &mut Vec<Observer>, token: &TokenRef) -> bool
     ensures others { map observer_value observers.new.items
-        ≡ without_entry token.now.items (map observer_value observers.old.items) }
+        ≡ without_entry token.now (map observer_value observers.old.items) }
     ensures fewer { length observers.new.items ≤ length observers.old.items }
     ensures capacity { vec_capacity observers.new ≡ vec_capacity observers.old }
     ensures same { result ≡ false → observers.new.items ≡ observers.old.items }
 {
     let before = observers.len();
-    observers.retain(|observer| observer.token != *token);
+    observers.retain(|observer| !token.is(&observer.token));
     observers.len() < before
 }

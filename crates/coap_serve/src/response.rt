@@ -17,7 +17,7 @@ ghost use Rattle.coap_store.specs.Messages.{response_with_observe, option_at, em
 use coap_conn::{Link, Reply};
 use coap_store::{Plan, UriPath};
 use coap_wire::option_numbers::{CONTENT_FORMAT, ETAG, LOCATION_PATH, MAX_AGE, OBSERVE, SIZE1};
-use coap_wire::{MessageBuilder, Token, significant_bytes};
+use coap_wire::{MessageBuilder, TokenRef, significant_bytes};
 
 /// The most options of a response that tells no path: ETag, Observe, Content-Format, Max-Age and Size1.
 const FEW: usize = 5;
@@ -27,14 +27,14 @@ const MANY: usize = 21;
 
 /// Sends the response of a plan to the request with this token, as it fits the peer (RFC 7252 section 5.10), with
 /// Observe where it is a notification too (RFC 7641 section 4.2). Answers what was sent.
-pub(crate) fn respond(link: &mut Link, token: &Token, plan: &Plan, observes: bool) -> Reply
+pub(crate) fn respond(link: &mut Link, token: &TokenRef, plan: &Plan, observes: bool) -> Reply
     requires ready { IsReady link.old }
     requires answering { IsAnswering link.old.phase }
     requires short { length plan.now.response.payload ≤ 1048576 }
-    ensures reply { let response = response_with_observe token.now.items observes plan.now.response in result
+    ensures reply { let response = response_with_observe token.now observes plan.now.response in result
         ≡ fit (limit_in link.old) response (bare_response response) }
     ensures after { link.new
-        ≡ link_after link.old (call.Reply (response_with_observe token.now.items observes plan.now.response)) }
+        ≡ link_after link.old (call.Reply (response_with_observe token.now observes plan.now.response)) }
 {
     match plan.location() {
         None => respond_from::<FEW>(link, token, plan, observes, None),
@@ -45,7 +45,7 @@ pub(crate) fn respond(link: &mut Link, token: &Token, plan: &Plan, observes: boo
 /// The same with room for `N` options, where this is the path that is told.
 fn respond_from<'a, const N: usize>(
     link: &mut Link,
-    token: &Token,
+    token: &TokenRef,
     plan: &'a Plan,
     observes: bool,
     path: Option<UriPath<'a>>,
@@ -57,16 +57,16 @@ fn respond_from<'a, const N: usize>(
     requires told { path_or_root path ≡ plan.now.response.location }
     requires room { length plan.now.response.location + 5 ≤ N }
     requires few { N ≤ 40 }
-    ensures reply { let response = response_with_observe token.now.items observes plan.now.response in result
+    ensures reply { let response = response_with_observe token.now observes plan.now.response in result
         ≡ fit (limit_in link.old) response (bare_response response) }
     ensures after { link.new
-        ≡ link_after link.old (call.Reply (response_with_observe token.now.items observes plan.now.response)) }
+        ≡ link_after link.old (call.Reply (response_with_observe token.now observes plan.now.response)) }
 {
     let format = wide(plan.format());
     let format_bytes = number_bytes(format);
     let max_age_bytes = number_bytes(plan.max_age());
     let size1_bytes = number_bytes(plan.size1());
-    let mut response: MessageBuilder<N> = MessageBuilder::new(plan.code(), token);
+    let mut response: MessageBuilder<N> = MessageBuilder::to(plan.code(), token.again());
     add_etag(&mut response, plan.etag());
     add_observe(&mut response, observes);
     add_location(&mut response, path);

@@ -4,7 +4,7 @@ use Rattle.std.specs.List.{AllByRecursion}
 use Rattle.std.proofs.lemmas.List.{map_push, length-append, length-map}
 use Rattle.coap_wire.specs.declared.options.OptionRef.{OptionRef}
 use Rattle.coap_wire.specs.Message.{Message, AreOrdered, last_number}
-use Rattle.coap_wire.specs.Forms.{length_form}
+use Rattle.coap_wire.specs.Forms.{length_form, token_form}
 use Rattle.coap_wire.specs.Spelling.{HasOptionForm, options_spelling, payload_bytes, body_spelling, head_spelling, spelling}
 use Rattle.coap_wire.specs.Views.{coap_option, coap_options, CanBeBuilt}
 use Rattle.coap_wire.proofs.OptionLists.{ordered-push, forms-push}
@@ -34,10 +34,10 @@ length-spelling m =
 joined : (a b c d first second third : List ℕ) → first ≡ a ++ b → second ≡ first ++ c → third ≡ second ++ d → third ≡ a ++ (b ++ (c ++ d))
 joined a b c d first second third first_is second_is third_is = rw (third_is, second_is, first_is) (simp append_assoc)
 
-size_of_parts : (n : ℕ) (ext : List ℕ) (code : ℕ) (token body : List ℕ) (extension token_length first : ℕ) → n ≡ length body → extension ≡ length ext → token_length ≡ length token
-    → 2 + extension + token_length + n ≡ length ((first ∷ (ext ++ code ∷ token)) ++ body)
-size_of_parts n ext code token body extension token_length first n_is extension_is token_is =
-    omega (arith, length-append (first ∷ (ext ++ code ∷ token)) body, length-append ext (code ∷ token))
+size_of_parts : (n : ℕ) (ext : List ℕ) (code : ℕ) (token_ext token body : List ℕ) (extension token_extension token_length first : ℕ) → n ≡ length body → extension ≡ length ext
+    → token_extension ≡ length token_ext → token_length ≡ length token → 2 + extension + token_extension + token_length + n ≡ length ((first ∷ (ext ++ code ∷ (token_ext ++ token))) ++ body)
+size_of_parts n ext code token_ext token body extension token_extension token_length first n_is extension_is token_extension_is token_is =
+    omega (arith, length-append (first ∷ (ext ++ code ∷ (token_ext ++ token))) body, length-append ext (code ∷ (token_ext ++ token)), length-append token_ext token)
 
 -- what is known of the head: the message m is what the builder holds, n the length of its body, and token its token
 module _ (m now : Message) (n : ℕ) (token : List ℕ) (same : m ≡ now) (n_is : n ≡ length (body_spelling now)) (token_is : token ≡ m.token) where
@@ -73,10 +73,13 @@ module _ (m now : Message) (n : ℕ) (token : List ℕ) (same : m ≡ now) (n_is
       (joined start (head_spelling m.code m.token (length (body_spelling m))) (options_spelling 0 m.options) (payload_bytes m.payload) first second third (first_is ∙ ap (λ (h : List ℕ). start ++ h) head_is) second_is third_is)
 
 -- the size that is computed without writing
-pub size_is : (m now : Message) (n extension token : ℕ) → m ≡ now → n ≡ length (body_spelling now) → extension ≡ length (length_form n).1 → token ≡ length m.token → 2 + extension + token + n ≡ length (spelling now)
+pub size_is : (m now : Message) (n extension token_extension token : ℕ) → m ≡ now → n ≡ length (body_spelling now) → extension ≡ length (length_form n).1 → token ≡ length m.token
+    → token_extension ≡ length (token_form token).1 → 2 + extension + token_extension + token + n ≡ length (spelling now)
 unfolding spelling
-size_is m now n extension token same n_is extension_is token_is =
+size_is m now n extension token_extension token same n_is extension_is token_is token_extension_is =
     let k : n ≡ length (body_spelling m) = subst (λ (v : Message). n ≡ length (body_spelling v)) (sym same) n_is in
     let e : extension ≡ length (length_form (length (body_spelling m))).1 = extension_is ∙ ap (λ (x : ℕ). length (length_form x).1) k in
-    subst (λ (v : Message). 2 + extension + token + n ≡ length (spelling v)) same
-    (size_of_parts n (length_form (length (body_spelling m))).1 m.code m.token (body_spelling m) extension token (16 * (length_form (length (body_spelling m))).0 + length m.token) k e token_is)
+    let t : token_extension ≡ length (token_form (length m.token)).1 = token_extension_is ∙ ap (λ (x : ℕ). length (token_form x).1) token_is in
+    let first = 16 * (length_form (length (body_spelling m))).0 + (token_form (length m.token)).0 in
+    subst (λ (v : Message). 2 + extension + token_extension + token + n ≡ length (spelling v)) same
+    (size_of_parts n (length_form (length (body_spelling m))).1 m.code (token_form (length m.token)).1 m.token (body_spelling m) extension token_extension token first k e t token_is)

@@ -3,7 +3,8 @@ use Rattle.std.proofs.Common.{◌≡◌, ◌≢◌, ℕ, ◌+◌, ◌/◌, ◌%�
 use Rattle.std.proofs.lemmas.Bool.{cases_lt, cases_eq}
 use Rattle.coap_wire.specs.Message.{CoapOption, last_number, AreBytes}
 use Rattle.coap_wire.specs.Spelling.{IsOptionHead, IsOptionBytes}
-use Rattle.coap_wire.specs.Faults.{option_extension, IsOptionHeadCut, IsOptionFault}
+use Rattle.coap_wire.specs.Forms.{option_extension}
+use Rattle.coap_wire.specs.Faults.{IsOptionHeadCut, IsOptionFault}
 use Rattle.coap_wire.specs.declared.fault.FormatFault.{FormatFault}
 use Rattle.coap_wire.specs.declared.fault.FormatFault.TheVariants.{TokenLength, OptionDelta, OptionLength, OptionCut, OptionNumber, EmptyPayload, NotOneFrame}
 use Rattle.coap_wire.specs.Reading.{◌>>=◌, option_number_at, both_at, option_head_at, value_at, option_at, body_at}

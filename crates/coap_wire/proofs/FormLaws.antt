@@ -1,13 +1,11 @@
 -- The one form of a number is its only form.
 use Rattle.std.proofs.Common.{◌≡◌, ℕ, zero, suc, ◌+◌, ◌-◌, ◌*◌, ◌<◌, ◌≤◌, List, [], ◌∷◌, ◌++◌, length, get_or, refl, sym, ap, subst, ◌∙◌, arith, inl, inr, le-ltb, lt-ltb}
 use Rattle.std.specs.Int.{w16, w32, to_be_bytes, from_be_bytes}
-use Rattle.std.proofs.lemmas.Bool.{cases_lt, cases_eq}
+use Rattle.std.proofs.lemmas.Bool.{cases_lt, cases_eq, ne_eqb}
 use Rattle.std.proofs.lemmas.Nat.{be_bytes_2, be_bytes_4, from_be_bytes-to_be_bytes_2, from_be_bytes-to_be_bytes_4}
 use Rattle.std.specs.List.{AllByRecursion}
 use Rattle.coap_wire.specs.Message.{IsByte}
-use Rattle.coap_wire.specs.Forms.{IsLengthForm, length_form, greatest_length, IsOptionForm, option_form, greatest_option_form, greatest_token, IsTokenForm, token_form}
-use Rattle.coap_wire.specs.Spelling.{IsHeadAndBody}
-use Rattle.coap_wire.specs.Size.{IsSizeHead}
+use Rattle.coap_wire.specs.Forms.{IsLengthForm, length_form, greatest_length, IsOptionForm, option_form, greatest_option_form, option_extension, greatest_token, IsTokenForm, token_form}
 
 -- ---- what the forms share
 
@@ -28,17 +26,6 @@ number_2 a b fits = omega (arith, fits.0, fits.1.0)
 
 number_4 : (a b c d : ℕ) → AllByRecursion IsByte (a ∷ b ∷ c ∷ d ∷ []) → from_be_bytes w32 (a ∷ b ∷ c ∷ d ∷ []) < 4294967296
 number_4 a b c d fits = omega (arith, fits.0, fits.1.0, fits.1.1.0, fits.1.1.1.0)
-
--- two fronts of one length
-pub front_of : (e f s t : List ℕ) → length e ≡ length f → e ++ s ≡ f ++ t → (e ≡ f) × (s ≡ t)
-front_of [] [] s t len same = (refl, same)
-front_of [] (b ∷ f) s t len same = absurd (omega arith)
-front_of (a ∷ e) [] s t len same = absurd (omega arith)
-front_of (a ∷ e) (b ∷ f) s t len same =
-    let rest : e ++ s ≡ f ++ t = cc in
-    let first : a ≡ b = cc in
-    let r = front_of e f s t (omega arith) rest in
-    (λ i. first i ∷ r.0 i, r.1)
 
 -- ---- the length of a message's options and payload
 
@@ -105,50 +92,6 @@ length_form_bound x (a ∷ b ∷ c ∷ []) n form = absurd form
 length_form_bound x (a ∷ b ∷ c ∷ d ∷ []) n form = (omega (arith, form.0), omega (arith, number_4 a b c d form.1, form.2))
 length_form_bound x (a ∷ b ∷ c ∷ d ∷ e ∷ es) n form = absurd form
 
--- A form means one length.
-pub length_form_value : (x : ℕ) (e : List ℕ) (m n : ℕ) → IsLengthForm x e m → IsLengthForm x e n → m ≡ n
-length_form_value x [] m n left right = left.1 ∙ sym right.1
-length_form_value x (a ∷ []) m n left right = left.2 ∙ sym right.2
-length_form_value x (a ∷ b ∷ []) m n left right = left.2 ∙ sym right.2
-length_form_value x (a ∷ b ∷ c ∷ []) m n left right = absurd left
-length_form_value x (a ∷ b ∷ c ∷ d ∷ []) m n left right = left.2 ∙ sym right.2
-length_form_value x (a ∷ b ∷ c ∷ d ∷ e ∷ es) m n left right = absurd left
-
--- how many bytes extend the nibble of a length
-record IsLengthWidth (x k : ℕ) : Type 0 where
-  none : x < 13 → k ≡ 0
-  one : x ≡ 13 → k ≡ 1
-  two : x ≡ 14 → k ≡ 2
-  four : x ≡ 15 → k ≡ 4
-  fits : x < 16
-
-length_width : (x : ℕ) (e : List ℕ) (n : ℕ) → IsLengthForm x e n → IsLengthWidth x (length e)
-length_width x [] n form = let h = form.0 in record { none = λ _. refl; one = λ is. absurd (omega arith); two = λ is. absurd (omega arith); four = λ is. absurd (omega arith); fits = omega arith }
-length_width x (a ∷ []) n form = let h = form.0 in record { none = λ is. absurd (omega arith); one = λ _. refl; two = λ is. absurd (omega arith); four = λ is. absurd (omega arith); fits = omega arith }
-length_width x (a ∷ b ∷ []) n form = let h = form.0 in record { none = λ is. absurd (omega arith); one = λ is. absurd (omega arith); two = λ _. refl; four = λ is. absurd (omega arith); fits = omega arith }
-length_width x (a ∷ b ∷ c ∷ []) n form = absurd form
-length_width x (a ∷ b ∷ c ∷ d ∷ []) n form = let h = form.0 in record { none = λ is. absurd (omega arith); one = λ is. absurd (omega arith); two = λ is. absurd (omega arith); four = λ _. refl; fits = omega arith }
-length_width x (a ∷ b ∷ c ∷ d ∷ e ∷ es) n form = absurd form
-
-one_length_width : (x j k : ℕ) → IsLengthWidth x j → IsLengthWidth x k → j ≡ k
-one_length_width x j k left right =
-    let fits : x < 16 = left.fits in
-    elim (cases_lt x 13) [
-      | inl lt ↦ left.none lt ∙ sym (right.none lt)
-      | inr le ↦ elim (cases_eq x 13) [
-        | inl is ↦ left.one is ∙ sym (right.one is)
-        | inr not_13 ↦ elim (cases_eq x 14) [
-          | inl is ↦ left.two is ∙ sym (right.two is)
-          | inr not_14 ↦ left.four (omega (arith, not_13, not_14)) ∙ sym (right.four (omega (arith, not_13, not_14)))
-        ]
-      ]
-    ]
-
--- With one nibble the extensions end at the same place.
-pub length_form_front : (x : ℕ) (e f s t : List ℕ) (m n : ℕ) → IsLengthForm x e m → IsLengthForm x f n → e ++ s ≡ f ++ t → (e ≡ f) × (s ≡ t)
-length_form_front x e f s t m n left right same =
-    front_of e f s t (one_length_width x (length e) (length f) (length_width x e m left) (length_width x f n right)) same
-
 -- ---- an option delta or an option length
 
 option_form_none : (n : ℕ) → n < 13 → option_form n ≡ (n, [])
@@ -196,27 +139,34 @@ option_form_bound x (a ∷ []) n form = (omega (arith, form.0), omega (arith, fo
 option_form_bound x (a ∷ b ∷ []) n form = (omega (arith, form.0), omega (arith, number_2 a b form.1, form.2))
 option_form_bound x (a ∷ b ∷ c ∷ es) n form = absurd form
 
--- ---- a token's length
+pub option_extension_none : (x : ℕ) → x < 13 → option_extension x ≡ 0
+option_extension_none x h = rw (lt-ltb x 13 h) refl
 
--- no bytes extend a token's length, which is its nibble
-pub token_form_is : (x : ℕ) (e : List ℕ) (n : ℕ) → IsTokenForm x e n → (e ≡ []) × (x ≡ n) × (n ≤ greatest_token)
-token_form_is x [] n form = (refl, form.0, form.1)
-token_form_is x (a ∷ e) n form = absurd form
+pub option_extension_one : (x : ℕ) → x ≡ 13 → option_extension x ≡ 1
+option_extension_one x h = rw h refl
+
+pub option_extension_two : (x : ℕ) → 13 < x → option_extension x ≡ 2
+option_extension_two x h = rw (le-ltb x 13 (omega arith), ne_eqb x 13 (omega arith)) refl
+
+pub option_extension_some : (x : ℕ) → 13 ≤ x → 1 ≤ option_extension x
+option_extension_some x h =
+    elim (cases_eq x 13) [
+      | inl is ↦ omega (arith, option_extension_one x is)
+      | inr not ↦ omega (arith, option_extension_two x (omega (arith, h, not)))
+    ]
+
+-- the nibble of an option delta or length says how many bytes extend it
+pub option_form_width : (x : ℕ) (e : List ℕ) (n : ℕ) → IsOptionForm x e n → length e ≡ option_extension x
+option_form_width x [] n form = sym (option_extension_none x form.0)
+option_form_width x (a ∷ []) n form = sym (option_extension_one x form.0)
+option_form_width x (a ∷ b ∷ []) n form = sym (option_extension_two x (omega (arith, form.0)))
+option_form_width x (a ∷ b ∷ c ∷ es) n form = absurd form
+
+-- ---- a token's length
 
 -- A token's length has one form.
 pub token_form_has : (n : ℕ) → n ≤ greatest_token → IsTokenForm (token_form n).0 (token_form n).1 n
-token_form_has n small = (refl, small)
+token_form_has n small = (option_form_is n (omega (arith, small)), small)
 
 pub token_form_only : (n x : ℕ) (e : List ℕ) → IsTokenForm x e n → (x ≡ (token_form n).0) × (e ≡ (token_form n).1)
-token_form_only n x e form = let t = token_form_is x e n form in (t.1, t.0)
-
--- a head and a body, where no bytes extend the token's length
-pub head_bytes : (s : List ℕ) (code : ℕ) (token body : List ℕ) → (h : IsHeadAndBody s code token body) → s ≡ (16 * h.length_nibble + h.token_nibble) ∷ (h.extension ++ code ∷ (token ++ body))
-head_bytes s code token body h =
-    h.bytes ∙ ap (λ (e : List ℕ). (16 * h.length_nibble + h.token_nibble) ∷ (h.extension ++ code ∷ (e ++ (token ++ body)))) (token_form_is h.token_nibble h.token_extension (length token) h.token_form).0
-
--- the size that a head declares, where no bytes extend the token's length
-pub size_bytes_are : (bytes : List ℕ) (n : ℕ) → (h : IsSizeHead bytes n) → n ≡ 1 + length h.extension + 1 + h.token_nibble + h.body_length
-size_bytes_are bytes n h =
-    let t = token_form_is h.token_nibble h.token_extension h.token_length h.token_form in
-    omega (arith, h.size, t.1, ap (λ (e : List ℕ). length e) t.0)
+token_form_only n x e form = option_form_only x e n form.0

@@ -5,7 +5,7 @@ use Rattle.std.proofs.lemmas.List.{append-nil, append_assoc, take-append-drop, l
 use Rattle.coap_wire.specs.Message.{AreBytes}
 use Rattle.coap_wire.specs.Size.{IsFrame}
 use Rattle.coap_wire.specs.declared.fault.FrameFault.{FrameFault}
-use Rattle.coap_wire.specs.Beginning.{IsFrameFault, IsUnfinished, Beginning, Unfinished, Whole, Faulty, beginning, fault_size, fault_bytes}
+use Rattle.coap_wire.specs.Beginning.{IsFrameFault, IsUnfinished, Beginning, Unfinished, Whole, Faulty, beginning, size_bytes, fault_bytes}
 use Rattle.coap_wire.specs.Frames.{Frames, Sizes, sizes_behind, size_for, size_behind, sizes_of_rest, AreFrames, AreAtMost, FramesEndWith, StandsBehind, FramedAs, with_frame, sized_frames, frames_gone_on, frames_on}
 use Rattle.coap_wire.proofs.NumberLaws.{AreBytes-tail}
 use Rattle.coap_wire.proofs.StreamSteps.{whole_parts, fault_bytes_more, rest_behind, rest_is_all, sized_faulty_more, sized_whole_more, Holding, HoldsBehind, frames_from, frames_unfinished, frames_faulty, frames_whole, by_frames}
@@ -20,7 +20,7 @@ IsWithin sizes s = length (sized_frames sizes s).rest ≤ length s
 within_step : (sizes : Sizes) (s : List ℕ) (b : Beginning) → HoldsBehind IsWithin sizes s → beginning (size_for sizes s) s ≡ b → IsWithin sizes s
 within_step sizes s Unfinished again e = omega (arith, ap (λ (f : Frames). length f.rest) (frames_unfinished sizes s e))
 within_step sizes s (Faulty fault) again e =
-    omega (arith, ap (λ (f : Frames). length f.rest) (frames_faulty sizes s fault e), length-take (fault_size fault s) s)
+    omega (arith, ap (λ (f : Frames). length f.rest) (frames_faulty sizes s fault e), length-take (size_bytes s) s)
 within_step sizes s (Whole frame rest) again e =
     let c = whole_parts (size_for sizes s) s frame rest e in
     omega (arith, ap (λ (l : List ℕ). length l) c.bytes, length-append frame rest, again frame rest e, ap (λ (f : Frames). length f.rest) (frames_whole sizes s frame rest e))
@@ -76,13 +76,13 @@ framed_unfinished sizes s u = record {
   behind = refl;
 }
 
-framed_faulty : (sizes : Sizes) (s : List ℕ) (fault : FrameFault) → AreBytes s → beginning (size_for sizes s) s ≡ Faulty fault → FramedAs sizes s (record { frames = []; rest = fault_bytes fault s; fault = Some fault })
+framed_faulty : (sizes : Sizes) (s : List ℕ) (fault : FrameFault) → AreBytes s → beginning (size_for sizes s) s ≡ Faulty fault → FramedAs sizes s (record { frames = []; rest = fault_bytes s; fault = Some fault })
 framed_faulty sizes s fault fits e = record {
-  more = drop (fault_size fault s) s;
-  whole = sym (take-append-drop (fault_size fault s) s);
+  more = drop (size_bytes s) s;
+  whole = sym (take-append-drop (size_bytes s) s);
   each = tt;
   small = tt;
-  ended = subst (λ (M : ℕ). IsFrameFault M fault (fault_bytes fault s)) (sym (size_behind_none sizes (fault_bytes fault s) ∙ size_for_fault sizes s fault e)) (fault_found (size_for sizes s) s fault fits e);
+  ended = subst (λ (M : ℕ). IsFrameFault M fault (fault_bytes s)) (sym (size_behind_none sizes (fault_bytes s) ∙ size_for_fault sizes s fault e)) (fault_found (size_for sizes s) s fault fits e);
   behind = tt;
 }
 

@@ -1,122 +1,266 @@
 -- A frame's head that is read is spelled so, and what is spelled so is read; the size that the first bytes declare.
-use Rattle.std.proofs.Common.{◌≡◌, ◌≢◌, ℕ, suc, ◌+◌, ◌-◌, ◌*◌, ◌/◌, ◌%◌, ◌<◌, ◌≤◌, List, [], ◌∷◌, ◌++◌, length, take, drop, get_or, Option, Some, None, Ok, Err, inl, inr, refl, sym, ap, subst, ◌∙◌, arith}
+use Rattle.std.proofs.Common.{◌≡◌, ◌≢◌, ℕ, ◌+◌, ◌-◌, ◌*◌, ◌/◌, ◌%◌, ◌<◌, ◌≤◌, List, [], ◌∷◌, ◌++◌, length, take, drop, Option, Some, None, Ok, Err, ◌⊎◌, inl, inr, refl, sym, ap, subst, ◌∙◌, append_assoc, arith}
 use Rattle.std.proofs.lemmas.Bool.{eq-eqb, ne_eqb, lt-ltb, le-ltb, cases_lt, cases_eq}
 use Rattle.std.proofs.lemmas.List.{length-take, length-drop, length-append, take-append-drop, take_at, drop_at}
-use Rattle.coap_wire.specs.Forms.{IsLengthForm}
-use Rattle.coap_wire.specs.Size.{IsDeclaredSize, IsFrame, HasBadToken, Declares}
+use Rattle.coap_wire.specs.Message.{AreBytes}
+use Rattle.coap_wire.specs.Forms.{IsLengthForm, extension_of, IsOptionForm, option_extension}
+use Rattle.coap_wire.specs.Size.{code_and_extension, StatesLengths, IsDeclaredSize, IsFrame, HasBadToken, Declares}
 use Rattle.coap_wire.specs.Spelling.{IsHeadAndBody}
 use Rattle.coap_wire.specs.Faults.{IsFirstFault}
 use Rattle.coap_wire.specs.declared.frame.Declared.{Declared}
 use Rattle.coap_wire.specs.declared.frame.Declared.TheVariants.{Unknown, Size, BadToken}
 use Rattle.coap_wire.specs.declared.fault.FormatFault.{FormatFault}
 use Rattle.coap_wire.specs.declared.fault.FormatFault.TheVariants.{TokenLength, NotOneFrame}
-use Rattle.coap_wire.specs.Reading.{length_at, size_from, declared_of, Head, head_from, head_at}
-use Rattle.coap_wire.proofs.FormLaws.{token_form_is, head_bytes, size_bytes_are}
-use Rattle.coap_wire.proofs.NumberLaws.{option_cases, AreBytes-tail, length_again, TakesLength, length_takes}
-use Rattle.coap_wire.proofs.BodySteps.{ok_is}
+use Rattle.coap_wire.specs.Reading.{length_at, option_number_at, size_with, size_from, declared_of, Head, head_with, head_behind, head_from, head_at}
+use Rattle.coap_wire.proofs.FormLaws.{option_form_width, option_extension_some}
+use Rattle.coap_wire.proofs.NumberLaws.{option_cases, AreBytes-tail, AreBytes-drop, length_again, option_number_none, option_number_again, option_form_nibble, length_takes, option_number_takes, length_at_taken, option_number_length}
+use Rattle.coap_wire.proofs.BodySteps.{some_is, ok_is}
 use Rattle.coap_wire.proofs.BodyLaws.{ok_or_err, nibbles}
-use Rattle.coap_wire.specs.Message.{AreBytes}
+
+-- ---- the lengths behind a first byte
+
+-- Behind the first byte b the length n of a body is read, behind which stands at_code, and behind the code the length t of a token,
+-- behind which stands at_token.
+pub record ReadsLengths (b : ℕ) (s : List ℕ) (t n : ℕ) : Type 0 where
+  pub at_code : List ℕ
+  pub at_token : List ℕ
+  pub nibble : b % 16 ≢ 15
+  pub body : length_at (b / 16) s ≡ Some (n, at_code)
+  pub token : option_number_at (b % 16) (drop 1 at_code) ≡ Some (t, at_token)
+
+-- a byte of these lengths is missing
+pub record IsCutHead (b : ℕ) (s : List ℕ) : Type 0 where
+  pub nibble : b % 16 ≢ 15
+  pub cut : (length_at (b / 16) s ≡ None) ⊎ ((y : ℕ × List ℕ) × (length_at (b / 16) s ≡ Some y) × (option_number_at (b % 16) (drop 1 y.1) ≡ None))
+
+-- the lengths are read, or no token has this one, or a byte is missing
+abbrev pub HeadCases : ℕ → List ℕ → Type 0
+HeadCases b s = ((t n : ℕ) × ReadsLengths b s t n) ⊎ ((b % 16 ≡ 15) ⊎ IsCutHead b s)
+
+pub head_cases : (b : ℕ) (s : List ℕ) → HeadCases b s
+head_cases b s =
+    elim (cases_eq (b % 16) 15) [
+      | inl none ↦ inr (inl none)
+      | inr nibble ↦ elim (option_cases (length_at (b / 16) s)) [
+        | inl y ↦ elim (option_cases (option_number_at (b % 16) (drop 1 y.0.1))) [
+          | inl z ↦ inl (z.0.0, y.0.0, record { at_code = y.0.1; at_token = z.0.1; nibble = nibble; body = y.1; token = z.1 })
+          | inr none ↦ inr (inr (record { nibble = nibble; cut = inr (y.0, y.1, none) }))
+        ]
+        | inr none ↦ inr (inr (record { nibble = nibble; cut = inl none }))
+      ]
+    ]
+
+-- the bytes that extend the lengths
+pub record HasWidths (b : ℕ) (s : List ℕ) (at_code at_token : List ℕ) : Type 0 where
+  pub body : length s ≡ extension_of (b / 16) + length at_code
+  pub token : length (drop 1 at_code) ≡ option_extension (b % 16) + length at_token
+
+pub widths : (b : ℕ) (s : List ℕ) (t n : ℕ) → (r : ReadsLengths b s t n) → HasWidths b s r.at_code r.at_token
+widths b s t n r = record {
+  body = length_at_taken (b / 16) s (n, r.at_code) r.body;
+  token = option_number_length (b % 16) (drop 1 r.at_code) (t, r.at_token) r.token;
+}
 
 -- ---- the declared size
-
-pub declared_bad : (b : ℕ) (s : List ℕ) → 8 < b % 16 → declared_of (b ∷ s) ≡ BadToken
-unfolding declared_of
-declared_bad b s h = rw (lt-ltb 8 (b % 16) h) refl
-
-pub declared_good : (b : ℕ) (s : List ℕ) → b % 16 ≤ 8 → declared_of (b ∷ s) ≡ size_from (b % 16) s (length_at (b / 16) s)
-unfolding declared_of
-declared_good b s h = rw (le-ltb 8 (b % 16) h) refl
 
 pub declared_nothing : declared_of [] ≡ Unknown
 unfolding declared_of
 declared_nothing = refl
 
--- bytes with a bad token begin with the byte that states it
-pub bad_token_first : (s : List ℕ) (bad : HasBadToken s) → s ≡ bad.3.0 ∷ bad.1
-bad_token_first s bad = bad.2 ∙ ap (λ (head : List ℕ). head ++ bad.1) bad.3.1
+-- no token has a length of nibble 15
+pub declared_no_length : (b : ℕ) (s : List ℕ) → b % 16 ≡ 15 → declared_of (b ∷ s) ≡ BadToken
+unfolding declared_of
+declared_no_length b s h = rw (eq-eqb (b % 16) 15 h) refl
 
--- a first byte that states a token of more than 8 bytes
-pub bad_token_declared : (s : List ℕ) → HasBadToken s → declared_of s ≡ BadToken
-bad_token_declared s bad = ap declared_of (bad_token_first s bad) ∙ declared_bad bad.3.0 bad.1 bad.3.2
+declared_from : (b : ℕ) (s : List ℕ) → b % 16 ≢ 15 → declared_of (b ∷ s) ≡ size_from (b % 16) s (length_at (b / 16) s)
+unfolding declared_of
+declared_from b s h = rw (ne_eqb (b % 16) 15 h) refl
 
--- the first byte and the extension of a size that is spelled, and what is read there
-pub record ReadsSize (s : List ℕ) (n : ℕ) : Type 0 where
+pub declared_cut : (b : ℕ) (s : List ℕ) → IsCutHead b s → declared_of (b ∷ s) ≡ Unknown
+declared_cut b s c =
+    elim (c.cut) [
+      | inl none ↦ declared_from b s c.nibble ∙ ap (size_from (b % 16) s) none
+      | inr y ↦ declared_from b s c.nibble ∙ ap (size_from (b % 16) s) y.1 ∙ ap (size_with (1 + (length s - length y.0.1)) y.0.0 (drop 1 y.0.1)) y.2
+    ]
+
+declared_with : (b : ℕ) (s : List ℕ) (t n : ℕ) → (r : ReadsLengths b s t n) → declared_of (b ∷ s) ≡ size_with (1 + (length s - length r.at_code)) n (drop 1 r.at_code) (Some (t, r.at_token))
+declared_with b s t n r =
+    declared_from b s r.nibble ∙ ap (size_from (b % 16) s) r.body ∙ ap (size_with (1 + (length s - length r.at_code)) n (drop 1 r.at_code)) r.token
+
+size_of_token : (first n : ℕ) (behind : List ℕ) (y : ℕ × List ℕ) → y.0 ≤ 64 → size_with first n behind (Some y) ≡ Size (first + 1 + (length behind - length y.1) + y.0 + n)
+size_of_token first n behind y h = rw (le-ltb 64 y.0 h) refl
+
+size_of_long_token : (first n : ℕ) (behind : List ℕ) (y : ℕ × List ℕ) → 64 < y.0 → size_with first n behind (Some y) ≡ BadToken
+size_of_long_token first n behind y h = rw (lt-ltb 64 y.0 h) refl
+
+-- the size of a frame with this first byte, a token of t bytes and a body of n bytes
+abbrev pub frame_size : ℕ → ℕ → ℕ → ℕ
+frame_size b t n = 1 + extension_of (b / 16) + 1 + option_extension (b % 16) + t + n
+
+pub declared_size : (b : ℕ) (s : List ℕ) (t n : ℕ) → ReadsLengths b s t n → t ≤ 64 → declared_of (b ∷ s) ≡ Size (frame_size b t n)
+declared_size b s t n r short =
+    let w = widths b s t n r in
+    let same : 1 + (length s - length r.at_code) + 1 + (length (drop 1 r.at_code) - length r.at_token) + t + n ≡ frame_size b t n = omega (arith, w.body, w.token) in
+    declared_with b s t n r ∙ size_of_token (1 + (length s - length r.at_code)) n (drop 1 r.at_code) (t, r.at_token) short ∙ ap Size same
+
+pub declared_long : (b : ℕ) (s : List ℕ) (t n : ℕ) → ReadsLengths b s t n → 64 < t → declared_of (b ∷ s) ≡ BadToken
+declared_long b s t n r long = declared_with b s t n r ∙ size_of_long_token (1 + (length s - length r.at_code)) n (drop 1 r.at_code) (t, r.at_token) long
+
+-- ---- lengths that are stated are read
+
+-- the token's length behind the code and its extension
+record ReadsToken (x t : ℕ) (s : List ℕ) : Type 0 where
+  behind : List ℕ
+  is : option_number_at x (drop 1 s) ≡ Some (t, behind)
+
+token_again : (x t code : ℕ) (extension more : List ℕ) → IsOptionForm x extension t → ReadsToken x t (code_and_extension code extension ++ more)
+token_again x t code [] more form = record { behind = drop 1 more; is = option_number_again x [] t (drop 1 more) form }
+token_again x t code (e ∷ es) more form = record { behind = more; is = option_number_again x (e ∷ es) t more form }
+
+-- the first byte of stated lengths, and what stands behind it
+abbrev first_of : {head : List ℕ} {t n : ℕ} → StatesLengths head t n → ℕ
+first_of h = 16 * h.length_nibble + h.token_nibble
+
+abbrev behind_first : {head : List ℕ} {t n : ℕ} → StatesLengths head t n → List ℕ → List ℕ
+behind_first h more = (h.extension ++ code_and_extension h.code h.token_extension) ++ more
+
+-- lengths that are stated at the front are read
+pub record ReadsStated (head more : List ℕ) (t n : ℕ) (h : StatesLengths head t n) : Type 0 where
   pub first : ℕ
-  pub extension : List ℕ
-  pub more : List ℕ
-  pub body_length : ℕ
-  pub bytes : s ≡ first ∷ (extension ++ more)
-  pub token : first % 16 ≤ 8
-  pub is : length_at (first / 16) (extension ++ more) ≡ Some (body_length, more)
-  pub size : n ≡ 1 + length extension + 1 + first % 16 + body_length
+  pub behind : List ℕ
+  pub bytes : head ++ more ≡ first ∷ behind
+  pub read : ReadsLengths first behind t n
+  pub extension : length h.extension ≡ extension_of (first / 16)
+  pub token_extension : length h.token_extension ≡ option_extension (first % 16)
 
--- a size that is spelled is read
-pub size_again : (s : List ℕ) (n : ℕ) → IsDeclaredSize s n → ReadsSize s n
-size_again s n d =
-    let h = d.3 in
+-- a nibble says how many bytes extend it
+length_form_width : (x : ℕ) (e : List ℕ) (n : ℕ) → IsLengthForm x e n → length e ≡ extension_of x
+length_form_width x e n form =
+    omega (arith, length_at_taken x (e ++ []) (n, []) (length_again x e n [] form), length-append e [])
+
+pub stated_read : (head more : List ℕ) (t n : ℕ) → (h : StatesLengths head t n) → ReadsStated head more t n h
+stated_read head more t n h =
     let x = h.length_nibble in
-    let t = h.token_nibble in
-    let token = token_form_is t h.token_extension h.token_length h.token_form in
-    let small : t ≤ 8 = omega (arith, token.1, token.2) in
-    let k = nibbles x t (omega arith) in
+    let y = h.token_nibble in
+    let small : y < 15 = option_form_nibble y h.token_extension t h.token_form in
+    let k = nibbles x y (omega (arith, small)) in
+    let at_code = code_and_extension h.code h.token_extension ++ more in
+    let token = token_again y t h.code h.token_extension more h.token_form in
+    let body : length_at x (behind_first h more) ≡ Some (n, at_code) =
+    ap (length_at x) (append_assoc h.extension (code_and_extension h.code h.token_extension) more) ∙ length_again x h.extension n at_code h.length_form in
     record {
-      first = 16 * x + t;
-      extension = h.extension;
-      more = d.1;
-      body_length = h.body_length;
-      bytes = d.2 ∙ ap (λ (head : List ℕ). head ++ d.1) h.head;
-      token = omega (arith, k.1);
-      is = rw (k.0) (length_again x h.extension h.body_length d.1 h.length_form);
-      size = rw (k.1) (size_bytes_are d.0 n h);
+      first = first_of h;
+      behind = behind_first h more;
+      bytes = ap (λ (l : List ℕ). l ++ more) h.head;
+      read = record {
+        at_code = at_code;
+        at_token = token.behind;
+        nibble = omega (arith, k.1, small);
+        body = rw (k.0) body;
+        token = rw (k.1) token.is;
+      };
+      extension = rw (k.0) (length_form_width x h.extension n h.length_form);
+      token_extension = rw (k.1) (option_form_width y h.token_extension t h.token_form);
     }
-
-size_is : (t : ℕ) (extension more : List ℕ) (k n : ℕ) → n ≡ 1 + length extension + 1 + t + k → size_from t (extension ++ more) (Some (k, more)) ≡ Size n
-size_is t extension more k n e = ap Size (omega (arith, length-append extension more))
 
 -- a size that is spelled is declared
 pub size_declared : (s : List ℕ) (n : ℕ) → IsDeclaredSize s n → declared_of s ≡ Size n
 size_declared s n d =
-    let r = size_again s n d in
-    ap declared_of r.bytes ∙ declared_good r.first (r.extension ++ r.more) r.token ∙ rw (r.is) (size_is (r.first % 16) r.extension r.more r.body_length n r.size)
+    let h = d.3 in
+    let r = stated_read d.0 d.1 h.token_length h.body_length h.lengths in
+    let same : frame_size r.first h.token_length h.body_length ≡ n = omega (arith, h.size, r.extension, r.token_extension) in
+    ap declared_of (d.2 ∙ r.bytes) ∙ declared_size r.first r.behind h.token_length h.body_length r.read h.short ∙ ap Size same
+
+-- a token length that is not taken is declared so
+pub bad_token_declared : (s : List ℕ) → HasBadToken s → declared_of s ≡ BadToken
+bad_token_declared s bad =
+    elim (bad.3) [
+      | inl none ↦ ap declared_of (bad.2 ∙ ap (λ (head : List ℕ). head ++ bad.1) none.1) ∙ declared_no_length none.0 bad.1 none.2
+      | inr long ↦
+          let r = stated_read bad.0 bad.1 long.0 long.1 long.2 in
+          ap declared_of (bad.2 ∙ r.bytes) ∙ declared_long r.first r.behind long.0 long.1 r.read long.3
+    ]
 
 declares_unknown : (s : List ℕ) → declared_of s ≡ Unknown → Declares s Unknown
 declares_unknown s e = (λ bad. cc (bad_token_declared s bad, e), λ n d. cc (size_declared s n d, e))
 
-declares_size : (b : ℕ) (s : List ℕ) (y : ℕ × List ℕ) → b % 16 ≤ 8 → TakesLength (b / 16) s y → IsDeclaredSize (b ∷ s) (1 + (length s - length y.1) + 1 + b % 16 + y.0)
-declares_size b s y small t =
+-- ---- lengths that are read are stated
+
+-- the code, and what stands behind the code's place
+record HasCode (s extension : List ℕ) : Type 0 where
+  code : ℕ
+  more : List ℕ
+  parts : s ≡ code_and_extension code extension ++ more
+
+code_before : (s extension behind : List ℕ) → drop 1 s ≡ extension ++ behind → HasCode s extension
+code_before s [] behind h = record { code = 0; more = s; parts = refl }
+code_before [] (e ∷ es) behind h = absurd cc
+code_before (c ∷ s) (e ∷ es) behind h = record { code = c; more = behind; parts = ap (λ (l : List ℕ). c ∷ l) h }
+
+-- the bytes that state the lengths, and what stands behind them
+pub record IsStated (b : ℕ) (s : List ℕ) (t n : ℕ) : Type 0 where
+  pub head : List ℕ
+  pub more : List ℕ
+  pub bytes : b ∷ s ≡ head ++ more
+  pub lengths : StatesLengths head t n
+  pub extension : length lengths.extension ≡ extension_of (b / 16)
+  pub token_extension : length lengths.token_extension ≡ option_extension (b % 16)
+
+pub read_stated : (b : ℕ) (s : List ℕ) (t n : ℕ) → AreBytes (b ∷ s) → ReadsLengths b s t n → IsStated b s t n
+read_stated b s t n fits r =
+    let byte : b < 256 = fits 0 in
     let split : b ≡ 16 * (b / 16) + b % 16 = omega arith in
-    let len : length s ≡ length t.extension + length y.1 = ap length t.parts ∙ length-append t.extension y.1 in (
-      b ∷ t.extension,
-      y.1,
-      ap (λ (r : List ℕ). b ∷ r) t.parts,
-      record {
+    let l = length_takes (b / 16) s (n, r.at_code) (AreBytes-tail (b ∷ []) s fits) (omega arith) r.body in
+    let k = option_number_takes (b % 16) (drop 1 r.at_code) (t, r.at_token) (AreBytes-drop 1 r.at_code l.rest_fits) (omega (arith, r.nibble)) r.token in
+    let c = code_before r.at_code k.extension r.at_token k.parts in
+    let front = code_and_extension c.code k.extension in
+    record {
+      head = b ∷ (l.extension ++ front);
+      more = c.more;
+      bytes = ap (λ (x : List ℕ). b ∷ x) (l.parts ∙ ap (λ (x : List ℕ). l.extension ++ x) c.parts ∙ sym (append_assoc l.extension front c.more));
+      lengths = record {
         length_nibble = b / 16;
-        extension = t.extension;
+        extension = l.extension;
         token_nibble = b % 16;
-        token_extension = [];
-        body_length = y.0;
-        token_length = b % 16;
-        length_form = t.form;
-        token_form = (refl, small);
-        head = ap (λ (k : ℕ). k ∷ t.extension) split;
-        size = omega arith;
-      },
+        code = c.code;
+        token_extension = k.extension;
+        length_form = l.form;
+        token_form = k.form;
+        head = ap (λ (x : ℕ). x ∷ (l.extension ++ front)) split;
+      };
+      extension = length_form_width (b / 16) l.extension n l.form;
+      token_extension = option_form_width (b % 16) k.extension t k.form;
+    }
+
+read_size : (b : ℕ) (s : List ℕ) (t n : ℕ) → AreBytes (b ∷ s) → ReadsLengths b s t n → t ≤ 64 → IsDeclaredSize (b ∷ s) (frame_size b t n)
+read_size b s t n fits r short =
+    let i = read_stated b s t n fits r in (
+      i.head,
+      i.more,
+      i.bytes,
+      record { token_length = t; body_length = n; lengths = i.lengths; short = short; size = omega (arith, i.extension, i.token_extension) },
     )
+
+pub read_bad_token : (b : ℕ) (s : List ℕ) (t n : ℕ) → AreBytes (b ∷ s) → ReadsLengths b s t n → 64 < t → HasBadToken (b ∷ s)
+read_bad_token b s t n fits r long =
+    let i = read_stated b s t n fits r in
+    (i.head, i.more, i.bytes, inr (t, n, i.lengths, long))
+
+pub no_token_length : (b : ℕ) (s : List ℕ) → b % 16 ≡ 15 → HasBadToken (b ∷ s)
+no_token_length b s none = (b ∷ [], s, refl, inl (b, refl, none))
 
 -- what the first bytes declare is what is read there
 pub declares : (s : List ℕ) → AreBytes s → Declares s (declared_of s)
 declares [] fits = rw declared_nothing (declares_unknown [] declared_nothing)
 declares (b ∷ s) fits =
-    elim (cases_lt 8 (b % 16)) [
-      | inl bad ↦ rw (declared_bad b s bad) (b ∷ [], s, refl, (b, refl, bad))
-      | inr good ↦ elim (option_cases (length_at (b / 16) s)) [
-        | inl y ↦
-            let byte : b < 256 = fits 0 in
-            let is : declared_of (b ∷ s) ≡ Size (1 + (length s - length y.0.1) + 1 + b % 16 + y.0.0) = declared_good b s good ∙ ap (size_from (b % 16) s) y.1 in
-            rw is (declares_size b s y.0 good (length_takes (b / 16) s y.0 (AreBytes-tail (b ∷ []) s fits) (omega arith) y.1))
-        | inr none ↦
-            let is : declared_of (b ∷ s) ≡ Unknown = declared_good b s good ∙ ap (size_from (b % 16) s) none in
-            rw is (declares_unknown (b ∷ s) is)
+    elim (head_cases b s) [
+      | inl r ↦ elim (cases_lt 64 r.0) [
+        | inl long ↦ rw (declared_long b s r.0 r.1 r.2 long) (read_bad_token b s r.0 r.1 fits r.2 long)
+        | inr short ↦ rw (declared_size b s r.0 r.1 r.2 short) (read_size b s r.0 r.1 fits r.2 short)
+      ]
+      | inr others ↦ elim others [
+        | inl none ↦ rw (declared_no_length b s none) (no_token_length b s none)
+        | inr cut ↦ rw (declared_cut b s cut) (declares_unknown (b ∷ s) (declared_cut b s cut))
       ]
     ]
 
@@ -133,170 +277,238 @@ declared_only s BadToken fits p = sym (bad_token_declared s p)
 
 -- ---- the head
 
--- a first byte that states a token of more than 8 bytes
-pub head_bad : (b : ℕ) (s : List ℕ) → 8 < b % 16 → head_at (b ∷ s) ≡ Err TokenLength
-unfolding head_at
-head_bad b s h = rw (lt-ltb 8 (b % 16) h) refl
-
--- a first byte that states a token of at most 8 bytes
-pub head_good : (b : ℕ) (s : List ℕ) → b % 16 ≤ 8 → head_at (b ∷ s) ≡ head_from (b % 16) (length_at (b / 16) s)
-unfolding head_at
-head_good b s h = rw (le-ltb 8 (b % 16) h) refl
-
--- no byte at all
-pub head_nothing : head_at [] ≡ Err NotOneFrame
+head_nothing : head_at [] ≡ Err NotOneFrame
 unfolding head_at
 head_nothing = refl
 
--- the code, a token of t bytes and a body of n bytes
-pub record HasParts (t n : ℕ) (r : List ℕ) (h : Head) : Type 0 where
-  pub parts : r ≡ h.code ∷ (h.token ++ h.body)
-  pub token : length h.token ≡ t
-  pub body : length h.body ≡ n
+head_no_length : (b : ℕ) (s : List ℕ) → b % 16 ≡ 15 → head_at (b ∷ s) ≡ Err TokenLength
+unfolding head_at
+head_no_length b s h = rw (eq-eqb (b % 16) 15 h) refl
 
-head_made : (t : ℕ) (r : List ℕ) → Head
-head_made t r = record { code = get_or r 0 0; token = take t (drop 1 r); body = drop (1 + t) r }
+head_by : (b : ℕ) (s : List ℕ) → b % 16 ≢ 15 → head_at (b ∷ s) ≡ head_from (b % 16) (length_at (b / 16) s)
+unfolding head_at
+head_by b s h = rw (ne_eqb (b % 16) 15 h) refl
 
-head_whole : (t n : ℕ) (r : List ℕ) → length r ≡ 1 + t + n → head_from t (Some (n, r)) ≡ Ok (head_made t r)
-unfolding head_made
-head_whole t n r h = rw (eq-eqb (length r) (1 + t + n) h) refl
+cut_behind : (x n : ℕ) (s : List ℕ) → option_number_at x (drop 1 s) ≡ None → head_behind x n s ≡ Err NotOneFrame
+cut_behind x n [] none = refl
+cut_behind x n (c ∷ s) none = ap (head_with c n) none
 
-head_not_whole : (t n : ℕ) (r : List ℕ) → length r ≢ 1 + t + n → head_from t (Some (n, r)) ≡ Err NotOneFrame
-head_not_whole t n r h = rw (ne_eqb (length r) (1 + t + n) h) refl
-
-made_parts : (t n : ℕ) (r : List ℕ) → length r ≡ 1 + t + n → HasParts t n r (head_made t r)
-unfolding head_made
-made_parts t n [] h = absurd (omega arith)
-made_parts t n (c ∷ r) h =
-    let one : 1 + t ≡ suc t = omega arith in
-    record {
-      parts = rw one (ap (λ (x : List ℕ). c ∷ x) (sym (take-append-drop t r)));
-      token = omega (arith, length-take t r);
-      body = rw one (omega (arith, length-drop t r));
-    }
-
--- behind the length, what is read is there
-pub head_parts : (t n : ℕ) (r : List ℕ) (h : Head) → head_from t (Some (n, r)) ≡ Ok h → HasParts t n r h
-head_parts t n r h e =
-    elim (cases_eq (length r) (1 + t + n)) [
-      | inl same ↦ subst (λ (k : Head). HasParts t n r k) (ok_is (head_made t r) h (sym (head_whole t n r same) ∙ e)) (made_parts t n r same)
-      | inr other ↦ absurd (ok_or_err (head_from t (Some (n, r))) h NotOneFrame e (head_not_whole t n r other))
+head_cut : (b : ℕ) (s : List ℕ) → IsCutHead b s → head_at (b ∷ s) ≡ Err NotOneFrame
+head_cut b s c =
+    elim (c.cut) [
+      | inl none ↦ head_by b s c.nibble ∙ ap (head_from (b % 16)) none
+      | inr y ↦ head_by b s c.nibble ∙ ap (head_from (b % 16)) y.1 ∙ cut_behind (b % 16) y.0.0 y.0.1 y.2
     ]
 
-made_is : (code : ℕ) (token body : List ℕ) (t : ℕ) → length token ≡ t → head_made t (code ∷ (token ++ body)) ≡ record { code = code; token = token; body = body }
-unfolding head_made
-made_is code token body t h =
-    let one : 1 + t ≡ suc t = omega arith in
-    rw (one, take_at token body t h, drop_at token body t h) refl
+head_read : (b : ℕ) (s : List ℕ) (t n : ℕ) (at_code at_token : List ℕ) (code : ℕ) → b % 16 ≢ 15 → length_at (b / 16) s ≡ Some (n, code ∷ at_code)
+    → option_number_at (b % 16) at_code ≡ Some (t, at_token) → head_at (b ∷ s) ≡ head_with code n (Some (t, at_token))
+head_read b s t n at_code at_token code nibble body token =
+    head_by b s nibble ∙ ap (head_from (b % 16)) body ∙ ap (head_with code n) token
 
-nothing_read : (h : Head) → head_at [] ≡ Ok h → ⊥
-nothing_read h e = cc head_nothing
+head_made : ℕ → ℕ → List ℕ → Head
+head_made code t s = record { code = code; token = take t s; body = drop t s }
+
+head_long : (code t n : ℕ) (s : List ℕ) → 64 < t → head_with code n (Some (t, s)) ≡ Err TokenLength
+head_long code t n s long = rw (lt-ltb 64 t long) refl
+
+head_whole : (code t n : ℕ) (s : List ℕ) → t ≤ 64 → length s ≡ t + n → head_with code n (Some (t, s)) ≡ Ok (head_made code t s)
+unfolding head_made
+head_whole code t n s short h = rw (le-ltb 64 t short, eq-eqb (length s) (t + n) h) refl
+
+head_not_whole : (code t n : ℕ) (s : List ℕ) → t ≤ 64 → length s ≢ t + n → head_with code n (Some (t, s)) ≡ Err NotOneFrame
+head_not_whole code t n s short h = rw (le-ltb 64 t short, ne_eqb (length s) (t + n) h) refl
+
+-- where no byte stands behind the length, no byte extends the token's length
+few_token : (x t : ℕ) (behind : List ℕ) → option_number_at x [] ≡ Some (t, behind) → t ≤ 64
+few_token x t behind e =
+    elim (cases_lt x 13) [
+      | inl lt ↦ let same : x ≡ t = ap (λ (y : ℕ × List ℕ). y.0) (some_is (x, []) (t, behind) (sym (option_number_none x [] lt) ∙ e)) in omega (arith, lt, same)
+      | inr ge ↦ absurd (omega (arith, option_extension_some x ge, option_number_length x [] (t, behind) e))
+    ]
+
+-- what is read of a head whose lengths are read: no code, or what stands behind it
+abbrev HeadParts : ℕ → List ℕ → ℕ → ℕ → List ℕ → List ℕ → Type 0
+HeadParts b s t n at_code at_token =
+    ((at_code ≡ []) × (head_at (b ∷ s) ≡ Err NotOneFrame) × (t ≤ 64))
+    ⊎ ((code : ℕ) × (behind : List ℕ) × (at_code ≡ code ∷ behind) × (head_at (b ∷ s) ≡ head_with code n (Some (t, at_token))))
+
+parts_by : (b : ℕ) (s : List ℕ) (t n : ℕ) (at_code at_token : List ℕ) → b % 16 ≢ 15 → length_at (b / 16) s ≡ Some (n, at_code)
+    → option_number_at (b % 16) (drop 1 at_code) ≡ Some (t, at_token) → HeadParts b s t n at_code at_token
+parts_by b s t n [] at_token nibble body token =
+    inl (refl, head_by b s nibble ∙ ap (head_from (b % 16)) body, few_token (b % 16) t at_token token)
+parts_by b s t n (code ∷ behind) at_token nibble body token = inr (code, behind, refl, head_read b s t n behind at_token code nibble body token)
+
+head_parts : (b : ℕ) (s : List ℕ) (t n : ℕ) → (r : ReadsLengths b s t n) → HeadParts b s t n r.at_code r.at_token
+head_parts b s t n r = parts_by b s t n r.at_code r.at_token r.nibble r.body r.token
 
 -- a head that is read is spelled so, and its body is bytes
-pub head_takes : (s : List ℕ) (h : Head) → AreBytes s → head_at s ≡ Ok h → IsHeadAndBody s h.code h.token h.body × AreBytes h.body
-head_takes [] h fits e = absurd (nothing_read h e)
-head_takes (b ∷ s) h fits e =
-    elim (cases_lt 8 (b % 16)) [
-      | inl bad ↦ absurd (ok_or_err (head_at (b ∷ s)) h TokenLength e (head_bad b s bad))
-      | inr good ↦
-          let from : head_from (b % 16) (length_at (b / 16) s) ≡ Ok h = sym (head_good b s good) ∙ e in
-          elim (option_cases (length_at (b / 16) s)) [
-            | inl y ↦
-                let byte : b < 256 = fits 0 in
-                let l = length_takes (b / 16) s y.0 (AreBytes-tail (b ∷ []) s fits) (omega arith) y.1 in
-                let p = head_parts (b % 16) y.0.0 y.0.1 h (ap (head_from (b % 16)) (sym y.1) ∙ from) in
-                let split : b ≡ 16 * (b / 16) + b % 16 = omega arith in (
-                  record {
-                    length_nibble = b / 16;
-                    extension = l.extension;
-                    token_nibble = b % 16;
-                    token_extension = [];
-                    length_form = subst (λ (n : ℕ). IsLengthForm (b / 16) l.extension n) (sym p.body) l.form;
-                    token_form = (sym p.token, omega (arith, p.token));
-                    bytes = ap (λ (k : ℕ). k ∷ s) split ∙ ap (λ (r : List ℕ). (16 * (b / 16) + b % 16) ∷ r) l.parts ∙ ap (λ (r : List ℕ). (16 * (b / 16) + b % 16) ∷ (l.extension ++ r)) p.parts;
-                  },
-                  AreBytes-tail (h.code ∷ h.token) h.body (subst (λ (r : List ℕ). AreBytes r) p.parts l.rest_fits),
-                )
-            | inr none ↦ absurd (ok_or_err (head_from (b % 16) (length_at (b / 16) s)) h NotOneFrame from (ap (head_from (b % 16)) none))
-          ]
+head_spelled : (b : ℕ) (s : List ℕ) (t n code : ℕ) (behind : List ℕ) → AreBytes (b ∷ s) → (r : ReadsLengths b s t n) → r.at_code ≡ code ∷ behind → t ≤ 64 → length r.at_token ≡ t + n
+    → IsHeadAndBody (b ∷ s) code (take t r.at_token) (drop t r.at_token) × AreBytes (drop t r.at_token)
+head_spelled b s t n code behind fits r is short whole =
+    let byte : b < 256 = fits 0 in
+    let split : b ≡ 16 * (b / 16) + b % 16 = omega arith in
+    let l = length_takes (b / 16) s (n, r.at_code) (AreBytes-tail (b ∷ []) s fits) (omega arith) r.body in
+    let k = option_number_takes (b % 16) (drop 1 r.at_code) (t, r.at_token) (AreBytes-drop 1 r.at_code l.rest_fits) (omega (arith, r.nibble)) r.token in
+    let token : length (take t r.at_token) ≡ t = omega (arith, whole, length-take t r.at_token) in
+    let body : length (drop t r.at_token) ≡ n = omega (arith, whole, length-drop t r.at_token) in
+    let rest : behind ≡ k.extension ++ (take t r.at_token ++ drop t r.at_token) =
+    sym (ap (drop 1) is) ∙ k.parts ∙ ap (λ (x : List ℕ). k.extension ++ x) (sym (take-append-drop t r.at_token)) in (
+      record {
+        length_nibble = b / 16;
+        extension = l.extension;
+        token_nibble = b % 16;
+        token_extension = k.extension;
+        length_form = subst (λ (x : ℕ). IsLengthForm (b / 16) l.extension x) (sym body) l.form;
+        token_form = (subst (λ (x : ℕ). IsOptionForm (b % 16) k.extension x) (sym token) k.form, omega (arith, token, short));
+        bytes = ap (λ (x : ℕ). x ∷ s) split
+            ∙ ap (λ (x : List ℕ). (16 * (b / 16) + b % 16) ∷ x) (l.parts ∙ ap (λ (x : List ℕ). l.extension ++ x) (is ∙ ap (λ (x : List ℕ). code ∷ x) rest));
+      },
+      AreBytes-drop t r.at_token k.rest_fits,
+    )
+
+-- what a head says that is read
+abbrev IsSpelledSo : List ℕ → Head → Type 0
+IsSpelledSo s h = IsHeadAndBody s h.code h.token h.body × AreBytes h.body
+
+takes_parts : (b : ℕ) (s : List ℕ) (h : Head) (t n code : ℕ) (behind : List ℕ) → AreBytes (b ∷ s) → (r : ReadsLengths b s t n) → r.at_code ≡ code ∷ behind
+    → head_with code n (Some (t, r.at_token)) ≡ Ok h → IsSpelledSo (b ∷ s) h
+unfolding head_made
+takes_parts b s h t n code behind fits r is e =
+    elim (cases_lt 64 t) [
+      | inl long ↦ absurd (ok_or_err (head_with code n (Some (t, r.at_token))) h TokenLength e (head_long code t n r.at_token long))
+      | inr short ↦ elim (cases_eq (length r.at_token) (t + n)) [
+        | inl whole ↦ subst (IsSpelledSo (b ∷ s)) (ok_is (head_made code t r.at_token) h (sym (head_whole code t n r.at_token short whole) ∙ e)) (head_spelled b s t n code behind fits r is short whole)
+        | inr other ↦ absurd (ok_or_err (head_with code n (Some (t, r.at_token))) h NotOneFrame e (head_not_whole code t n r.at_token short other))
+      ]
     ]
+
+pub head_takes : (s : List ℕ) (h : Head) → AreBytes s → head_at s ≡ Ok h → IsHeadAndBody s h.code h.token h.body × AreBytes h.body
+head_takes [] h fits e = absurd (ok_or_err (head_at []) h NotOneFrame e head_nothing)
+head_takes (b ∷ s) h fits e =
+    elim (head_cases b s) [
+      | inl r ↦ elim (head_parts b s r.0 r.1 r.2) [
+        | inl none ↦ absurd (ok_or_err (head_at (b ∷ s)) h NotOneFrame e none.1)
+        | inr p ↦ takes_parts b s h r.0 r.1 p.0 p.1 fits r.2 p.2 (sym p.3 ∙ e)
+      ]
+      | inr others ↦ elim others [
+        | inl none ↦ absurd (ok_or_err (head_at (b ∷ s)) h TokenLength e (head_no_length b s none))
+        | inr cut ↦ absurd (ok_or_err (head_at (b ∷ s)) h NotOneFrame e (head_cut b s cut))
+      ]
+    ]
+
+made_is : (code t : ℕ) (token body : List ℕ) → length token ≡ t → head_made code t (token ++ body) ≡ record { code = code; token = token; body = body }
+unfolding head_made
+made_is code t token body h = rw (take_at token body t h, drop_at token body t h) refl
 
 -- a head that is spelled is read
 pub head_again : (s : List ℕ) (code : ℕ) (token body : List ℕ) → IsHeadAndBody s code token body → head_at s ≡ Ok (record { code = code; token = token; body = body })
 head_again s code token body h =
     let x = h.length_nibble in
-    let t = h.token_nibble in
-    let behind = code ∷ (token ++ body) in
-    let token_is = token_form_is t h.token_extension (length token) h.token_form in
-    let small : t ≤ 8 = omega (arith, token_is.1, token_is.2) in
-    let k = nibbles x t (omega arith) in
-    let is : length_at x (h.extension ++ behind) ≡ Some (length body, behind) = length_again x h.extension (length body) behind h.length_form in
-    let len : length behind ≡ 1 + t + length body = omega (arith, token_is.1, length-append token body) in
-    ap head_at (head_bytes s code token body h)
-    ∙ head_good (16 * x + t) (h.extension ++ behind) (omega (arith, k.1))
-    ∙ rw (k.0, k.1, is) (head_whole t (length body) behind len ∙ ap Ok (made_is code token body t (sym token_is.1)))
+    let y = h.token_nibble in
+    let t = length token in
+    let behind = h.token_extension ++ (token ++ body) in
+    let small : y < 15 = option_form_nibble y h.token_extension t h.token_form.0 in
+    let k = nibbles x y (omega (arith, small)) in
+    let is : length_at x (h.extension ++ code ∷ behind) ≡ Some (length body, code ∷ behind) = length_again x h.extension (length body) (code ∷ behind) h.length_form in
+    let token_is : option_number_at y behind ≡ Some (t, token ++ body) = option_number_again y h.token_extension t (token ++ body) h.token_form.0 in
+    ap head_at h.bytes
+    ∙ head_read (16 * x + y) (h.extension ++ code ∷ behind) t (length body) behind (token ++ body) code (omega (arith, k.1, small)) (rw (k.0) is) (rw (k.1) token_is)
+    ∙ head_whole code t (length body) (token ++ body) h.token_form.1 (length-append token body) ∙ ap Ok (made_is code t token body refl)
 
 -- a frame's head can be read
 pub frame_head : (s : List ℕ) → IsFrame s → (h : Head) × (head_at s ≡ Ok h)
 frame_head s f =
-    let r = size_again s (length s) f in
-    let t = r.first % 16 in
-    let len : length r.more ≡ 1 + t + r.body_length =
-    omega (arith, ap length r.bytes, length-append r.extension r.more, r.size) in
-    (head_made t r.more, ap head_at r.bytes ∙ head_good r.first (r.extension ++ r.more) r.token ∙ rw (r.is) (head_whole t r.body_length r.more len))
+    let h = f.3 in
+    let r = stated_read f.0 f.1 h.token_length h.body_length h.lengths in
+    let w = widths r.first r.behind h.token_length h.body_length r.read in
+    let all : length s ≡ 1 + length r.behind = omega (arith, ap length (f.2 ∙ r.bytes)) in
+    elim (head_parts r.first r.behind h.token_length h.body_length r.read) [
+      | inl none ↦ absurd (omega (arith, all, h.size, r.extension, w.body, ap length none.0))
+      | inr p ↦
+          let behind : length (drop 1 r.read.at_code) ≡ length p.1 = ap (λ (l : List ℕ). length (drop 1 l)) p.2 in
+          let len : length r.read.at_token ≡ h.token_length + h.body_length =
+          omega (arith, all, h.size, r.extension, r.token_extension, w.body, w.token, behind, ap length p.2) in
+          (head_made p.0 h.token_length r.read.at_token, ap head_at (f.2 ∙ r.bytes) ∙ p.3 ∙ head_whole p.0 h.token_length h.body_length r.read.at_token h.short len)
+    ]
 
 -- a head and the body that it states are a frame
 pub head_frame : (s : List ℕ) (code : ℕ) (token body : List ℕ) → IsHeadAndBody s code token body → IsFrame s
 head_frame s code token body h =
     let behind = code ∷ (h.token_extension ++ (token ++ body)) in
+    let first = 16 * h.length_nibble + h.token_nibble in
+    let c = code_before behind h.token_extension (token ++ body) refl in
+    let front = code_and_extension c.code h.token_extension in
     let len : length s ≡ 1 + length h.extension + 1 + length h.token_extension + length token + length body =
     omega (arith, ap length h.bytes, length-append h.extension behind, length-append h.token_extension (token ++ body), length-append token body) in (
-      (16 * h.length_nibble + h.token_nibble) ∷ h.extension,
-      behind,
-      h.bytes,
+      first ∷ (h.extension ++ front),
+      c.more,
+      h.bytes ∙ ap (λ (x : List ℕ). first ∷ x) (ap (λ (x : List ℕ). h.extension ++ x) c.parts ∙ sym (append_assoc h.extension front c.more)),
       record {
-        length_nibble = h.length_nibble;
-        extension = h.extension;
-        token_nibble = h.token_nibble;
-        token_extension = h.token_extension;
-        body_length = length body;
         token_length = length token;
-        length_form = h.length_form;
-        token_form = h.token_form;
-        head = refl;
+        body_length = length body;
+        lengths = record {
+          length_nibble = h.length_nibble;
+          extension = h.extension;
+          token_nibble = h.token_nibble;
+          code = c.code;
+          token_extension = h.token_extension;
+          length_form = h.length_form;
+          token_form = h.token_form.0;
+          head = refl;
+        };
+        short = h.token_form.1;
         size = len;
       },
     )
 
 -- ---- what is wrong with a head
 
--- a first byte that states a token of more than 8 bytes is a fault
+-- a token length that is not taken is a fault
 pub bad_token_read : (s : List ℕ) → HasBadToken s → head_at s ≡ Err TokenLength
-bad_token_read s bad = ap head_at (bad_token_first s bad) ∙ head_bad bad.3.0 bad.1 bad.3.2
+bad_token_read s bad =
+    elim (bad.3) [
+      | inl none ↦ ap head_at (bad.2 ∙ ap (λ (head : List ℕ). head ++ bad.1) none.1) ∙ head_no_length none.0 bad.1 none.2
+      | inr long ↦
+          let r = stated_read bad.0 bad.1 long.0 long.1 long.2 in
+          ap head_at (bad.2 ∙ r.bytes)
+          ∙ elim (head_parts r.first r.behind long.0 long.1 r.read) [
+            | inl none ↦ absurd (omega (arith, none.2, long.3))
+            | inr p ↦ p.3 ∙ head_long p.0 long.0 long.1 r.read.at_token long.3
+          ]
+    ]
 
 not_one_frame : (s : List ℕ) → head_at s ≡ Err NotOneFrame → IsFirstFault s NotOneFrame
 not_one_frame s e =
     (λ bad. cc (bad_token_read s bad, e), λ f. let r = frame_head s f in ok_or_err (head_at s) r.0 NotOneFrame r.1 e)
 
-from_fault : (b : ℕ) (s : List ℕ) (o : Option (ℕ × List ℕ)) (e : FormatFault) → head_from (b % 16) o ≡ Err e → NotOneFrame ≡ e
-from_fault b s None e h = cc
-from_fault b s (Some x) e h =
-    elim (cases_eq (length x.1) (1 + b % 16 + x.0)) [
-      | inl same ↦ absurd (ok_or_err (head_from (b % 16) (Some x)) (head_made (b % 16) x.1) e (head_whole (b % 16) x.0 x.1 same) h)
-      | inr other ↦ let is = head_not_whole (b % 16) x.0 x.1 other in cc
+no_frame_is : (s : List ℕ) (e : FormatFault) → head_at s ≡ Err NotOneFrame → head_at s ≡ Err e → IsFirstFault s e
+no_frame_is s e is h = let same : NotOneFrame ≡ e = cc in subst (IsFirstFault s) same (not_one_frame s is)
+
+bad_token_is : (s : List ℕ) (e : FormatFault) → HasBadToken s → head_at s ≡ Err e → IsFirstFault s e
+bad_token_is s e bad h = let same : TokenLength ≡ e = cc (bad_token_read s bad) in subst (IsFirstFault s) same bad
+
+parts_fault : (b : ℕ) (s : List ℕ) (e : FormatFault) (t n code : ℕ) → AreBytes (b ∷ s) → (r : ReadsLengths b s t n) → head_at (b ∷ s) ≡ head_with code n (Some (t, r.at_token))
+    → head_at (b ∷ s) ≡ Err e → IsFirstFault (b ∷ s) e
+parts_fault b s e t n code fits r is h =
+    elim (cases_lt 64 t) [
+      | inl long ↦ bad_token_is (b ∷ s) e (read_bad_token b s t n fits r long) h
+      | inr short ↦ elim (cases_eq (length r.at_token) (t + n)) [
+        | inl whole ↦ absurd (ok_or_err (head_at (b ∷ s)) (head_made code t r.at_token) e (is ∙ head_whole code t n r.at_token short whole) h)
+        | inr other ↦ no_frame_is (b ∷ s) e (is ∙ head_not_whole code t n r.at_token short other) h
+      ]
     ]
 
 -- a head that cannot be read is wrong in the way that is told
-pub head_fault : (s : List ℕ) (e : FormatFault) → head_at s ≡ Err e → IsFirstFault s e
-head_fault [] e h =
-    let same : NotOneFrame ≡ e = cc head_nothing in
-    subst (IsFirstFault []) same (not_one_frame [] head_nothing)
-head_fault (b ∷ s) e h =
-    elim (cases_lt 8 (b % 16)) [
-      | inl bad ↦
-          let same : TokenLength ≡ e = cc (head_bad b s bad) in
-          subst (IsFirstFault (b ∷ s)) same (b ∷ [], s, refl, (b, refl, bad))
-      | inr good ↦
-          let same : NotOneFrame ≡ e = from_fault b s (length_at (b / 16) s) e (sym (head_good b s good) ∙ h) in
-          subst (IsFirstFault (b ∷ s)) same (not_one_frame (b ∷ s) (h ∙ ap Err (sym same)))
+pub head_is_wrong : (s : List ℕ) (e : FormatFault) → AreBytes s → head_at s ≡ Err e → IsFirstFault s e
+head_is_wrong [] e fits h = no_frame_is [] e head_nothing h
+head_is_wrong (b ∷ s) e fits h =
+    elim (head_cases b s) [
+      | inl r ↦ elim (head_parts b s r.0 r.1 r.2) [
+        | inl none ↦ no_frame_is (b ∷ s) e none.1 h
+        | inr p ↦ parts_fault b s e r.0 r.1 p.0 fits r.2 p.3 h
+      ]
+      | inr others ↦ elim others [
+        | inl none ↦ bad_token_is (b ∷ s) e (no_token_length b s none) h
+        | inr cut ↦ no_frame_is (b ∷ s) e (head_cut b s cut) h
+      ]
     ]

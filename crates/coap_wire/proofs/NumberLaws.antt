@@ -1,12 +1,12 @@
 -- A number that is read behind a nibble is spelled so, and what is spelled so is read.
-use Rattle.std.proofs.Common.{◌≡◌, ℕ, suc, ◌+◌, ◌<◌, List, [], ◌∷◌, ◌++◌, length, drop, Option, Some, None, refl, sym, ap, subst, ◌∙◌, arith, ◌⊎◌, inl, inr}
+use Rattle.std.proofs.Common.{◌≡◌, ℕ, suc, ◌+◌, ◌<◌, ◌≤◌, Bool, true, false, cond, eqb, ltb, List, [], ◌∷◌, ◌++◌, length, take, drop, Option, Some, None, refl, sym, ap, subst, ◌∙◌, arith, ◌⊎◌, inl, inr}
 use Rattle.std.specs.Int.{w16, w32, from_be_bytes}
 use Rattle.std.proofs.lemmas.Bool.{ne_eqb, lt-ltb, le-ltb, cases_lt}
-use Rattle.std.proofs.lemmas.List.{get_or-drop}
-use Rattle.coap_wire.specs.Forms.{IsLengthForm, IsOptionForm}
-use Rattle.coap_wire.specs.Faults.{option_extension}
+use Rattle.std.proofs.lemmas.List.{get_or-drop, length-append, length-drop, take-append-le, drop-append-le}
+use Rattle.coap_wire.specs.Forms.{IsLengthForm, extension_of, IsOptionForm, option_extension}
 use Rattle.coap_wire.specs.Reading.{one_byte_at, two_bytes_at, four_bytes_at, plus, length_at, option_number_at}
 use Rattle.coap_wire.proofs.BodySteps.{some_is}
+use Rattle.coap_wire.proofs.FormLaws.{option_extension_none, option_extension_one, option_extension_two}
 use Rattle.coap_wire.specs.Message.{AreBytes}
 
 -- what stands behind n bytes are bytes
@@ -55,15 +55,15 @@ four_missing k s h = rw (lt-ltb (length s) 4 h) refl
 
 -- ---- which extension a nibble has
 
-option_number_none : (x : ℕ) (s : List ℕ) → x < 13 → option_number_at x s ≡ Some (x, s)
+pub option_number_none : (x : ℕ) (s : List ℕ) → x < 13 → option_number_at x s ≡ Some (x, s)
 unfolding option_number_at
 option_number_none x s h = rw (lt-ltb x 13 h) refl
 
-option_number_one : (x : ℕ) (s : List ℕ) → x ≡ 13 → option_number_at x s ≡ plus 13 (one_byte_at s)
+pub option_number_one : (x : ℕ) (s : List ℕ) → x ≡ 13 → option_number_at x s ≡ plus 13 (one_byte_at s)
 unfolding option_number_at
 option_number_one x s h = rw h refl
 
-option_number_two : (x : ℕ) (s : List ℕ) → 13 < x → option_number_at x s ≡ plus 269 (two_bytes_at s)
+pub option_number_two : (x : ℕ) (s : List ℕ) → 13 < x → option_number_at x s ≡ plus 269 (two_bytes_at s)
 unfolding option_number_at
 option_number_two x s h = rw (le-ltb x 13 (omega arith), ne_eqb x 13 (omega arith)) refl
 
@@ -188,37 +188,6 @@ length_takes x s y fits small e =
 
 -- ---- an extension that is not all there
 
-option_one_short : (s : List ℕ) → plus 13 (one_byte_at s) ≡ None → length s < 1
-option_one_short [] e = omega arith
-option_one_short (a ∷ s) e = absurd (cc (one_at 13 a s))
-
-option_two_short : (s : List ℕ) → plus 269 (two_bytes_at s) ≡ None → length s < 2
-option_two_short [] e = omega arith
-option_two_short (a ∷ []) e = omega arith
-option_two_short (a ∷ b ∷ s) e = absurd (cc (two_at 269 a b s))
-
-option_extension_one : (x : ℕ) → x ≡ 13 → option_extension x ≡ 1
-option_extension_one x h = rw h refl
-
-option_extension_two : (x : ℕ) → 13 < x → option_extension x ≡ 2
-option_extension_two x h = rw (le-ltb x 13 (omega arith), ne_eqb x 13 (omega arith)) refl
-
-option_extension_none : (x : ℕ) → x < 13 → option_extension x ≡ 0
-option_extension_none x h = rw (lt-ltb x 13 h) refl
-
--- where no option number can be read, too few bytes stand there
-pub option_number_short : (x : ℕ) (s : List ℕ) → option_number_at x s ≡ None → length s < option_extension x
-option_number_short x s e =
-    elim (cases_lt x 13) [
-      | inl lt ↦ absurd (cc (option_number_none x s lt))
-      | inr le ↦ elim (cases_lt 13 x) [
-        | inl more ↦ rw (option_extension_two x more) (option_two_short s (sym (option_number_two x s more) ∙ e))
-        | inr same ↦
-            let is : x ≡ 13 = omega arith in
-            rw (option_extension_one x is) (option_one_short s (sym (option_number_one x s is) ∙ e))
-      ]
-    ]
-
 option_one_cut : (s : List ℕ) → length s < 1 → plus 13 (one_byte_at s) ≡ None
 option_one_cut [] h = one_missing 13
 option_one_cut (a ∷ s) h = absurd (omega arith)
@@ -236,26 +205,125 @@ option_number_cut x s h =
       ]
     ]
 
-option_one_length : (s : List ℕ) (y : ℕ × List ℕ) → plus 13 (one_byte_at s) ≡ Some y → length s ≡ 1 + length y.1
-option_one_length [] y e = absurd (cc (one_missing 13))
-option_one_length (a ∷ s) y e = subst (λ (z : ℕ × List ℕ). length (a ∷ s) ≡ 1 + length z.1) (some_is (a + 13, s) y (sym (one_at 13 a s) ∙ e)) (omega arith)
+-- ---- what is read stays read, whatever comes behind it
 
-option_two_length : (s : List ℕ) (y : ℕ × List ℕ) → plus 269 (two_bytes_at s) ≡ Some y → length s ≡ 2 + length y.1
-option_two_length [] y e = absurd (cc (two_missing 269 [] (omega arith)))
-option_two_length (a ∷ []) y e = absurd (cc (two_missing 269 (a ∷ []) (omega arith)))
-option_two_length (a ∷ b ∷ s) y e = subst (λ (z : ℕ × List ℕ). length (a ∷ b ∷ s) ≡ 2 + length z.1) (some_is (from_be_bytes w16 (a ∷ b ∷ []) + 269, s) y (sym (two_at 269 a b s) ∙ e)) (omega arith)
+-- at reads a number from the first n bytes, and leaves the others
+record ReadsFrom (n : ℕ) (at : List ℕ → Option (ℕ × List ℕ)) : Type 0 where
+  more : (s t : List ℕ) (y : ℕ × List ℕ) → at s ≡ Some y → at (s ++ t) ≡ Some (y.0, y.1 ++ t)
+  taken : (s : List ℕ) (y : ℕ × List ℕ) → at s ≡ Some y → length s ≡ n + length y.1
+  missing : (s : List ℕ) → at s ≡ None → length s < n
+
+same_more : (n : ℕ) (s t : List ℕ) (y : ℕ × List ℕ) → ◌≡◌ {A = Option (ℕ × List ℕ)} (Some (n, s)) (Some y) → ◌≡◌ {A = Option (ℕ × List ℕ)} (Some (n, s ++ t)) (Some (y.0, y.1 ++ t))
+same_more n s t y e =
+    let longer : ℕ × List ℕ → Option (ℕ × List ℕ) = λ p. Some (p.0, p.1 ++ t) in
+    ap longer (some_is (n, s) y e)
+
+same_rest : (n : ℕ) (s : List ℕ) (y : ℕ × List ℕ) → ◌≡◌ {A = Option (ℕ × List ℕ)} (Some (n, s)) (Some y) → length s ≡ length y.1
+same_rest n s y e = ap (λ (p : ℕ × List ℕ). length p.1) (some_is (n, s) y e)
+
+pub none_or_some : {A : Type 0} (x : A) → ◌≡◌ {A = Option A} None (Some x) → ⊥
+none_or_some x e = cc
+
+reads_none : (x : ℕ) → ReadsFrom 0 (λ s. Some (x, s))
+reads_none x = record {
+  more = λ s t y e. same_more x s t y e;
+  taken = λ s y e. omega (arith, same_rest x s y e);
+  missing = λ s e. absurd (none_or_some (x, s) (sym e));
+}
+
+byte_more : (k : ℕ) (s t : List ℕ) (y : ℕ × List ℕ) → plus k (one_byte_at s) ≡ Some y → plus k (one_byte_at (s ++ t)) ≡ Some (y.0, y.1 ++ t)
+unfolding one_byte_at
+byte_more k [] t y e = absurd (none_or_some y e)
+byte_more k (b ∷ s) t y e = same_more (b + k) s t y e
+
+byte_taken : (k : ℕ) (s : List ℕ) (y : ℕ × List ℕ) → plus k (one_byte_at s) ≡ Some y → length s ≡ 1 + length y.1
+unfolding one_byte_at
+byte_taken k [] y e = absurd (none_or_some y e)
+byte_taken k (b ∷ s) y e = omega (arith, same_rest (b + k) s y e)
+
+byte_missing : (k : ℕ) (s : List ℕ) → plus k (one_byte_at s) ≡ None → length s < 1
+unfolding one_byte_at
+byte_missing k [] e = omega arith
+byte_missing k (b ∷ s) e = absurd (none_or_some (b + k, s) (sym e))
+
+reads_one : (k : ℕ) → ReadsFrom 1 (λ s. plus k (one_byte_at s))
+reads_one k = record { more = byte_more k; taken = byte_taken k; missing = byte_missing k }
+
+-- a number of n bytes, and the bytes after it
+abbrev number_of : ℕ → ℕ → (List ℕ → ℕ) → List ℕ → Option (ℕ × List ℕ)
+number_of k n value s = plus k (cond (ltb (length s) n) None (Some (value (take n s), drop n s)))
+
+number_short : (k n : ℕ) (value : List ℕ → ℕ) (s : List ℕ) → length s < n → number_of k n value s ≡ None
+number_short k n value s h = rw (lt-ltb (length s) n h) refl
+
+number_long : (k n : ℕ) (value : List ℕ → ℕ) (s : List ℕ) → n ≤ length s → number_of k n value s ≡ Some (value (take n s) + k, drop n s)
+number_long k n value s h = rw (le-ltb (length s) n h) refl
+
+number_more : (k n : ℕ) (value : List ℕ → ℕ) (s t : List ℕ) (y : ℕ × List ℕ) → number_of k n value s ≡ Some y → number_of k n value (s ++ t) ≡ Some (y.0, y.1 ++ t)
+number_more k n value s t y e =
+    elim (cases_lt (length s) n) [
+      | inl short ↦ absurd (none_or_some y (sym (number_short k n value s short) ∙ e))
+      | inr long ↦
+          number_long k n value (s ++ t) (omega (arith, length-append s t))
+          ∙ rw (take-append-le n s t long, drop-append-le n s t long) (same_more (value (take n s) + k) (drop n s) t y (sym (number_long k n value s long) ∙ e))
+    ]
+
+number_taken : (k n : ℕ) (value : List ℕ → ℕ) (s : List ℕ) (y : ℕ × List ℕ) → number_of k n value s ≡ Some y → length s ≡ n + length y.1
+number_taken k n value s y e =
+    elim (cases_lt (length s) n) [
+      | inl short ↦ absurd (none_or_some y (sym (number_short k n value s short) ∙ e))
+      | inr long ↦ omega (arith, length-drop n s, same_rest (value (take n s) + k) (drop n s) y (sym (number_long k n value s long) ∙ e))
+    ]
+
+number_missing : (k n : ℕ) (value : List ℕ → ℕ) (s : List ℕ) → number_of k n value s ≡ None → length s < n
+number_missing k n value s e =
+    elim (cases_lt (length s) n) [
+      | inl short ↦ short
+      | inr long ↦ absurd (none_or_some (value (take n s) + k, drop n s) (sym e ∙ number_long k n value s long))
+    ]
+
+reads_number : (k n : ℕ) (value : List ℕ → ℕ) → ReadsFrom n (λ s. number_of k n value s)
+reads_number k n value = record { more = number_more k n value; taken = number_taken k n value; missing = number_missing k n value }
+
+reads_by : (small one two : Bool) (x : ℕ) → ReadsFrom (cond small 0 (cond one 1 (cond two 2 4))) (λ s. cond small (Some (x, s)) (cond one (plus 13 (one_byte_at s)) (cond two (number_of 269 2 (from_be_bytes w16) s) (number_of 65805 4 (from_be_bytes w32) s))))
+reads_by true one two x = reads_none x
+reads_by false true two x = reads_one 13
+reads_by false false true x = reads_number 269 2 (from_be_bytes w16)
+reads_by false false false x = reads_number 65805 4 (from_be_bytes w32)
+
+reads_option_by : (small one : Bool) (x : ℕ) → ReadsFrom (cond small 0 (cond one 1 2)) (λ s. cond small (Some (x, s)) (cond one (plus 13 (one_byte_at s)) (number_of 269 2 (from_be_bytes w16) s)))
+reads_option_by true one x = reads_none x
+reads_option_by false true x = reads_one 13
+reads_option_by false false x = reads_number 269 2 (from_be_bytes w16)
+
+reads_option : (x : ℕ) → ReadsFrom (option_extension x) (λ s. option_number_at x s)
+unfolding option_number_at two_bytes_at
+reads_option x = reads_option_by (ltb x 13) (eqb x 13) x
+
+-- an option number that is read stays read, whatever comes behind it
+pub option_number_more : (x : ℕ) (s t : List ℕ) (y : ℕ × List ℕ) → option_number_at x s ≡ Some y → option_number_at x (s ++ t) ≡ Some (y.0, y.1 ++ t)
+option_number_more x s t y e = (reads_option x).more s t y e
 
 -- an option number takes its extension, and no more
 pub option_number_length : (x : ℕ) (s : List ℕ) (y : ℕ × List ℕ) → option_number_at x s ≡ Some y → length s ≡ option_extension x + length y.1
-option_number_length x s y e =
-    elim (cases_lt x 13) [
-      | inl lt ↦
-          let same : s ≡ y.1 = ap (λ (z : ℕ × List ℕ). z.1) (some_is (x, s) y (sym (option_number_none x s lt) ∙ e)) in
-          omega (arith, option_extension_none x lt, ap length same)
-      | inr le ↦ elim (cases_lt 13 x) [
-        | inl more ↦ omega (arith, option_extension_two x more, option_two_length s y (sym (option_number_two x s more) ∙ e))
-        | inr same ↦
-            let is : x ≡ 13 = omega arith in
-            omega (arith, option_extension_one x is, option_one_length s y (sym (option_number_one x s is) ∙ e))
-      ]
-    ]
+option_number_length x s y e = (reads_option x).taken s y e
+
+-- where no option number can be read, too few bytes stand there
+pub option_number_short : (x : ℕ) (s : List ℕ) → option_number_at x s ≡ None → length s < option_extension x
+option_number_short x s e = (reads_option x).missing s e
+
+reads_length : (x : ℕ) → ReadsFrom (extension_of x) (λ s. length_at x s)
+unfolding length_at two_bytes_at four_bytes_at
+reads_length x = reads_by (ltb x 13) (eqb x 13) (eqb x 14) x
+
+-- a length that is read stays read, whatever comes behind it
+pub length_at_more : (x : ℕ) (s t : List ℕ) (y : ℕ × List ℕ) → length_at x s ≡ Some y → length_at x (s ++ t) ≡ Some (y.0, y.1 ++ t)
+length_at_more x s t y e = (reads_length x).more s t y e
+
+-- a length takes its extension, and no more
+pub length_at_taken : (x : ℕ) (s : List ℕ) (y : ℕ × List ℕ) → length_at x s ≡ Some y → length s ≡ extension_of x + length y.1
+length_at_taken x s y e = (reads_length x).taken s y e
+
+-- where no length can be read, its extension is not all there
+pub length_at_missing : (x : ℕ) (s : List ℕ) → length_at x s ≡ None → length s < extension_of x
+length_at_missing x s e = (reads_length x).missing s e

@@ -9,7 +9,7 @@ use Rattle.coap_wire.specs.declared.fault.FormatFault.TheVariants.{TokenLength, 
 use Rattle.coap_wire.specs.Reading.{◌>>=◌, body_at, head_at, message_of}
 use Rattle.coap_wire.proofs.BodySteps.{bind_ok, ok_is}
 use Rattle.coap_wire.proofs.BodyLaws.{result_cases, body_takes, body_again}
-use Rattle.coap_wire.proofs.HeadLaws.{head_takes, head_again, head_fault, bad_token_read, head_frame}
+use Rattle.coap_wire.proofs.HeadLaws.{head_takes, head_again, head_is_wrong, bad_token_read, head_frame}
 use Rattle.coap_wire.proofs.FaultLaws.{err_is, bind_fault, body_fault_takes, body_fault_again}
 
 -- ---- the message
@@ -58,7 +58,7 @@ fault_is_first s f fits e =
           first_of_option s f (record { code = good.0.code; token = good.0.token; body = good.0.body; head = h.0; options = w.options; rest = w.rest; bytes = w.bytes; wrong = w.wrong })
       | inr bad ↦
           let then : ◌≡◌ {A = Result Message FormatFault} (Err bad.0) (Err f) = rw bad.1 at e in
-          subst (IsFirstFault s) (err_is {A = Message} bad.0 f then) (head_fault s bad.0 bad.1)
+          subst (IsFirstFault s) (err_is {A = Message} bad.0 f then) (head_is_wrong s bad.0 fits bad.1)
     ]
 
 option_fault_read : (s : List ℕ) (f : FormatFault) → HasOptionFault s f → message_of s ≡ Err f
@@ -82,7 +82,7 @@ no_frame_read : (s : List ℕ) → AreBytes s → (HasBadToken s → ⊥) → (I
 no_frame_read s fits p q =
     elim (result_cases (head_at s)) [
       | inl good ↦ absurd (q (head_frame s good.0.code good.0.token good.0.body (head_takes s good.0 fits good.1).0))
-      | inr bad ↦ no_frame_from s bad.0 p q bad.1 (head_fault s bad.0 bad.1)
+      | inr bad ↦ no_frame_from s bad.0 p q bad.1 (head_is_wrong s bad.0 fits bad.1)
     ]
 
 -- the first fault is the one that is told

@@ -2,9 +2,9 @@
 use Rattle.std.proofs.Common.{◌≡◌, ℕ, ◌+◌, ◌-◌, ◌*◌, ◌≤◌, List, [], ◌∷◌, ◌++◌, length, refl, sym, ap, subst, ◌∙◌, append_assoc, arith}
 use Rattle.std.specs.List.{AllByRecursion}
 use Rattle.coap_wire.specs.Message.{CoapOption, Message, AreOrdered}
-use Rattle.coap_wire.specs.Forms.{length_form, greatest_token, greatest_length, IsOptionForm, option_form}
+use Rattle.coap_wire.specs.Forms.{length_form, greatest_token, token_form, greatest_length, IsOptionForm, option_form}
 use Rattle.coap_wire.specs.Spelling.{IsOneOption, IsOptionBytes, payload_bytes, IsHeadAndBody, Spells, option_spelling, options_spelling, body_spelling, head_spelling, spelling, HasOptionForm, HasSpelling}
-use Rattle.coap_wire.proofs.FormLaws.{length_form_is, length_form_only, length_form_bound, option_form_is, option_form_only, option_form_bound, token_form_is, head_bytes}
+use Rattle.coap_wire.proofs.FormLaws.{length_form_is, length_form_only, length_form_bound, option_form_is, option_form_only, option_form_bound, token_form_has, token_form_only}
 
 -- ---- one option
 
@@ -82,28 +82,34 @@ options_are_spelled base (o ∷ os) tail ordered has =
 
 -- ---- the message
 
-head_joined : (s : List ℕ) (x y p q code : ℕ) (e g token body : List ℕ) → x ≡ p → y ≡ q → e ≡ g → s ≡ (16 * x + y) ∷ (e ++ code ∷ (token ++ body)) → s ≡ ((16 * p + q) ∷ (g ++ code ∷ token)) ++ body
-head_joined s x y p q code e g token body at_x at_y at_e is =
-    is ∙ (λ i. (16 * at_x i + at_y i) ∷ (at_e i ++ code ∷ (token ++ body)))
-    ∙ ap (λ (t : List ℕ). (16 * p + q) ∷ t) (sym (append_assoc g (code ∷ token) body))
+-- a head's parts, regrouped before the body
+parts_joined : (g : List ℕ) (code : ℕ) (f token body : List ℕ) → g ++ code ∷ (f ++ (token ++ body)) ≡ (g ++ code ∷ (f ++ token)) ++ body
+parts_joined g code f token body =
+    ap (λ (t : List ℕ). g ++ code ∷ t) (sym (append_assoc f token body)) ∙ sym (append_assoc g (code ∷ (f ++ token)) body)
+
+head_joined : (s : List ℕ) (x y p q code : ℕ) (e g d f token body : List ℕ) → x ≡ p → y ≡ q → e ≡ g → d ≡ f → s ≡ (16 * x + y) ∷ (e ++ code ∷ (d ++ (token ++ body)))
+    → s ≡ ((16 * p + q) ∷ (g ++ code ∷ (f ++ token))) ++ body
+head_joined s x y p q code e g d f token body at_x at_y at_e at_d is =
+    is ∙ (λ i. (16 * at_x i + at_y i) ∷ (at_e i ++ code ∷ (at_d i ++ (token ++ body))))
+    ∙ ap (λ (t : List ℕ). (16 * p + q) ∷ t) (parts_joined g code f token body)
 
 -- The bytes that are a head and a body are the one head of that body, and the body.
 pub head_spelled_as : (s : List ℕ) (code : ℕ) (token body : List ℕ) → IsHeadAndBody s code token body → s ≡ head_spelling code token (length body) ++ body
 head_spelled_as s code token body head =
     let l = length_form_only head.length_nibble head.extension (length body) head.length_form in
-    let t = token_form_is head.token_nibble head.token_extension (length token) head.token_form in
-    head_joined s head.length_nibble head.token_nibble _ (length token) code head.extension _ token body l.0 t.1 l.1 (head_bytes s code token body head)
+    let t = token_form_only (length token) head.token_nibble head.token_extension head.token_form in
+    head_joined s head.length_nibble head.token_nibble _ _ code head.extension _ head.token_extension _ token body l.0 t.0 l.1 t.1 head.bytes
 
 -- The one head of a body, and the body, are a head and a body.
 pub head_is_spelled : (code : ℕ) (token body : List ℕ) → length token ≤ greatest_token → length body ≤ greatest_length → IsHeadAndBody (head_spelling code token (length body) ++ body) code token body
 head_is_spelled code token body short fits = record {
   length_nibble = (length_form (length body)).0;
   extension = (length_form (length body)).1;
-  token_nibble = length token;
-  token_extension = [];
+  token_nibble = (token_form (length token)).0;
+  token_extension = (token_form (length token)).1;
   length_form = length_form_is (length body) fits;
-  token_form = (refl, short);
-  bytes = ap (λ (t : List ℕ). (16 * (length_form (length body)).0 + length token) ∷ t) (append_assoc (length_form (length body)).1 (code ∷ token) body);
+  token_form = token_form_has (length token) short;
+  bytes = ap (λ (t : List ℕ). (16 * (length_form (length body)).0 + (token_form (length token)).0) ∷ t) (sym (parts_joined (length_form (length body)).1 code (token_form (length token)).1 token body));
 }
 
 body_spelled_as : (s : List ℕ) (m : Message) → (spelled : Spells s m) → spelled.body ≡ body_spelling m
@@ -119,7 +125,7 @@ spelled_as s m spelled =
 -- A message that bytes spell has a spelling.
 pub has_spelling : (s : List ℕ) (m : Message) → Spells s m → HasSpelling m
 has_spelling s m spelled = record {
-  token = (token_form_is spelled.head.token_nibble spelled.head.token_extension (length m.token) spelled.head.token_form).2;
+  token = spelled.head.token_form.1;
   ordered = options_ordered 0 m.options spelled.body (payload_bytes m.payload) spelled.options;
   each = options_have_form 0 m.options spelled.body (payload_bytes m.payload) spelled.options;
   body = subst (λ (body : List ℕ). length body ≤ greatest_length) (body_spelled_as s m spelled) (length_form_bound spelled.head.length_nibble spelled.head.extension (length spelled.body) spelled.head.length_form).1;

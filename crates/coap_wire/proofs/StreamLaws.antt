@@ -4,24 +4,22 @@ use Rattle.std.specs.List.{concat}
 use Rattle.std.proofs.lemmas.Bool.{cases_lt}
 use Rattle.std.proofs.lemmas.List.{append-nil, append_assoc, get_or_append_left, get_or_past, length-append, length-take, take-append-drop, take_at, take-append-le, take_all, drop_all}
 use Rattle.coap_wire.specs.Message.{Message, AreBytes}
-use Rattle.coap_wire.specs.Forms.{IsLengthForm}
 use Rattle.coap_wire.specs.Spelling.{Spells}
 use Rattle.coap_wire.specs.Size.{IsTokenLengthFault, IsSizeHead, IsDeclaredSize, IsFrame, HasBadToken, Declares}
 use Rattle.coap_wire.specs.declared.frame.Declared.TheVariants.{Size, BadToken}
 use Rattle.coap_wire.specs.declared.fault.FormatFault.{FormatFault}
-use Rattle.coap_wire.specs.Reading.{length_at, declared_of, message_of}
+use Rattle.coap_wire.specs.Reading.{declared_of, message_of}
 use Rattle.coap_wire.specs.declared.fault.FrameFault.{FrameFault}
 use Rattle.coap_wire.specs.declared.fault.FrameFault.TheVariants.{TokenLength, TooLarge}
-use Rattle.coap_wire.specs.Beginning.{IsTooLarge, IsFrameFault, IsUnfinished, Beginning, Unfinished, Whole, Faulty, beginning, extension_of, size_bytes, fault_size, fault_bytes}
+use Rattle.coap_wire.specs.Beginning.{IsTooLarge, IsFrameFault, IsUnfinished, Beginning, Unfinished, Whole, Faulty, beginning, size_bytes, fault_bytes}
 use Rattle.coap_wire.specs.Frames.{Sizes, sizes_behind, size_for, AreAtMost, StandsBehind, size_behind}
 use Rattle.coap_wire.specs.Stream.{StreamFault, OfFrame, Format, IsFormatFault, EndsWith, SpellEach, Splits, Stream, with_message, sized_split, SplitsAs}
-use Rattle.coap_wire.proofs.FormLaws.{token_form_is}
-use Rattle.coap_wire.proofs.NumberLaws.{AreBytes-tail, length_again}
-use Rattle.coap_wire.proofs.BodyLaws.{result_cases, ok_or_err, nibbles}
+use Rattle.coap_wire.proofs.NumberLaws.{AreBytes-tail}
+use Rattle.coap_wire.proofs.BodyLaws.{result_cases, ok_or_err}
 use Rattle.coap_wire.proofs.HeadLaws.{bad_token_declared, size_declared, declares}
 use Rattle.coap_wire.proofs.SizeLaws.{spelling_is_frame}
 use Rattle.coap_wire.proofs.ReadingLaws.{message_spelled, message_again}
-use Rattle.coap_wire.proofs.StreamSteps.{length_at_taken, size_has_bytes, begin_bad_token, begin_too_large, begin_whole, whole_parts, whole_more, token_length_declared, too_large_declared, faulty_more, faulty_some, behind_twice, behind_none, size_for_more, Holding, HoldsBehind, stream_from, by_frames, sized_unfinished, sized_faulty, sized_message, sized_bad, unfinished_not_faulty}
+use Rattle.coap_wire.proofs.StreamSteps.{size_bytes_first, size_bytes_some, stated_bytes, size_has_bytes, begin_bad_token, begin_too_large, begin_whole, whole_parts, whole_more, token_length_declared, too_large_declared, faulty_more, faulty_some, behind_twice, behind_none, size_for_more, Holding, HoldsBehind, stream_from, by_frames, sized_unfinished, sized_faulty, sized_message, sized_bad, unfinished_not_faulty}
 
 -- the bytes in front are bytes
 pub AreBytes-front : (front bytes : List ℕ) → AreBytes (front ++ bytes) → AreBytes front
@@ -33,23 +31,9 @@ AreBytes-front front bytes fits i =
 
 -- ---- the bytes that state a size
 
--- a nibble says how many bytes extend it
-pub length_form_extension : (x : ℕ) (e : List ℕ) (n : ℕ) → IsLengthForm x e n → length e ≡ extension_of x
-length_form_extension x e n form =
-    let read : length_at x (e ++ []) ≡ Some (n, []) = length_again x e n [] form in
-    omega (arith, length_at_taken x (e ++ []) (n, []) read, length-append e [])
-
-size_bytes_at : (x t : ℕ) (e : List ℕ) → t < 16 → length e ≡ extension_of x → size_bytes ((16 * x + t) ∷ e) ≡ length ((16 * x + t) ∷ e)
-size_bytes_at x t e h k = rw ((nibbles x t h).0) (omega (arith, k))
-
--- a size's head ends with the last byte of the length
+-- a size's head ends with the byte at which the size is known
 pub size_head_bytes : (head more : List ℕ) (n : ℕ) → IsSizeHead head n → size_bytes (head ++ more) ≡ length head
-size_head_bytes head more n h =
-    let token = token_form_is h.token_nibble h.token_extension h.token_length h.token_form in
-    let small : h.token_nibble < 16 = omega (arith, token.1, token.2) in
-    ap (λ (l : List ℕ). size_bytes (l ++ more)) h.head
-    ∙ size_bytes_at h.length_nibble h.token_nibble h.extension small (length_form_extension h.length_nibble h.extension h.body_length h.length_form)
-    ∙ sym (ap (λ (l : List ℕ). length l) h.head)
+size_head_bytes head more n h = stated_bytes head more h.token_length h.body_length h.lengths
 
 -- bytes that declare a size begin with its head
 pub size_head_of : (s : List ℕ) (n : ℕ) → AreBytes s → declared_of s ≡ Size n → IsDeclaredSize s n
@@ -85,41 +69,38 @@ frame_begins M frame rest f small =
 -- ---- a fault at the front
 
 -- the bytes of a fault, whatever comes behind them
-token_length_bytes : (r more : List ℕ) → IsTokenLengthFault r → take 1 (r ++ more) ≡ r
-token_length_bytes r more f = take_at r more 1 (ap (λ (l : List ℕ). length l) f.1)
+token_length_bytes : (r more : List ℕ) → IsTokenLengthFault r → size_bytes (r ++ more) ≡ length r
+token_length_bytes r more f =
+    elim f [
+      | inl none ↦
+          ap (λ (l : List ℕ). size_bytes (l ++ more)) none.1 ∙ size_bytes_first none.0 more none.2 ∙ sym (ap (λ (l : List ℕ). length l) none.1)
+      | inr long ↦ stated_bytes r more long.0 long.1 long.2
+    ]
 
-too_large_bytes : (M : ℕ) (r more : List ℕ) → IsTooLarge M r → take (size_bytes (r ++ more)) (r ++ more) ≡ r
-too_large_bytes M r more f = take_at r more (size_bytes (r ++ more)) (sym (size_head_bytes r more f.0 f.1))
+fault_size : (M : ℕ) (r more : List ℕ) (fault : FrameFault) → IsFrameFault M fault r → size_bytes (r ++ more) ≡ length r
+fault_size M r more TokenLength f = token_length_bytes r more f
+fault_size M r more TooLarge f = size_head_bytes r more f.0 f.1
 
-pub fault_bytes_again : (M : ℕ) (r more : List ℕ) (fault : FrameFault) → IsFrameFault M fault r → fault_bytes fault (r ++ more) ≡ r
-fault_bytes_again M r more TokenLength f = token_length_bytes r more f
-fault_bytes_again M r more TooLarge f = too_large_bytes M r more f
+pub fault_bytes_again : (M : ℕ) (r more : List ℕ) (fault : FrameFault) → IsFrameFault M fault r → fault_bytes (r ++ more) ≡ r
+fault_bytes_again M r more fault f = take_at r more (size_bytes (r ++ more)) (sym (fault_size M r more fault f))
 
 -- a fault at its byte is a fault at the front, whatever comes behind it
 pub fault_begins : (M : ℕ) (r more : List ℕ) (fault : FrameFault) → IsFrameFault M fault r → beginning M (r ++ more) ≡ Faulty fault
 fault_begins M r more TokenLength f = faulty_more M r more TokenLength (begin_bad_token M r (bad_token_declared r (r, [], sym (append-nil r), f)))
 fault_begins M r more TooLarge f = faulty_more M r more TooLarge (begin_too_large M r f.0 (size_declared r f.0 (r, [], sym (append-nil r), f.1)) f.2)
 
--- the byte of a bad token length is the first one
-token_length_found : (M : ℕ) (s : List ℕ) → AreBytes s → beginning M s ≡ Faulty TokenLength → IsTokenLengthFault (take 1 s)
-token_length_found M s fits e =
+-- the bytes of a fault at the front are that fault at its byte
+pub fault_found : (M : ℕ) (s : List ℕ) (fault : FrameFault) → AreBytes s → beginning M s ≡ Faulty fault → IsFrameFault M fault (fault_bytes s)
+fault_found M s TokenLength fits e =
     let bad : HasBadToken s = bad_token_of s fits (token_length_declared M s e) in
-    let head : take 1 s ≡ bad.0 = ap (take 1) bad.2 ∙ token_length_bytes bad.0 bad.1 bad.3 in
+    let head : fault_bytes s ≡ bad.0 = ap fault_bytes bad.2 ∙ fault_bytes_again M bad.0 bad.1 TokenLength bad.3 in
     subst (λ (r : List ℕ). IsTokenLengthFault r) (sym head) bad.3
-
--- the byte of a size above M is the last one of the length
-too_large_found : (M : ℕ) (s : List ℕ) → AreBytes s → beginning M s ≡ Faulty TooLarge → IsTooLarge M (take (size_bytes s) s)
-too_large_found M s fits e =
+fault_found M s TooLarge fits e =
     let f = too_large_declared M s e in
     let d : IsDeclaredSize s f.0 = size_head_of s f.0 fits f.1 in
-    let len : size_bytes s ≡ length d.0 = ap size_bytes d.2 ∙ size_head_bytes d.0 d.1 f.0 d.3 in
-    let head : take (size_bytes s) s ≡ d.0 = ap (take (size_bytes s)) d.2 ∙ take_at d.0 d.1 (size_bytes s) (sym len) in
-    (f.0, subst (λ (r : List ℕ). IsSizeHead r f.0) (sym head) d.3, f.2)
-
--- the bytes of a fault at the front are that fault at its byte
-pub fault_found : (M : ℕ) (s : List ℕ) (fault : FrameFault) → AreBytes s → beginning M s ≡ Faulty fault → IsFrameFault M fault (fault_bytes fault s)
-fault_found M s TokenLength fits e = token_length_found M s fits e
-fault_found M s TooLarge fits e = too_large_found M s fits e
+    let large : IsTooLarge M d.0 = (f.0, d.3, f.2) in
+    let head : fault_bytes s ≡ d.0 = ap fault_bytes d.2 ∙ fault_bytes_again M d.0 d.1 TooLarge large in
+    subst (λ (r : List ℕ). IsTooLarge M r) (sym head) large
 
 -- ---- what is not finished
 
@@ -144,7 +125,7 @@ unfinished_is M s u p q is =
 unfinished_by : (M : ℕ) (s : List ℕ) (b : Beginning) → AreBytes s → IsUnfinished M s → beginning M s ≡ b → beginning M s ≡ Unfinished
 unfinished_by M s Unfinished fits u e = e
 unfinished_by M s (Whole frame rest) fits u e = absurd ((u frame rest (whole_parts M s frame rest e).bytes).0 (whole_frame M s frame rest fits e))
-unfinished_by M s (Faulty fault) fits u e = absurd ((u (fault_bytes fault s) (drop (fault_size fault s) s) (sym (take-append-drop (fault_size fault s) s))).1 fault (fault_found M s fault fits e))
+unfinished_by M s (Faulty fault) fits u e = absurd ((u (fault_bytes s) (drop (size_bytes s) s) (sym (take-append-drop (size_bytes s) s))).1 fault (fault_found M s fault fits e))
 
 -- where no front is a frame or a fault, nothing stands at the front yet
 pub unfinished_again : (M : ℕ) (s : List ℕ) → AreBytes s → IsUnfinished M s → beginning M s ≡ Unfinished
@@ -180,28 +161,22 @@ splits_unfinished sizes s u = record {
   behind = refl;
 }
 
--- a fault has a byte
-fault_size_some : (fault : FrameFault) (s : List ℕ) → 1 ≤ length s → 1 ≤ fault_size fault s
-fault_size_some TokenLength s some = omega arith
-fault_size_some TooLarge [] some = absurd (omega arith)
-fault_size_some TooLarge (b ∷ s) some = omega arith
-
 -- the size in force at a fault at the front
-pub size_for_fault : (sizes : Sizes) (s : List ℕ) (fault : FrameFault) → beginning (size_for sizes s) s ≡ Faulty fault → size_for sizes (fault_bytes fault s) ≡ size_for sizes s
+pub size_for_fault : (sizes : Sizes) (s : List ℕ) (fault : FrameFault) → beginning (size_for sizes s) s ≡ Faulty fault → size_for sizes (fault_bytes s) ≡ size_for sizes s
 size_for_fault sizes s fault e =
-    let n : ℕ = fault_size fault s in
+    let n : ℕ = size_bytes s in
     let some : 1 ≤ length s = faulty_some (size_for sizes s) s fault e in
-    let front : 1 ≤ length (take n s) = omega (arith, some, fault_size_some fault s some, length-take n s) in
+    let front : 1 ≤ length (take n s) = omega (arith, some, size_bytes_some s some, length-take n s) in
     sym (size_for_more sizes (take n s) (drop n s) front) ∙ ap (λ (l : List ℕ). size_for sizes l) (take-append-drop n s)
 
-splits_faulty : (sizes : Sizes) (s : List ℕ) (fault : FrameFault) → AreBytes s → beginning (size_for sizes s) s ≡ Faulty fault → Splits sizes s [] (fault_bytes fault s) (Some (OfFrame fault))
+splits_faulty : (sizes : Sizes) (s : List ℕ) (fault : FrameFault) → AreBytes s → beginning (size_for sizes s) s ≡ Faulty fault → Splits sizes s [] (fault_bytes s) (Some (OfFrame fault))
 splits_faulty sizes s fault fits e = record {
   frames = [];
-  more = drop (fault_size fault s) s;
-  whole = sym (take-append-drop (fault_size fault s) s);
+  more = drop (size_bytes s) s;
+  whole = sym (take-append-drop (size_bytes s) s);
   spelled = tt;
   small = tt;
-  ended = subst (λ (M : ℕ). IsFrameFault M fault (fault_bytes fault s)) (sym (size_behind_none sizes (fault_bytes fault s) ∙ size_for_fault sizes s fault e)) (fault_found (size_for sizes s) s fault fits e);
+  ended = subst (λ (M : ℕ). IsFrameFault M fault (fault_bytes s)) (sym (size_behind_none sizes (fault_bytes s) ∙ size_for_fault sizes s fault e)) (fault_found (size_for sizes s) s fault fits e);
   behind = tt;
 }
 

@@ -1,124 +1,24 @@
 -- Reading a stream step by step: what stands at its front, and what more bytes behind it change.
-use Rattle.std.proofs.Common.{◌≡◌, ℕ, zero, suc, ◌+◌, ◌-◌, ◌/◌, ◌%◌, ◌<◌, ◌≤◌, Bool, true, false, cond, eqb, ltb, List, [], ◌∷◌, ◌++◌, length, take, drop, Option, Some, None, Result, Ok, Err, ◌⊎◌, inl, inr, refl, sym, ap, subst, ◌∙◌, arith}
-use Rattle.std.specs.Int.{w16, w32, from_be_bytes}
-use Rattle.std.proofs.lemmas.Bool.{lt-ltb, le-ltb, cases_lt}
+use Rattle.std.proofs.Common.{◌≡◌, ◌≢◌, ℕ, zero, suc, ◌+◌, ◌-◌, ◌/◌, ◌%◌, ◌<◌, ◌≤◌, Bool, true, false, cond, eqb, ltb, List, [], ◌∷◌, ◌++◌, length, take, drop, Option, Some, None, Result, Ok, Err, ◌⊎◌, inl, inr, refl, sym, ap, subst, ◌∙◌, arith}
+use Rattle.std.proofs.lemmas.Bool.{eq-eqb, ne_eqb, lt-ltb, le-ltb, cases_lt, cases_eq}
 use Rattle.std.proofs.lemmas.List.{length-append, length-drop, length-take, length-take-le, take-append-drop, take-append-le, drop-append-le, take_all, drop_all}
 use Rattle.coap_wire.specs.Message.{Message}
+use Rattle.coap_wire.specs.Forms.{extension_of, option_extension}
+use Rattle.coap_wire.specs.Size.{code_and_extension, StatesLengths}
 use Rattle.coap_wire.specs.declared.frame.Declared.{Declared}
 use Rattle.coap_wire.specs.declared.frame.Declared.TheVariants.{Unknown, Size, BadToken}
 use Rattle.coap_wire.specs.declared.fault.FormatFault.{FormatFault}
-use Rattle.coap_wire.specs.Reading.{one_byte_at, two_bytes_at, four_bytes_at, plus, length_at, size_from, declared_of, message_of}
+use Rattle.coap_wire.specs.Reading.{one_byte_at, two_bytes_at, plus, option_number_at, declared_of, message_of}
 use Rattle.coap_wire.specs.declared.fault.FrameFault.{FrameFault}
 use Rattle.coap_wire.specs.declared.fault.FrameFault.TheVariants.{TokenLength, TooLarge}
-use Rattle.coap_wire.specs.Beginning.{Beginning, Unfinished, Whole, Faulty, begins_with, beginning, extension_of, size_bytes, fault_size, fault_bytes}
+use Rattle.coap_wire.specs.Beginning.{Beginning, Unfinished, Whole, Faulty, begins_with, beginning, token_bytes, size_bytes, fault_bytes}
 use Rattle.coap_wire.specs.Frames.{Frames, Sizes, always, sizes_behind, size_for, sizes_of_rest, with_frame, frames_then, frames_within, sized_frames}
 use Rattle.coap_wire.specs.Stream.{StreamFault, OfFrame, Format, Stream, with_message, frame_then, read_found, sized_split, split, stream_then, gone_on, sized_split_on, split_on}
 use Rattle.coap_wire.proofs.BodySteps.{some_is}
-use Rattle.coap_wire.proofs.NumberLaws.{option_cases}
+use Rattle.coap_wire.proofs.FormLaws.{option_extension_none, option_extension_some}
+use Rattle.coap_wire.proofs.NumberLaws.{option_number_none, option_number_one, option_number_two, none_or_some, option_number_more, option_number_length, option_number_short, length_at_more, length_at_taken, length_at_missing}
 use Rattle.coap_wire.proofs.BodyLaws.{result_cases}
-use Rattle.coap_wire.proofs.HeadLaws.{declared_nothing, declared_bad, declared_good}
-
--- ---- the length behind a nibble
-
--- at reads a number from the first n bytes, and leaves the others
-record ReadsFrom (n : ℕ) (at : List ℕ → Option (ℕ × List ℕ)) : Type 0 where
-  more : (s t : List ℕ) (y : ℕ × List ℕ) → at s ≡ Some y → at (s ++ t) ≡ Some (y.0, y.1 ++ t)
-  taken : (s : List ℕ) (y : ℕ × List ℕ) → at s ≡ Some y → length s ≡ n + length y.1
-  missing : (s : List ℕ) → at s ≡ None → length s < n
-
-same_more : (n : ℕ) (s t : List ℕ) (y : ℕ × List ℕ) → ◌≡◌ {A = Option (ℕ × List ℕ)} (Some (n, s)) (Some y) → ◌≡◌ {A = Option (ℕ × List ℕ)} (Some (n, s ++ t)) (Some (y.0, y.1 ++ t))
-same_more n s t y e =
-    let longer : ℕ × List ℕ → Option (ℕ × List ℕ) = λ p. Some (p.0, p.1 ++ t) in
-    ap longer (some_is (n, s) y e)
-
-same_rest : (n : ℕ) (s : List ℕ) (y : ℕ × List ℕ) → ◌≡◌ {A = Option (ℕ × List ℕ)} (Some (n, s)) (Some y) → length s ≡ length y.1
-same_rest n s y e = ap (λ (p : ℕ × List ℕ). length p.1) (some_is (n, s) y e)
-
-pub none_or_some : {A : Type 0} (x : A) → ◌≡◌ {A = Option A} None (Some x) → ⊥
-none_or_some x e = cc
-
-reads_none : (x : ℕ) → ReadsFrom 0 (λ s. Some (x, s))
-reads_none x = record {
-  more = λ s t y e. same_more x s t y e;
-  taken = λ s y e. omega (arith, same_rest x s y e);
-  missing = λ s e. absurd (none_or_some (x, s) (sym e));
-}
-
-one_more : (k : ℕ) (s t : List ℕ) (y : ℕ × List ℕ) → plus k (one_byte_at s) ≡ Some y → plus k (one_byte_at (s ++ t)) ≡ Some (y.0, y.1 ++ t)
-unfolding one_byte_at
-one_more k [] t y e = absurd (none_or_some y e)
-one_more k (b ∷ s) t y e = same_more (b + k) s t y e
-
-one_taken : (k : ℕ) (s : List ℕ) (y : ℕ × List ℕ) → plus k (one_byte_at s) ≡ Some y → length s ≡ 1 + length y.1
-unfolding one_byte_at
-one_taken k [] y e = absurd (none_or_some y e)
-one_taken k (b ∷ s) y e = omega (arith, same_rest (b + k) s y e)
-
-one_missing : (k : ℕ) (s : List ℕ) → plus k (one_byte_at s) ≡ None → length s < 1
-unfolding one_byte_at
-one_missing k [] e = omega arith
-one_missing k (b ∷ s) e = absurd (none_or_some (b + k, s) (sym e))
-
-reads_one : (k : ℕ) → ReadsFrom 1 (λ s. plus k (one_byte_at s))
-reads_one k = record { more = one_more k; taken = one_taken k; missing = one_missing k }
-
--- a number of n bytes, and the bytes after it
-abbrev number_of : ℕ → ℕ → (List ℕ → ℕ) → List ℕ → Option (ℕ × List ℕ)
-number_of k n value s = plus k (cond (ltb (length s) n) None (Some (value (take n s), drop n s)))
-
-number_short : (k n : ℕ) (value : List ℕ → ℕ) (s : List ℕ) → length s < n → number_of k n value s ≡ None
-number_short k n value s h = rw (lt-ltb (length s) n h) refl
-
-number_long : (k n : ℕ) (value : List ℕ → ℕ) (s : List ℕ) → n ≤ length s → number_of k n value s ≡ Some (value (take n s) + k, drop n s)
-number_long k n value s h = rw (le-ltb (length s) n h) refl
-
-number_more : (k n : ℕ) (value : List ℕ → ℕ) (s t : List ℕ) (y : ℕ × List ℕ) → number_of k n value s ≡ Some y → number_of k n value (s ++ t) ≡ Some (y.0, y.1 ++ t)
-number_more k n value s t y e =
-    elim (cases_lt (length s) n) [
-      | inl short ↦ absurd (none_or_some y (sym (number_short k n value s short) ∙ e))
-      | inr long ↦
-          number_long k n value (s ++ t) (omega (arith, length-append s t))
-          ∙ rw (take-append-le n s t long, drop-append-le n s t long) (same_more (value (take n s) + k) (drop n s) t y (sym (number_long k n value s long) ∙ e))
-    ]
-
-number_taken : (k n : ℕ) (value : List ℕ → ℕ) (s : List ℕ) (y : ℕ × List ℕ) → number_of k n value s ≡ Some y → length s ≡ n + length y.1
-number_taken k n value s y e =
-    elim (cases_lt (length s) n) [
-      | inl short ↦ absurd (none_or_some y (sym (number_short k n value s short) ∙ e))
-      | inr long ↦ omega (arith, length-drop n s, same_rest (value (take n s) + k) (drop n s) y (sym (number_long k n value s long) ∙ e))
-    ]
-
-number_missing : (k n : ℕ) (value : List ℕ → ℕ) (s : List ℕ) → number_of k n value s ≡ None → length s < n
-number_missing k n value s e =
-    elim (cases_lt (length s) n) [
-      | inl short ↦ short
-      | inr long ↦ absurd (none_or_some (value (take n s) + k, drop n s) (sym e ∙ number_long k n value s long))
-    ]
-
-reads_number : (k n : ℕ) (value : List ℕ → ℕ) → ReadsFrom n (λ s. number_of k n value s)
-reads_number k n value = record { more = number_more k n value; taken = number_taken k n value; missing = number_missing k n value }
-
-reads_by : (small one two : Bool) (x : ℕ) → ReadsFrom (cond small 0 (cond one 1 (cond two 2 4))) (λ s. cond small (Some (x, s)) (cond one (plus 13 (one_byte_at s)) (cond two (number_of 269 2 (from_be_bytes w16) s) (number_of 65805 4 (from_be_bytes w32) s))))
-reads_by true one two x = reads_none x
-reads_by false true two x = reads_one 13
-reads_by false false true x = reads_number 269 2 (from_be_bytes w16)
-reads_by false false false x = reads_number 65805 4 (from_be_bytes w32)
-
-reads_length : (x : ℕ) → ReadsFrom (extension_of x) (λ s. length_at x s)
-unfolding length_at two_bytes_at four_bytes_at
-reads_length x = reads_by (ltb x 13) (eqb x 13) (eqb x 14) x
-
--- a length that is read stays read, whatever comes behind it
-pub length_at_more : (x : ℕ) (s t : List ℕ) (y : ℕ × List ℕ) → length_at x s ≡ Some y → length_at x (s ++ t) ≡ Some (y.0, y.1 ++ t)
-length_at_more x s t y e = (reads_length x).more s t y e
-
--- a length takes its extension, and no more
-pub length_at_taken : (x : ℕ) (s : List ℕ) (y : ℕ × List ℕ) → length_at x s ≡ Some y → length s ≡ extension_of x + length y.1
-length_at_taken x s y e = (reads_length x).taken s y e
-
--- where no length can be read, its extension is not all there
-pub length_at_missing : (x : ℕ) (s : List ℕ) → length_at x s ≡ None → length s < extension_of x
-length_at_missing x s e = (reads_length x).missing s e
+use Rattle.coap_wire.proofs.HeadLaws.{ReadsLengths, IsCutHead, head_cases, widths, frame_size, declared_nothing, declared_no_length, declared_cut, declared_size, declared_long, stated_read}
 
 -- ---- the declared size
 
@@ -137,79 +37,199 @@ unknown_not_bad e = cc
 same_size : (m n : ℕ) → Size m ≡ Size n → m ≡ n
 same_size m n e = cc
 
--- the length y is read behind the first byte b, and the size is n
-record HasSize (b : ℕ) (s : List ℕ) (n : ℕ) : Type 0 where
-  after : ℕ × List ℕ
-  token : b % 16 ≤ 8
-  is : length_at (b / 16) s ≡ Some after
-  size : n ≡ 1 + (length s - length after.1) + 1 + b % 16 + after.0
+-- the lengths that are read behind the first byte b state the size m
+record HasSize (b : ℕ) (s : List ℕ) (m : ℕ) : Type 0 where
+  token_length : ℕ
+  body_length : ℕ
+  read : ReadsLengths b s token_length body_length
+  short : token_length ≤ 64
+  size : m ≡ frame_size b token_length body_length
 
-size_at : (b : ℕ) (s : List ℕ) (n : ℕ) → declared_of (b ∷ s) ≡ Size n → HasSize b s n
-size_at b s n e =
-    elim (cases_lt 8 (b % 16)) [
-      | inl bad ↦ absurd (bad_not_size n (sym (declared_bad b s bad) ∙ e))
-      | inr good ↦ elim (option_cases (length_at (b / 16) s)) [
-        | inl y ↦ record {
-          after = y.0;
-          token = good;
-          is = y.1;
-          size = same_size n _ (sym e ∙ declared_good b s good ∙ ap (size_from (b % 16) s) y.1);
+size_at : (b : ℕ) (s : List ℕ) (m : ℕ) → declared_of (b ∷ s) ≡ Size m → HasSize b s m
+size_at b s m e =
+    elim (head_cases b s) [
+      | inl r ↦ elim (cases_lt 64 r.0) [
+        | inl long ↦ absurd (bad_not_size m (sym (declared_long b s r.0 r.1 r.2 long) ∙ e))
+        | inr short ↦ record {
+          token_length = r.0;
+          body_length = r.1;
+          read = r.2;
+          short = short;
+          size = same_size m _ (sym e ∙ declared_size b s r.0 r.1 r.2 short);
         }
-        | inr none ↦ absurd (unknown_not_size n (sym (ap (size_from (b % 16) s) none) ∙ sym (declared_good b s good) ∙ e))
+      ]
+      | inr others ↦ elim others [
+        | inl none ↦ absurd (bad_not_size m (sym (declared_no_length b s none) ∙ e))
+        | inr cut ↦ absurd (unknown_not_size m (sym (declared_cut b s cut) ∙ e))
       ]
     ]
 
--- a size that is known has the bytes that state it
-size_at_bytes : (b : ℕ) (s : List ℕ) (n : ℕ) → declared_of (b ∷ s) ≡ Size n → (size_bytes (b ∷ s) < n) × (size_bytes (b ∷ s) ≤ length (b ∷ s))
-size_at_bytes b s n e =
-    let h = size_at b s n e in
-    let k : length s ≡ extension_of (b / 16) + length h.after.1 = length_at_taken (b / 16) s h.after h.is in
-    let size : n ≡ 1 + (length s - length h.after.1) + 1 + b % 16 + h.after.0 = h.size in
-    (omega arith, omega arith)
+-- ---- the bytes up to the one at which a size is known
 
--- the size is above the number of bytes up to the last byte of the length, and these are there
-pub size_has_bytes : (s : List ℕ) (n : ℕ) → declared_of s ≡ Size n → (size_bytes s < n) × (size_bytes s ≤ length s)
-size_has_bytes [] n e = absurd (unknown_not_size n (sym declared_nothing ∙ e))
-size_has_bytes (b ∷ s) n e = size_at_bytes b s n e
+token_bytes_none : (x : ℕ) → x < 13 → token_bytes x ≡ 0
+token_bytes_none x h = rw (lt-ltb x 13 h) refl
 
--- where no size is known yet, a byte of the length is missing
+token_bytes_some : (x : ℕ) → 13 ≤ x → token_bytes x ≡ 1 + option_extension x
+token_bytes_some x h = rw (le-ltb x 13 h) refl
+
+pub size_bytes_first : (b : ℕ) (s : List ℕ) → b % 16 ≡ 15 → size_bytes (b ∷ s) ≡ 1
+size_bytes_first b s h = rw (eq-eqb (b % 16) 15 h) refl
+
+size_bytes_by : (b : ℕ) (s : List ℕ) → b % 16 ≢ 15 → size_bytes (b ∷ s) ≡ 1 + extension_of (b / 16) + token_bytes (b % 16)
+size_bytes_by b s h = rw (ne_eqb (b % 16) 15 h) refl
+
+pub size_bytes_some : (s : List ℕ) → 1 ≤ length s → 1 ≤ size_bytes s
+size_bytes_some [] h = absurd (omega arith)
+size_bytes_some (b ∷ s) h =
+    elim (cases_eq (b % 16) 15) [
+      | inl first ↦ omega (arith, size_bytes_first b s first)
+      | inr nibble ↦ omega (arith, size_bytes_by b s nibble)
+    ]
+
+-- the code and the extension of a token's length have as many bytes
+code_and_extension_bytes : (x code : ℕ) (extension : List ℕ) → length extension ≡ option_extension x → length (code_and_extension code extension) ≡ token_bytes x
+code_and_extension_bytes x code [] h =
+    elim (cases_lt x 13) [
+      | inl lt ↦ sym (token_bytes_none x lt)
+      | inr ge ↦ absurd (omega (arith, h, option_extension_some x ge))
+    ]
+code_and_extension_bytes x code (e ∷ es) h =
+    elim (cases_lt x 13) [
+      | inl lt ↦ absurd (omega (arith, h, option_extension_none x lt))
+      | inr ge ↦ omega (arith, h, token_bytes_some x ge)
+    ]
+
+-- stated lengths end with the byte at which the size is known
+pub stated_bytes : (head more : List ℕ) (t n : ℕ) → StatesLengths head t n → size_bytes (head ++ more) ≡ length head
+stated_bytes head more t n h =
+    let r = stated_read head more t n h in
+    let front = code_and_extension h.code h.token_extension in
+    let k = code_and_extension_bytes (r.first % 16) h.code h.token_extension r.token_extension in
+    let is : size_bytes (head ++ more) ≡ 1 + extension_of (r.first / 16) + token_bytes (r.first % 16) = ap size_bytes r.bytes ∙ size_bytes_by r.first r.behind r.read.nibble in
+    omega (arith, is, ap (λ (l : List ℕ). length l) h.head, length-append h.extension front, r.extension, k)
+
+plus_above : (k : ℕ) (o : Option (ℕ × List ℕ)) (y : ℕ × List ℕ) → plus k o ≡ Some y → k ≤ y.0
+plus_above k None y e = absurd (none_or_some y e)
+plus_above k (Some x) y e = let same : x.0 + k ≡ y.0 = ap (λ (z : ℕ × List ℕ). z.0) (some_is (x.0 + k, x.1) y e) in omega (arith, same)
+
+-- a token's length that bytes extend is 13 at least
+extended_above : (x : ℕ) (s : List ℕ) (y : ℕ × List ℕ) → 13 ≤ x → option_number_at x s ≡ Some y → 13 ≤ y.0
+extended_above x s y h e =
+    elim (cases_lt 13 x) [
+      | inl more ↦ omega (arith, plus_above 269 (two_bytes_at s) y (sym (option_number_two x s more) ∙ e))
+      | inr same ↦ plus_above 13 (one_byte_at s) y (sym (option_number_one x s (omega (arith, h, same))) ∙ e)
+    ]
+
+-- lengths that are read have the bytes that state them, and the size is above their number
+reads_bytes : (b : ℕ) (s : List ℕ) (t n : ℕ) → ReadsLengths b s t n → (size_bytes (b ∷ s) < frame_size b t n) × (size_bytes (b ∷ s) ≤ length (b ∷ s))
+reads_bytes b s t n r =
+    let w = widths b s t n r in
+    let is = size_bytes_by b s r.nibble in
+    elim (cases_lt (b % 16) 13) [
+      | inl lt ↦ let none = token_bytes_none (b % 16) lt in (omega (arith, is, none), omega (arith, is, none, w.body))
+      | inr ge ↦
+          let some = token_bytes_some (b % 16) ge in (
+            omega (arith, is, some, extended_above (b % 16) (drop 1 r.at_code) (t, r.at_token) ge r.token),
+            omega (arith, is, some, w.body, w.token, option_extension_some (b % 16) ge, length-drop 1 r.at_code),
+          )
+    ]
+
+-- where a byte of the lengths is missing, fewer stand there
+cut_bytes : (b : ℕ) (s : List ℕ) → IsCutHead b s → length (b ∷ s) < size_bytes (b ∷ s)
+cut_bytes b s c =
+    let is = size_bytes_by b s c.nibble in
+    elim (c.cut) [
+      | inl none ↦ omega (arith, is, length_at_missing (b / 16) s none)
+      | inr y ↦
+          let short = option_number_short (b % 16) (drop 1 y.0.1) y.2 in
+          elim (cases_lt (b % 16) 13) [
+            | inl lt ↦ absurd (omega (arith, short, option_extension_none (b % 16) lt))
+            | inr ge ↦ omega (arith, is, short, token_bytes_some (b % 16) ge, length_at_taken (b / 16) s y.0 y.1, length-drop 1 y.0.1)
+          ]
+    ]
+
+-- where no size is known yet, a byte that states it is missing
 unknown_at : (b : ℕ) (s : List ℕ) → declared_of (b ∷ s) ≡ Unknown → length (b ∷ s) < size_bytes (b ∷ s)
 unknown_at b s e =
-    elim (cases_lt 8 (b % 16)) [
-      | inl bad ↦ absurd (bad_not_unknown (sym (declared_bad b s bad) ∙ e))
-      | inr good ↦ elim (option_cases (length_at (b / 16) s)) [
-        | inl y ↦ absurd (unknown_not_size _ (sym e ∙ declared_good b s good ∙ ap (size_from (b % 16) s) y.1))
-        | inr none ↦ let k : length s < extension_of (b / 16) = length_at_missing (b / 16) s none in omega arith
+    elim (head_cases b s) [
+      | inl r ↦ elim (cases_lt 64 r.0) [
+        | inl long ↦ absurd (bad_not_unknown (sym (declared_long b s r.0 r.1 r.2 long) ∙ e))
+        | inr short ↦ absurd (unknown_not_size _ (sym e ∙ declared_size b s r.0 r.1 r.2 short))
+      ]
+      | inr others ↦ elim others [
+        | inl none ↦ absurd (bad_not_unknown (sym (declared_no_length b s none) ∙ e))
+        | inr cut ↦ cut_bytes b s cut
       ]
     ]
+
+-- a size or a bad token that is known has the bytes that state it
+pub known_bytes : (s : List ℕ) → (declared_of s ≡ Unknown → ⊥) → size_bytes s ≤ length s
+known_bytes [] known = absurd (known declared_nothing)
+known_bytes (b ∷ s) known =
+    elim (head_cases b s) [
+      | inl r ↦ (reads_bytes b s r.0 r.1 r.2).1
+      | inr others ↦ elim others [
+        | inl none ↦ omega (arith, size_bytes_first b s none)
+        | inr cut ↦ absurd (known (declared_cut b s cut))
+      ]
+    ]
+
+-- the size is above the number of bytes up to the one at which it is known, and these are there
+pub size_has_bytes : (s : List ℕ) (n : ℕ) → declared_of s ≡ Size n → (size_bytes s < n) × (size_bytes s ≤ length s)
+size_has_bytes [] n e = absurd (unknown_not_size n (sym declared_nothing ∙ e))
+size_has_bytes (b ∷ s) n e =
+    let h = size_at b s n e in
+    let k = reads_bytes b s h.token_length h.body_length h.read in
+    (omega (arith, k.0, h.size), k.1)
+
+-- ---- what is declared stays declared, whatever comes behind it
+
+token_more : (x : ℕ) (s more : List ℕ) (y : ℕ × List ℕ) → option_number_at x (drop 1 s) ≡ Some y → (behind : List ℕ) × (option_number_at x (drop 1 (s ++ more)) ≡ Some (y.0, behind))
+token_more x [] more y e =
+    elim (cases_lt x 13) [
+      | inl lt ↦
+          let same : x ≡ y.0 = ap (λ (z : ℕ × List ℕ). z.0) (some_is (x, []) y (sym (option_number_none x [] lt) ∙ e)) in
+          (drop 1 more, option_number_none x (drop 1 more) lt ∙ ap (λ (n : ℕ). Some (n, drop 1 more)) same)
+      | inr ge ↦ absurd (omega (arith, option_extension_some x ge, option_number_length x [] y e))
+    ]
+token_more x (c ∷ s) more y e = (y.1 ++ more, option_number_more x s more y e)
+
+pub reads_more : (b : ℕ) (s more : List ℕ) (t n : ℕ) → ReadsLengths b s t n → ReadsLengths b (s ++ more) t n
+reads_more b s more t n r =
+    let token = token_more (b % 16) r.at_code more (t, r.at_token) r.token in
+    record {
+      at_code = r.at_code ++ more;
+      at_token = token.0;
+      nibble = r.nibble;
+      body = length_at_more (b / 16) s more (n, r.at_code) r.body;
+      token = token.1;
+    }
 
 -- a size that is declared stays declared, whatever comes behind it
 pub declared_more : (s t : List ℕ) (n : ℕ) → declared_of s ≡ Size n → declared_of (s ++ t) ≡ Size n
 declared_more [] t n e = absurd (unknown_not_size n (sym declared_nothing ∙ e))
 declared_more (b ∷ s) t n e =
     let h = size_at b s n e in
-    let size : n ≡ 1 + (length s - length h.after.1) + 1 + b % 16 + h.after.0 = h.size in
-    let same : 1 + (length (s ++ t) - length (h.after.1 ++ t)) + 1 + b % 16 + h.after.0 ≡ n = omega (arith, length-append s t, length-append h.after.1 t) in
-    declared_good b (s ++ t) h.token ∙ ap (size_from (b % 16) (s ++ t)) (length_at_more (b / 16) s t h.after h.is) ∙ ap Size same
+    declared_size b (s ++ t) h.token_length h.body_length (reads_more b s t h.token_length h.body_length h.read) h.short ∙ ap Size (sym h.size)
 
-bad_at : (b : ℕ) (s : List ℕ) → declared_of (b ∷ s) ≡ BadToken → 8 < b % 16
-bad_at b s e =
-    elim (cases_lt 8 (b % 16)) [
-      | inl bad ↦ bad
-      | inr good ↦ elim (option_cases (length_at (b / 16) s)) [
-        | inl y ↦ absurd (bad_not_size _ (sym e ∙ declared_good b s good ∙ ap (size_from (b % 16) s) y.1))
-        | inr none ↦ absurd (unknown_not_bad (sym (ap (size_from (b % 16) s) none) ∙ sym (declared_good b s good) ∙ e))
+-- a token length that is not taken stays declared, whatever comes behind it
+pub bad_token_more : (s t : List ℕ) → declared_of s ≡ BadToken → declared_of (s ++ t) ≡ BadToken
+bad_token_more [] t e = absurd (unknown_not_bad (sym declared_nothing ∙ e))
+bad_token_more (b ∷ s) t e =
+    elim (head_cases b s) [
+      | inl r ↦ elim (cases_lt 64 r.0) [
+        | inl long ↦ declared_long b (s ++ t) r.0 r.1 (reads_more b s t r.0 r.1 r.2) long
+        | inr short ↦ absurd (bad_not_size _ (sym e ∙ declared_size b s r.0 r.1 r.2 short))
+      ]
+      | inr others ↦ elim others [
+        | inl none ↦ declared_no_length b (s ++ t) none
+        | inr cut ↦ absurd (unknown_not_bad (sym (declared_cut b s cut) ∙ e))
       ]
     ]
 
--- a token length above 8 stays declared, whatever comes behind it
-pub bad_token_more : (s t : List ℕ) → declared_of s ≡ BadToken → declared_of (s ++ t) ≡ BadToken
-bad_token_more [] t e = absurd (unknown_not_bad (sym declared_nothing ∙ e))
-bad_token_more (b ∷ s) t e = declared_bad b (s ++ t) (bad_at b s e)
-
 size_bytes_positive : (s : List ℕ) (n : ℕ) → declared_of s ≡ Size n → 1 ≤ size_bytes s
 size_bytes_positive [] n e = absurd (unknown_not_size n (sym declared_nothing ∙ e))
-size_bytes_positive (b ∷ s) n e = omega arith
+size_bytes_positive (b ∷ s) n e = size_bytes_some (b ∷ s) (omega arith)
 
 -- a frame has its first byte and its code at least
 pub declared_positive : (s : List ℕ) (n : ℕ) → declared_of s ≡ Size n → 2 ≤ n
@@ -218,7 +238,7 @@ declared_positive s n e =
     let k = size_bytes_positive s n e in
     omega arith
 
--- the first byte says where the length ends
+-- the first byte says where the size is known
 pub size_bytes_more : (s t : List ℕ) → 1 ≤ length s → size_bytes (s ++ t) ≡ size_bytes s
 size_bytes_more [] t h = absurd (omega arith)
 size_bytes_more (b ∷ s) t h = refl
@@ -228,16 +248,15 @@ pub declared_some : (s : List ℕ) → (declared_of s ≡ Unknown → ⊥) → 1
 declared_some [] h = absurd (h declared_nothing)
 declared_some (b ∷ s) h = omega arith
 
+-- what one more byte makes known is known at that byte
+pub known_at_last : (s : List ℕ) (b : ℕ) → declared_of s ≡ Unknown → (declared_of (s ++ b ∷ []) ≡ Unknown → ⊥) → size_bytes (s ++ b ∷ []) ≡ length (s ++ b ∷ [])
+known_at_last [] b u known = omega (arith, known_bytes (b ∷ []) known, size_bytes_some (b ∷ []) (omega arith))
+known_at_last (a ∷ s) b u known =
+    omega (arith, known_bytes (a ∷ (s ++ b ∷ [])) known, unknown_at a s u, size_bytes_more (a ∷ s) (b ∷ []) (omega arith), length-append s (b ∷ []))
+
 -- a size that one more byte makes known is known at that byte
 pub size_at_last : (s : List ℕ) (b n : ℕ) → declared_of s ≡ Unknown → declared_of (s ++ b ∷ []) ≡ Size n → size_bytes (s ++ b ∷ []) ≡ length (s ++ b ∷ [])
-size_at_last [] b n u e =
-    let h = size_has_bytes (b ∷ []) n e in
-    let k = size_bytes_positive (b ∷ []) n e in
-    omega arith
-size_at_last (a ∷ s) b n u e =
-    let h = size_has_bytes (a ∷ (s ++ b ∷ [])) n e in
-    let k : length (a ∷ s) < size_bytes (a ∷ s) = unknown_at a s u in
-    omega (arith, length-append s (b ∷ []))
+size_at_last s b n u e = known_at_last s b u (λ v. unknown_not_size n (sym v ∙ e))
 
 -- ---- what stands at the front
 
@@ -246,7 +265,7 @@ pub begin_unknown : (M : ℕ) (s : List ℕ) → declared_of s ≡ Unknown → b
 unfolding beginning
 begin_unknown M s e = ap (begins_with M s) e
 
--- a token length above 8 stands at the front
+-- a token length that is not taken stands at the front
 pub begin_bad_token : (M : ℕ) (s : List ℕ) → declared_of s ≡ BadToken → beginning M s ≡ Faulty TokenLength
 unfolding beginning
 begin_bad_token M s e = ap (begins_with M s) e
@@ -336,7 +355,7 @@ whole_shorter M s frame rest e =
     let c = whole_parts M s frame rest e in
     omega (arith, c.some, ap (λ (l : List ℕ). length l) c.bytes, length-append frame rest)
 
--- where the front has a token length above 8, it is declared so
+-- where the front has a token length that is not taken, it is declared so
 pub token_length_declared : (M : ℕ) (s : List ℕ) → beginning M s ≡ Faulty TokenLength → declared_of s ≡ BadToken
 token_length_declared M s e = front_is M s (Faulty TokenLength) e
 
@@ -378,16 +397,21 @@ whole_alone M s (b ∷ f) rest c e BadToken is =
 pub whole_itself : (M : ℕ) (s frame rest : List ℕ) → beginning M s ≡ Whole frame rest → beginning M frame ≡ Whole frame []
 whole_itself M s frame rest e = whole_alone M s frame rest (whole_parts M s frame rest e) e (declared_of frame) refl
 
-pub bad_has_byte : (s : List ℕ) → declared_of s ≡ BadToken → 1 ≤ length s
-bad_has_byte s e = declared_some s (λ u. unknown_not_bad (sym u ∙ e))
+pub unfinished_not_faulty : (M : ℕ) (s : List ℕ) (fault : FrameFault) → beginning M s ≡ Unfinished → beginning M s ≡ Faulty fault → ⊥
+unfinished_not_faulty M s fault u e = cc
 
--- the byte of a fault stands among the bytes at which it was known
-pub fault_bytes_more : (M : ℕ) (s t : List ℕ) (fault : FrameFault) → beginning M s ≡ Faulty fault → fault_bytes fault (s ++ t) ≡ fault_bytes fault s
-fault_bytes_more M s t TokenLength e = take-append-le 1 s t (bad_has_byte s (front_is M s (Faulty TokenLength) e))
-fault_bytes_more M s t TooLarge e =
-    let f : (n : ℕ) × (declared_of s ≡ Size n) × (M < n) = front_is M s (Faulty TooLarge) e in
-    let h = size_has_bytes s f.0 f.1 in
-    ap (λ (n : ℕ). take n (s ++ t)) (size_bytes_more s t (omega (arith, size_bytes_positive s f.0 f.1))) ∙ take-append-le (size_bytes s) s t h.1
+faulty_known : (M : ℕ) (s : List ℕ) (fault : FrameFault) → beginning M s ≡ Faulty fault → declared_of s ≡ Unknown → ⊥
+faulty_known M s fault e u = unfinished_not_faulty M s fault (begin_unknown M s u) e
+
+-- the bytes up to the one at which a fault is known are there
+pub fault_has_bytes : (M : ℕ) (s : List ℕ) (fault : FrameFault) → beginning M s ≡ Faulty fault → size_bytes s ≤ length s
+fault_has_bytes M s fault e = known_bytes s (faulty_known M s fault e)
+
+-- the bytes of a fault stand among the bytes at which it was known
+pub fault_bytes_more : (M : ℕ) (s t : List ℕ) (fault : FrameFault) → beginning M s ≡ Faulty fault → fault_bytes (s ++ t) ≡ fault_bytes s
+fault_bytes_more M s t fault e =
+    let known = faulty_known M s fault e in
+    ap (λ (n : ℕ). take n (s ++ t)) (size_bytes_more s t (declared_some s known)) ∙ take-append-le (size_bytes s) s t (known_bytes s known)
 
 last_is_size : (M : ℕ) (s : List ℕ) (b size : ℕ) → beginning M s ≡ Unfinished → declared_of (s ++ b ∷ []) ≡ Size size → size ≤ length (s ++ b ∷ []) → size ≡ length (s ++ b ∷ [])
 last_is_size M s b size u d long =
@@ -406,30 +430,20 @@ whole_at_last M s b frame rest u e =
     let size = last_is_size M s b w.size u w.declared w.long in
     (sym w.behind ∙ drop_all w.size (s ++ b ∷ []) (omega arith), sym w.front ∙ take_all w.size (s ++ b ∷ []) (omega arith))
 
-pub unfinished_not_faulty : (M : ℕ) (s : List ℕ) (fault : FrameFault) → beginning M s ≡ Unfinished → beginning M s ≡ Faulty fault → ⊥
-unfinished_not_faulty M s fault u e = cc
-
-bad_at_last : (M : ℕ) (s : List ℕ) (b : ℕ) → beginning M s ≡ Unfinished → declared_of (s ++ b ∷ []) ≡ BadToken → take 1 (s ++ b ∷ []) ≡ s ++ b ∷ []
-bad_at_last M [] b u e = refl
-bad_at_last M (a ∷ s) b u e =
-    let bad : 8 < a % 16 = bad_at a (s ++ b ∷ []) e in
-    absurd (unfinished_not_faulty M (a ∷ s) TokenLength u (begin_bad_token M (a ∷ s) (declared_bad a s bad)))
-
-large_at_last : (M : ℕ) (s : List ℕ) (b n : ℕ) → beginning M s ≡ Unfinished → declared_of (s ++ b ∷ []) ≡ Size n → M < n → take (size_bytes (s ++ b ∷ [])) (s ++ b ∷ []) ≡ s ++ b ∷ []
-large_at_last M s b n u e large =
-    elim (front_is M s Unfinished u) [
-      | inl unknown ↦ take_all (size_bytes (s ++ b ∷ [])) (s ++ b ∷ []) (omega (arith, size_at_last s b n unknown e))
-      | inr short ↦
-          let same : short.size ≡ n = same_size short.size n (sym (declared_more s (b ∷ []) short.size short.declared) ∙ e) in
-          absurd (omega (arith, short.small))
-    ]
+-- where a size of at most M is known, there is no fault
+no_fault_of_size : (M : ℕ) (s : List ℕ) (n : ℕ) (fault : FrameFault) → declared_of s ≡ Size n → n ≤ M → beginning M s ≡ Faulty fault → ⊥
+no_fault_of_size M s n TokenLength d small e = bad_not_size n (sym (front_is M s (Faulty TokenLength) e) ∙ d)
+no_fault_of_size M s n TooLarge d small e =
+    let f : (n : ℕ) × (declared_of s ≡ Size n) × (M < n) = front_is M s (Faulty TooLarge) e in
+    omega (arith, small, f.2, same_size f.0 n (sym f.1 ∙ d))
 
 -- a fault that one more byte makes known is known at that byte
-pub fault_at_last : (M : ℕ) (s : List ℕ) (b : ℕ) (fault : FrameFault) → beginning M s ≡ Unfinished → beginning M (s ++ b ∷ []) ≡ Faulty fault → fault_bytes fault (s ++ b ∷ []) ≡ s ++ b ∷ []
-fault_at_last M s b TokenLength u e = bad_at_last M s b u (front_is M (s ++ b ∷ []) (Faulty TokenLength) e)
-fault_at_last M s b TooLarge u e =
-    let f : (n : ℕ) × (declared_of (s ++ b ∷ []) ≡ Size n) × (M < n) = front_is M (s ++ b ∷ []) (Faulty TooLarge) e in
-    large_at_last M s b f.0 u f.1 f.2
+pub fault_at_last : (M : ℕ) (s : List ℕ) (b : ℕ) (fault : FrameFault) → beginning M s ≡ Unfinished → beginning M (s ++ b ∷ []) ≡ Faulty fault → fault_bytes (s ++ b ∷ []) ≡ s ++ b ∷ []
+fault_at_last M s b fault u e =
+    elim (front_is M s Unfinished u) [
+      | inl unknown ↦ take_all (size_bytes (s ++ b ∷ [])) (s ++ b ∷ []) (omega (arith, known_at_last s b unknown (faulty_known M (s ++ b ∷ []) fault e)))
+      | inr short ↦ absurd (no_fault_of_size M (s ++ b ∷ []) short.size fault (declared_more s (b ∷ []) short.size short.declared) short.small e)
+    ]
 
 extension_by_small : (small one two : Bool) → cond small 0 (cond one 1 (cond two 2 4)) ≤ 4
 extension_by_small true one two = omega arith
@@ -441,26 +455,36 @@ extension_by_small false false false = omega arith
 pub extension_small : (x : ℕ) → extension_of x ≤ 4
 extension_small x = extension_by_small (ltb x 13) (eqb x 13) (eqb x 14)
 
-pub unknown_small : (s : List ℕ) → declared_of s ≡ Unknown → length s < 5
+option_extension_by_small : (small one : Bool) → cond small 0 (1 + cond small 0 (cond one 1 2)) ≤ 3
+option_extension_by_small true one = omega arith
+option_extension_by_small false true = omega arith
+option_extension_by_small false false = omega arith
+
+-- the code and the extension of a token's length have at most three bytes
+token_bytes_small : (x : ℕ) → token_bytes x ≤ 3
+token_bytes_small x = option_extension_by_small (ltb x 13) (eqb x 13)
+
+-- a size is known at the eighth byte at the latest
+pub size_bytes_small : (s : List ℕ) → size_bytes s ≤ 8
+size_bytes_small [] = omega arith
+size_bytes_small (b ∷ s) =
+    elim (cases_eq (b % 16) 15) [
+      | inl first ↦ omega (arith, size_bytes_first b s first)
+      | inr nibble ↦ omega (arith, size_bytes_by b s nibble, extension_small (b / 16), token_bytes_small (b % 16))
+    ]
+
+pub unknown_small : (s : List ℕ) → declared_of s ≡ Unknown → length s < 8
 unknown_small [] e = omega arith
 unknown_small (b ∷ s) e =
     let k : length (b ∷ s) < size_bytes (b ∷ s) = unknown_at b s e in
-    omega (arith, extension_small (b / 16))
+    omega (arith, k, size_bytes_small (b ∷ s))
 
--- what is not finished has fewer bytes than a length takes, or than the greatest frame
-pub unfinished_small : (M : ℕ) (s : List ℕ) → beginning M s ≡ Unfinished → (length s < 5) ⊎ (length s < M)
-unfinished_small M s u =
-    elim (front_is M s Unfinished u) [
-      | inl unknown ↦ inl (unknown_small s unknown)
-      | inr short ↦ inr (omega (arith, short.small, short.short))
-    ]
-
--- what is not finished has fewer than M bytes, where M is at least 5
-pub unfinished_below : (M : ℕ) (s : List ℕ) → 5 ≤ M → beginning M s ≡ Unfinished → length s < M
+-- what is not finished has fewer than M bytes, where M is at least 8
+pub unfinished_below : (M : ℕ) (s : List ℕ) → 8 ≤ M → beginning M s ≡ Unfinished → length s < M
 unfinished_below M s h u =
-    elim (unfinished_small M s u) [
-      | inl few ↦ omega arith
-      | inr below ↦ below
+    elim (front_is M s Unfinished u) [
+      | inl unknown ↦ omega (arith, unknown_small s unknown, h)
+      | inr short ↦ omega (arith, short.small, short.short)
     ]
 
 -- what is not finished where frames of M bytes are taken is not finished where greater ones are
@@ -543,7 +567,7 @@ module _ (sizes : Sizes) (s : List ℕ) where
   frames_unfinished e = frames_step sizes s ∙ ap (frames_then (frames_from sizes) s) e
 
   -- a fault ends the frames
-  pub frames_faulty : (fault : FrameFault) → beginning (size_for sizes s) s ≡ Faulty fault → sized_frames sizes s ≡ record { frames = []; rest = fault_bytes fault s; fault = Some fault }
+  pub frames_faulty : (fault : FrameFault) → beginning (size_for sizes s) s ≡ Faulty fault → sized_frames sizes s ≡ record { frames = []; rest = fault_bytes s; fault = Some fault }
   frames_faulty fault e = frames_step sizes s ∙ ap (frames_then (frames_from sizes) s) e
 
   -- a frame, and then the frames of the others
@@ -587,7 +611,7 @@ module _ (sizes : Sizes) (s : List ℕ) where
   sized_unfinished e = split_by sizes s Unfinished e
 
   -- a fault ends the stream
-  pub sized_faulty : (fault : FrameFault) → beginning (size_for sizes s) s ≡ Faulty fault → sized_split sizes s ≡ record { messages = []; rest = fault_bytes fault s; fault = Some (OfFrame fault) }
+  pub sized_faulty : (fault : FrameFault) → beginning (size_for sizes s) s ≡ Faulty fault → sized_split sizes s ≡ record { messages = []; rest = fault_bytes s; fault = Some (OfFrame fault) }
   sized_faulty fault e = split_by sizes s (Faulty fault) e
 
   -- a frame that spells a message, and then what the others spell
@@ -610,7 +634,7 @@ IsWithin sizes s = length (sized_split sizes s).rest ≤ length s
 within_step : (sizes : Sizes) (s : List ℕ) (b : Beginning) → HoldsBehind IsWithin sizes s → beginning (size_for sizes s) s ≡ b → IsWithin sizes s
 within_step sizes s Unfinished again e = omega (arith, ap (λ (u : Stream). length u.rest) (sized_unfinished sizes s e))
 within_step sizes s (Faulty fault) again e =
-    omega (arith, ap (λ (u : Stream). length u.rest) (sized_faulty sizes s fault e), length-take (fault_size fault s) s)
+    omega (arith, ap (λ (u : Stream). length u.rest) (sized_faulty sizes s fault e), length-take (size_bytes s) s)
 within_step sizes s (Whole frame rest) again e =
     let c = whole_parts (size_for sizes s) s frame rest e in
     let all : length s ≡ length frame + length rest = ap (λ (l : List ℕ). length l) c.bytes ∙ length-append frame rest in
@@ -844,7 +868,7 @@ module _ (M : ℕ) (s : List ℕ) where
   unfolding split
   split_unfinished e = sized_unfinished (always M) s e
 
-  pub split_faulty : (fault : FrameFault) → beginning M s ≡ Faulty fault → split M s ≡ record { messages = []; rest = fault_bytes fault s; fault = Some (OfFrame fault) }
+  pub split_faulty : (fault : FrameFault) → beginning M s ≡ Faulty fault → split M s ≡ record { messages = []; rest = fault_bytes s; fault = Some (OfFrame fault) }
   unfolding split
   split_faulty fault e = sized_faulty (always M) s fault e
 

@@ -4,7 +4,7 @@ use Rattle.coap_wire.specs.Forms.{length_form}
 use Rattle.coap_wire.specs.Spelling.{spelling, option_spelling}
 use Rattle.coap_wire.specs.Uint.{bytes_of_uint}
 use Rattle.coap_wire.specs.Reading.{declared_of, message_of, one_byte_at, two_bytes_at, four_bytes_at, length_at, option_number_at, head_at, option_head_at, option_at, body_within, body_at}
-use Rattle.coap_wire.specs.declared.frame.Declared.TheVariants.{Size}
+use Rattle.coap_wire.specs.declared.frame.Declared.TheVariants.{Unknown, Size, BadToken}
 use Rattle.coap_wire.specs.declared.fault.FormatFault.TheVariants.{TokenLength, OptionDelta, OptionLength, OptionCut, OptionNumber, EmptyPayload, NotOneFrame}
 
 -- a length of 1,147 is Len 14 with 03 6E
@@ -35,19 +35,55 @@ uint_0 = refl
 
 -- the greatest size without a token
 size_greatest : declared_of (0xf0 ∷ 0xff ∷ 0xff ∷ 0xff ∷ 0xff ∷ []) ≡ Size 4295033106
-unfolding declared_of length_at four_bytes_at
+unfolding declared_of length_at four_bytes_at option_number_at
 size_greatest = refl
 
-fault_1 : message_of (0x09 ∷ []) ≡ Err TokenLength
+fault_1 : message_of (0x0f ∷ []) ≡ Err TokenLength
 unfolding message_of head_at
 fault_1 = refl
 
+-- a token of 65 bytes
+fault_1_long : message_of (0x0d ∷ 0x01 ∷ 0x34 ∷ []) ≡ Err TokenLength
+unfolding message_of head_at length_at option_number_at one_byte_at
+fault_1_long = refl
+
+fault_7_extension : message_of (0x0d ∷ 0x01 ∷ []) ≡ Err NotOneFrame
+unfolding message_of head_at length_at option_number_at one_byte_at
+fault_7_extension = refl
+
+declared_no_extension : declared_of (0x0d ∷ 0x01 ∷ []) ≡ Unknown
+unfolding declared_of length_at option_number_at one_byte_at
+declared_no_extension = refl
+
+-- a token of 13 bytes
+declared_13 : declared_of (0x0d ∷ 0x01 ∷ 0x00 ∷ []) ≡ Size 16
+unfolding declared_of length_at option_number_at one_byte_at
+declared_13 = refl
+
+declared_65 : declared_of (0x0d ∷ 0x01 ∷ 0x34 ∷ []) ≡ BadToken
+unfolding declared_of length_at option_number_at one_byte_at
+declared_65 = refl
+
+declared_nibble_15 : declared_of (0x0f ∷ []) ≡ BadToken
+unfolding declared_of
+declared_nibble_15 = refl
+
+-- our CSM with Max-Message-Size 65,536 and Extended-Token-Length 64
+own_csm_of_both : spelling (record { code = 0xe1; token = []; options = record { number = 2; value = 1 ∷ 0 ∷ 0 ∷ [] } ∷ record { number = 6; value = 64 ∷ [] } ∷ []; payload = [] }) ≡ 0x60 ∷ 0xe1 ∷ 0x23 ∷ 1 ∷ 0 ∷ 0 ∷ 0x41 ∷ 0x40 ∷ []
+unfolding spelling
+own_csm_of_both = refl
+
+-- a token of 13 bytes is spelled with one byte of extension
+spelled_13 : spelling (record { code = 0x01; token = 1 ∷ 2 ∷ 3 ∷ 4 ∷ 5 ∷ 6 ∷ 7 ∷ 8 ∷ 9 ∷ 10 ∷ 11 ∷ 12 ∷ 13 ∷ []; options = []; payload = [] }) ≡ 0x0d ∷ 0x01 ∷ 0x00 ∷ 1 ∷ 2 ∷ 3 ∷ 4 ∷ 5 ∷ 6 ∷ 7 ∷ 8 ∷ 9 ∷ 10 ∷ 11 ∷ 12 ∷ 13 ∷ []
+unfolding spelling
+spelled_13 = refl
+
 fault_2 : message_of (0x10 ∷ 0x01 ∷ 0xf0 ∷ []) ≡ Err OptionDelta
-unfolding message_of head_at length_at body_at body_within option_at option_head_at
+unfolding message_of head_at length_at body_at body_within option_at option_head_at option_number_at
 fault_2 = refl
 
 fault_3 : message_of (0x10 ∷ 0x01 ∷ 0x0f ∷ []) ≡ Err OptionLength
-unfolding message_of head_at length_at body_at body_within option_at option_head_at
+unfolding message_of head_at length_at body_at body_within option_at option_head_at option_number_at
 fault_3 = refl
 
 fault_4 : message_of (0x10 ∷ 0x01 ∷ 0xd0 ∷ []) ≡ Err OptionCut
@@ -67,7 +103,7 @@ unfolding message_of head_at length_at body_at body_within option_at option_head
 greatest_option = refl
 
 fault_6 : message_of (0x10 ∷ 0x01 ∷ 0xff ∷ []) ≡ Err EmptyPayload
-unfolding message_of head_at length_at body_at body_within
+unfolding message_of head_at length_at option_number_at body_at body_within
 fault_6 = refl
 
 fault_7 : message_of [] ≡ Err NotOneFrame
@@ -79,5 +115,5 @@ unfolding message_of head_at length_at
 fault_7_short = refl
 
 fault_7_long : message_of (0x00 ∷ 0x01 ∷ 0x00 ∷ []) ≡ Err NotOneFrame
-unfolding message_of head_at length_at
+unfolding message_of head_at length_at option_number_at
 fault_7_long = refl

@@ -1,5 +1,6 @@
 -- What stands at the front of a stream, where frames of at most M bytes are taken (RFC 8323 sections 3.2, 5.3.1).
-use Rattle.std.specs.Prelude.{◌≡◌, ℕ, ◌+◌, ◌/◌, ◌<◌, List, [], ◌∷◌, ◌++◌, length, take, drop, nat_lt, ◌==◌, if◌then◌else◌}
+use Rattle.std.specs.Prelude.{◌≡◌, ℕ, ◌+◌, ◌/◌, ◌%◌, ◌<◌, List, [], ◌∷◌, ◌++◌, length, take, drop, nat_lt, ◌==◌, if◌then◌else◌}
+use Rattle.coap_wire.specs.Forms.{extension_of, option_extension}
 use Rattle.coap_wire.specs.Size.{IsTokenLengthFault, IsSizeHead, IsFrame}
 use Rattle.coap_wire.specs.Reading.{declared_of}
 use Rattle.coap_wire.specs.declared.frame.Declared.{Declared}
@@ -9,7 +10,7 @@ use Rattle.coap_wire.specs.declared.fault.FrameFault.TheVariants.{TokenLength, T
 
 -- ---- faults and their byte
 
--- a size above M is known at the last byte of the length
+-- a size above M is known at the last byte that states it
 abbrev pub IsTooLarge : ℕ → List ℕ → Type 0
 IsTooLarge M r = (n : ℕ) × IsSizeHead r n × (M < n)
 
@@ -41,20 +42,16 @@ begins_with M s (Size n) =
 unfoldable pub beginning : ℕ → List ℕ → Beginning
 beginning M s = begins_with M s (declared_of s)
 
--- how many bytes extend the nibble of a length
-abbrev pub extension_of : ℕ → ℕ
-extension_of x = if nat_lt x 13 then 0 else (if x == 13 then 1 else (if x == 14 then 2 else 4))
+-- how many bytes stand behind the length up to the last byte that extends the token's length: the code and the extension, where
+-- bytes extend it
+abbrev pub token_bytes : ℕ → ℕ
+token_bytes x = if nat_lt x 13 then 0 else 1 + option_extension x
 
--- how many bytes a frame has up to the last byte of its length
+-- how many bytes a frame has up to the one at which its size is known; a token length of nibble 15 is known at the first
 abbrev pub size_bytes : List ℕ → ℕ
 size_bytes [] = 0
-size_bytes (b ∷ s) = 1 + extension_of (b / 16)
-
--- how many bytes a fault has, up to the one at which it is known
-abbrev pub fault_size : FrameFault → List ℕ → ℕ
-fault_size TokenLength s = 1
-fault_size TooLarge s = size_bytes s
+size_bytes (b ∷ s) = if b % 16 == 15 then 1 else 1 + extension_of (b / 16) + token_bytes (b % 16)
 
 -- the bytes of a fault, up to the one at which it is known
-abbrev pub fault_bytes : FrameFault → List ℕ → List ℕ
-fault_bytes fault s = take (fault_size fault s) s
+abbrev pub fault_bytes : List ℕ → List ℕ
+fault_bytes s = take (size_bytes s) s

@@ -7,7 +7,7 @@ use Rattle.coap_wire.specs.declared.builder.MessageBuilder.TheInside.{Inside}
 
 -- the message that is being built
 abbrev pub built_message : {N : ℕ} → Inside N → Message
-built_message b = record { code = b.code; token = b.token.items; options = coap_options b.options.items; payload = b.payload.now }
+built_message b = record { code = b.code; token = b.token; options = coap_options b.options.items; payload = b.payload.now }
 
 -- what it holds can be built, and the length that is kept is that of the options' spelling
 pub record CanBuild {N : ℕ} (b : Inside N) : Type 0 where

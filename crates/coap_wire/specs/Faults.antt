@@ -1,14 +1,11 @@
 -- Why a frame spells no message: the first fault, in the order in which faults are looked for.
 use Rattle.std.specs.Prelude.{◌≡◌, ◌≢◌, ℕ, ◌+◌, ◌/◌, ◌%◌, ◌<◌, ◌≤◌, List, [], ◌∷◌, length, ◌⊎◌, if◌then◌else◌, nat_lt, ◌==◌}
 use Rattle.coap_wire.specs.Message.{CoapOption, last_number}
+use Rattle.coap_wire.specs.Forms.{option_extension}
 use Rattle.coap_wire.specs.Spelling.{IsOptionHead, IsOptionBytes, IsHeadAndBody}
 use Rattle.coap_wire.specs.Size.{IsFrame, HasBadToken}
 use Rattle.coap_wire.specs.declared.fault.FormatFault.{FormatFault}
 use Rattle.coap_wire.specs.declared.fault.FormatFault.TheVariants.{TokenLength, OptionDelta, OptionLength, OptionCut, OptionNumber, EmptyPayload, NotOneFrame}
-
--- how many bytes extend the nibble of an option delta or an option length
-abbrev pub option_extension : ℕ → ℕ
-option_extension x = if nat_lt x 13 then 0 else (if x == 13 then 1 else 2)
 
 -- s begins with an option's first byte, and its two extensions are not all there
 pub record IsOptionHeadCut (s : List ℕ) : Type 0 where
@@ -57,7 +54,7 @@ pub record HasOptionFault (s : List ℕ) (fault : FormatFault) : Type 0 where
   pub bytes : IsOptionBytes 0 options body rest
   pub wrong : IsOptionFault (last_number 0 options) rest fault
 
--- The first fault of bytes that spell no message: a token length above 8, then bytes that are not one frame, then
+-- The first fault of bytes that spell no message: a token length that is not taken, then bytes that are not one frame, then
 -- the first option from the left that is wrong.
 abbrev pub IsFirstFault : List ℕ → FormatFault → Type 0
 IsFirstFault s TokenLength = HasBadToken s

@@ -1,5 +1,5 @@
 -- The forms of numbers: a nibble and the bytes that extend it, in network order.
-use Rattle.std.specs.Prelude.{◌≡◌, ℕ, ◌+◌, ◌-◌, ◌<◌, ◌≤◌, List, [], ◌∷◌, nat_lt, if◌then◌else◌}
+use Rattle.std.specs.Prelude.{◌≡◌, ℕ, ◌+◌, ◌-◌, ◌<◌, ◌≤◌, List, [], ◌∷◌, nat_lt, ◌==◌, if◌then◌else◌}
 use Rattle.std.specs.Int.{w16, w32, to_be_bytes, from_be_bytes}
 use Rattle.std.specs.List.{AllByRecursion}
 use Rattle.coap_wire.specs.Message.{IsByte}
@@ -13,6 +13,10 @@ IsLengthForm x (a ∷ b ∷ c ∷ []) n = ⊥
 IsLengthForm x (a ∷ b ∷ c ∷ d ∷ []) n =
     (x ≡ 15) × AllByRecursion IsByte (a ∷ b ∷ c ∷ d ∷ []) × (n ≡ from_be_bytes w32 (a ∷ b ∷ c ∷ d ∷ []) + 65805)
 IsLengthForm x (a ∷ b ∷ c ∷ d ∷ e ∷ es) n = ⊥
+
+-- how many bytes extend the nibble of a length
+abbrev pub extension_of : ℕ → ℕ
+extension_of x = if nat_lt x 13 then 0 else (if x == 13 then 1 else (if x == 14 then 2 else 4))
 
 -- the greatest length that has a form
 abbrev pub greatest_length : ℕ
@@ -33,6 +37,10 @@ IsOptionForm x (a ∷ []) n = (x ≡ 13) × IsByte a × (n ≡ a + 13)
 IsOptionForm x (a ∷ b ∷ []) n = (x ≡ 14) × AllByRecursion IsByte (a ∷ b ∷ []) × (n ≡ from_be_bytes w16 (a ∷ b ∷ []) + 269)
 IsOptionForm x (a ∷ b ∷ c ∷ es) n = ⊥
 
+-- how many bytes extend the nibble of an option delta or an option length
+abbrev pub option_extension : ℕ → ℕ
+option_extension x = if nat_lt x 13 then 0 else (if x == 13 then 1 else 2)
+
 -- the greatest option delta or option length that has a form
 abbrev pub greatest_option_form : ℕ
 greatest_option_form = 65804
@@ -44,16 +52,15 @@ option_form n =
     else (if nat_lt n 269 then (13, (n - 13) ∷ [])
     else (14, to_be_bytes w16 (n - 269)))
 
--- the greatest length of a token
+-- the greatest length of a token that is taken
 abbrev pub greatest_token : ℕ
-greatest_token = 8
+greatest_token = 64
 
--- Nibble x with extension e means a token of n bytes; 9 to 15 mean none, and no bytes extend the others (RFC 8323 section
--- 3.2).
+-- Nibble x with extension e means a token of n bytes, as it means an option delta or length (RFC 8974 section 2.1). Nibble 15
+-- means none.
 abbrev pub IsTokenForm : ℕ → List ℕ → ℕ → Type 0
-IsTokenForm x [] n = (x ≡ n) × (n ≤ greatest_token)
-IsTokenForm x (a ∷ es) n = ⊥
+IsTokenForm x e n = IsOptionForm x e n × (n ≤ greatest_token)
 
 -- the one form of a token's length: its nibble and its extension
 abbrev pub token_form : ℕ → ℕ × List ℕ
-token_form n = (n, [])
+token_form n = option_form n

@@ -1,5 +1,5 @@
 -- The frames of a whole stream of bytes, before they are read (RFC 8323 sections 3.2, 5.3.1). The greatest frame that is taken may
--- become another one in the life of a stream: a frame's size is judged by the one in force when the last byte of its length is taken.
+-- become another one in the life of a stream: a frame's size is judged by the one in force when the last byte that states it is taken.
 use Rattle.std.specs.Prelude.{◌≡◌, ℕ, zero, suc, ◌+◌, ◌-◌, ◌≤◌, List, [], ◌∷◌, ◌++◌, length, Option, Some, None, nat_lt, if◌then◌else◌}
 use Rattle.std.specs.List.{concat}
 use Rattle.coap_wire.specs.Size.{IsFrame}
@@ -30,7 +30,7 @@ sizes_first n M sizes = λ at. if nat_lt at n then M else sizes (at - n)
 abbrev pub sizes_behind : ℕ → Sizes → Sizes
 sizes_behind n sizes = λ at. sizes (n + at)
 
--- the size in force when the last byte of the length at the front of these bytes is taken
+-- the size in force when the last byte that states the size at the front of these bytes is taken
 abbrev pub size_for : Sizes → List ℕ → ℕ
 size_for sizes s = sizes (size_bytes s - 1)
 
@@ -78,7 +78,7 @@ with_frame frame found = record found { frames = frame ∷ found.frames }
 -- the frames of bytes at whose front this stands, where go looks behind a frame
 abbrev pub frames_then : (List ℕ → List ℕ → Frames) → List ℕ → Beginning → Frames
 frames_then go s Unfinished = record { frames = []; rest = s; fault = None }
-frames_then go s (Faulty fault) = record { frames = []; rest = fault_bytes fault s; fault = Some fault }
+frames_then go s (Faulty fault) = record { frames = []; rest = fault_bytes s; fault = Some fault }
 frames_then go s (Whole frame rest) = with_frame frame (go frame rest)
 
 -- Each frame takes a byte at least, so no more turns are needed than there are bytes.

@@ -1,5 +1,5 @@
 -- Reading from left to right: what the bytes of a frame mean, or the first fault that is met.
-use Rattle.std.specs.Prelude.{ℕ, zero, suc, ◌+◌, ◌-◌, ◌/◌, ◌%◌, List, [], ◌∷◌, length, take, drop, Option, Some, None, Result, Ok, Err, nat_lt, ◌==◌, if◌then◌else◌, slice_index}
+use Rattle.std.specs.Prelude.{ℕ, zero, suc, ◌+◌, ◌-◌, ◌/◌, ◌%◌, List, [], ◌∷◌, length, take, drop, Option, Some, None, Result, Ok, Err, nat_lt, ◌==◌, if◌then◌else◌}
 use Rattle.std.specs.Int.{w16, w32, from_be_bytes}
 use Rattle.coap_wire.specs.Message.{CoapOption, Message}
 use Rattle.coap_wire.specs.Forms.{greatest_token}
@@ -43,14 +43,27 @@ option_number_at x s =
     else (if x == 13 then plus 13 (one_byte_at s)
     else plus 269 (two_bytes_at s))
 
--- the whole size that the first bytes declare
+-- The token's length that a nibble below 15 means, where the code and then these bytes stand, and the bytes after it (RFC 8974
+-- section 2.1).
+abbrev pub token_length_at : ℕ → List ℕ → Option (ℕ × List ℕ)
+token_length_at x s = option_number_at x s
+
+-- the whole size that the first bytes declare: first come so many, then the code and behind, and of behind the token's length
+-- leaves token.1; the length of options and payload is n
+abbrev pub size_with : ℕ → ℕ → List ℕ → Option (ℕ × List ℕ) → Declared
+size_with first n behind None = declared.Unknown
+size_with first n behind (Some token) =
+    if nat_lt greatest_token token.0 then declared.BadToken
+    else declared.Size (first + 1 + (length behind - length token.1) + token.0 + n)
+
 abbrev pub size_from : ℕ → List ℕ → Option (ℕ × List ℕ) → Declared
-size_from t s None = declared.Unknown
-size_from t s (Some x) = declared.Size (1 + (length s - length x.1) + 1 + t + x.0)
+size_from x s None = declared.Unknown
+size_from x s (Some body) =
+    size_with (1 + (length s - length body.1)) body.0 (drop 1 body.1) (token_length_at x (drop 1 body.1))
 
 unfoldable pub declared_of : List ℕ → Declared
 declared_of [] = declared.Unknown
-declared_of (b ∷ s) = if nat_lt greatest_token (b % 16) then declared.BadToken else size_from (b % 16) s (length_at (b / 16) s)
+declared_of (b ∷ s) = if b % 16 == 15 then declared.BadToken else size_from (b % 16) s (length_at (b / 16) s)
 
 -- what a head says, and the body behind it
 pub record Head : Type 0 where
@@ -58,17 +71,27 @@ pub record Head : Type 0 where
   pub token : List ℕ
   pub body : List ℕ
 
--- behind the length: the code, the token of t bytes, and a body of exactly n bytes
+-- behind the token's length: the token, and a body of exactly n bytes
+abbrev pub head_with : ℕ → ℕ → Option (ℕ × List ℕ) → Result Head FormatFault
+head_with code n None = Err NotOneFrame
+head_with code n (Some token) =
+    if nat_lt greatest_token token.0 then Err TokenLength
+    else (if length token.1 == token.0 + n
+    then Ok (record { code = code; token = take token.0 token.1; body = drop token.0 token.1 })
+    else Err NotOneFrame)
+
+-- behind the length n of the body: the code and what stands behind it
+abbrev pub head_behind : ℕ → ℕ → List ℕ → Result Head FormatFault
+head_behind x n [] = Err NotOneFrame
+head_behind x n (code ∷ s) = head_with code n (token_length_at x s)
+
 abbrev pub head_from : ℕ → Option (ℕ × List ℕ) → Result Head FormatFault
-head_from t None = Err NotOneFrame
-head_from t (Some x) =
-    if length x.1 == 1 + t + x.0
-    then Ok (record { code = slice_index x.1 0; token = take t (drop 1 x.1); body = drop (1 + t) x.1 })
-    else Err NotOneFrame
+head_from x None = Err NotOneFrame
+head_from x (Some body) = head_behind x body.0 body.1
 
 unfoldable pub head_at : List ℕ → Result Head FormatFault
 head_at [] = Err NotOneFrame
-head_at (b ∷ s) = if nat_lt greatest_token (b % 16) then Err TokenLength else head_from (b % 16) (length_at (b / 16) s)
+head_at (b ∷ s) = if b % 16 == 15 then Err TokenLength else head_from (b % 16) (length_at (b / 16) s)
 
 -- an extension that is not all there is a cut option
 abbrev pub or_cut : Option (ℕ × List ℕ) → Result (ℕ × List ℕ) FormatFault

@@ -1,4 +1,4 @@
--- The spelling of a message (RFC 8323 section 3.2, RFC 7252 section 3.1), as a relation and as a function.
+-- The spelling of a message (RFC 8323 section 3.2, RFC 7252 section 3.1, RFC 8974 section 2.1), as a relation and as a function.
 use Rattle.std.specs.Prelude.{◌≡◌, ℕ, ◌+◌, ◌-◌, ◌*◌, ◌≤◌, List, [], ◌∷◌, ◌++◌, length}
 use Rattle.std.specs.List.{AllByRecursion}
 use Rattle.coap_wire.specs.Message.{CoapOption, Message, AreOrdered}

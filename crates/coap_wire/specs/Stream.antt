@@ -81,7 +81,7 @@ split M s = sized_split (always M) s
 -- what bytes spell at whose front this stands, where go reads on behind a frame
 abbrev pub stream_then : (List ℕ → List ℕ → Stream) → List ℕ → Beginning → Stream
 stream_then go s Unfinished = record { messages = []; rest = s; fault = None }
-stream_then go s (Faulty fault) = record { messages = []; rest = fault_bytes fault s; fault = Some (OfFrame fault) }
+stream_then go s (Faulty fault) = record { messages = []; rest = fault_bytes s; fault = Some (OfFrame fault) }
 stream_then go s (Whole frame rest) = frame_then frame (message_of frame) (go frame rest)
 
 -- ---- going on

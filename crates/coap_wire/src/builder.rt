@@ -9,8 +9,8 @@ use crate::fault::BuildFault;
 use crate::form::form_of_length;
 use crate::options::OptionRef;
 use crate::sink::Sink;
-use crate::token::{Token, token_of};
-use crate::writing::{option_size, write_head, write_options, write_payload};
+use crate::token::{Token, TokenRef};
+use crate::writing::{extension_size, option_size, write_head, write_options, write_payload};
 use arrayvec::ArrayVec;
 use std::marker::Model;
 
@@ -26,12 +26,12 @@ const MAX_PAYLOAD: usize = 1_048_576;
 /// A message that is being built, of at most 40 options.
 pub type Builder<'a> = MessageBuilder<'a, MAX_OPTIONS>;
 
-/// A message that is being built, of at most `N` options, or 40 where that is less. It borrows the options' values and
-/// the payload. Each new one clears the room of its options, so that a message of few options costs less where `N` is
+/// A message that is being built, of at most `N` options, or 40 where that is less. It borrows the token, the
+/// options' values and the payload. Each new one clears the room of its options, so that a message of few options costs less where `N` is
 /// small. Contracts see the `Message`.
 #[derive(Drop)]
 pub struct MessageBuilder<'a, const N: usize> {
-    token: Token,
+    token: TokenRef<'a>,
     options: ArrayVec<OptionRef<'a>, N>,
     /// The length of the spelling of all options: the size of a message is asked for before it is written, and told in
     /// its head.
@@ -59,12 +59,19 @@ impl<'a, const N: usize> MessageBuilder<'a, N> {
     ghost use Rattle.coap_wire.specs.Views.{CanBeBuilt, option_refusal, payload_refusal, with_option};
 
     /// A message with this code and this token, with no options and no payload.
-    pub fn new(code: Code, token: &Token) -> MessageBuilder<'a, N>
+    pub fn new(code: Code, token: &'a Token) -> MessageBuilder<'a, N>
         ensures { result ≡ record { code = code; token = token.now.items; options = []; payload = [] } }
+    {
+        MessageBuilder::to(code, TokenRef::of(token))
+    }
+
+    /// The same with the token that lies there.
+    pub fn to(code: Code, token: TokenRef<'a>) -> MessageBuilder<'a, N>
+        ensures { result ≡ record { code = code; token = token.entry; options = []; payload = [] } }
     {
         MessageBuilder {
             code,
-            token: token_of(token),
+            token: token.again(),
             options: ArrayVec::new(),
             options_size: 0,
             payload: &[],
@@ -123,19 +130,19 @@ impl<'a, const N: usize> MessageBuilder<'a, N> {
     }
 
     /// The token.
-    pub fn token(&self) -> &Token
-        ensures { result.now.items ≡ self.now.token }
+    pub fn token(&self) -> &TokenRef<'a>
+        ensures { result.now ≡ self.now.token }
     {
         &self.token
     }
 
     /// The same message with another token.
-    pub fn with_token(&self, token: &Token) -> MessageBuilder<'a, N>
+    pub fn with_token(&self, token: &'a Token) -> MessageBuilder<'a, N>
         ensures { result ≡ record self.now { token = token.now.items } }
     {
         MessageBuilder {
             code: self.code,
-            token: token_of(token),
+            token: TokenRef::of(token),
             options: copied(&self.options),
             options_size: self.options_size,
             payload: self.payload,
@@ -149,7 +156,8 @@ impl<'a, const N: usize> MessageBuilder<'a, N> {
     {
         let body = self.body_size();
         let extension = form_of_length(body).extension.len() as u64;
-        2 + extension + self.token.len() as u64 + body
+        let token = self.token.bytes().len();
+        2 + extension + extension_size(token as u32) + token as u64 + body
     }
 
     /// Appends the one spelling. There must be room for it.
@@ -159,7 +167,7 @@ impl<'a, const N: usize> MessageBuilder<'a, N> {
         ensures less_room { S.space out.new + length (spelling self.now) ≡ S.space out.old }
         ensures spelled { Spells (spelling self.now) self.now }
     {
-        write_head(out, self.code, &self.token, self.body_size());
+        write_head(out, self.code, self.token.bytes(), self.body_size());
         write_options(out, &self.options);
         write_payload(out, self.payload);
     }

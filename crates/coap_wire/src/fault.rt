@@ -5,10 +5,12 @@ use thiserror::Error;
 /// What is wrong with a stream, before its frame is whole. The discriminants are the faults' numbers.
 #[derive(Clone, Copy, Debug, PartialEq, Eq, Error)]
 pub enum FrameFault {
-    /// A token length above 8, known at the frame's first byte (RFC 8323 section 3.2).
-    #[error("token length above 8")]
+    /// A token of more than 64 bytes, known at the last byte of its length's extension, or a token length of nibble 15,
+    /// known at the frame's first byte (RFC 8974 section 2.1).
+    #[error("token length above 64")]
     TokenLength = 1,
-    /// A frame of more bytes than are taken, known at the last byte of its length (RFC 8323 section 5.3.1).
+    /// A frame of more bytes than are taken, known at the last byte that states its size: that of the length's extension
+    /// or, where the token's length has one, of that (RFC 8323 section 5.3.1, RFC 8974 section 2.1).
     #[error("frame too large")]
     TooLarge = 2,
 }
@@ -16,8 +18,8 @@ pub enum FrameFault {
 /// The first fault of bytes that spell no message. The discriminants are the faults' numbers.
 #[derive(Clone, Copy, Debug, PartialEq, Eq, Error)]
 pub enum FormatFault {
-    /// The first byte states a token of more than 8 bytes (RFC 8323 section 3.2).
-    #[error("token length above 8")]
+    /// A token of more than 64 bytes, or a token length of nibble 15 (RFC 8974 section 2.1).
+    #[error("token length above 64")]
     TokenLength = 1,
     /// An option delta of 15 in a byte that is no payload marker (RFC 7252 section 3.1).
     #[error("option delta 15")]

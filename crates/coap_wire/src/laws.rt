@@ -28,7 +28,7 @@ pub fn option_number_has_one_form()
     ensures no_other { (n x : ℕ) (e : List ℕ) → IsOptionForm x e n → (x ≡ (option_form n).0) × (e ≡ (option_form n).1) }
 {}
 
-/// Each token length up to 8 has exactly one form (RFC 8323 section 3.2).
+/// Each token length up to 64 has exactly one form (RFC 8974 section 2.1).
 pub fn token_length_has_one_form()
     ensures has { (n : ℕ) → n ≤ greatest_token → IsTokenForm (token_form n).0 (token_form n).1 n }
     ensures no_other { (n x : ℕ) (e : List ℕ) → IsTokenForm x e n → (x ≡ (token_form n).0) × (e ≡ (token_form n).1) }
@@ -72,7 +72,7 @@ pub fn first_fault_is_one()
 {}
 
 /// Bytes split in one way into messages, a rest and a fault, where messages of at most the sizes in force are taken:
-/// each is judged by the size at the time of the last byte of its length. `sized_split` computes it, and `split` where
+/// each is judged by the size at the time of the last byte that states its own. `sized_split` computes it, and `split` where
 /// one size is in force for all time (RFC 8323 sections 3.2, 5.3.1).
 pub fn stream_is_split_once()
     ensures has { (sizes : Sizes) (s : List ℕ) → AreBytes s → SplitsAs sizes s (sized_split sizes s) }
@@ -146,7 +146,7 @@ pub fn beginning_finds_what_stands_at_the_front()
     ensures fault_found { (M : ℕ) (r more : List ℕ) (fault : FrameFault) → IsFrameFault M fault r →
         beginning M (r ++ more) ≡ Faulty fault }
     ensures fault_stands { (M : ℕ) (s : List ℕ) (fault : FrameFault) → AreBytes s → beginning M s ≡ Faulty fault →
-        IsFrameFault M fault (fault_bytes fault s) }
+        IsFrameFault M fault (fault_bytes s) }
     ensures neither_found { (M : ℕ) (s : List ℕ) → AreBytes s → IsUnfinished M s → beginning M s ≡ Unfinished }
     ensures neither_stands { (M : ℕ) (s : List ℕ) → beginning M s ≡ Unfinished → IsUnfinished M s }
 {}
@@ -167,19 +167,19 @@ pub fn what_stands_at_the_front_stays()
     ensures fault { (M : ℕ) (s more : List ℕ) (fault : FrameFault) → beginning M s ≡ Faulty fault →
         beginning M (s ++ more) ≡ Faulty fault }
     ensures fault_bytes { (M : ℕ) (s more : List ℕ) (fault : FrameFault) → beginning M s ≡ Faulty fault →
-        fault_bytes fault (s ++ more) ≡ fault_bytes fault s }
+        fault_bytes (s ++ more) ≡ fault_bytes s }
 {}
 
 /// An unfinished beginning is shorter than the greatest frame, and unfinished wherever greater frames are taken. What
 /// one byte more finishes ends with that byte.
 pub fn unfinished_beginning_needs_more_bytes()
     ensures empty { (M : ℕ) → beginning M [] ≡ Unfinished }
-    ensures shorter { (M : ℕ) (s : List ℕ) → 5 ≤ M → beginning M s ≡ Unfinished → length s < M }
+    ensures shorter { (M : ℕ) (s : List ℕ) → 8 ≤ M → beginning M s ≡ Unfinished → length s < M }
     ensures larger { (M N : ℕ) (s : List ℕ) → M ≤ N → beginning M s ≡ Unfinished → beginning N s ≡ Unfinished }
     ensures frame { (M : ℕ) (s : List ℕ) (b : ℕ) (frame rest : List ℕ) → beginning M s ≡ Unfinished →
         beginning M (s ++ b ∷ []) ≡ Whole frame rest → (rest ≡ []) × (frame ≡ s ++ b ∷ []) }
     ensures fault { (M : ℕ) (s : List ℕ) (b : ℕ) (fault : FrameFault) → beginning M s ≡ Unfinished →
-        beginning M (s ++ b ∷ []) ≡ Faulty fault → fault_bytes fault (s ++ b ∷ []) ≡ s ++ b ∷ [] }
+        beginning M (s ++ b ∷ []) ≡ Faulty fault → fault_bytes (s ++ b ∷ []) ≡ s ++ b ∷ [] }
 {}
 
 /// The bytes of a number mean that number, so numbers with equal bytes are equal (RFC 7252 section 3.2).

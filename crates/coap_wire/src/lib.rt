@@ -1,5 +1,5 @@
 //! CoAP messages over a reliable transport: what they are, and how bytes spell them (RFC 8323 section 3.2, RFC 7252
-//! section 3.1).
+//! section 3.1, RFC 8974 section 2.1).
 #![tactic(auto)]
 
 mod builder;
@@ -30,5 +30,5 @@ pub use options::{OptionRef, Options};
 pub use recognition::Known;
 pub use sink::{Sink, SliceSink};
 pub use size::declared;
-pub use token::{Token, copy_of};
+pub use token::{Token, TokenRef, copy_of};
 pub use uint::{UintBytes, significant_bytes, uint_bytes, uint_value};

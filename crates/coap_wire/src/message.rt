@@ -11,14 +11,14 @@ use crate::fault::FormatFault;
 use crate::options::Options;
 use crate::reading::{head_of, payload_of};
 use crate::recognition::{Known, critical_of};
-use crate::token::Token;
+use crate::token::TokenRef;
 use std::marker::Model;
 
 /// A message within the frame that spells it. Contracts see it as a `Message`: code, token, options and payload.
 // A message is moved where it is read, so its one small field stands last: no byte lies beside an empty place.
 #[derive(Drop)]
 pub struct MessageRef<'a> {
-    token: Token,
+    token: TokenRef<'a>,
     body: &'a [u8],
     payload: &'a [u8],
     code: Code,
@@ -31,7 +31,7 @@ impl<'a> Model for MessageRef<'a> {
 
     ghost Value = { Message };
 
-    ghost view = { λ m. record { code = m.code; token = m.token.items; options = options_in 0 m.body.now; payload = m.payload.now } };
+    ghost view = { λ m. record { code = m.code; token = m.token; options = options_in 0 m.body.now; payload = m.payload.now } };
 
     ghost invariant = { λ m. body_at 0 m.body.now ≡ Ok (options_in 0 m.body.now, m.payload.now) };
 }
@@ -48,9 +48,9 @@ impl<'a> MessageRef<'a> {
         self.code
     }
 
-    /// The token.
-    pub fn token(&self) -> &Token
-        ensures { result.now.items ≡ self.now.token }
+    /// The token, where it lies in the frame.
+    pub fn token(&self) -> &TokenRef<'a>
+        ensures { result.now ≡ self.now.token }
     {
         &self.token
     }

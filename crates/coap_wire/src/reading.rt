@@ -2,13 +2,16 @@
 
 ghost use Rattle.std.specs.Prelude.{◌≡◌, ◌≤◌, length, option_map, IfSome, IfOk};
 ghost use Rattle.coap_wire.specs.Forms.{greatest_length, greatest_option_form};
-ghost use Rattle.coap_wire.specs.Reading.{one_byte_at, two_bytes_at, four_bytes_at, length_at, option_number_at, head_at, option_head_at, option_at, body_at};
+ghost use Rattle.coap_wire.specs.Reading.{one_byte_at, two_bytes_at, four_bytes_at, length_at, option_number_at, token_length_at, head_at, option_head_at, option_at, body_at};
 ghost use Rattle.coap_wire.specs.Views.{Gives, GivesPayload, coap_option};
 
 use crate::code::Code;
 use crate::fault::FormatFault;
 use crate::options::{OptionRef, PAYLOAD_MARKER};
-use crate::token::{MAX_TOKEN, Token, token_of};
+use crate::token::{MAX_TOKEN, TokenRef};
+
+/// The nibble that means no token length (RFC 8974 section 2.1).
+pub(crate) const NO_TOKEN_LENGTH: u8 = 15;
 
 #[tactic(auto, unfolding(crate::specs::Reading::two_bytes_at))]
 fn two_bytes(bytes: &[u8]) -> Option<(u16, &[u8])>
@@ -65,6 +68,7 @@ pub(crate) fn length_after(nibble: u8, bytes: &[u8]) -> Option<(u64, &[u8])>
 fn option_number_after(nibble: u8, bytes: &[u8]) -> Option<(u32, &[u8])>
     ensures value { option_map (λ x. (x.0, x.1.now)) result ≡ option_number_at nibble bytes.now }
     ensures bound { IfSome result (λ x. x.0 ≤ greatest_option_form) }
+    ensures rest { IfSome result (λ x. length x.1.now ≤ length bytes.now) }
 {
     if nibble < 13 {
         return Some((u32::from(nibble), bytes));
@@ -77,27 +81,45 @@ fn option_number_after(nibble: u8, bytes: &[u8]) -> Option<(u32, &[u8])>
     Some((u32::from(number) + 269, rest))
 }
 
+/// The token's length that a nibble below 15 means, where the code and then `bytes` stand, and the bytes after its
+/// extension (RFC 8974 section 2.1).
+pub(crate) fn token_length_after(nibble: u8, bytes: &[u8]) -> Option<(u32, &[u8])>
+    ensures value { option_map (λ x. (x.0, x.1.now)) result ≡ token_length_at nibble bytes.now }
+    ensures bound { IfSome result (λ x. x.0 ≤ greatest_option_form) }
+    ensures rest { IfSome result (λ x. length x.1.now ≤ length bytes.now) }
+{
+    option_number_after(nibble, bytes)
+}
+
 /// The token, the body and the code of bytes that are exactly one frame.
 #[tactic(auto, unfolding(crate::specs::Reading::head_at))]
-pub(crate) fn head_of(frame: &[u8]) -> Result<(Token, &[u8], Code), FormatFault>
-    ensures { Gives (λ x. record { code = x.2; token = x.0.items; body = x.1.now }) result (head_at frame.now) }
+pub(crate) fn head_of(frame: &[u8]) -> Result<(TokenRef<'_>, &[u8], Code), FormatFault>
+    ensures { Gives (λ x. record { code = x.2; token = x.0; body = x.1.now }) result (head_at frame.now) }
 {
     let Some((first, rest)) = frame.split_first() else {
         return Err(FormatFault::NotOneFrame);
     };
-    let token_length = usize::from(*first % 16);
-    if token_length > MAX_TOKEN {
+    if *first % 16 == NO_TOKEN_LENGTH {
         return Err(FormatFault::TokenLength);
     }
     let Some((length, rest)) = length_after(*first / 16, rest) else {
         return Err(FormatFault::NotOneFrame);
     };
-    if rest.len() as u64 != 1 + token_length as u64 + length {
+    let Some((code, rest)) = rest.split_first() else {
+        return Err(FormatFault::NotOneFrame);
+    };
+    let Some((token_length, rest)) = token_length_after(*first % 16, rest) else {
+        return Err(FormatFault::NotOneFrame);
+    };
+    let token_length = token_length as usize;
+    if token_length > MAX_TOKEN {
+        return Err(FormatFault::TokenLength);
+    }
+    if rest.len() as u64 != token_length as u64 + length {
         return Err(FormatFault::NotOneFrame);
     }
-    let token_end = 1 + token_length;
-    let token = token_of(&rest[1..token_end]);
-    Ok((token, &rest[token_end..], Code::new(rest[0])))
+    let (token, body) = rest.split_at(token_length);
+    Ok((TokenRef::of_bytes(token), body, Code::new(*code)))
 }
 
 /// The delta and the length of an option with this first byte, and the bytes after both extensions.

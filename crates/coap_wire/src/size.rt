@@ -5,12 +5,13 @@ ghost use Rattle.coap_wire.specs.Size.{Declares};
 ghost use Rattle.coap_wire.specs.Reading.{declared_of};
 
 use crate::frame::Declared;
-use crate::reading::length_after;
+use crate::reading::{NO_TOKEN_LENGTH, length_after, token_length_after};
 use crate::token::MAX_TOKEN;
 
 /// What the first bytes of a frame declare of its size.
 ///
-/// `Size(n)` where the first byte and all bytes that extend its length are there; only the first 5 bytes are looked at.
+/// `Size(n)` where the first byte and all bytes that extend its length and the token's are there; only the first 8 bytes
+/// are looked at.
 pub fn declared(head: &[u8]) -> Declared
     ensures declared { Declares head.now result }
     // The same as a function of the bytes.
@@ -26,15 +27,20 @@ fn declared_by(head: &[u8]) -> Declared
     let Some((first, after)) = head.split_first() else {
         return Declared::Unknown;
     };
-    let token_length = usize::from(*first % 16);
-    if token_length > MAX_TOKEN {
+    if *first % 16 == NO_TOKEN_LENGTH {
         return Declared::BadToken;
     }
-    match length_after(*first / 16, after) {
-        None => Declared::Unknown,
-        Some((length, rest)) => {
-            let extension = (after.len() - rest.len()) as u64;
-            Declared::Size(1 + extension + 1 + token_length as u64 + length)
-        }
+    let Some((length, rest)) = length_after(*first / 16, after) else {
+        return Declared::Unknown;
+    };
+    let before_code = 1 + (after.len() - rest.len()) as u64;
+    let behind_code = rest.get(1..).unwrap_or_default();
+    let Some((token_length, rest)) = token_length_after(*first % 16, behind_code) else {
+        return Declared::Unknown;
+    };
+    if token_length as usize > MAX_TOKEN {
+        return Declared::BadToken;
     }
+    let extension = (behind_code.len() - rest.len()) as u64;
+    Declared::Size(before_code + 1 + extension + u64::from(token_length) + length)
 }

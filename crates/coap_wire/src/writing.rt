@@ -8,12 +8,12 @@ ghost use Rattle.coap_wire.specs.Spelling.{HasOptionForm, option_spelling, optio
 ghost use Rattle.coap_wire.specs.Views.{coap_option, coap_options, most_options};
 
 use crate::code::Code;
-use crate::form::{Form, form_of_length, form_of_option};
+use crate::form::{form_of_length, form_of_option};
 use crate::options::{OptionRef, PAYLOAD_MARKER};
 use crate::sink::Sink;
 
-/// How many bytes extend the nibble of an option delta or an option length.
-fn extension_size(number: u32) -> u64
+/// How many bytes extend the nibble of an option delta, an option length or a token's length.
+pub(crate) fn extension_size(number: u32) -> u64
     requires { number ≤ greatest_option_form }
     ensures size { result ≡ length (option_form number).1 }
     ensures bound { result ≤ 2 }
@@ -39,7 +39,7 @@ pub(crate) fn option_size(base: u16, option: &OptionRef) -> u64
     1 + extension_size(delta) + extension_size(length) + u64::from(length)
 }
 
-/// Writes the first byte, the extension of the length, the code and the token.
+/// Writes the first byte, the extension of the length, the code, the extension of the token's length and the token.
 pub(crate) fn write_head<S: Sink>(out: &mut S, code: Code, token: &[u8], body: u64)
     requires token { length token.now ≤ greatest_token }
     requires body { body ≤ greatest_length }
@@ -47,10 +47,12 @@ pub(crate) fn write_head<S: Sink>(out: &mut S, code: Code, token: &[u8], body: u
     ensures appended { S.contents out.new ≡ S.contents out.old ++ head_spelling code token.now body }
     ensures less_room { S.space out.new + length (head_spelling code token.now body) ≡ S.space out.old }
 {
-    let Form { nibble, extension } = form_of_length(body);
-    out.push(nibble * 16 + token.len() as u8);
-    out.append(&extension);
+    let length = form_of_length(body);
+    let token_length = form_of_option(token.len() as u32);
+    out.push(length.nibble * 16 + token_length.nibble);
+    out.append(&length.extension);
     out.push(code.byte());
+    out.append(&token_length.extension);
     out.append(token);
 }
 

@@ -15,7 +15,7 @@ use super::Link;
 use crate::asked::Outstanding;
 use crate::messages::ping_to;
 use crate::phase::{Phase, RequestFault};
-use coap_wire::{Builder, MessageBuilder, Token, copy_of, uint_bytes};
+use coap_wire::{Builder, MessageBuilder, Token, TokenRef, copy_of, uint_bytes};
 
 impl Link {
     /// Sends a request under a new token, in place of the one that it has, and answers that token. The request is
@@ -69,11 +69,12 @@ impl Link {
         let Phase::Open = self.phase else {
             return Err(RequestFault::NotOpen);
         };
-        if !self.asked.may_cancel(token) {
+        let lies = TokenRef::of(token);
+        if !self.asked.may_cancel(&lies) {
             return Err(RequestFault::NoSuchToken);
         }
         self.queue_asked(&message.with_token(token))?;
-        self.asked.cancel(token);
+        self.asked.cancel(&lies);
         Ok(())
     }
 
@@ -124,7 +125,7 @@ impl Link {
         let Phase::Open = self.phase else {
             return Err(RequestFault::NotOpen);
         };
-        if !self.asked.may_cancel(token) {
+        if !self.asked.may_cancel(&TokenRef::of(token)) {
             return Err(RequestFault::NoSuchToken);
         }
         Ok(())

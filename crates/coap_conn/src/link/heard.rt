@@ -19,13 +19,13 @@ use crate::messages::bare_of;
 use crate::pending::Held;
 use crate::phase::{Phase, Reject, Role, Verdict};
 use crate::reason::Reason;
-use coap_wire::{Code, MessageBuilder, MessageRef, copy_of};
+use coap_wire::{Code, MessageBuilder, MessageRef};
 
 impl Link {
     /// Handles a message (RFC 8323 sections 3.3, 3.4 and 5). There must be room for the greatest message sent, and the
     /// connection must take messages. Where it is a request, the caller answers it by `reply` or holds its answer by
     /// `hold` before it hands over the next message.
-    pub fn on(&mut self, message: &MessageRef) -> Verdict
+    pub fn on<'m>(&mut self, message: &MessageRef<'m>) -> Verdict<'m>
         requires ready { IsReady self.old }
         requires live { IsLive self.old.phase }
         ensures verdict { verdict_value result ≡ (react (standing_in self.old) message.now).verdict }
@@ -60,7 +60,7 @@ impl Link {
 
     /// Handles a message that is taken.
     #[tactic(auto, unfolding(crate::specs::Reaction::live_reaction))]
-    fn handle(&mut self, message: &MessageRef) -> Verdict
+    fn handle<'m>(&mut self, message: &MessageRef<'m>) -> Verdict<'m>
         requires { IsReady self.old }
         ensures verdict { verdict_value result ≡ (live_reaction (standing_in self.old) message.now).verdict }
         ensures after { self.new ≡ link_handled self.old message.now }
@@ -85,7 +85,7 @@ impl Link {
     }
 
     /// Handles Capabilities and Settings (RFC 8323 section 5.3).
-    fn on_csm(&mut self, message: &MessageRef) -> Verdict
+    fn on_csm<'m>(&mut self, message: &MessageRef<'m>) -> Verdict<'m>
         requires { IsReady self.old }
         ensures verdict { verdict_value result
             ≡ (csm_reaction (standing_in self.old) (bad_csm_option message.now)).verdict }
@@ -106,7 +106,7 @@ impl Link {
     }
 
     /// The connection is open.
-    fn open_now(&mut self) -> Verdict
+    fn open_now(&mut self) -> Verdict<'static>
         ensures verdict { verdict_value result ≡ (if waits self.old.phase then verdict.Opened else verdict.Done) }
         ensures after { self.new ≡ record self.old { phase = phase.Open } }
     {
@@ -120,7 +120,7 @@ impl Link {
     }
 
     /// Handles any other message on an open connection.
-    fn on_open(&mut self, message: &MessageRef) -> Verdict
+    fn on_open<'m>(&mut self, message: &MessageRef<'m>) -> Verdict<'m>
         requires { IsReady self.old }
         ensures verdict { verdict_value result ≡ (open_reaction (standing_in self.old) message.now).verdict }
         ensures after { self.new ≡ link_with self.old (open_reaction (standing_in self.old) message.now).effect }
@@ -146,7 +146,7 @@ impl Link {
     }
 
     /// Answers a Ping, or holds its Pong, where it asks for Custody and something is held.
-    fn on_ping(&mut self, message: &MessageRef) -> Verdict
+    fn on_ping<'m>(&mut self, message: &MessageRef<'m>) -> Verdict<'m>
         requires { IsReady self.old }
         ensures verdict { verdict_value result ≡ (ping_reaction (standing_in self.old) message.now).verdict }
         ensures after { self.new ≡ link_with self.old (ping_reaction (standing_in self.old) message.now).effect }
@@ -158,12 +158,12 @@ impl Link {
         if self.pending.is_full() {
             return self.pong(message.token(), false);
         }
-        self.pending.hold(Held::Pong(copy_of(message.token())));
+        self.pending.hold(Held::Pong(message.token().to_token()));
         Verdict::Done
     }
 
     /// Handles a Pong: the Ping with its token ends (RFC 8323 section 5.4).
-    fn on_pong(&mut self, message: &MessageRef) -> Verdict
+    fn on_pong<'m>(&mut self, message: &MessageRef<'m>) -> Verdict<'m>
         ensures verdict { verdict_value result ≡ (pong_reaction (standing_in self.old) message.now).verdict }
         ensures after { self.new ≡ link_with self.old (pong_reaction (standing_in self.old) message.now).effect }
     {
@@ -172,13 +172,13 @@ impl Link {
         }
         self.asked.forget_pinged(message.token());
         Verdict::Pong {
-            token: copy_of(message.token()),
+            token: message.token().again(),
             custody: asks_custody(message),
         }
     }
 
     /// The peer releases the connection: what is outstanding is answered no more (RFC 8323 section 5.5).
-    fn on_release(&mut self) -> Verdict
+    fn on_release(&mut self) -> Verdict<'static>
         ensures verdict { verdict_value result ≡ (release_reaction (standing_in self.old)).verdict }
         ensures after { self.new ≡ link_with self.old (release_reaction (standing_in self.old)).effect }
     {
@@ -189,7 +189,7 @@ impl Link {
 
     /// Handles a response: the request or observation with its token ends by the last one (RFC 7252 section 5.3.2, RFC
     /// 7641 section 4.2).
-    fn on_response(&mut self, message: &MessageRef) -> Verdict
+    fn on_response<'m>(&mut self, message: &MessageRef<'m>) -> Verdict<'m>
         ensures verdict { verdict_value result ≡ (response_reaction (standing_in self.old) message.now).verdict }
         ensures after { self.new ≡ link_with self.old (response_reaction (standing_in self.old) message.now).effect }
     {
@@ -200,13 +200,13 @@ impl Link {
             self.asked.forget_asked(message.token());
         }
         Verdict::Answer {
-            token: copy_of(message.token()),
+            token: message.token().again(),
             last,
         }
     }
 
     /// Handles a request: the caller answers it at the server, and at the client it is not implemented.
-    fn on_request(&mut self, message: &MessageRef) -> Verdict
+    fn on_request<'m>(&mut self, message: &MessageRef<'m>) -> Verdict<'m>
         requires { IsReady self.old }
         ensures verdict { verdict_value result
             ≡ (request_reaction (standing_in self.old) message.now self.old.role).verdict }
@@ -220,16 +220,16 @@ impl Link {
     }
 
     /// Answers a request that is not implemented. (Apart from `on_request`, since a function clears all its locals.)
-    fn refuse(&mut self, message: &MessageRef) -> Verdict
+    fn refuse<'m>(&mut self, message: &MessageRef<'m>) -> Verdict<'m>
         requires { IsReady self.old }
         ensures verdict { verdict_value result
             ≡ (request_reaction (standing_in self.old) message.now role.Client).verdict }
         ensures after { self.new
             ≡ link_with self.old (request_reaction (standing_in self.old) message.now role.Client).effect }
     {
-        let response: MessageBuilder<0> = MessageBuilder::new(
+        let response: MessageBuilder<0> = MessageBuilder::to(
             Code::NOT_IMPLEMENTED,
-            message.token(),
+            message.token().again(),
         );
         let bare = bare_of(&response);
         self.answer(&response, &bare)

@@ -12,7 +12,7 @@ ghost use Rattle.coap_conn.specs.Calls as call;
 use super::Link;
 use crate::pending::Held;
 use crate::phase::{Due, Full};
-use coap_wire::Token;
+use coap_wire::{Token, TokenRef};
 
 impl Link {
     /// Holds the answer to the request with this token until a moment, in seconds. The connection must be open.
@@ -55,7 +55,7 @@ impl Link {
         match self.pending.take(index) {
             Held::Answer { token, .. } => Due::Answer(token),
             Held::Pong(token) => {
-                self.pong(&token, true);
+                self.pong(&TokenRef::of(&token), true);
                 Due::Pong
             }
         }

@@ -21,7 +21,7 @@ use crate::messages::{
 };
 use crate::phase::{Phase, Reply, SendFault, Verdict};
 use crate::reason::Reason;
-use coap_wire::{Code, MessageBuilder, Token, uint_bytes};
+use coap_wire::{Code, MessageBuilder, TokenRef, uint_bytes};
 
 /// The bytes of Release.
 const RELEASE_SIZE: usize = 2;
@@ -152,7 +152,7 @@ impl Link {
         &mut self,
         whole: &MessageBuilder<N>,
         less: &MessageBuilder<M>,
-    ) -> Verdict
+    ) -> Verdict<'static>
         requires { IsReady self.old }
         ensures verdict { verdict_value result ≡ told_of (fit (limit_in self.old) whole.now less.now) }
         ensures after { self.new ≡ link_with self.old (send (standing_in self.old) whole.now less.now) }
@@ -166,22 +166,22 @@ impl Link {
 
     /// Sends a Pong to the Ping with this token, with Custody or not. (Apart from its callers, since a function clears
     /// all its locals.)
-    pub(super) fn pong(&mut self, token: &Token, custody: bool) -> Verdict
+    pub(super) fn pong(&mut self, token: &TokenRef, custody: bool) -> Verdict<'static>
         requires { IsReady self.old }
         ensures verdict { verdict_value result
-            ≡ (sends (standing_in self.old) (pong_with custody token.now.items)
-            (pong_with false token.now.items)).verdict }
+            ≡ (sends (standing_in self.old) (pong_with custody token.now)
+            (pong_with false token.now)).verdict }
         ensures after { self.new
-            ≡ link_with self.old (sends (standing_in self.old) (pong_with custody token.now.items)
-            (pong_with false token.now.items)).effect }
+            ≡ link_with self.old (sends (standing_in self.old) (pong_with custody token.now)
+            (pong_with false token.now)).effect }
     {
         let pong = pong_to(token, custody);
-        let plain: MessageBuilder<0> = MessageBuilder::new(Code::PONG, token);
+        let plain: MessageBuilder<0> = MessageBuilder::to(Code::PONG, token.again());
         self.answer(&pong, &plain)
     }
 
     /// The one way to stop, behind what was queued for it. Whatever is held or outstanding is given up.
-    pub(super) fn stop(&mut self, reason: Reason) -> Verdict
+    pub(super) fn stop(&mut self, reason: Reason) -> Verdict<'static>
         ensures verdict { verdict_value result ≡ verdict.Stopped reason }
         ensures after { self.new ≡ link_with self.old (stop (standing_in self.old) reason []) }
     {
@@ -192,7 +192,7 @@ impl Link {
     }
 
     /// Stops with the Abort for the reason, where there is one, as it fits the peer.
-    pub(super) fn abort(&mut self, reason: Reason) -> Verdict
+    pub(super) fn abort(&mut self, reason: Reason) -> Verdict<'static>
         requires { IsReady self.old }
         ensures verdict { verdict_value result ≡ verdict.Stopped reason }
         ensures after { self.new ≡ link_with self.old (abort (standing_in self.old) reason) }

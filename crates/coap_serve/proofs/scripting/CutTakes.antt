@@ -164,7 +164,7 @@ module _ (M : ℕ) (kept xs zs : List ℕ) (unfinished : beginning M kept ≡ Un
       let longer : beginning M (kept ++ (xs ++ zs)) ≡ Faulty fault = ap (beginning M) (sym (append_assoc kept xs zs)) ∙ faulty_more M (kept ++ xs) zs fault is in
       same_front_length kept (xs ++ zs) xs _ _ (taken_within M kept (xs ++ zs) unfinished) (taken_within M kept xs unfinished)
       ((fault_taken M kept (xs ++ zs) fault unfinished (fault_at (xs ++ zs) fault longer)).1
-      ∙ ap (fault_bytes fault) (sym (append_assoc kept xs zs))
+      ∙ ap fault_bytes (sym (append_assoc kept xs zs))
       ∙ fault_bytes_more M (kept ++ xs) zs fault is
       ∙ sym (fault_taken M kept xs fault unfinished (fault_at xs fault is)).1)
 
@@ -184,7 +184,7 @@ module _ (M : ℕ) (kept xs zs : List ℕ) (unfinished : beginning M kept ≡ Un
   later_by (Faulty fault) is =
       longer_front kept xs (xs ++ zs) zs _ _ (taken_within M (kept ++ xs) zs still) (taken_within M kept (xs ++ zs) unfinished)
       ((fault_taken M (kept ++ xs) zs fault still (fault_at M (kept ++ xs) xs zs still zs fault is)).1
-      ∙ ap (fault_bytes fault) (append_assoc kept xs zs)
+      ∙ ap fault_bytes (append_assoc kept xs zs)
       ∙ sym (fault_taken M kept (xs ++ zs) fault unfinished (fault_at M kept xs zs unfinished (xs ++ zs) fault (joined_at (Faulty fault) is))).1)
 
   front_later : front_of M kept (xs ++ zs) ≡ length xs + front_of M (kept ++ xs) zs

@@ -17,7 +17,7 @@ use Rattle.coap_serve.specs.world.Events.{Event, steps_of, world_after}
 use Rattle.coap_serve.proofs.world.PlaceLaws.{found, nobody, all_there, changed_here, changed_elsewhere, still_there, new_there, but, dropped_here, dropped_elsewhere}
 use Rattle.coap_serve.proofs.world.WalkLaws.{Composes, Between, Hears, Replies, Holds, LetsGo, Pongs, Rejects, Ends, Releases, Announces, Writes, once_between, after_between, faulted_between, written_between, ended_between, released_between, announced_between}
 use Rattle.coap_serve.proofs.values.OptionLemmas.{one_made, same_there}
-use Rattle.coap_wire.proofs.StreamSteps.{none_or_some}
+use Rattle.coap_wire.proofs.NumberLaws.{none_or_some}
 
 -- ---- settling
 

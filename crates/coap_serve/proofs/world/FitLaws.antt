@@ -30,7 +30,7 @@ use Rattle.coap_serve.proofs.world.EntryLemmas.{all_append}
 use Rattle.coap_serve.proofs.world.WalkLaws.{release_fits, holding, without_first, Hears, Replies, Pongs, Between, once_between, after_between, faulted_between, written_between, ended_between, released_between, announced_between}
 use Rattle.coap_serve.proofs.world.AcrossLaws.{HoldsOf, HoldsFrom, step_across}
 use Rattle.coap_serve.proofs.values.OptionLemmas.{same_there}
-use Rattle.coap_wire.proofs.StreamSteps.{none_or_some}
+use Rattle.coap_wire.proofs.NumberLaws.{none_or_some}
 
 -- ---- a message that announces a size queues nothing
 

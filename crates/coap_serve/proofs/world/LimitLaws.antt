@@ -22,7 +22,7 @@ use Rattle.coap_conn.specs.LinkValue.{bytes_of, own_csm, free_in}
 use Rattle.coap_conn.specs.Calls.{release}
 use Rattle.coap_conn.specs.Calls as call
 use Rattle.coap_conn.proofs.LinkLemmas.{waiting_more}
-use Rattle.coap_conn.proofs.SmallLemmas.{csm_bytes_small, release_bytes_small}
+use Rattle.coap_conn.proofs.SmallLemmas.{first_csm_bytes_small, release_bytes_small}
 use Rattle.coap_conn.proofs.HeldLaws.{due_nothing, due_fewer, held_few}
 use Rattle.coap_conn.proofs.HistoryLaws.{reaction_fits, sent_fits, stopped_fits}
 use Rattle.coap_store.specs.Store.{StoreValue}
@@ -258,7 +258,7 @@ all_wait = record {
 }
 
 new_wait : (limits : LimitValues) → AreInRange limits → length (waiting_on (new_side limits)) ≤ limits.queue
-new_wait limits ranges = omega (arith, csm_bytes_small limits.max_message, ranges.sent_low, ranges.queue_low)
+new_wait limits ranges = omega (arith, first_csm_bytes_small limits.max_message, ranges.sent_low, ranges.queue_low)
 
 pub waiting_within : (c : ConfigValues) (es : List Event) (id : ℕ) (s : Side) → AreInRange c.limits → side_of id (world_after c es).sides ≡ Some s → length (waiting_on s) ≤ c.limits.queue
 waiting_within c es id s ranges there =

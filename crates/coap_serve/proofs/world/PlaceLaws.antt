@@ -4,7 +4,7 @@ use Rattle.std.specs.List.{AllByRecursion}
 use Rattle.std.proofs.lemmas.Bool.{eq-eqb, ne_eqb, eqb-true, eqb-false, cases_eq}
 use Rattle.coap_serve.specs.world.Sides.{Side}
 use Rattle.coap_serve.specs.world.World.{Place, side_of, changed_at}
-use Rattle.coap_wire.proofs.StreamSteps.{none_or_some}
+use Rattle.coap_wire.proofs.NumberLaws.{none_or_some}
 
 -- ---- the first connection, or a later one
 

@@ -26,7 +26,7 @@ use Rattle.coap_serve.proofs.world.AcrossLaws.{HoldsOf, HoldsFrom, step_across, 
 use Rattle.coap_serve.proofs.world.GoingOn.{GoesOn, all_go_on, was_live}
 use Rattle.coap_serve.proofs.world.WalkLaws.{announcing, Between, once_between, settled_between, after_between, faulted_between, written_between, ended_between, released_between}
 use Rattle.coap_serve.proofs.world.PlaceLaws.{nobody}
-use Rattle.coap_wire.proofs.StreamSteps.{none_or_some}
+use Rattle.coap_wire.proofs.NumberLaws.{none_or_some}
 use Rattle.coap_serve.proofs.world.WorldLaws.{OpensNext, IsGivenNumber, IsNumbered, new_world_numbered, number_given, step_numbered, ids_grow, faulted_is_stopped}
 use Rattle.coap_serve.proofs.values.OptionLemmas.{same_there}
 

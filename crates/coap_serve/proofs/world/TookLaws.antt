@@ -61,7 +61,7 @@ module _ (M id : ℕ) (es : List Event) (bytes : List ℕ) (none : (stream_on M 
   adds_bad frame f e all read =
       adds _ (split_bad N ((stream_on M id es).rest ++ bytes) frame [] f (frame_alone N (stream_on M id es).rest bytes frame (rest_unfinished M id es none) e all) read)
 
-  pub adds_fault : (fault : FrameFault) → framing_found.finding ≡ AFault fault → Adds M id es bytes (record { messages = []; rest = fault_bytes fault ((stream_on M id es).rest ++ bytes); fault = Some (OfFrame fault) })
+  pub adds_fault : (fault : FrameFault) → framing_found.finding ≡ AFault fault → Adds M id es bytes (record { messages = []; rest = fault_bytes ((stream_on M id es).rest ++ bytes); fault = Some (OfFrame fault) })
   adds_fault fault e = adds _ (split_faulty N ((stream_on M id es).rest ++ bytes) fault (fault_taken N (stream_on M id es).rest bytes fault (rest_unfinished M id es none) e).0)
 
 -- ---- no bytes
@@ -133,7 +133,7 @@ module _ (M id : ℕ) (es : List Event) (piece : List ℕ) (none : (stream_on M 
   pub piece_adds_bad : (frame : List ℕ) (f : FormatFault) → (framing size_before kept_so_far piece).finding ≡ AFrame frame → message_of frame ≡ Err f → Adds M id es piece_front (record { messages = []; rest = frame; fault = Some Format })
   piece_adds_bad frame f e read = adds_bad M id es piece_front none frame f (piece_found (AFrame frame) e) piece_whole read
 
-  pub piece_adds_fault : (fault : FrameFault) → (framing size_before kept_so_far piece).finding ≡ AFault fault → Adds M id es piece_front (record { messages = []; rest = fault_bytes fault (kept_so_far ++ piece_front); fault = Some (OfFrame fault) })
+  pub piece_adds_fault : (fault : FrameFault) → (framing size_before kept_so_far piece).finding ≡ AFault fault → Adds M id es piece_front (record { messages = []; rest = fault_bytes (kept_so_far ++ piece_front); fault = Some (OfFrame fault) })
   piece_adds_fault fault e = adds_fault M id es piece_front none fault (piece_found (AFault fault) e)
 
   -- all bytes but the last are taken

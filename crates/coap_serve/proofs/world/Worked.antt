@@ -41,11 +41,11 @@ narrow_limits max_message = limits_with max_message 1152 1152 16
 
 -- a connection is opened, and its Capabilities and Settings are written
 abbrev pub opened : ℕ → List Row
-opened id = Open id => Done ∷ Drain id => Out (hex "40e123010000") ∷ []
+opened id = Open id => Done ∷ Drain id => Out (hex "60e1230100004140") ∷ []
 
 -- the same where messages of at most 1,152 bytes are taken
 abbrev opened_small : ℕ → List Row
-opened_small id = Open id => Done ∷ Drain id => Out (hex "30e1220480") ∷ []
+opened_small id = Open id => Done ∷ Drain id => Out (hex "50e12204804140") ∷ []
 
 abbrev pub path_a : Path
 path_a = codes "a" ∷ []
@@ -251,7 +251,7 @@ cut = refl
 no_room_for_pong : Plays (config_with (narrow_limits 65536) 0) (
     Open 1 => Done
     ∷ In 1 (hex "00e1") => Taken 0
-    ∷ Drain 1 => Out (hex "40e123010000")
+    ∷ Drain 1 => Out (hex "60e1230100004140")
     ∷ In 1 (hex "00e1") => Taken 2
     ∷ [])
 unfolding told

@@ -13,11 +13,11 @@ use Rattle.coap_serve.proofs.world.Worked.{usual, config_with, narrow_limits}
 
 -- a connection is opened, and its Capabilities and Settings are written
 abbrev opened_event : List Event
-opened_event = Opened 1 ∷ Wrote 1 6 ∷ []
+opened_event = Opened 1 ∷ Wrote 1 8 ∷ []
 
 -- Capabilities and Settings and a GET of / in one piece are two events, up to the end of each message.
 root_events : events_of usual (Open 1 ∷ Drain 1 ∷ In 1 (hex "00e1010101") ∷ Drain 1 ∷ Drain 1 ∷ [])
-    ≡ Opened 1 ∷ Wrote 1 6 ∷ Took 1 (hex "00e1") ∷ Took 1 (hex "010101") ∷ Wrote 1 13 ∷ Wrote 1 0 ∷ []
+    ≡ Opened 1 ∷ Wrote 1 8 ∷ Took 1 (hex "00e1") ∷ Took 1 (hex "010101") ∷ Wrote 1 13 ∷ Wrote 1 0 ∷ []
 unfolding events_of
 root_events = refl
 

@@ -116,7 +116,7 @@ pong_behind_pong = refl
 
 -- what is held, in order of arrival, with the moments at which the answers are due
 two_answers : List Event
-two_answers = Opened 1 ∷ Wrote 1 6 ∷ Took 1 (hex "00e1") ∷ Ticked 4 ∷ Took 1 (asked "05" "3") ∷ Took 1 (ping "06") ∷ Took 1 (asked "07" "1") ∷ []
+two_answers = Opened 1 ∷ Wrote 1 8 ∷ Took 1 (hex "00e1") ∷ Ticked 4 ∷ Took 1 (asked "05" "3") ∷ Took 1 (ping "06") ∷ Took 1 (asked "07" "1") ∷ []
 
 answers_and_pong_held : option_map (λ s. s.history.held) (side_of 1 (world_after usual two_answers).sides)
     ≡ Some (Answer (5 ∷ []) 7 ∷ Pong (6 ∷ []) ∷ Answer (7 ∷ []) 5 ∷ [])

@@ -7,16 +7,42 @@ use Rattle.coap_serve.proofs.world.Worked.{usual, one_resource, narrow_limits, c
 
 -- ---- ends
 
--- a token of 9 bytes is told at its first byte, and then nothing is taken
+-- a token length of nibble 15 is told at its byte, and then nothing is taken
 bad_token : Plays usual (opened 1
     ++ In 1 (hex "00e1") => Taken 2
-    ∷ In 1 (hex "0901") => Taken 1
+    ∷ In 1 (hex "0f01") => Taken 1
     ∷ Drain 1 => Out (hex "d004e5ff" ++ codes "bad token length")
     ∷ Look 1 => Stands (phase.Stopped reason.TokenLength) 1 0 0 0
     ∷ In 1 (hex "01") => Taken 0
     ∷ [])
 unfolding told
 bad_token = refl
+
+-- and one of 65 bytes at the last byte that extends it
+long_token : Plays usual (opened 1
+    ++ In 1 (hex "00e1") => Taken 2
+    ∷ In 1 (hex "0d013400") => Taken 3
+    ∷ Drain 1 => Out (hex "d004e5ff" ++ codes "bad token length")
+    ∷ Look 1 => Stands (phase.Stopped reason.TokenLength) 3 0 0 0
+    ∷ [])
+unfolding told
+long_token = refl
+
+-- a request with a token of 13 bytes is answered with it, where the peer takes what has it
+token_of_13 : Plays usual (opened 1
+    ++ In 1 (hex "00e1") => Taken 2
+    ∷ In 1 (hex "0d010011111111111111111111111111") => Taken 16
+    ∷ Drain 1 => Out (hex "ad450011111111111111111111111111c0ff" ++ codes "coap+tcp")
+    ∷ In 1 (hex "20e12110") => Taken 4
+    ∷ In 1 (hex "0d010011111111111111111111111111") => Taken 16
+    ∷ Drain 1 => Out (hex "0da00011111111111111111111111111")
+    ∷ In 1 (hex "20e1210f") => Taken 4
+    ∷ In 1 (hex "0d010011111111111111111111111111") => Taken 16
+    ∷ Drain 1 => Out []
+    ∷ Look 1 => Stands (phase.Stopped reason.PeerTooSmall) 0 0 0 0
+    ∷ [])
+unfolding told
+token_of_13 = refl
 
 -- the input ends between frames: the observers go, and no notification follows
 observer_ended : Plays one_resource (opened 1 ++ (stored_x ++ (observed 1

@@ -21,7 +21,7 @@ narrow_config = config_with (narrow_limits 1152) 0
 -- A length whose last byte is taken behind the announcement is judged by the size announced.
 within_a_length : Plays narrow_config (
     Open 1 => Done
-    ∷ Drain 1 => Out (hex "30e1220480")
+    ∷ Drain 1 => Out (hex "50e12204804140")
     ∷ In 1 (hex "00e1") => Taken 2
     ∷ In 1 (hex "e103") => Taken 2
     ∷ Announce 1 2000 => Done
@@ -36,8 +36,8 @@ within_a_length = refl
 each_by_its_own : Plays narrow_config (
     Open 1 => Done
     ∷ Open 2 => Done
-    ∷ Drain 1 => Out (hex "30e1220480")
-    ∷ Drain 2 => Out (hex "30e1220480")
+    ∷ Drain 1 => Out (hex "50e12204804140")
+    ∷ Drain 2 => Out (hex "50e12204804140")
     ∷ In 1 (hex "00e1") => Taken 2
     ∷ In 2 (hex "00e1") => Taken 2
     ∷ Announce 1 2000 => Done
@@ -53,7 +53,7 @@ each_by_its_own = refl
 -- The size in force is announced again as it is, and then there is no room until that is written.
 again : Plays narrow_config (
     Open 1 => Done
-    ∷ Drain 1 => Out (hex "30e1220480")
+    ∷ Drain 1 => Out (hex "50e12204804140")
     ∷ In 1 (hex "00e1") => Taken 2
     ∷ Announce 1 1152 => Done
     ∷ In 1 (hex "00") => Taken 0
@@ -74,7 +74,7 @@ there events id = found (side_of id (world_after narrow_config events).sides)
     found (Some s) = Some (session_shown (stream_on 1152 id events).rest s)
 
 greeted_events : List Event
-greeted_events = Opened 1 ∷ Wrote 1 5 ∷ []
+greeted_events = Opened 1 ∷ Wrote 1 7 ∷ []
 
 opened_events : List Event
 opened_events = greeted_events ++ Took 1 (hex "00e1") ∷ []

@@ -8,5 +8,5 @@ use Rattle.coap_conn.proofs.asked.forget_pinged_in.Goals as goal
 pub returns-clause-others : goal.returns-clause-others
 returns-clause-others c =
     ap (map outstanding_value)
-    (filter_same _ (λ e. not (is_pinged c.args.token.now.items (outstanding_value e))) _ (λ x b q k. search (rules, tests)) _ _ c.retain.ensures.filtered)
-    ∙ left_of (λ e. not (is_pinged c.args.token.now.items e)) c.args.entries.now.items
+    (filter_same _ (λ e. not (is_pinged c.args.token.now (outstanding_value e))) _ (λ x b q k. search (rules, tests)) _ _ c.retain.ensures.filtered)
+    ∙ left_of (λ e. not (is_pinged c.args.token.now e)) c.args.entries.now.items

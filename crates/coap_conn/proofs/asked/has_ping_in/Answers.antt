@@ -8,6 +8,6 @@ use Rattle.coap_conn.proofs.asked.has_ping_in.Goals as goal
 
 pub returns : goal.returns
 returns c =
-    any_from_yields_List (λ e. is_pinged c.args.token.now.items (outstanding_value e)) _ _ _ c.any.ensures.ran
+    any_from_yields_List (λ e. is_pinged c.args.token.now (outstanding_value e)) _ _ _ c.any.ensures.ran
     (YieldsList-from_slice c.args.entries.now cc) (λ x b q k. search (rules, tests))
-    ∙ any_of (is_pinged c.args.token.now.items) c.args.entries.now
+    ∙ any_of (is_pinged c.args.token.now) c.args.entries.now

@@ -7,7 +7,7 @@ use Rattle.coap_conn.proofs.messages.queue_release.Goals as goal
 
 pub put-requires : goal.put-requires
 put-requires c =
-    let same : c.new-release.result ≡ release = search rules in
+    let same : c.to-release.result ≡ release = search rules in
     omega (arith, release_small, ap (λ (m : Message). length (spelling m)) same, c.requires)
 
 pub returns-clause-small : goal.returns-clause-small

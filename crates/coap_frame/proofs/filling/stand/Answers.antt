@@ -5,7 +5,7 @@ use Rattle.coap_frame.proofs.filling.stand.Goals as goal
 
 pub returns-then-size-max : goal.returns-then-size-max
 returns-then-size-max c =
-    rw c.size_bytes.ensures (stands_too_large c.args.max c.args.piece.now c.in-Size.size (sym c.declared.ensures.exact ∙ c.in-Size.is) (omega (arith, c.if-size-max.true)))
+    rw c.size_bytes-then-size-max.ensures (stands_too_large c.args.max c.args.piece.now c.in-Size.size (sym c.declared.ensures.exact ∙ c.in-Size.is) (omega (arith, c.if-size-max.true)))
 
 pub returns-then-size-piece : goal.returns-then-size-piece
 returns-then-size-piece c =
@@ -18,7 +18,8 @@ returns-in-Unknown c =
     stands_more c.args.max piece (begin_unknown c.args.max piece (sym c.declared.ensures.exact ∙ c.in-Unknown.is))
 
 pub returns-in-BadToken : goal.returns-in-BadToken
-returns-in-BadToken c = stands_bad_token c.args.max c.args.piece.now (sym c.declared.ensures.exact ∙ c.in-BadToken.is)
+returns-in-BadToken c =
+    rw c.size_bytes.ensures (stands_bad_token c.args.max c.args.piece.now (sym c.declared.ensures.exact ∙ c.in-BadToken.is))
 
 pub returns-else-size-piece : goal.returns-else-size-piece
 returns-else-size-piece c =

@@ -12,13 +12,13 @@ use Rattle.coap_serve.proofs.observers.keep_others.Goals as goal
 abbrev keeps : List ℕ → Observer → Bool
 keeps token o = not (same_bytes o.token.items token)
 
-kept : (c : goal.After-len) → c.retain.new.self.items ≡ filter (keeps c.args.token.now.items) c.args.observers.now.items
-kept c = filter_same _ (keeps c.args.token.now.items) _ (λ x b q k. search rules) _ _ c.retain.ensures.filtered
+kept : (c : goal.After-len) → c.retain.new.self.items ≡ filter (keeps c.args.token.now) c.args.observers.now.items
+kept c = filter_same _ (keeps c.args.token.now) _ (λ x b q k. search rules) _ _ c.retain.ensures.filtered
 
 pub returns-clause-others : goal.returns-clause-others
-returns-clause-others c = ap (map observer_value) (kept c) ∙ others_seen c.args.token.now.items c.args.observers.now.items
+returns-clause-others c = ap (map observer_value) (kept c) ∙ others_seen c.args.token.now c.args.observers.now.items
 
 pub returns-clause-same : goal.returns-clause-same
 returns-clause-same c = λ no_less.
     let many : c.len-before.result ≤ c.len.result = ltb-false c.len.result c.len-before.result no_less in
-    kept c ∙ all_stay (keeps c.args.token.now.items) c.args.observers.now.items (omega (arith, many, c.len-before.ensures, c.len.ensures, ap length (kept c)))
+    kept c ∙ all_stay (keeps c.args.token.now) c.args.observers.now.items (omega (arith, many, c.len-before.ensures, c.len.ensures, ap length (kept c)))

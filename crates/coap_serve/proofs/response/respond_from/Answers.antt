@@ -13,9 +13,9 @@ use Rattle.coap_serve.proofs.response.respond_from.Goals as goal
 pub returns : goal.returns
 returns g c =
     let r = c.args.plan.now.response in
-    let token = c.args.token.now.items in
+    let token = c.args.token.now in
     let bare : Message = record { code = r.code; token = token; options = []; payload = [] } in
-    let fresh = c.new-response.ensures ∙ ap (λ (k : ℕ). record bare { code = k }) c.code.ensures in
+    let fresh = c.to-response.ensures ∙ ap (λ (t : List ℕ). record bare { code = c.code.result; token = t }) c.again.ensures.token ∙ ap (λ (k : ℕ). record bare { code = k }) c.code.ensures in
     let tagged : Message = c.add_etag.new.response in
     let observed : Message = c.add_observe.new.response in
     let located : Message = c.add_location.new.response in

@@ -1,4 +1,4 @@
-use Rattle.std.proofs.Common.{sym, ap, ◌∙◌}
+use Rattle.std.proofs.Common.{ℕ, List, sym, ap, ◌∙◌}
 use Rattle.coap_conn.specs.Held.{Answer, Pong, PendingValue, due_told, first_due}
 use Rattle.coap_conn.specs.LinkValue.{LinkValue}
 use Rattle.coap_conn.specs.Calls.{link_after}
@@ -49,6 +49,7 @@ returns-in-Pong-clause-due c =
 pub returns-in-Pong-clause-after : goal.returns-in-Pong-clause-after
 returns-in-Pong-clause-after c =
     c.pong.ensures.after
+    ∙ ap (λ (t : List ℕ). link_sent (record (link_value c.self.inside) { held = c.take.new.self.held }) t) c.of.ensures
     ∙ ap (λ (p : PendingValue). link_sent (record (link_value c.self.inside) { held = p.held }) c.in-Pong.token.items) c.take.ensures.rest
     ∙ pong_due (link_value c.self.inside) c.args.now c.in-Some.index c.in-Pong.token.items (sym c.in-Some.ensures.first) c.in-Pong.ensures.taken
     ∙ ap (λ (v : LinkValue). link_after v (call.Due c.args.now)) c.self.view_is

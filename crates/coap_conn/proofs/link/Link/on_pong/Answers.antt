@@ -7,7 +7,7 @@ use Rattle.coap_conn.proofs.link.Link.on_pong.Goals as goal
 pub invariant_of-self : goal.invariant_of-self
 invariant_of-self c =
     let fewer : length c.forget_pinged.new.self.entries ≤ length c.self.inside.asked.entries =
-    omega (arith, ap (λ (a : AskedValue). length a.entries) c.forget_pinged.ensures, count_left (λ e. not (is_pinged c.token-2.result.now.items e)) c.self.inside.asked.entries) in (
+    omega (arith, ap (λ (a : AskedValue). length a.entries) c.forget_pinged.ensures, count_left (λ e. not (is_pinged c.token-2.result.now e)) c.self.inside.asked.entries) in (
       link_left (link_value c.self.inside) c.forget_pinged.new.self.entries fewer c.self.invariant.0,
       c.self.invariant.1,
       c.self.invariant.2,

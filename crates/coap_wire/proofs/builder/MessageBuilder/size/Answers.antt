@@ -5,4 +5,4 @@ use Rattle.coap_wire.proofs.builder.MessageBuilder.size.Goals as goal
 
 pub returns-clause-size : goal.returns-clause-size
 returns-clause-size g c =
-    size_is (built_message c.self.inside) c.args.self.now c.body_size-body.result c.len-extension.result c.len.result c.self.view_is c.body_size-body.ensures.size (c.len-extension.ensures.value ∙ ap length c.form_of_length.ensures.extension) c.len.ensures.value
+    size_is (built_message c.self.inside) c.args.self.now c.body_size-body.result c.len-extension.result c.extension_size.result (length c.bytes-token.result.now) c.self.view_is c.body_size-body.ensures.size (c.len-extension.ensures.value ∙ ap length c.form_of_length.ensures.extension) (ap length c.bytes-token.ensures.bytes) c.extension_size.ensures.size

@@ -8,23 +8,23 @@ use Rattle.coap_wire.proofs.builder.MessageBuilder.write.Goals as goal
 
 pub write_head-requires-clause-room : goal.write_head-requires-clause-room
 write_head-requires-clause-room g c =
-    head_room (built_message c.self.inside) c.args.self.now c.body_size.result c.deref.result.now c.self.view_is c.body_size.ensures.size c.deref.ensures.0 _ c.requires
+    head_room (built_message c.self.inside) c.args.self.now c.body_size.result c.bytes.result.now c.self.view_is c.body_size.ensures.size c.bytes.ensures.bytes _ c.requires
 
 pub write_options-requires-clause-room : goal.write_options-requires-clause-room
 write_options-requires-clause-room g c =
-    rw c.deref-2.ensures.0 (options_room (built_message c.self.inside) c.args.self.now c.body_size.result c.deref.result.now c.self.view_is c.body_size.ensures.size c.deref.ensures.0 _ _ c.requires c.write_head.ensures.less_room)
+    rw c.deref.ensures.0 (options_room (built_message c.self.inside) c.args.self.now c.body_size.result c.bytes.result.now c.self.view_is c.body_size.ensures.size c.bytes.ensures.bytes _ _ c.requires c.write_head.ensures.less_room)
 
 pub write_payload-requires : goal.write_payload-requires
 write_payload-requires g c =
-    payload_room (built_message c.self.inside) c.args.self.now c.body_size.result c.deref.result.now c.self.view_is c.body_size.ensures.size c.deref.ensures.0 _ _ _ c.requires c.write_head.ensures.less_room (rw c.deref-2.ensures.0 at c.write_options.ensures.less_room)
+    payload_room (built_message c.self.inside) c.args.self.now c.body_size.result c.bytes.result.now c.self.view_is c.body_size.ensures.size c.bytes.ensures.bytes _ _ _ c.requires c.write_head.ensures.less_room (rw c.deref.ensures.0 at c.write_options.ensures.less_room)
 
 pub returns-clause-appended : goal.returns-clause-appended
 returns-clause-appended g c =
-    all_written (built_message c.self.inside) c.args.self.now c.body_size.result c.deref.result.now c.self.view_is c.body_size.ensures.size c.deref.ensures.0 _ _ _ _ c.write_head.ensures.appended (rw c.deref-2.ensures.0 at c.write_options.ensures.appended) c.write_payload.ensures.appended
+    all_written (built_message c.self.inside) c.args.self.now c.body_size.result c.bytes.result.now c.self.view_is c.body_size.ensures.size c.bytes.ensures.bytes _ _ _ _ c.write_head.ensures.appended (rw c.deref.ensures.0 at c.write_options.ensures.appended) c.write_payload.ensures.appended
 
 pub returns-clause-less_room : goal.returns-clause-less_room
 returns-clause-less_room g c =
-    all_room (built_message c.self.inside) c.args.self.now c.body_size.result c.deref.result.now c.self.view_is c.body_size.ensures.size c.deref.ensures.0 _ _ _ _ c.write_head.ensures.less_room (rw c.deref-2.ensures.0 at c.write_options.ensures.less_room) c.write_payload.ensures.less_room
+    all_room (built_message c.self.inside) c.args.self.now c.body_size.result c.bytes.result.now c.self.view_is c.body_size.ensures.size c.bytes.ensures.bytes _ _ _ _ c.write_head.ensures.less_room (rw c.deref.ensures.0 at c.write_options.ensures.less_room) c.write_payload.ensures.less_room
 
 pub returns-clause-spelled : goal.returns-clause-spelled
 returns-clause-spelled g c =

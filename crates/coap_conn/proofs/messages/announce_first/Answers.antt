@@ -1,0 +1,14 @@
+use Rattle.std.proofs.Common.{rules, ◌≡◌, length, ap, arith}
+use Rattle.coap_wire.specs.Message.{Message}
+use Rattle.coap_wire.specs.Spelling.{spelling}
+use Rattle.coap_conn.specs.LinkValue.{first_csm}
+use Rattle.coap_conn.proofs.SmallLemmas.{first_csm_small, first_csm_bytes_small}
+use Rattle.coap_conn.proofs.messages.announce_first.Goals as goal
+
+pub put-requires : goal.put-requires
+put-requires c =
+    let same : c.first_csm_with-csm.result ≡ first_csm c.args.max_message = search rules in
+    omega (arith, first_csm_small c.args.max_message, ap (λ (m : Message). length (spelling m)) same, c.requires)
+
+pub returns-clause-small : goal.returns-clause-small
+returns-clause-small c = first_csm_bytes_small c.args.max_message
