@@ -28,7 +28,7 @@ use Rattle.coap_client.specs.ClientValues.{ClientValue, Taking, taking_rejected,
 use Rattle.coap_client.specs.ClientWorld.{ClientCall, Took, Sent, Cancelled, Pinged, Wrote, Ended, ClientStep, Handles, Faults, Requests, Cancels, Pings, Writes, Ends, taken_by, stream_in, new_fault, steps_by, after_steps, client_after, handles, takes, event_by, event_of, IsAccepted, AreAccepted, kept_after, client_of}
 use Rattle.coap_client.specs.ClientWorld as client
 use Rattle.coap_frame.proofs.FrontLaws.{front, front_whole, added_by, added_front, front_kept}
-use Rattle.coap_client.proofs.ClientSteps.{stream_same, stream_first, rest_unfinished, client_first, client_same, client_step, client_more, by_calls, Adds, adds, no_bytes_stream, no_bytes_steps}
+use Rattle.coap_client.proofs.ClientSteps.{stream_stays, stream_first, stream_rest_unfinished, client_first, client_same, client_step, client_more, by_calls, AddsTo, take_adds, empty_take_stream, empty_take_steps}
 
 -- ---- steps
 
@@ -115,8 +115,8 @@ added_steps kept bytes (AFrame frame) = read_added frame (message_of frame)
 added_steps kept bytes (AFault fault) = refl
 
 -- a client whose connection has this history, and which keeps these bytes
-abbrev shown : History → List ℕ → ClientValue
-shown h kept = record { frame = kept; link = link_of h }
+abbrev client_shown : History → List ℕ → ClientValue
+client_shown h kept = record { frame = kept; link = link_of h }
 
 -- what is left of a history that went on, with this rest
 abbrev left : History → List ℕ → ClientValue
@@ -135,7 +135,7 @@ true_false true e now = absurd cc
 true_false false e now = absurd cc
 
 module _ (h : History) (is : IsHistory h) (live : takes_messages h.phase ≡ true) (kept bytes : List ℕ) where
-  taken_fault : (count : ℕ) (fault : StreamFault) (rest : List ℕ) → IsTaken h (taking_rejected (shown h kept) count (reject_of fault)) count (Faults fault ∷ []) (record { messages = []; rest = rest; fault = Some fault })
+  taken_fault : (count : ℕ) (fault : StreamFault) (rest : List ℕ) → IsTaken h (taking_rejected (client_shown h kept) count (reject_of fault)) count (Faults fault ∷ []) (record { messages = []; rest = rest; fault = Some fault })
   unfolding after_steps client.step
   taken_fault count fault rest =
       let r : Reject = reject_of fault in
@@ -149,7 +149,7 @@ module _ (h : History) (is : IsHistory h) (live : takes_messages h.phase ≡ tru
         live = λ takes. absurd (true_false _ over takes);
       }
 
-  taken_message : (count : ℕ) (m : Message) → IsTaken h (taking_read (shown h kept) count (Ok m)) count (Handles m ∷ []) (record { messages = m ∷ []; rest = []; fault = None })
+  taken_message : (count : ℕ) (m : Message) → IsTaken h (taking_read (client_shown h kept) count (Ok m)) count (Handles m ∷ []) (record { messages = m ∷ []; rest = []; fault = None })
   unfolding after_steps client.step
   taken_message count m =
       let now = shown_after h (call.Handle m) tt is in
@@ -161,11 +161,11 @@ module _ (h : History) (is : IsHistory h) (live : takes_messages h.phase ≡ tru
         live = λ takes. refl;
       }
 
-  taken_read : (count : ℕ) (frame : List ℕ) (r : Result Message FormatFault) → IsTaken h (taking_read (shown h kept) count r) count (steps_read r) (read_stream frame r)
+  taken_read : (count : ℕ) (frame : List ℕ) (r : Result Message FormatFault) → IsTaken h (taking_read (client_shown h kept) count r) count (steps_read r) (read_stream frame r)
   taken_read count frame (Ok m) = taken_message count m
   taken_read count frame (Err e) = taken_fault count Format frame
 
-  taken_nothing : (f : Framing) → f.kept ≡ kept ++ bytes → IsTaken h (taking_found (shown h kept) f Nothing) f.taken [] (record { messages = []; rest = kept ++ bytes; fault = None })
+  taken_nothing : (f : Framing) → f.kept ≡ kept ++ bytes → IsTaken h (taking_found (client_shown h kept) f Nothing) f.taken [] (record { messages = []; rest = kept ++ bytes; fault = None })
   unfolding after_steps
   taken_nothing f all = record {
     count = refl;
@@ -175,7 +175,7 @@ module _ (h : History) (is : IsHistory h) (live : takes_messages h.phase ≡ tru
     live = λ takes. refl;
   }
 
-  taken_found : (f : Framing) (found : Finding) → (found ≡ Nothing → f.kept ≡ kept ++ bytes) → IsTaken h (taking_found (shown h kept) f found) f.taken (steps_found found) (added_by kept bytes found)
+  taken_found : (f : Framing) (found : Finding) → (found ≡ Nothing → f.kept ≡ kept ++ bytes) → IsTaken h (taking_found (client_shown h kept) f found) f.taken (steps_found found) (added_by kept bytes found)
   taken_found f Nothing all = taken_nothing f (all refl)
   taken_found f (AFrame frame) all = taken_read f.taken frame (message_of frame)
   taken_found f (AFault fault) all = taken_fault f.taken (OfFrame fault) (fault_bytes (kept ++ bytes))
@@ -183,7 +183,7 @@ module _ (h : History) (is : IsHistory h) (live : takes_messages h.phase ≡ tru
 -- ---- what accepted calls lead to
 
 -- the history is one, and where messages are taken, the stream has no fault
-pub record IsReached (limits : LimitValues) (tokens : ℕ) (calls : List ClientCall) : Type 0 where
+pub record CallsReach (limits : LimitValues) (tokens : ℕ) (calls : List ClientCall) : Type 0 where
   pub is_history : IsHistory (client_after limits tokens calls)
   pub live : takes_messages (client_after limits tokens calls).phase ≡ true → (stream_in limits.max_message calls).fault ≡ None
 
@@ -193,84 +193,85 @@ unfolding client_of
 after_of limits tokens calls = refl
 
 module _ (limits : LimitValues) (tokens : ℕ) (calls : List ClientCall) where
-  abbrev M : ℕ
-  M = limits.max_message
+  abbrev max_taken : ℕ
+  max_taken = limits.max_message
 
   -- the history and the stream so far
   abbrev h : History
   h = client_after limits tokens calls
 
-  abbrev so_far : Stream
-  so_far = stream_in limits.max_message calls
+  abbrev calls_stream : Stream
+  calls_stream = stream_in limits.max_message calls
 
   -- ---- a call that takes no byte and makes one step
 
-  step_left : (c : ClientCall) (s : ClientStep) → steps_by M calls c ≡ s ∷ [] → taken_by c ≡ [] → client_of limits tokens (calls ++ c ∷ []) ≡ left (client.step h s) so_far.rest
+  step_left : (c : ClientCall) (s : ClientStep) → steps_by max_taken calls c ≡ s ∷ [] → taken_by c ≡ [] → client_of limits tokens (calls ++ c ∷ []) ≡ left (client.step h s) calls_stream.rest
   step_left c s one none =
       after_of limits tokens (calls ++ c ∷ [])
-      ∙ ap (λ (k : History). left k (stream_in M (calls ++ c ∷ [])).rest) (client_step limits tokens calls c s one)
-      ∙ ap (λ (u : Stream). left (client.step h s) u.rest) (stream_same M calls c none)
+      ∙ ap (λ (k : History). left k (stream_in max_taken (calls ++ c ∷ [])).rest)
+      (client_step limits tokens calls c s one)
+      ∙ ap (λ (u : Stream). left (client.step h s) u.rest) (stream_stays max_taken calls c none)
 
-  step_reached : (c : ClientCall) (s : ClientStep) (k : History) → steps_by M calls c ≡ s ∷ [] → taken_by c ≡ [] → client.step h s ≡ k → IsReached limits tokens calls → IsHistory k → (takes_messages k.phase ≡ true → takes_messages h.phase ≡ true) → IsReached limits tokens (calls ++ c ∷ [])
-  step_reached c s k one none makes before is from =
+  bare_call_reached : (c : ClientCall) (s : ClientStep) (k : History) → steps_by max_taken calls c ≡ s ∷ [] → taken_by c ≡ [] → client.step h s ≡ k → CallsReach limits tokens calls → IsHistory k → (takes_messages k.phase ≡ true → takes_messages h.phase ≡ true) → CallsReach limits tokens (calls ++ c ∷ [])
+  bare_call_reached c s k one none makes before is from =
       let now : client_after limits tokens (calls ++ c ∷ []) ≡ k = client_step limits tokens calls c s one ∙ makes in
       record {
         is_history = subst IsHistory (sym now) is;
-        live = λ takes. ap (λ (u : Stream). u.fault) (stream_same M calls c none) ∙ before.live (from (subst (λ (g : History). takes_messages g.phase ≡ true) now takes));
+        live = λ takes. ap (λ (u : Stream). u.fault) (stream_stays max_taken calls c none) ∙ before.live (from (subst (λ (g : History). takes_messages g.phase ≡ true) now takes));
       }
 
-  same_reached : (c : ClientCall) (s : ClientStep) (k : History) → steps_by M calls c ≡ s ∷ [] → taken_by c ≡ [] → client.step h s ≡ k → IsReached limits tokens calls → IsHistory k → k.phase ≡ h.phase → IsReached limits tokens (calls ++ c ∷ [])
-  same_reached c s k one none makes before is same = step_reached c s k one none makes before is (λ takes. sym (ap takes_messages same) ∙ takes)
+  same_reached : (c : ClientCall) (s : ClientStep) (k : History) → steps_by max_taken calls c ≡ s ∷ [] → taken_by c ≡ [] → client.step h s ≡ k → CallsReach limits tokens calls → IsHistory k → k.phase ≡ h.phase → CallsReach limits tokens (calls ++ c ∷ [])
+  same_reached c s k one none makes before is same = bare_call_reached c s k one none makes before is (λ takes. sym (ap takes_messages same) ∙ takes)
 
   -- ---- a take
 
   abbrev after_take : List ℕ → List ClientCall
   after_take bytes = calls ++ Took bytes ∷ []
 
-  module _ (before : IsReached limits tokens calls) where
+  module _ (before : CallsReach limits tokens calls) where
     -- no byte
-    none_reached : IsReached limits tokens (after_take [])
+    none_reached : CallsReach limits tokens (after_take [])
     none_reached =
-        let now = client_same limits tokens calls (Took []) (no_bytes_steps M calls) in
+        let now = client_same limits tokens calls (Took []) (empty_take_steps max_taken calls) in
         record {
           is_history = subst IsHistory (sym now) before.is_history;
-          live = λ takes. ap (λ (u : Stream). u.fault) (no_bytes_stream M calls) ∙ before.live (subst (λ (g : History). takes_messages g.phase ≡ true) now takes);
+          live = λ takes. ap (λ (u : Stream). u.fault) (empty_take_stream max_taken calls) ∙ before.live (subst (λ (g : History). takes_messages g.phase ≡ true) now takes);
         }
 
     -- the bytes taken of a piece, where any are
     module _ (piece : List ℕ) (does : handles h ≡ true) where
-      abbrev found : Framing
-      found = framing limits.max_message so_far.rest piece
+      abbrev found_of_piece : Framing
+      found_of_piece = framing limits.max_message calls_stream.rest piece
 
       abbrev taken : List ℕ
-      taken = front limits.max_message so_far.rest piece
+      taken = front limits.max_message calls_stream.rest piece
 
       abbrev added : Stream
-      added = added_by so_far.rest taken found.finding
+      added = added_by calls_stream.rest taken found_of_piece.finding
 
       abbrev after_found : History
-      after_found = after_steps h (steps_found found.finding)
+      after_found = after_steps h (steps_found found_of_piece.finding)
 
       takes_now : takes_messages h.phase ≡ true
       takes_now = (and_parts (takes_messages h.phase) (nat_le h.limits.max_sent (free_in (link_of h))) does).0
 
-      no_fault : so_far.fault ≡ None
-      no_fault = before.live takes_now
+      stream_has_no_fault : calls_stream.fault ≡ None
+      stream_has_no_fault = before.live takes_now
 
-      found_adds : Adds M calls taken added
-      found_adds = adds M calls taken added no_fault (added_front M so_far.rest piece (rest_unfinished M calls no_fault))
+      found_adds : AddsTo max_taken calls taken added
+      found_adds = take_adds max_taken calls taken added stream_has_no_fault (added_front max_taken calls_stream.rest piece (stream_rest_unfinished max_taken calls stream_has_no_fault))
 
-      found_taken : IsTaken h (taking_found (shown h so_far.rest) found found.finding) found.taken (steps_found found.finding) added
-      found_taken = taken_found h before.is_history takes_now so_far.rest taken found found.finding (front_kept M so_far.rest piece)
+      found_taken : IsTaken h (taking_found (client_shown h calls_stream.rest) found_of_piece found_of_piece.finding) found_of_piece.taken (steps_found found_of_piece.finding) added
+      found_taken = taken_found h before.is_history takes_now calls_stream.rest taken found_of_piece found_of_piece.finding (front_kept max_taken calls_stream.rest piece)
 
-      found_steps : steps_by M calls (Took taken) ≡ steps_found found.finding
-      found_steps = found_adds.steps ∙ added_steps so_far.rest taken found.finding
+      found_steps : steps_by max_taken calls (Took taken) ≡ steps_found found_of_piece.finding
+      found_steps = found_adds.steps ∙ added_steps calls_stream.rest taken found_of_piece.finding
 
       found_after : client_after limits tokens (after_take taken) ≡ after_found
       found_after = client_more limits tokens calls (Took taken) ∙ ap (after_steps h) found_steps
 
-      found_reached : IsReached limits tokens (after_take taken)
-      found_reached = record {
+      found_piece_reached : CallsReach limits tokens (after_take taken)
+      found_piece_reached = record {
         is_history = subst IsHistory (sym found_after) found_taken.is_history;
         live = λ takes. ap (λ (u : Stream). u.fault) found_adds.stream ∙ found_taken.live (subst (λ (g : History). takes_messages g.phase ≡ true) found_after takes);
       }
@@ -278,90 +279,96 @@ module _ (limits : LimitValues) (tokens : ℕ) (calls : List ClientCall) where
       found_left : client_of limits tokens (after_take taken) ≡ left after_found added.rest
       found_left =
           after_of limits tokens (after_take taken)
-          ∙ ap (λ (g : History). left g (stream_in M (after_take taken)).rest) found_after
+          ∙ ap (λ (g : History). left g (stream_in max_taken (after_take taken)).rest) found_after
           ∙ ap (λ (u : Stream). left after_found u.rest) found_adds.stream
 
-      taking_is : taking (client_of limits tokens calls) piece ≡ taking_found (shown h so_far.rest) found found.finding
+      taking_is : taking (client_of limits tokens calls) piece
+          ≡ taking_found (client_shown h calls_stream.rest) found_of_piece found_of_piece.finding
       unfolding taking
       taking_is =
-          ap (λ (v : ClientValue). taking v piece) (after_of limits tokens calls ∙ ap (shown h) (kept_all h so_far.rest takes_now))
-          ∙ ap (λ (b : Bool). cond b (taking_found (shown h so_far.rest) (framing h.limits.max_message so_far.rest piece) (framing h.limits.max_message so_far.rest piece).finding) (record { count = 0; client = shown h so_far.rest; event = None })) does
-          ∙ ap (λ (l : LimitValues). taking_found (shown h so_far.rest) (framing l.max_message so_far.rest piece) (framing l.max_message so_far.rest piece).finding) (limits_same limits tokens calls)
+          ap (λ (v : ClientValue). taking v piece) (after_of limits tokens calls ∙ ap (client_shown h) (kept_all h calls_stream.rest takes_now))
+          ∙ ap (λ (b : Bool). cond b (taking_found (client_shown h calls_stream.rest) (framing h.limits.max_message calls_stream.rest piece) (framing h.limits.max_message calls_stream.rest piece).finding) (record { count = 0; client = client_shown h calls_stream.rest; event = None })) does
+          ∙ ap (λ (l : LimitValues). taking_found (client_shown h calls_stream.rest) (framing l.max_message calls_stream.rest piece) (framing l.max_message calls_stream.rest piece).finding) (limits_same limits tokens calls)
 
-      takes_is : (other : List ℕ) → takes limits tokens calls other ≡ (framing M so_far.rest other).taken
+      takes_is : (other : List ℕ) → takes limits tokens calls other ≡ (framing max_taken calls_stream.rest other).taken
       unfolding takes
-      takes_is other = ap (λ (b : Bool). cond b (framing M so_far.rest other).taken 0) does
+      takes_is other = ap (λ (b : Bool). cond b (framing max_taken calls_stream.rest other).taken 0) does
 
-      front_is : take (takes limits tokens calls piece) piece ≡ taken
-      front_is = ap (λ (n : ℕ). take n piece) (takes_is piece)
+      front_is_taken : take (takes limits tokens calls piece) piece ≡ taken
+      front_is_taken = ap (λ (n : ℕ). take n piece) (takes_is piece)
 
-      front_accepted : IsAccepted limits tokens calls (Took taken)
+      front_is_accepted : IsAccepted limits tokens calls (Took taken)
       unfolding IsAccepted
-      front_accepted = takes_is taken ∙ front_whole M so_far.rest piece (rest_unfinished M calls no_fault)
+      front_is_accepted =
+          takes_is taken
+          ∙ front_whole max_taken calls_stream.rest piece (stream_rest_unfinished max_taken calls stream_has_no_fault)
 
   -- what is taken of a piece and told is what the definitions say, and what is left is the client after it
-  pub record IsTold (piece bytes : List ℕ) : Type 0 where
+  pub record IsTakenAndTold (piece bytes : List ℕ) : Type 0 where
     pub count : (taking (client_of limits tokens calls) piece).count ≡ takes limits tokens calls piece
     pub event : (taking (client_of limits tokens calls) piece).event ≡ event_of limits tokens calls (Took bytes)
     pub client : (taking (client_of limits tokens calls) piece).client ≡ client_of limits tokens (after_take bytes)
     pub accepted : IsAccepted limits tokens calls (Took bytes)
 
-  told_front : (before : IsReached limits tokens calls) (piece : List ℕ) (does : handles h ≡ true) → IsTold piece (front limits.max_message so_far.rest piece)
+  told_front : (before : CallsReach limits tokens calls) (piece : List ℕ) (does : handles h ≡ true) → IsTakenAndTold piece (front limits.max_message calls_stream.rest piece)
   unfolding event_of
   told_front before piece does = record {
     count = ap (λ (t : Taking). t.count) (taking_is before piece does) ∙ (found_taken before piece does).count ∙ sym (takes_is before piece does piece);
     event = ap (λ (t : Taking). t.event) (taking_is before piece does) ∙ (found_taken before piece does).event ∙ ap (event_by h) (sym (found_steps before piece does));
     client = ap (λ (t : Taking). t.client) (taking_is before piece does) ∙ (found_taken before piece does).client ∙ sym (found_left before piece does);
-    accepted = front_accepted before piece does;
+    accepted = front_is_accepted before piece does;
   }
 
   -- nothing is taken where there is no room or no message is taken
   takes_nothing : (piece : List ℕ) → handles h ≡ false → takes limits tokens calls piece ≡ 0
   unfolding takes
-  takes_nothing piece not = ap (λ (b : Bool). cond b (framing M so_far.rest piece).taken 0) not
+  takes_nothing piece not = ap (λ (b : Bool). cond b (framing max_taken calls_stream.rest piece).taken 0) not
 
-  taking_nothing : (piece : List ℕ) → handles h ≡ false → taking (client_of limits tokens calls) piece ≡ record { count = 0; client = client_of limits tokens calls; event = None }
+  taking_without_room : (piece : List ℕ) → handles h ≡ false → taking (client_of limits tokens calls) piece ≡ record { count = 0; client = client_of limits tokens calls; event = None }
   unfolding taking client_of
-  taking_nothing piece not =
+  taking_without_room piece not =
       let v : ClientValue = client_of limits tokens calls in
       ap (λ (b : Bool). cond b (taking_found v (framing h.limits.max_message v.frame piece) (framing h.limits.max_message v.frame piece).finding) (record { count = 0; client = v; event = None })) not
 
-  none_left : client_of limits tokens (after_take []) ≡ client_of limits tokens calls
-  none_left =
+  empty_take_left : client_of limits tokens (after_take []) ≡ client_of limits tokens calls
+  empty_take_left =
       after_of limits tokens (after_take [])
-      ∙ ap (λ (g : History). left g (stream_in M (after_take [])).rest) (client_same limits tokens calls (Took []) (no_bytes_steps M calls))
-      ∙ ap (λ (u : Stream). left h u.rest) (no_bytes_stream M calls)
+      ∙ ap (λ (g : History). left g (stream_in max_taken (after_take [])).rest) (client_same limits tokens calls (Took []) (empty_take_steps max_taken calls))
+      ∙ ap (λ (u : Stream). left h u.rest) (empty_take_stream max_taken calls)
       ∙ sym (after_of limits tokens calls)
 
-  told_none : (piece : List ℕ) → handles h ≡ false → IsTold piece []
+  nothing_taken_is_told : (piece : List ℕ) → handles h ≡ false → IsTakenAndTold piece []
   unfolding event_of IsAccepted
-  told_none piece not = record {
-    count = ap (λ (t : Taking). t.count) (taking_nothing piece not) ∙ sym (takes_nothing piece not);
-    event = ap (λ (t : Taking). t.event) (taking_nothing piece not) ∙ ap (event_by h) (sym (no_bytes_steps M calls));
-    client = ap (λ (t : Taking). t.client) (taking_nothing piece not) ∙ sym none_left;
+  nothing_taken_is_told piece not = record {
+    count = ap (λ (t : Taking). t.count) (taking_without_room piece not) ∙ sym (takes_nothing piece not);
+    event =
+        ap (λ (t : Taking). t.event) (taking_without_room piece not)
+        ∙ ap (event_by h) (sym (empty_take_steps max_taken calls));
+    client = ap (λ (t : Taking). t.client) (taking_without_room piece not) ∙ sym empty_take_left;
     accepted = takes_nothing [] not;
   }
 
-  told_if : (before : IsReached limits tokens calls) (piece : List ℕ) (does : Bool) → handles h ≡ does → IsTold piece (take (takes limits tokens calls piece) piece)
-  told_if before piece true e = subst (IsTold piece) (sym (front_is before piece e)) (told_front before piece e)
-  told_if before piece false e = subst (IsTold piece) (sym (ap (λ (n : ℕ). take n piece) (takes_nothing piece e))) (told_none piece e)
+  told_if : (before : CallsReach limits tokens calls) (piece : List ℕ) (does : Bool) → handles h ≡ does → IsTakenAndTold piece (take (takes limits tokens calls piece) piece)
+  told_if before piece true e =
+      subst (IsTakenAndTold piece) (sym (front_is_taken before piece e)) (told_front before piece e)
+  told_if before piece false e = subst (IsTakenAndTold piece) (sym (ap (λ (n : ℕ). take n piece) (takes_nothing piece e))) (nothing_taken_is_told piece e)
 
-  pub told : (before : IsReached limits tokens calls) (piece : List ℕ) → IsTold piece (take (takes limits tokens calls piece) piece)
-  told before piece = told_if before piece (handles h) refl
+  pub takes_and_tells : (before : CallsReach limits tokens calls) (piece : List ℕ) → IsTakenAndTold piece (take (takes limits tokens calls piece) piece)
+  takes_and_tells before piece = told_if before piece (handles h) refl
 
   -- ---- one call more is reached
 
-  took_reached : (bytes : List ℕ) (does : Bool) → handles h ≡ does → IsReached limits tokens calls → takes limits tokens calls bytes ≡ length bytes → IsReached limits tokens (after_take bytes)
-  took_reached bytes true e before all =
-      let whole : front limits.max_message so_far.rest bytes ≡ bytes = sym (front_is before bytes e) ∙ ap (λ (n : ℕ). take n bytes) all ∙ take_all (length bytes) bytes (omega arith) in
-      subst (λ (bs : List ℕ). IsReached limits tokens (after_take bs)) whole (found_reached before bytes e)
-  took_reached bytes false e before all =
+  take_is_reached : (bytes : List ℕ) (does : Bool) → handles h ≡ does → CallsReach limits tokens calls → takes limits tokens calls bytes ≡ length bytes → CallsReach limits tokens (after_take bytes)
+  take_is_reached bytes true e before all =
+      let whole : front limits.max_message calls_stream.rest bytes ≡ bytes = sym (front_is_taken before bytes e) ∙ ap (λ (n : ℕ). take n bytes) all ∙ take_all (length bytes) bytes (omega arith) in
+      subst (λ (bs : List ℕ). CallsReach limits tokens (after_take bs)) whole (found_piece_reached before bytes e)
+  take_is_reached bytes false e before all =
       let none : bytes ≡ [] = nil_from_length bytes (sym all ∙ takes_nothing bytes e) in
-      subst (λ (bs : List ℕ). IsReached limits tokens (after_take bs)) (sym none) (none_reached before)
+      subst (λ (bs : List ℕ). CallsReach limits tokens (after_take bs)) (sym none) (none_reached before)
 
-  call_reached : (c : ClientCall) → IsReached limits tokens calls → IsAccepted limits tokens calls c → IsReached limits tokens (calls ++ c ∷ [])
+  call_reached : (c : ClientCall) → CallsReach limits tokens calls → IsAccepted limits tokens calls c → CallsReach limits tokens (calls ++ c ∷ [])
   unfolding steps_by IsAccepted client.step
-  call_reached (Took bytes) before all = took_reached bytes (handles h) refl before all
+  call_reached (Took bytes) before all = take_is_reached bytes (handles h) refl before all
   call_reached (Sent method target extras) before none =
       let m : Message = request_of method target extras in
       let now = shown_after h (call.Request m extras.observe) tt before.is_history in
@@ -377,37 +384,37 @@ module _ (limits : LimitValues) (tokens : ℕ) (calls : List ClientCall) where
       let now = shown_after h (call.Written n) few before.is_history in
       same_reached (Wrote n) (Writes n) _ refl refl refl before now.is_history refl
   call_reached Ended before none =
-      let cut : Bool = is_cut so_far.rest in
+      let cut : Bool = is_cut calls_stream.rest in
       let now = shown_after h (call.End cut) tt before.is_history in
-      step_reached Ended (Ends cut) _ refl refl refl before now.is_history (λ takes. absurd (true_false _ (end_over h cut) takes))
+      bare_call_reached Ended (Ends cut) _ refl refl refl before now.is_history (λ takes. absurd (true_false _ (end_over h cut) takes))
 
-first_reached : (limits : LimitValues) (tokens : ℕ) → IsReached limits tokens []
-first_reached limits tokens = record {
+no_call_reached : (limits : LimitValues) (tokens : ℕ) → CallsReach limits tokens []
+no_call_reached limits tokens = record {
   is_history = subst IsHistory (sym (client_first limits tokens)) (new_shown Client limits tokens _ refl).is_history;
   live = λ takes. ap (λ (u : Stream). u.fault) (stream_first limits.max_message);
 }
 
 -- what accepted calls lead to
-pub accepted_is : (limits : LimitValues) (tokens : ℕ) (calls : List ClientCall) → AreAccepted limits tokens calls → IsReached limits tokens calls
-accepted_is limits tokens calls all = by_calls limits tokens (IsReached limits tokens) (first_reached limits tokens) (λ before c accepted last reached. call_reached limits tokens before c reached last) calls all
+pub accepted_reach : (limits : LimitValues) (tokens : ℕ) (calls : List ClientCall) → AreAccepted limits tokens calls → CallsReach limits tokens calls
+accepted_reach limits tokens calls all = by_calls limits tokens (CallsReach limits tokens) (no_call_reached limits tokens) (λ before c accepted last reached. call_reached limits tokens before c reached last) calls all
 
 -- ---- the client after one call more
 
-module _ (limits : LimitValues) (tokens : ℕ) (calls : List ClientCall) (before : IsReached limits tokens calls) where
+module _ (limits : LimitValues) (tokens : ℕ) (calls : List ClientCall) (before : CallsReach limits tokens calls) where
   abbrev now : History
   now = client_after limits tokens calls
 
-  abbrev rest : List ℕ
-  rest = (stream_in limits.max_message calls).rest
+  abbrev rest_so_far : List ℕ
+  rest_so_far = (stream_in limits.max_message calls).rest
 
   -- a call that makes one step, takes no byte, and leaves how the connection stands
   same_left : (c : ClientCall) (s : ClientStep) (k : History) (l : LinkValue) → steps_by limits.max_message calls c ≡ s ∷ [] → taken_by c ≡ [] → client.step now s ≡ k → k.phase ≡ now.phase → l ≡ link_of k
       → record (client_of limits tokens calls) { link = l } ≡ client_of limits tokens (calls ++ c ∷ [])
   same_left c s k l one none makes same is =
       ap (λ (v : ClientValue). record v { link = l }) (after_of limits tokens calls)
-      ∙ ap (λ (p : Phase). record { frame = cond (takes_messages p) rest []; link = l }) (sym same)
-      ∙ ap (λ (j : LinkValue). record { frame = kept_after k rest; link = j }) is
-      ∙ ap (λ (g : History). left g rest) (sym makes)
+      ∙ ap (λ (p : Phase). record { frame = cond (takes_messages p) rest_so_far []; link = l }) (sym same)
+      ∙ ap (λ (j : LinkValue). record { frame = kept_after k rest_so_far; link = j }) is
+      ∙ ap (λ (g : History). left g rest_so_far) (sym makes)
       ∙ sym (step_left limits tokens calls c s one none)
 
   pub client_link : (client_of limits tokens calls).link ≡ link_of now
@@ -440,9 +447,9 @@ module _ (limits : LimitValues) (tokens : ℕ) (calls : List ClientCall) (before
       (shows (client_of limits tokens calls).link _ (call.Written n) few refl now (record { is_history = before.is_history; same = client_link })).same
 
   -- where no message is taken any more, the end of the input changes nothing
-  ended_if : (takes : Bool) → takes_messages now.phase ≡ takes → link_after (link_of now) (call.End (is_cut (cond takes rest []))) ≡ link_after (link_of now) (call.End (is_cut rest))
+  ended_if : (takes : Bool) → takes_messages now.phase ≡ takes → link_after (link_of now) (call.End (is_cut (cond takes rest_so_far []))) ≡ link_after (link_of now) (call.End (is_cut rest_so_far))
   ended_if true e = refl
-  ended_if false e = stays (is_cut []) ∙ sym (stays (is_cut rest))
+  ended_if false e = stays (is_cut []) ∙ sym (stays (is_cut rest_so_far))
     where
       stays : (cut : Bool) → link_after (link_of now) (call.End cut) ≡ link_of now
       stays cut = rw e refl
@@ -450,10 +457,10 @@ module _ (limits : LimitValues) (tokens : ℕ) (calls : List ClientCall) (before
   pub ended_left : client_ended (client_of limits tokens calls) ≡ client_of limits tokens (calls ++ Ended ∷ [])
   unfolding steps_by client.step
   ended_left =
-      let cut : Bool = is_cut rest in
+      let cut : Bool = is_cut rest_so_far in
       let k : History = after now (call.End cut) in
       ap client_ended (after_of limits tokens calls)
       ∙ ap (λ (l : LinkValue). record { frame = []; link = l })
       (ended_if (takes_messages now.phase) refl ∙ (shown_after now (call.End cut) tt before.is_history).same)
-      ∙ ap (λ (f : List ℕ). record { frame = f; link = link_of k }) (sym (kept_none k rest (end_over now cut)))
+      ∙ ap (λ (f : List ℕ). record { frame = f; link = link_of k }) (sym (kept_none k rest_so_far (end_over now cut)))
       ∙ sym (step_left limits tokens calls Ended (Ends cut) refl refl)

@@ -18,12 +18,12 @@ use Rattle.coap_client.specs.Targets.{TargetValue}
 use Rattle.coap_client.specs.Requests.{ExtrasValue, request_of, cancel_of, is_too_long, has_long_extra}
 use Rattle.coap_client.specs.ClientValues.{ClientValue, EventValue, taking, new_client, client_written, client_ended, client_sent, client_cancelled, client_pinged, send_refusal, cancelling_refusal, ping_refusal}
 use Rattle.coap_client.specs.ClientWorld.{ClientCall, Took, Sent, Cancelled, Pinged, Wrote, Ended, client_after, takes, event_of, IsAccepted, AreAccepted, kept_after, client_of, ClientShows}
-use Rattle.coap_client.proofs.ClientSteps.{stream_first, client_first, accepted_none, accepted_more}
-use Rattle.coap_client.proofs.ClientReached.{limits_same, IsReached, accepted_is, after_of, client_link, IsTold, told, sent_left, cancelled_left, pinged_left, wrote_left, ended_left}
+use Rattle.coap_client.proofs.ClientSteps.{stream_first, client_first, accepted_no_call, accepted_with_call}
+use Rattle.coap_client.proofs.ClientReached.{limits_same, CallsReach, accepted_reach, after_of, client_link, IsTakenAndTold, takes_and_tells, sent_left, cancelled_left, pinged_left, wrote_left, ended_left}
 
 -- a client that is what accepted calls leave shows them
-shows_as : (limits : LimitValues) (tokens : ℕ) (calls : List ClientCall) (v : ClientValue) → v ≡ client_of limits tokens calls → AreAccepted limits tokens calls → ClientShows v tokens calls
-shows_as limits tokens calls v is all =
+shows_client_of : (limits : LimitValues) (tokens : ℕ) (calls : List ClientCall) (v : ClientValue) → v ≡ client_of limits tokens calls → AreAccepted limits tokens calls → ClientShows v tokens calls
+shows_client_of limits tokens calls v is all =
     let same : v.link.limits ≡ limits = ap (λ (u : ClientValue). u.link.limits) (is ∙ after_of limits tokens calls) ∙ limits_same limits tokens calls in
     record {
       accepted = subst (λ (l : LimitValues). AreAccepted l tokens calls) (sym same) all;
@@ -40,7 +40,7 @@ client_opened limits tokens =
     ∙ sym (after_of limits tokens [])
 
 pub opened_shown : {F : Type 0} (r : Result ClientValue F) (limits : LimitValues) (tokens : ℕ) → IfOk r (λ c. c ≡ new_client limits tokens) → IfOk r (λ c. ClientShows c tokens [])
-opened_shown (Ok c) limits tokens is = shows_as limits tokens [] c (is ∙ client_opened limits tokens) (accepted_none limits tokens)
+opened_shown (Ok c) limits tokens is = shows_client_of limits tokens [] c (is ∙ client_opened limits tokens) (accepted_no_call limits tokens)
 opened_shown (Err e) limits tokens is = tt
 
 -- ---- one call more
@@ -50,64 +50,64 @@ module _ (v : ClientValue) (tokens : ℕ) (calls : List ClientCall) (shows : Cli
   abbrev limits : LimitValues
   limits = v.link.limits
 
-  before : IsReached v.link.limits tokens calls
-  before = accepted_is v.link.limits tokens calls shows.accepted
+  before : CallsReach v.link.limits tokens calls
+  before = accepted_reach v.link.limits tokens calls shows.accepted
 
   link_is : v.link ≡ link_of (client_after v.link.limits tokens calls)
   link_is = ap (λ (u : ClientValue). u.link) shows.same ∙ client_link v.link.limits tokens calls before
 
   -- where a call is accepted, and makes this of the client after the calls before it
-  goes_on : (c : ClientCall) (f : ClientValue → ClientValue) → IsAccepted v.link.limits tokens calls c → f (client_of v.link.limits tokens calls) ≡ client_of v.link.limits tokens (calls ++ c ∷ []) → (new : ClientValue) → new ≡ f v → ClientShows new tokens (calls ++ c ∷ [])
-  goes_on c f last left new is = shows_as v.link.limits tokens (calls ++ c ∷ []) new (is ∙ ap f shows.same ∙ left) (accepted_more v.link.limits tokens calls c shows.accepted last)
+  call_is_shown : (c : ClientCall) (f : ClientValue → ClientValue) → IsAccepted v.link.limits tokens calls c → f (client_of v.link.limits tokens calls) ≡ client_of v.link.limits tokens (calls ++ c ∷ []) → (new : ClientValue) → new ≡ f v → ClientShows new tokens (calls ++ c ∷ [])
+  call_is_shown c f last left new is = shows_client_of v.link.limits tokens (calls ++ c ∷ []) new (is ∙ ap f shows.same ∙ left) (accepted_with_call v.link.limits tokens calls c shows.accepted last)
 
   sent_on : (method : Method) (target : TargetValue) (extras : ExtrasValue) → send_refusal v.link method target extras ≡ None → (new : ClientValue) → new ≡ client_sent v method target extras → ClientShows new tokens (calls ++ Sent method target extras ∷ [])
   unfolding IsAccepted
   sent_on method target extras none new is =
-      goes_on (Sent method target extras) (λ u. client_sent u method target extras)
+      call_is_shown (Sent method target extras) (λ u. client_sent u method target extras)
       (ap (λ (l : LinkValue). send_refusal l method target extras) (sym link_is) ∙ none)
       (sent_left v.link.limits tokens calls before method target extras) new is
 
   cancelled_on : (token : List ℕ) (target : TargetValue) (extras : ExtrasValue) → cancelling_refusal v.link token target extras ≡ None → (new : ClientValue) → new ≡ client_cancelled v token target extras → ClientShows new tokens (calls ++ Cancelled token target extras ∷ [])
   unfolding IsAccepted
   cancelled_on token target extras none new is =
-      goes_on (Cancelled token target extras) (λ u. client_cancelled u token target extras)
+      call_is_shown (Cancelled token target extras) (λ u. client_cancelled u token target extras)
       (ap (λ (l : LinkValue). cancelling_refusal l token target extras) (sym link_is) ∙ none)
       (cancelled_left v.link.limits tokens calls before token target extras) new is
 
   pinged_on : (custody : Bool) → ping_refusal v.link custody ≡ None → (new : ClientValue) → new ≡ client_pinged v custody → ClientShows new tokens (calls ++ Pinged custody ∷ [])
   unfolding IsAccepted
   pinged_on custody none new is =
-      goes_on (Pinged custody) (λ u. client_pinged u custody)
+      call_is_shown (Pinged custody) (λ u. client_pinged u custody)
       (ap (λ (l : LinkValue). ping_refusal l custody) (sym link_is) ∙ none)
       (pinged_left v.link.limits tokens calls before custody) new is
 
   wrote_on : (n : ℕ) → n ≤ length v.link.waiting → (new : ClientValue) → new ≡ client_written v n → ClientShows new tokens (calls ++ Wrote n ∷ [])
   unfolding IsAccepted
   wrote_on n few new is =
-      goes_on (Wrote n) (λ u. client_written u n)
+      call_is_shown (Wrote n) (λ u. client_written u n)
       (subst (λ (l : LinkValue). n ≤ length l.waiting) link_is few)
       (wrote_left v.link.limits tokens calls before n (subst (λ (u : ClientValue). n ≤ length u.link.waiting) shows.same few)) new is
 
   ended_on : (new : ClientValue) → new ≡ client_ended v → ClientShows new tokens (calls ++ Ended ∷ [])
   unfolding IsAccepted
-  ended_on new is = goes_on Ended client_ended tt (ended_left v.link.limits tokens calls before) new is
+  ended_on new is = call_is_shown Ended client_ended tt (ended_left v.link.limits tokens calls before) new is
 
   -- what a take says of a piece
-  said : (piece : List ℕ) → IsTold v.link.limits tokens calls piece (take (takes v.link.limits tokens calls piece) piece)
-  said piece = told v.link.limits tokens calls before piece
+  piece_is_told : (piece : List ℕ) → IsTakenAndTold v.link.limits tokens calls piece (take (takes v.link.limits tokens calls piece) piece)
+  piece_is_told piece = takes_and_tells v.link.limits tokens calls before piece
 
   takes_on : (piece : List ℕ) (n : ℕ) → n ≡ (taking v piece).count → n ≡ takes v.link.limits tokens calls piece
-  takes_on piece n is = is ∙ ap (λ (u : ClientValue). (taking u piece).count) shows.same ∙ (said piece).count
+  takes_on piece n is = is ∙ ap (λ (u : ClientValue). (taking u piece).count) shows.same ∙ (piece_is_told piece).count
 
   told_on : (piece : List ℕ) (n : ℕ) (e : Option EventValue) → n ≡ (taking v piece).count → e ≡ (taking v piece).event → e ≡ event_of v.link.limits tokens calls (Took (take n piece))
   told_on piece n e count is =
-      is ∙ ap (λ (u : ClientValue). (taking u piece).event) shows.same ∙ (said piece).event
+      is ∙ ap (λ (u : ClientValue). (taking u piece).event) shows.same ∙ (piece_is_told piece).event
       ∙ ap (λ (k : ℕ). event_of v.link.limits tokens calls (Took (take k piece))) (sym (takes_on piece n count))
 
   took_on : (piece : List ℕ) (n : ℕ) → n ≡ (taking v piece).count → ClientShows (taking v piece).client tokens (calls ++ Took (take n piece) ∷ [])
   took_on piece n count =
       subst (λ (k : ℕ). ClientShows (taking v piece).client tokens (calls ++ Took (take k piece) ∷ [])) (sym (takes_on piece n count))
-      (goes_on (Took (take (takes v.link.limits tokens calls piece) piece)) (λ u. (taking u piece).client) (said piece).accepted (said piece).client (taking v piece).client refl)
+      (call_is_shown (Took (take (takes v.link.limits tokens calls piece) piece)) (λ u. (taking u piece).client) (piece_is_told piece).accepted (piece_is_told piece).client (taking v piece).client refl)
 
 -- ---- send, cancel, ping
 
@@ -127,58 +127,58 @@ pinged_shown (Ok x) v new custody none is = λ tokens calls shows. pinged_on v t
 pinged_shown (Err e) v new custody none is = tt
 
 -- the same of the parts of a client: the bytes that it keeps, and its link before and after
-abbrev parts : List ℕ → LinkValue → ClientValue
-parts frame link = record { frame = frame; link = link }
+abbrev client_of_parts : List ℕ → LinkValue → ClientValue
+client_of_parts frame link = record { frame = frame; link = link }
 
-on_parts : (f : ClientValue → ClientValue) (v : ClientValue) (frame : List ℕ) (link new : LinkValue) → parts frame link ≡ v → parts frame new ≡ f (parts frame link) → parts frame new ≡ f v
+on_parts : (f : ClientValue → ClientValue) (v : ClientValue) (frame : List ℕ) (link new : LinkValue) → client_of_parts frame link ≡ v → client_of_parts frame new ≡ f (client_of_parts frame link) → client_of_parts frame new ≡ f v
 on_parts f v frame link new view is = is ∙ ap f view
 
-pub sent_here : {T : Type 0} (r : Result T RequestFault) (v : ClientValue) (frame : List ℕ) (link new : LinkValue) (method : Method) (target : TargetValue) (extras : ExtrasValue) → parts frame link ≡ v → RefusedBy r (send_refusal link method target extras)
-    → OnOk r (new ≡ link_after link (call.Request (request_of method target extras) extras.observe)) → OnOk r ((tokens : ℕ) (calls : List ClientCall) → ClientShows v tokens calls → ClientShows (parts frame new) tokens (calls ++ Sent method target extras ∷ []))
+pub sent_here : {T : Type 0} (r : Result T RequestFault) (v : ClientValue) (frame : List ℕ) (link new : LinkValue) (method : Method) (target : TargetValue) (extras : ExtrasValue) → client_of_parts frame link ≡ v → RefusedBy r (send_refusal link method target extras)
+    → OnOk r (new ≡ link_after link (call.Request (request_of method target extras) extras.observe)) → OnOk r ((tokens : ℕ) (calls : List ClientCall) → ClientShows v tokens calls → ClientShows (client_of_parts frame new) tokens (calls ++ Sent method target extras ∷ []))
 sent_here (Ok x) v frame link new method target extras view none is =
-    sent_shown (Ok x) v (parts frame new) method target extras (ap (λ (u : ClientValue). send_refusal u.link method target extras) (sym view) ∙ none)
-    (on_parts (λ u. client_sent u method target extras) v frame link new view (ap (parts frame) is))
+    sent_shown (Ok x) v (client_of_parts frame new) method target extras (ap (λ (u : ClientValue). send_refusal u.link method target extras) (sym view) ∙ none)
+    (on_parts (λ u. client_sent u method target extras) v frame link new view (ap (client_of_parts frame) is))
 sent_here (Err e) v frame link new method target extras view none is = tt
 
-pub cancelled_here : {T : Type 0} (r : Result T RequestFault) (v : ClientValue) (frame : List ℕ) (link new : LinkValue) (token : List ℕ) (target : TargetValue) (extras : ExtrasValue) → parts frame link ≡ v → RefusedBy r (cancelling_refusal link token target extras)
-    → OnOk r (new ≡ link_after link (call.Cancel token (cancel_of target extras))) → OnOk r ((tokens : ℕ) (calls : List ClientCall) → ClientShows v tokens calls → ClientShows (parts frame new) tokens (calls ++ Cancelled token target extras ∷ []))
+pub cancelled_here : {T : Type 0} (r : Result T RequestFault) (v : ClientValue) (frame : List ℕ) (link new : LinkValue) (token : List ℕ) (target : TargetValue) (extras : ExtrasValue) → client_of_parts frame link ≡ v → RefusedBy r (cancelling_refusal link token target extras)
+    → OnOk r (new ≡ link_after link (call.Cancel token (cancel_of target extras))) → OnOk r ((tokens : ℕ) (calls : List ClientCall) → ClientShows v tokens calls → ClientShows (client_of_parts frame new) tokens (calls ++ Cancelled token target extras ∷ []))
 cancelled_here (Ok x) v frame link new token target extras view none is =
-    cancelled_shown (Ok x) v (parts frame new) token target extras (ap (λ (u : ClientValue). cancelling_refusal u.link token target extras) (sym view) ∙ none)
-    (on_parts (λ u. client_cancelled u token target extras) v frame link new view (ap (parts frame) is))
+    cancelled_shown (Ok x) v (client_of_parts frame new) token target extras (ap (λ (u : ClientValue). cancelling_refusal u.link token target extras) (sym view) ∙ none)
+    (on_parts (λ u. client_cancelled u token target extras) v frame link new view (ap (client_of_parts frame) is))
 cancelled_here (Err e) v frame link new token target extras view none is = tt
 
-pub pinged_here : {T : Type 0} (r : Result T RequestFault) (v : ClientValue) (frame : List ℕ) (link new : LinkValue) (custody : Bool) → parts frame link ≡ v → RefusedBy r (ping_refusal link custody)
-    → OnOk r (new ≡ link_after link (call.Ping custody)) → OnOk r ((tokens : ℕ) (calls : List ClientCall) → ClientShows v tokens calls → ClientShows (parts frame new) tokens (calls ++ Pinged custody ∷ []))
+pub pinged_here : {T : Type 0} (r : Result T RequestFault) (v : ClientValue) (frame : List ℕ) (link new : LinkValue) (custody : Bool) → client_of_parts frame link ≡ v → RefusedBy r (ping_refusal link custody)
+    → OnOk r (new ≡ link_after link (call.Ping custody)) → OnOk r ((tokens : ℕ) (calls : List ClientCall) → ClientShows v tokens calls → ClientShows (client_of_parts frame new) tokens (calls ++ Pinged custody ∷ []))
 pinged_here (Ok x) v frame link new custody view none is =
-    pinged_shown (Ok x) v (parts frame new) custody (ap (λ (u : ClientValue). ping_refusal u.link custody) (sym view) ∙ none)
-    (on_parts (λ u. client_pinged u custody) v frame link new view (ap (parts frame) is))
+    pinged_shown (Ok x) v (client_of_parts frame new) custody (ap (λ (u : ClientValue). ping_refusal u.link custody) (sym view) ∙ none)
+    (on_parts (λ u. client_pinged u custody) v frame link new view (ap (client_of_parts frame) is))
 pinged_here (Err e) v frame link new custody view none is = tt
 
 -- a message that was made is the one that is meant, and is not too long
-made : (long : Bool) (m meant : Message) → ◌≡◌ {A = Option Message} (Some m) (cond long None (Some meant)) → (long ≡ false) × (m ≡ meant)
-made true m meant is = absurd cc
-made false m meant is = let same : m ≡ meant = cc in (refl, same)
+made_is_meant : (long : Bool) (m meant : Message) → ◌≡◌ {A = Option Message} (Some m) (cond long None (Some meant)) → (long ≡ false) × (m ≡ meant)
+made_is_meant true m meant is = absurd cc
+made_is_meant false m meant is = let same : m ≡ meant = cc in (refl, same)
 
-pub sent_made : {T : Type 0} (r : Result T RequestFault) (v : ClientValue) (frame : List ℕ) (link new : LinkValue) (method : Method) (target : TargetValue) (extras : ExtrasValue) (m : Message) → parts frame link ≡ v
+pub sent_made : {T : Type 0} (r : Result T RequestFault) (v : ClientValue) (frame : List ℕ) (link new : LinkValue) (method : Method) (target : TargetValue) (extras : ExtrasValue) (m : Message) → client_of_parts frame link ≡ v
     → ◌≡◌ {A = Option Message} (Some m) (cond (is_too_long extras) None (Some (request_of method target extras)))
     → RefusedBy r (asking_refusal (asking_in link) (with_token m (next_token link.tokens))) → OnOk r (new ≡ link_after link (call.Request m extras.observe))
-    → OnOk r ((tokens : ℕ) (calls : List ClientCall) → ClientShows v tokens calls → ClientShows (parts frame new) tokens (calls ++ Sent method target extras ∷ []))
+    → OnOk r ((tokens : ℕ) (calls : List ClientCall) → ClientShows v tokens calls → ClientShows (client_of_parts frame new) tokens (calls ++ Sent method target extras ∷ []))
 sent_made (Ok x) v frame link new method target extras m view is none after =
     let meant : Message = request_of method target extras in
-    let means = made (is_too_long extras) m meant is in
+    let means = made_is_meant (is_too_long extras) m meant is in
     sent_here (Ok x) v frame link new method target extras view
     (ap (λ (long : Bool). cond long (else_refusal (new_refusal (asking_in link)) (Some TooBig)) (asking_refusal (asking_in link) (with_token meant (next_token link.tokens)))) means.0
     ∙ ap (λ (n : Message). asking_refusal (asking_in link) (with_token n (next_token link.tokens))) (sym means.1) ∙ none)
     (after ∙ ap (λ (n : Message). link_after link (call.Request n extras.observe)) means.1)
 sent_made (Err e) v frame link new method target extras m view is none after = tt
 
-pub cancelled_made : {T : Type 0} (r : Result T RequestFault) (v : ClientValue) (frame : List ℕ) (link new : LinkValue) (token : List ℕ) (target : TargetValue) (extras : ExtrasValue) (m : Message) → parts frame link ≡ v
+pub cancelled_made : {T : Type 0} (r : Result T RequestFault) (v : ClientValue) (frame : List ℕ) (link new : LinkValue) (token : List ℕ) (target : TargetValue) (extras : ExtrasValue) (m : Message) → client_of_parts frame link ≡ v
     → ◌≡◌ {A = Option Message} (Some m) (cond (has_long_extra extras) None (Some (cancel_of target extras)))
     → RefusedBy r (cancel_refusal (asking_in link) token (with_token m token)) → OnOk r (new ≡ link_after link (call.Cancel token m))
-    → OnOk r ((tokens : ℕ) (calls : List ClientCall) → ClientShows v tokens calls → ClientShows (parts frame new) tokens (calls ++ Cancelled token target extras ∷ []))
+    → OnOk r ((tokens : ℕ) (calls : List ClientCall) → ClientShows v tokens calls → ClientShows (client_of_parts frame new) tokens (calls ++ Cancelled token target extras ∷ []))
 cancelled_made (Ok x) v frame link new token target extras m view is none after =
     let meant : Message = cancel_of target extras in
-    let means = made (has_long_extra extras) m meant is in
+    let means = made_is_meant (has_long_extra extras) m meant is in
     cancelled_here (Ok x) v frame link new token target extras view
     (ap (λ (long : Bool). cond long (else_refusal (observation_refusal (asking_in link) token) (Some TooBig)) (cancel_refusal (asking_in link) token (with_token meant token))) means.0
     ∙ ap (λ (n : Message). cancel_refusal (asking_in link) token (with_token n token)) (sym means.1) ∙ none)

@@ -1,8 +1,8 @@
 -- Where pieces are cut does not matter: a piece, and its two parts one after the other, make the same steps and leave the same
 -- client.
-use Rattle.std.proofs.Common.{◌≡◌, ℕ, List, [], ◌∷◌, ◌++◌, length, map, Option, Some, None, refl, sym, ap, subst, ◌∙◌, append_assoc, arith}
+use Rattle.std.proofs.Common.{◌≡◌, ℕ, List, [], ◌∷◌, ◌++◌, map, Option, Some, None, refl, sym, ap, subst, ◌∙◌, append_assoc}
 use Rattle.std.specs.List.{flat_map}
-use Rattle.std.proofs.lemmas.List.{append-nil, map-append, drop_all}
+use Rattle.std.proofs.lemmas.List.{append-nil, map-append}
 use Rattle.std.proofs.lemmas.List.Concat.{flat_map-append}
 use Rattle.std.proofs.Math.Seq.{drop-append_seam}
 use Rattle.coap_wire.specs.Message.{Message}
@@ -12,7 +12,7 @@ use Rattle.coap_conn.specs.Limits.{LimitValues}
 use Rattle.coap_conn.specs.History.{History, new_history, link_of}
 use Rattle.coap_client.specs.ClientValues.{ClientValue, is_cut}
 use Rattle.coap_client.specs.ClientWorld.{ClientCall, Took, Sent, Cancelled, Pinged, Wrote, Ended, ClientStep, Handles, Ends, taken_by, stream_in, new_fault, beyond, steps_by, steps_behind, steps_of, after_steps, client_after, kept_after, client_of}
-use Rattle.coap_client.proofs.ClientSteps.{stream_more, behind_more}
+use Rattle.coap_client.proofs.ClientSteps.{stream_goes_on, call_steps_behind_more, nothing_beyond_itself}
 
 -- ---- only the bytes that were taken matter
 
@@ -24,25 +24,26 @@ alike_then : (calls others more : List ClientCall) → TookAlike calls others �
 alike_then calls others more alike =
     flat_map-append taken_by calls more ∙ ap (λ (t : List ℕ). t ++ flat_map taken_by more) alike ∙ sym (flat_map-append taken_by others more)
 
-by_alike : (M : ℕ) (calls others : List ClientCall) (c : ClientCall) → TookAlike calls others
+call_steps_alike : (M : ℕ) (calls others : List ClientCall) (c : ClientCall) → TookAlike calls others
     → steps_by M calls c ≡ steps_by M others c
 unfolding steps_by
-by_alike M calls others (Took bytes) alike =
+call_steps_alike M calls others (Took bytes) alike =
     ap (λ (t : List ℕ). beyond (split M t) (stream_in M (calls ++ Took bytes ∷ []))) alike
     ∙ ap (λ (t : List ℕ). beyond (stream_in M others) (split M t)) (alike_then calls others (Took bytes ∷ []) alike)
-by_alike M calls others (Sent method target extras) alike = refl
-by_alike M calls others (Cancelled token target extras) alike = refl
-by_alike M calls others (Pinged custody) alike = refl
-by_alike M calls others (Wrote n) alike = refl
-by_alike M calls others Ended alike = ap (λ (t : List ℕ). Ends (is_cut (split M t).rest) ∷ []) alike
+call_steps_alike M calls others (Sent method target extras) alike = refl
+call_steps_alike M calls others (Cancelled token target extras) alike = refl
+call_steps_alike M calls others (Pinged custody) alike = refl
+call_steps_alike M calls others (Wrote n) alike = refl
+call_steps_alike M calls others Ended alike = ap (λ (t : List ℕ). Ends (is_cut (split M t).rest) ∷ []) alike
 
-behind_alike : (M : ℕ) (calls others later : List ClientCall) → TookAlike calls others
+later_steps_alike : (M : ℕ) (calls others later : List ClientCall) → TookAlike calls others
     → steps_behind M calls later ≡ steps_behind M others later
 unfolding steps_behind
-behind_alike M calls others [] alike = refl
-behind_alike M calls others (c ∷ later) alike =
-    ap (λ (ss : List ClientStep). ss ++ steps_behind M (calls ++ c ∷ []) later) (by_alike M calls others c alike)
-    ∙ ap (λ (ss : List ClientStep). steps_by M others c ++ ss) (behind_alike M (calls ++ c ∷ []) (others ++ c ∷ []) later (alike_then calls others (c ∷ []) alike))
+later_steps_alike M calls others [] alike = refl
+later_steps_alike M calls others (c ∷ later) alike =
+    ap (λ (ss : List ClientStep). ss ++ steps_behind M (calls ++ c ∷ []) later)
+    (call_steps_alike M calls others c alike)
+    ∙ ap (λ (ss : List ClientStep). steps_by M others c ++ ss) (later_steps_alike M (calls ++ c ∷ []) (others ++ c ∷ []) later (alike_then calls others (c ∷ []) alike))
 
 -- ---- a stream gone on in two parts
 
@@ -53,19 +54,10 @@ beyond_more before others none =
     ap (λ (ms : List Message). map Handles ms ++ new_fault before.fault others.fault) (drop-append_seam before.messages others.messages)
     ∙ ap (λ (f : Option StreamFault). map Handles others.messages ++ new_fault f others.fault) none
 
--- nothing is beyond a stream in itself
-same_beyond : (s : Stream) (fault : Option StreamFault) → map Handles [] ++ new_fault fault fault ≡ []
-same_beyond s None = refl
-same_beyond s (Some fault) = refl
-
-nothing_beyond : (s : Stream) → beyond s s ≡ []
-nothing_beyond s =
-    ap (λ (ms : List Message). map Handles ms ++ new_fault s.fault s.fault) (drop_all (length s.messages) s.messages (omega arith)) ∙ same_beyond s s.fault
-
 -- a stream with no fault, gone on with s and then with t
-parts : (before s t : Stream) (fault : Option StreamFault) → before.fault ≡ None → s.fault ≡ fault
+beyond_gone_on : (before s t : Stream) (fault : Option StreamFault) → before.fault ≡ None → s.fault ≡ fault
     → beyond before (gone_on (behind before.messages s) fault t) ≡ beyond before (behind before.messages s) ++ beyond (behind before.messages s) (gone_on (behind before.messages s) fault t)
-parts before s t None none is =
+beyond_gone_on before s t None none is =
     let after : Stream = behind before.messages s in
     ap (λ (ms : List Message). beyond before (record t { messages = ms })) (append_assoc before.messages s.messages t.messages)
     ∙ beyond_more before (behind s.messages t) none
@@ -74,22 +66,23 @@ parts before s t None none is =
     ∙ sym (
     ap (λ (ss : List ClientStep). ss ++ beyond after (behind after.messages t)) (beyond_more before s none ∙ ap (λ (f : Option StreamFault). map Handles s.messages ++ new_fault None f) is ∙ append-nil (map Handles s.messages))
     ∙ ap (λ (ss : List ClientStep). map Handles s.messages ++ ss) (beyond_more after t is))
-parts before s t (Some fault) none is =
+beyond_gone_on before s t (Some fault) none is =
     let after : Stream = behind before.messages s in
-    sym (ap (λ (ss : List ClientStep). beyond before after ++ ss) (nothing_beyond after) ∙ append-nil (beyond before after))
+    sym (ap (λ (ss : List ClientStep). beyond before after ++ ss) (nothing_beyond_itself after after.fault refl) ∙ append-nil (beyond before after))
 
 -- the same of any stream, gone on with one piece and then with another
-beyond_parts : (M : ℕ) (before : Stream) (fault : Option StreamFault) (one other : List ℕ) → before.fault ≡ fault
+beyond_two_pieces : (M : ℕ) (before : Stream) (fault : Option StreamFault) (one other : List ℕ) → before.fault ≡ fault
     → beyond before (split_on M (split_on M before one) other) ≡ beyond before (split_on M before one) ++ beyond (split_on M before one) (split_on M (split_on M before one) other)
-beyond_parts M before None one other none =
+beyond_two_pieces M before None one other none =
     let s : Stream = split M (before.rest ++ one) in
     let on : split_on M before one ≡ behind before.messages s = ap (λ (f : Option StreamFault). gone_on before f s) none in
     subst (λ (a : Stream). beyond before (split_on M a other) ≡ beyond before a ++ beyond a (split_on M a other)) (sym on)
-    (parts before s (split M (s.rest ++ other)) s.fault none refl)
-beyond_parts M before (Some fault) one other is =
+    (beyond_gone_on before s (split M (s.rest ++ other)) s.fault none refl)
+beyond_two_pieces M before (Some fault) one other is =
     let on : (more : List ℕ) → split_on M before more ≡ before = λ more. ap (λ (f : Option StreamFault). gone_on before f (split M (before.rest ++ more))) is in
     subst (λ (a : Stream). beyond before (split_on M a other) ≡ beyond before a ++ beyond a (split_on M a other)) (sym (on one))
-    (sym (ap (λ (ss : List ClientStep). ss ++ beyond before (split_on M before other)) (nothing_beyond before)))
+    (sym (ap (λ (ss : List ClientStep). ss ++ beyond before (split_on M before other))
+    (nothing_beyond_itself before before.fault refl)))
 
 -- ---- a piece in two parts
 
@@ -102,33 +95,33 @@ taken_twice calls one other =
     ∙ ap (flat_map taken_by) (sym (append_assoc calls (Took one ∷ []) (Took other ∷ [])))
 
 -- the steps of a piece are those of its parts
-by_parts : (M : ℕ) (calls : List ClientCall) (one other : List ℕ)
+piece_steps_by_parts : (M : ℕ) (calls : List ClientCall) (one other : List ℕ)
     → steps_by M calls (Took (one ++ other)) ≡ steps_by M calls (Took one) ++ steps_by M (calls ++ Took one ∷ []) (Took other)
 unfolding steps_by
-by_parts M calls one other =
+piece_steps_by_parts M calls one other =
     let before : Stream = stream_in M calls in
-    let half = stream_more M calls one in
-    let both : stream_in M ((calls ++ Took one ∷ []) ++ Took other ∷ []) ≡ split_on M (split_on M before one) other = stream_more M (calls ++ Took one ∷ []) other ∙ ap (λ (s : Stream). split_on M s other) half in
+    let half = stream_goes_on M calls one in
+    let both : stream_in M ((calls ++ Took one ∷ []) ++ Took other ∷ []) ≡ split_on M (split_on M before one) other = stream_goes_on M (calls ++ Took one ∷ []) other ∙ ap (λ (s : Stream). split_on M s other) half in
     let whole : stream_in M (calls ++ Took (one ++ other) ∷ []) ≡ split_on M (split_on M before one) other = ap (split M) (taken_twice calls one other) ∙ both in
     ap (beyond before) whole
-    ∙ beyond_parts M before before.fault one other refl
+    ∙ beyond_two_pieces M before before.fault one other refl
     ∙ sym (
     ap (λ (s : Stream). beyond before s ++ beyond s (stream_in M ((calls ++ Took one ∷ []) ++ Took other ∷ []))) half
     ∙ ap (λ (s : Stream). beyond before (split_on M before one) ++ beyond (split_on M before one) s) both)
 
 -- ---- the law
 
-pub cut_steps : (M : ℕ) (earlier later : List ClientCall) (one other : List ℕ)
+pub cut_call_steps : (M : ℕ) (earlier later : List ClientCall) (one other : List ℕ)
     → steps_of M (earlier ++ Took (one ++ other) ∷ later) ≡ steps_of M (earlier ++ Took one ∷ Took other ∷ later)
 unfolding steps_of steps_behind
-cut_steps M earlier later one other =
+cut_call_steps M earlier later one other =
     let half : List ClientCall = earlier ++ Took one ∷ [] in
-    behind_more M [] earlier (Took (one ++ other) ∷ later)
+    call_steps_behind_more M [] earlier (Took (one ++ other) ∷ later)
     ∙ ap (λ (ss : List ClientStep). steps_behind M [] earlier ++ ss) (
-    ap (λ (ss : List ClientStep). ss ++ steps_behind M (earlier ++ Took (one ++ other) ∷ []) later) (by_parts M earlier one other)
-    ∙ ap (λ (ss : List ClientStep). (steps_by M earlier (Took one) ++ steps_by M half (Took other)) ++ ss) (behind_alike M _ _ later (taken_twice earlier one other))
+    ap (λ (ss : List ClientStep). ss ++ steps_behind M (earlier ++ Took (one ++ other) ∷ []) later) (piece_steps_by_parts M earlier one other)
+    ∙ ap (λ (ss : List ClientStep). (steps_by M earlier (Took one) ++ steps_by M half (Took other)) ++ ss) (later_steps_alike M _ _ later (taken_twice earlier one other))
     ∙ append_assoc (steps_by M earlier (Took one)) (steps_by M half (Took other)) (steps_behind M (half ++ Took other ∷ []) later))
-    ∙ sym (behind_more M [] earlier (Took one ∷ Took other ∷ later))
+    ∙ sym (call_steps_behind_more M [] earlier (Took one ∷ Took other ∷ later))
 
 -- the client is told by the steps and by the bytes taken
 abbrev client_by : LimitValues → ℕ → List ClientStep → List ℕ → ClientValue
@@ -148,5 +141,5 @@ pub cut_client : (limits : LimitValues) (tokens : ℕ) (earlier later : List Cli
 unfolding client_of client_after
 cut_client limits tokens earlier later one other =
     let cut : List ClientCall = earlier ++ Took one ∷ Took other ∷ later in
-    ap (λ (ss : List ClientStep). client_by limits tokens ss (flat_map taken_by (earlier ++ Took (one ++ other) ∷ later))) (cut_steps limits.max_message earlier later one other)
+    ap (λ (ss : List ClientStep). client_by limits tokens ss (flat_map taken_by (earlier ++ Took (one ++ other) ∷ later))) (cut_call_steps limits.max_message earlier later one other)
     ∙ ap (client_by limits tokens (steps_of limits.max_message cut)) (cut_bytes earlier later one other)

@@ -18,35 +18,35 @@ use Rattle.coap_conn.proofs.HistoryLaws.{reaction_fits, stopped_fits, asked_fits
 use Rattle.coap_client.specs.ClientWorld.{ClientStep, Handles, Faults, Requests, Cancels, Pings, Writes, Ends, step}
 
 -- more is queued, and it fits
-abbrev Grows : History → History → Type 0
-Grows h k = (more : List Message) × (k.queued ≡ h.queued ++ more) × AllFit (limit_now h) more
+abbrev GrowsFit : History → History → Type 0
+GrowsFit h k = (more : List Message) × (k.queued ≡ h.queued ++ more) × AllFit (limit_now h) more
 
-grows_none : (h k : History) → k.queued ≡ h.queued → Grows h k
+grows_none : (h k : History) → k.queued ≡ h.queued → GrowsFit h k
 grows_none h k same = ([], same ∙ sym (append-nil h.queued), tt)
 
 -- an effect where a test says so
-effect_grows : (h : History) (e : Effect) (does : Bool) → AllFit (limit_now h) e.queued → Grows h (cond does (with_effect h e) h)
-effect_grows h e true fit = (e.queued, refl, fit)
-effect_grows h e false fit = grows_none h h refl
+effect_grows_fit : (h : History) (e : Effect) (does : Bool) → AllFit (limit_now h) e.queued → GrowsFit h (cond does (with_effect h e) h)
+effect_grows_fit h e true fit = (e.queued, refl, fit)
+effect_grows_fit h e false fit = grows_none h h refl
 
 heard_grows : (h : History) (m : Message) (takes : Bool)
-    → Grows h (cond takes (record (with_effect h (react (standing_now h) m).effect) { handled = h.handled ++ m ∷ [] }) h)
+    → GrowsFit h (cond takes (record (with_effect h (react (standing_now h) m).effect) { handled = h.handled ++ m ∷ [] }) h)
 heard_grows h m true = ((react (standing_now h) m).effect.queued, refl, reaction_fits h m)
 heard_grows h m false = grows_none h h refl
 
 -- a message where a test says so
 sent_grows : (h : History) (m : Message) (outstanding : List OutstandingValue) (tokens : ℕ) (does : Bool)
     → (does ≡ true → AllFit (limit_now h) (m ∷ []))
-    → Grows h (cond does (record h { queued = h.queued ++ m ∷ []; outstanding = outstanding; tokens = tokens }) h)
+    → GrowsFit h (cond does (record h { queued = h.queued ++ m ∷ []; outstanding = outstanding; tokens = tokens }) h)
 sent_grows h m outstanding tokens true fit = (m ∷ [], refl, fit refl)
 sent_grows h m outstanding tokens false fit = grows_none h h refl
 
-asked_grows : (h : History) (m : Message) (e : OutstandingValue) → Grows h (after_asking h m e)
+asked_grows : (h : History) (m : Message) (e : OutstandingValue) → GrowsFit h (after_asking h m e)
 asked_grows h m e =
     sent_grows h m (h.outstanding ++ e ∷ []) (h.tokens + 1) (is_none (asking_refusal (asking_now h) m))
     (λ may. asked_fits h m (none_where (asking_refusal (asking_now h) m) may))
 
-cancelled_grows : (h : History) (token : List ℕ) (m : Message) → Grows h (after h (call.Cancel token m))
+cancelled_grows : (h : History) (token : List ℕ) (m : Message) → GrowsFit h (after h (call.Cancel token m))
 cancelled_grows h token m =
     let sent : Message = with_token m token in
     sent_grows h sent (with_cancelled token h.outstanding) h.tokens (is_none (cancel_refusal (asking_now h) token sent))
@@ -58,9 +58,9 @@ pub step_grows : (h : History) (s : ClientStep)
 unfolding step
 step_grows h (Handles m) = heard_grows h m (takes_messages h.phase)
 step_grows h (Faults fault) =
-    effect_grows h (abort (standing_now h) (reject_reason (reject_of fault))) (takes_messages h.phase) (stopped_fits h (reject_reason (reject_of fault)))
+    effect_grows_fit h (abort (standing_now h) (reject_reason (reject_of fault))) (takes_messages h.phase) (stopped_fits h (reject_reason (reject_of fault)))
 step_grows h (Requests m observe) = asked_grows h (with_token m (next_token h.tokens)) (entry_of observe (next_token h.tokens))
 step_grows h (Cancels token m) = cancelled_grows h token m
 step_grows h (Pings custody) = asked_grows h (ping_with custody (next_token h.tokens)) (Ping (next_token h.tokens))
 step_grows h (Writes n) = grows_none h (step h (Writes n)) refl
-step_grows h (Ends cut) = effect_grows h (stop (standing_now h) (end_reason cut) []) (takes_messages h.phase) tt
+step_grows h (Ends cut) = effect_grows_fit h (stop (standing_now h) (end_reason cut) []) (takes_messages h.phase) tt

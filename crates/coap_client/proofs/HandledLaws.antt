@@ -25,65 +25,65 @@ use Rattle.coap_client.specs.ClientValues.{is_cut}
 use Rattle.coap_client.specs.ClientWorld.{ClientCall, ClientStep, Took, Sent, Cancelled, Pinged, Wrote, Ended, Handles, Faults, Requests, Cancels, Pings, Writes, Ends, taken_by, stream_in, steps_by, step, client_after, handles, takes, IsAccepted, AreAccepted}
 use Rattle.coap_client.specs.Requests.{request_of, cancel_of}
 use Rattle.coap_frame.proofs.FrontLaws.{added_by}
-use Rattle.coap_client.proofs.ClientSteps.{stream_same, stream_first, client_first, client_same, client_step, by_calls, Adds, adds_whole, no_bytes_steps}
-use Rattle.coap_client.proofs.ClientReached.{accepted_is}
+use Rattle.coap_client.proofs.ClientSteps.{stream_stays, stream_first, client_first, client_same, client_step, by_calls, AddsTo, adds_whole, empty_take_steps}
+use Rattle.coap_client.proofs.ClientReached.{accepted_reach}
 use Rattle.coap_serve.proofs.world.HandledLaws.{takes_no_stop, no_fault_and_some}
 
 -- ---- what accepted bytes make
 
 -- where messages are handled, they are taken, and the greatest one has room
-pub handles_parts : (h : History) → handles h ≡ true → (takes_messages h.phase ≡ true) × (h.limits.max_sent ≤ free_in (link_of h))
-handles_parts h does =
+pub handling_has_room : (h : History) → handles h ≡ true → (takes_messages h.phase ≡ true) × (h.limits.max_sent ≤ free_in (link_of h))
+handling_has_room h does =
     let parts = and_parts (takes_messages h.phase) (nat_le h.limits.max_sent (free_in (link_of h))) does in
     (parts.0, leb-true h.limits.max_sent (free_in (link_of h)) parts.1)
 
 -- The steps of taken bytes that are accepted: none, or the one of the message or of the fault that they end.
-pub data TakesSo (M : ℕ) (calls : List ClientCall) (bytes : List ℕ) (h : History) : Type 0 where
+pub data TakeMakes (M : ℕ) (calls : List ClientCall) (bytes : List ℕ) (h : History) : Type 0 where
   NoStep : steps_by M calls (Took bytes) ≡ [] → (stream_in M (calls ++ Took bytes ∷ [])).messages ≡ (stream_in M calls).messages
-      → (stream_in M (calls ++ Took bytes ∷ [])).fault ≡ (stream_in M calls).fault → TakesSo M calls bytes h
-  OneMessage : handles h ≡ true → (m : Message) → Adds M calls bytes (record { messages = m ∷ []; rest = []; fault = None })
-      → TakesSo M calls bytes h
+      → (stream_in M (calls ++ Took bytes ∷ [])).fault ≡ (stream_in M calls).fault → TakeMakes M calls bytes h
+  OneMessage : handles h ≡ true → (m : Message) → AddsTo M calls bytes (record { messages = m ∷ []; rest = []; fault = None })
+      → TakeMakes M calls bytes h
   OneFault : handles h ≡ true → (fault : StreamFault) (rest : List ℕ)
-      → Adds M calls bytes (record { messages = []; rest = rest; fault = Some fault }) → TakesSo M calls bytes h
+      → AddsTo M calls bytes (record { messages = []; rest = rest; fault = Some fault }) → TakeMakes M calls bytes h
 
 module _ (M : ℕ) (calls : List ClientCall) (bytes : List ℕ) (h : History) where
   -- what is found of the bytes behind those kept of an unfinished frame
-  abbrev found : Framing
-  found = framing M (stream_in M calls).rest bytes
+  abbrev found_of_bytes : Framing
+  found_of_bytes = framing M (stream_in M calls).rest bytes
 
-  none_so : bytes ≡ [] → TakesSo M calls bytes h
-  none_so none =
-      let same : stream_in M (calls ++ Took bytes ∷ []) ≡ stream_in M calls = stream_same M calls (Took bytes) none in
-      NoStep (ap (λ (b : List ℕ). steps_by M calls (Took b)) none ∙ no_bytes_steps M calls) (ap (λ (s : Stream). s.messages) same) (ap (λ (s : Stream). s.fault) same)
+  none_makes : bytes ≡ [] → TakeMakes M calls bytes h
+  none_makes none =
+      let same : stream_in M (calls ++ Took bytes ∷ []) ≡ stream_in M calls = stream_stays M calls (Took bytes) none in
+      NoStep (ap (λ (b : List ℕ). steps_by M calls (Took b)) none ∙ empty_take_steps M calls) (ap (λ (s : Stream). s.messages) same) (ap (λ (s : Stream). s.fault) same)
 
   module _ (none : (stream_in M calls).fault ≡ None) (does : handles h ≡ true) where
-    read_so : (frame : List ℕ) (read : Result Message FormatFault)
-        → Adds M calls bytes (frame_then frame read (record { messages = []; rest = []; fault = None })) → TakesSo M calls bytes h
-    read_so frame (Ok m) adds = OneMessage does m adds
-    read_so frame (Err f) adds = OneFault does Format frame adds
+    read_makes : (frame : List ℕ) (read : Result Message FormatFault)
+        → AddsTo M calls bytes (frame_then frame read (record { messages = []; rest = []; fault = None })) → TakeMakes M calls bytes h
+    read_makes frame (Ok m) adds = OneMessage does m adds
+    read_makes frame (Err f) adds = OneFault does Format frame adds
 
-    found_so : (finding : Finding) → Adds M calls bytes (added_by (stream_in M calls).rest bytes finding)
-        → TakesSo M calls bytes h
-    found_so Nothing adds =
+    found_makes : (finding : Finding) → AddsTo M calls bytes (added_by (stream_in M calls).rest bytes finding)
+        → TakeMakes M calls bytes h
+    found_makes Nothing adds =
         NoStep adds.steps (ap (λ (s : Stream). s.messages) adds.stream ∙ append-nil (stream_in M calls).messages) (ap (λ (s : Stream). s.fault) adds.stream ∙ sym none)
-    found_so (AFrame frame) adds = read_so frame (message_of frame) adds
-    found_so (AFault fault) adds = OneFault does (OfFrame fault) _ adds
+    found_makes (AFrame frame) adds = read_makes frame (message_of frame) adds
+    found_makes (AFault fault) adds = OneFault does (OfFrame fault) _ adds
 
-  took_so : (takes_messages h.phase ≡ true → (stream_in M calls).fault ≡ None) → (does : Bool) → handles h ≡ does
-      → cond does found.taken 0 ≡ length bytes → TakesSo M calls bytes h
-  took_so live true does all =
-      let none : (stream_in M calls).fault ≡ None = live (handles_parts h does).0 in
-      found_so none does found.finding (adds_whole M calls bytes none all)
-  took_so live false does all = none_so (nil_from_length bytes (sym all))
+  took_makes : (takes_messages h.phase ≡ true → (stream_in M calls).fault ≡ None) → (does : Bool) → handles h ≡ does
+      → cond does found_of_bytes.taken 0 ≡ length bytes → TakeMakes M calls bytes h
+  took_makes live true does all =
+      let none : (stream_in M calls).fault ≡ None = live (handling_has_room h does).0 in
+      found_makes none does found_of_bytes.finding (adds_whole M calls bytes none all)
+  took_makes live false does all = none_makes (nil_from_length bytes (sym all))
 
 -- all of the bytes are taken
-pub bytes_taken : (limits : LimitValues) (tokens : ℕ) (calls : List ClientCall) (bytes : List ℕ)
+pub take_makes : (limits : LimitValues) (tokens : ℕ) (calls : List ClientCall) (bytes : List ℕ)
     → AreAccepted limits tokens calls → IsAccepted limits tokens calls (Took bytes)
-    → TakesSo limits.max_message calls bytes (client_after limits tokens calls)
+    → TakeMakes limits.max_message calls bytes (client_after limits tokens calls)
 unfolding IsAccepted takes
-bytes_taken limits tokens calls bytes accepted all =
+take_makes limits tokens calls bytes accepted all =
     let h : History = client_after limits tokens calls in
-    took_so limits.max_message calls bytes h (accepted_is limits tokens calls accepted).live (handles h) refl all
+    took_makes limits.max_message calls bytes h (accepted_reach limits tokens calls accepted).live (handles h) refl all
 
 -- ---- what is no message and no fault
 
@@ -92,22 +92,22 @@ record Rests (h k : History) : Type 0 where
   handled : k.handled ≡ h.handled
   stopped : (why : Reason) → h.phase ≡ Stopped why → k.phase ≡ Stopped why
 
-rests_self : (h : History) → Rests h h
-rests_self h = record { handled = refl; stopped = λ why is. is }
+rests_by_itself : (h : History) → Rests h h
+rests_by_itself h = record { handled = refl; stopped = λ why is. is }
 
 -- the same history, where something else was queued or is outstanding, or more was written
 rests_if : (h k : History) (does : Bool) → k.handled ≡ h.handled → k.phase ≡ h.phase → Rests h (cond does k h)
 rests_if h k true handled phase = record { handled = handled; stopped = λ why is. phase ∙ is }
-rests_if h k false handled phase = rests_self h
+rests_if h k false handled phase = rests_by_itself h
 
 -- a connection that takes messages has not stopped
-ended_by : (h : History) (why : Reason) (takes : Bool) → takes_messages h.phase ≡ takes
+stop_rests : (h : History) (why : Reason) (takes : Bool) → takes_messages h.phase ≡ takes
     → Rests h (cond takes (with_effect h (stop (standing_now h) why [])) h)
-ended_by h why true is = record { handled = refl; stopped = λ other at. absurd (takes_no_stop h.phase other is at) }
-ended_by h why false is = rests_self h
+stop_rests h why true is = record { handled = refl; stopped = λ other at. absurd (takes_no_stop h.phase other is at) }
+stop_rests h why false is = rests_by_itself h
 
 end_rests : (h : History) (cut : Bool) → Rests h (after h (call.End cut))
-end_rests h cut = ended_by h (end_reason cut) (takes_messages h.phase) refl
+end_rests h cut = stop_rests h (end_reason cut) (takes_messages h.phase) refl
 
 asked_rests : (h : History) (m : Message) (e : OutstandingValue) → Rests h (after_asking h m e)
 asked_rests h m e = rests_if h _ (is_none (asking_refusal (asking_now h) m)) refl refl
@@ -117,96 +117,101 @@ cancel_rests h token m = rests_if h _ (is_none (cancel_refusal (asking_now h) to
 
 -- ---- what a connection handled is what its bytes spell
 
-record Agrees (u : Stream) (h : History) : Type 0 where
+record AgreesWith (u : Stream) (h : History) : Type 0 where
   handled : h.handled ≡ u.messages
   stopped : (fault : StreamFault) → u.fault ≡ Some fault → h.phase ≡ Stopped (reject_reason (reject_of fault))
 
-rests_agrees : (u v : Stream) (h k : History) → Rests h k → v.messages ≡ u.messages → v.fault ≡ u.fault → Agrees u h → Agrees v k
-rests_agrees u v h k rests messages same is = record {
+agrees_at_rest : (u v : Stream) (h k : History) → Rests h k → v.messages ≡ u.messages → v.fault ≡ u.fault → AgreesWith u h → AgreesWith v k
+agrees_at_rest u v h k rests messages same is = record {
   handled = rests.handled ∙ is.handled ∙ sym messages;
   stopped = λ fault at. rests.stopped (reject_reason (reject_of fault)) (is.stopped fault (sym same ∙ at));
 }
 
 heard_by : (u v : Stream) (h : History) (m : Message) (takes : Bool) → takes ≡ true → v.messages ≡ u.messages ++ m ∷ []
-    → v.fault ≡ None → Agrees u h
-    → Agrees v (cond takes (record (with_effect h (react (standing_now h) m).effect) { handled = h.handled ++ m ∷ [] }) h)
+    → v.fault ≡ None → AgreesWith u h
+    → AgreesWith v (cond takes (record (with_effect h (react (standing_now h) m).effect) { handled = h.handled ++ m ∷ [] }) h)
 heard_by u v h m true e messages none is = record {
   handled = ap (λ (ms : List Message). ms ++ m ∷ []) is.handled ∙ sym messages;
   stopped = λ fault at. absurd (no_fault_and_some v fault none at);
 }
 heard_by u v h m false e messages none is = absurd cc
 
-rejected_by : (u v : Stream) (h : History) (fault : StreamFault) (takes : Bool) → takes ≡ true → v.messages ≡ u.messages
-    → v.fault ≡ Some fault → Agrees u h
-    → Agrees v (cond takes (with_effect h (abort (standing_now h) (reject_reason (reject_of fault)))) h)
-rejected_by u v h fault true e messages has is = record {
+rejected_agrees : (u v : Stream) (h : History) (fault : StreamFault) (takes : Bool) → takes ≡ true
+    → v.messages ≡ u.messages
+    → v.fault ≡ Some fault → AgreesWith u h
+    → AgreesWith v (cond takes (with_effect h (abort (standing_now h) (reject_reason (reject_of fault)))) h)
+rejected_agrees u v h fault true e messages has is = record {
   handled = is.handled ∙ sym messages;
   stopped = λ other at. (
       let both : Some fault ≡ Some other = sym has ∙ at in
       let same : fault ≡ other = cc in
       ap (λ (f : StreamFault). Stopped (reject_reason (reject_of f))) same);
 }
-rejected_by u v h fault false e messages has is = absurd cc
+rejected_agrees u v h fault false e messages has is = absurd cc
 
 -- ---- after accepted calls
 
 module _ (limits : LimitValues) (tokens : ℕ) where
   abbrev AgreesAfter : List ClientCall → Type 0
-  AgreesAfter calls = Agrees (stream_in limits.max_message calls) (client_after limits tokens calls)
+  AgreesAfter calls = AgreesWith (stream_in limits.max_message calls) (client_after limits tokens calls)
 
   none_agrees : AgreesAfter []
   none_agrees =
-      subst (Agrees (stream_in limits.max_message [])) (sym (client_first limits tokens)) (record {
+      subst (AgreesWith (stream_in limits.max_message [])) (sym (client_first limits tokens)) (record {
         handled = ap (λ (s : Stream). s.messages) (sym (stream_first limits.max_message));
         stopped =
             λ fault at. absurd (no_fault_and_some (stream_in limits.max_message []) fault (ap (λ (s : Stream). s.fault) (stream_first limits.max_message)) at);
       })
 
-  module _ (calls : List ClientCall) (all : AreAccepted limits tokens calls) (is : Agrees (stream_in limits.max_message calls) (client_after limits tokens calls)) where
-    abbrev now : History
-    now = client_after limits tokens calls
+  module _ (calls : List ClientCall) (all : AreAccepted limits tokens calls) (is : AgreesWith (stream_in limits.max_message calls) (client_after limits tokens calls)) where
+    abbrev history_now : History
+    history_now = client_after limits tokens calls
 
     -- a call that takes no byte and makes this step
-    bare_agrees : (c : ClientCall) (s : ClientStep) → taken_by c ≡ [] → steps_by limits.max_message calls c ≡ s ∷ []
-        → Rests now (step now s) → AgreesAfter (calls ++ c ∷ [])
-    bare_agrees c s none one rests =
-        let same : stream_in limits.max_message (calls ++ c ∷ []) ≡ stream_in limits.max_message calls = stream_same limits.max_message calls c none in
-        subst (Agrees (stream_in limits.max_message (calls ++ c ∷ []))) (sym (client_step limits tokens calls c s one))
-        (rests_agrees _ _ now (step now s) rests (ap (λ (u : Stream). u.messages) same) (ap (λ (u : Stream). u.fault) same) is)
+    bare_call_agrees : (c : ClientCall) (s : ClientStep) → taken_by c ≡ []
+        → steps_by limits.max_message calls c ≡ s ∷ []
+        → Rests history_now (step history_now s) → AgreesAfter (calls ++ c ∷ [])
+    bare_call_agrees c s none one rests =
+        let same : stream_in limits.max_message (calls ++ c ∷ []) ≡ stream_in limits.max_message calls = stream_stays limits.max_message calls c none in
+        subst (AgreesWith (stream_in limits.max_message (calls ++ c ∷ [])))
+        (sym (client_step limits tokens calls c s one))
+        (agrees_at_rest _ _ history_now (step history_now s) rests (ap (λ (u : Stream). u.messages) same) (ap (λ (u : Stream). u.fault) same) is)
 
-    took_agrees : (bytes : List ℕ) → TakesSo limits.max_message calls bytes now → AgreesAfter (calls ++ Took bytes ∷ [])
+    take_agrees : (bytes : List ℕ) → TakeMakes limits.max_message calls bytes history_now
+        → AgreesAfter (calls ++ Took bytes ∷ [])
     unfolding step
-    took_agrees bytes (NoStep none messages fault) =
-        subst (Agrees (stream_in limits.max_message (calls ++ Took bytes ∷ []))) (sym (client_same limits tokens calls (Took bytes) none))
-        (rests_agrees _ _ now now (rests_self now) messages fault is)
-    took_agrees bytes (OneMessage does m adds) =
-        subst (Agrees (stream_in limits.max_message (calls ++ Took bytes ∷ []))) (sym (client_step limits tokens calls (Took bytes) (Handles m) adds.steps))
-        (heard_by _ _ now m (takes_messages now.phase) (handles_parts now does).0
+    take_agrees bytes (NoStep none messages fault) =
+        subst (AgreesWith (stream_in limits.max_message (calls ++ Took bytes ∷ []))) (sym (client_same limits tokens calls (Took bytes) none))
+        (agrees_at_rest _ _ history_now history_now (rests_by_itself history_now) messages fault is)
+    take_agrees bytes (OneMessage does m adds) =
+        subst (AgreesWith (stream_in limits.max_message (calls ++ Took bytes ∷ []))) (sym (client_step limits tokens calls (Took bytes) (Handles m) adds.steps))
+        (heard_by _ _ history_now m (takes_messages history_now.phase) (handling_has_room history_now does).0
         (ap (λ (u : Stream). u.messages) adds.stream) (ap (λ (u : Stream). u.fault) adds.stream) is)
-    took_agrees bytes (OneFault does fault rest adds) =
-        subst (Agrees (stream_in limits.max_message (calls ++ Took bytes ∷ []))) (sym (client_step limits tokens calls (Took bytes) (Faults fault) adds.steps))
-        (rejected_by _ _ now fault (takes_messages now.phase) (handles_parts now does).0
+    take_agrees bytes (OneFault does fault rest adds) =
+        subst (AgreesWith (stream_in limits.max_message (calls ++ Took bytes ∷ []))) (sym (client_step limits tokens calls (Took bytes) (Faults fault) adds.steps))
+        (rejected_agrees _ _ history_now fault (takes_messages history_now.phase) (handling_has_room history_now does).0
         (ap (λ (u : Stream). u.messages) adds.stream ∙ append-nil (stream_in limits.max_message calls).messages) (ap (λ (u : Stream). u.fault) adds.stream) is)
 
     call_agrees : (c : ClientCall) → IsAccepted limits tokens calls c → AgreesAfter (calls ++ c ∷ [])
     unfolding steps_by step
-    call_agrees (Took bytes) accepted = took_agrees bytes (bytes_taken limits tokens calls bytes all accepted)
+    call_agrees (Took bytes) accepted = take_agrees bytes (take_makes limits tokens calls bytes all accepted)
     call_agrees (Sent method target extras) accepted =
-        bare_agrees (Sent method target extras) (Requests (request_of method target extras) extras.observe) refl refl
-        (asked_rests now (with_token (request_of method target extras) (next_token now.tokens)) (entry_of extras.observe (next_token now.tokens)))
+        bare_call_agrees (Sent method target extras)
+        (Requests (request_of method target extras) extras.observe) refl refl
+        (asked_rests history_now (with_token (request_of method target extras) (next_token history_now.tokens)) (entry_of extras.observe (next_token history_now.tokens)))
     call_agrees (Cancelled token target extras) accepted =
-        bare_agrees (Cancelled token target extras) (Cancels token (cancel_of target extras)) refl refl (cancel_rests now token (cancel_of target extras))
+        bare_call_agrees (Cancelled token target extras) (Cancels token (cancel_of target extras)) refl refl (cancel_rests history_now token (cancel_of target extras))
     call_agrees (Pinged custody) accepted =
-        bare_agrees (Pinged custody) (Pings custody) refl refl (asked_rests now (ping_with custody (next_token now.tokens)) (Ping (next_token now.tokens)))
+        bare_call_agrees (Pinged custody) (Pings custody) refl refl (asked_rests history_now (ping_with custody (next_token history_now.tokens)) (Ping (next_token history_now.tokens)))
     call_agrees (Wrote n) accepted =
-        bare_agrees (Wrote n) (Writes n) refl refl (record { handled = refl; stopped = λ why is. is })
+        bare_call_agrees (Wrote n) (Writes n) refl refl (record { handled = refl; stopped = λ why is. is })
     call_agrees Ended accepted =
-        bare_agrees Ended (Ends (is_cut (stream_in limits.max_message calls).rest)) refl refl (end_rests now (is_cut (stream_in limits.max_message calls).rest))
+        bare_call_agrees Ended (Ends (is_cut (stream_in limits.max_message calls).rest)) refl refl (end_rests history_now (is_cut (stream_in limits.max_message calls).rest))
 
 agrees : (limits : LimitValues) (tokens : ℕ) (calls : List ClientCall) → AreAccepted limits tokens calls
-    → Agrees (stream_in limits.max_message calls) (client_after limits tokens calls)
+    → AgreesWith (stream_in limits.max_message calls) (client_after limits tokens calls)
 agrees limits tokens calls accepted =
-    by_calls limits tokens (λ cs. Agrees (stream_in limits.max_message cs) (client_after limits tokens cs)) (none_agrees limits tokens)
+    by_calls limits tokens (λ cs. AgreesWith (stream_in limits.max_message cs) (client_after limits tokens cs)) (none_agrees limits tokens)
     (λ cs c all last before. call_agrees limits tokens cs all before c last) calls accepted
 
 pub handled_spelled : (limits : LimitValues) (tokens : ℕ) (calls : List ClientCall) → AreAccepted limits tokens calls

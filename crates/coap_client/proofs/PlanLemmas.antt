@@ -10,15 +10,15 @@ use Rattle.coap_client.specs.declared.plan.ServerPlan.{ServerPlan}
 use Rattle.coap_client.specs.declared.words.WordsFault.{WordsFault}
 use Rattle.coap_client.specs.declared.words.WordsFault.TheVariants as faults
 
-passed : {A : Type 0} (kinds : Kinds) (answer : Result A WordsFaultValue) → kinds ≡ [] → unless_refused kinds answer ≡ answer
-passed kinds answer e = rw e refl
+nothing_refused : {A : Type 0} (kinds : Kinds) (answer : Result A WordsFaultValue) → kinds ≡ [] → unless_refused kinds answer ≡ answer
+nothing_refused kinds answer e = rw e refl
 
 -- what is read of the rows of words that `clap` takes
-kept : {A : Type 0} (app shape : App) (words : List Text) (rows : List Row) (read : List Row → Result A WordsFaultValue) → app ≡ shape
+read_of_shape : {A : Type 0} (app shape : App) (words : List Text) (rows : List Row) (read : List Row → Result A WordsFaultValue) → app ≡ shape
     → fault_of app words ≡ [] → rows ≡ matches_of app words → read rows ≡ unless_refused (fault_of shape words) (read (matches_of shape words))
-kept app shape words rows read is taken found =
+read_of_shape app shape words rows read is taken found =
     ap read (found ∙ ap (λ (a : App). matches_of a words) is)
-    ∙ sym (passed (fault_of shape words) (read (matches_of shape words)) (sym (ap (λ (a : App). fault_of a words) is) ∙ taken))
+    ∙ sym (nothing_refused (fault_of shape words) (read (matches_of shape words)) (sym (ap (λ (a : App). fault_of a words) is) ∙ taken))
 
 turned_down : {A : Type 0} (kinds : Kinds) (answer : Result A WordsFaultValue) (fault : WordsFault) → IsTurnedDown kinds fault
     → IsRefused (unless_refused kinds answer) fault
@@ -33,7 +33,7 @@ pub server_told : (app : App) (words : List Text) (rows : List Row) (answer : Re
     → rows ≡ matches_of app words → TellsServerPlan (server_plan_in rows) answer → TellsServerPlan (server_plan_of words) answer
 unfolding server_plan_of
 server_told app words rows answer is taken found told =
-    subst (λ a. TellsServerPlan a answer) (kept app server_app words rows server_plan_in is taken found) told
+    subst (λ a. TellsServerPlan a answer) (read_of_shape app server_app words rows server_plan_in is taken found) told
 
 pub server_refused : (app : App) (words : List Text) (fault : WordsFault) → app ≡ server_app → IsTurnedDown (fault_of app words) fault
     → IsRefused (server_plan_of words) fault
@@ -45,7 +45,7 @@ pub client_told : (app : App) (words : List Text) (rows : List Row) (answer : Re
     → rows ≡ matches_of app words → TellsClientPlan (client_plan_in rows) answer → TellsClientPlan (client_plan_of words) answer
 unfolding client_plan_of
 client_told app words rows answer is taken found told =
-    subst (λ a. TellsClientPlan a answer) (kept app client_app words rows client_plan_in is taken found) told
+    subst (λ a. TellsClientPlan a answer) (read_of_shape app client_app words rows client_plan_in is taken found) told
 
 pub client_refused : (app : App) (words : List Text) (fault : WordsFault) → app ≡ client_app → IsTurnedDown (fault_of app words) fault
     → IsRefused (client_plan_of words) fault

@@ -48,13 +48,14 @@ short_part (part ∷ parts) (suc i) d each within = short_part parts i d each.1 
 abbrev pub place_for : ℕ → List OptionRef → ℕ
 place_for number os = position_or_len (λ o. ltb number o.number) os
 
-behind : (place : ℕ) (r o : OptionRef) (os : List OptionRef) → coap_options (take (1 + place) (o ∷ os) ++ r ∷ drop (1 + place) (o ∷ os)) ≡ coap_option o ∷ coap_options (take place os ++ r ∷ drop place os)
-behind place r o os = let e : 1 + place ≡ suc place = omega arith in rw e refl
+inserted_behind : (place : ℕ) (r o : OptionRef) (os : List OptionRef) → coap_options (take (1 + place) (o ∷ os) ++ r ∷ drop (1 + place) (o ∷ os)) ≡ coap_option o ∷ coap_options (take place os ++ r ∷ drop place os)
+inserted_behind place r o os = let e : 1 + place ≡ suc place = omega arith in rw e refl
 
 step : (t : Bool) (place : ℕ) (r o : OptionRef) (os : List OptionRef) → coap_options (take place os ++ r ∷ drop place os) ≡ insert_option (coap_option r) (coap_options os)
     → coap_options (take (cond (not t) (1 + place) 0) (o ∷ os) ++ r ∷ drop (cond (not t) (1 + place) 0) (o ∷ os)) ≡ cond t (coap_option r ∷ coap_option o ∷ coap_options os) (coap_option o ∷ insert_option (coap_option r) (coap_options os))
 step true place r o os later = refl
-step false place r o os later = behind place r o os ∙ ap (λ (rest : List CoapOption). coap_option o ∷ rest) later
+step false place r o os later =
+    inserted_behind place r o os ∙ ap (λ (rest : List CoapOption). coap_option o ∷ rest) later
 
 pub inserted : (r : OptionRef) (os : List OptionRef) → coap_options (take (place_for r.number os) os ++ r ∷ drop (place_for r.number os) os) ≡ insert_option (coap_option r) (coap_options os)
 unfolding insert_option
@@ -97,22 +98,22 @@ row_inserted low number value os below small short row =
       each = forms_inserted x os (small, omega (arith, short)) row.each;
     }
 
-one_further : (t : Bool) (place count : ℕ) → place ≤ count → cond (not t) (1 + place) 0 ≤ suc count
-one_further true place count le = omega arith
-one_further false place count le = omega (arith, le)
+place_one_further : (t : Bool) (place count : ℕ) → place ≤ count → cond (not t) (1 + place) 0 ≤ suc count
+place_one_further true place count le = omega arith
+place_one_further false place count le = omega (arith, le)
 
 place_within : (number : ℕ) (os : List OptionRef) → place_for number os ≤ length os
 place_within number [] = omega arith
-place_within number (o ∷ os) = one_further (ltb number o.number) (place_for number os) (length os) (place_within number os)
+place_within number (o ∷ os) = place_one_further (ltb number o.number) (place_for number os) (length os) (place_within number os)
 
-found_at : (t : Bool) (place count given : ℕ) → ltb place count ≡ t → place ≤ count → given ≡ unwrap_or (cond t (Some place) None) count → given ≡ place
-found_at true place count given is le answer = answer
-found_at false place count given is le answer = omega (arith, ltb-false place count is, le, answer)
+place_of_search : (t : Bool) (place count given : ℕ) → ltb place count ≡ t → place ≤ count → given ≡ unwrap_or (cond t (Some place) None) count → given ≡ place
+place_of_search true place count given is le answer = answer
+place_of_search false place count given is le answer = omega (arith, ltb-false place count is, le, answer)
 
 -- the place that is found
 pub place_found : (number : ℕ) (os : List OptionRef) (found : Option ℕ) (place : ℕ) → found ≡ cond (ltb (place_for number os) (length os)) (Some (place_for number os)) None → place ≡ unwrap_or found (length os) → place ≡ place_for number os
 place_found number os found place is answer =
-    found_at (ltb (place_for number os) (length os)) (place_for number os) (length os) place refl (place_within number os) (answer ∙ ap (λ (f : Option ℕ). unwrap_or f (length os)) is)
+    place_of_search (ltb (place_for number os) (length os)) (place_for number os) (length os) place refl (place_within number os) (answer ∙ ap (λ (f : Option ℕ). unwrap_or f (length os)) is)
 
 pub is_inserted : (os new : List OptionRef) (number place : ℕ) (value : Bor (List ℕ)) → place ≡ place_for number os → new ≡ take place os ++ record { number = number; value = value } ∷ drop place os → coap_options new ≡ insert_option (record { number = number; value = value.now }) (coap_options os)
 is_inserted os new number place value is new_is =
@@ -135,8 +136,8 @@ short_extra e extra is short = short_option e.extra extra is short
 
 -- ---- the options one after the other
 
-in_order : (a b c d e f : List CoapOption) → (((((([] ++ a) ++ b) ++ c) ++ d) ++ e) ++ f) ≡ a ++ (b ++ (c ++ (d ++ (e ++ f))))
-in_order a b c d e f = simp append_assoc
+lists_in_order : (a b c d e f : List CoapOption) → (((((([] ++ a) ++ b) ++ c) ++ d) ++ e) ++ f) ≡ a ++ (b ++ (c ++ (d ++ (e ++ f))))
+lists_in_order a b c d e f = simp append_assoc
 
 -- the parts of a request's own options
 pub record AreParts (t : TargetValue) (e : ExtrasValue) (name format accepted : Option (List ℕ)) (segments arguments : List (List ℕ)) : Type 0 where
@@ -151,7 +152,7 @@ pub own_added : (t : TargetValue) (e : ExtrasValue) (host observe format accepte
     ≡ own_options t e observe
 unfolding own_options
 own_added t e host observe format accepted segments arguments are =
-    in_order (option_with numbers.uri_host host) (option_with numbers.observe observe) (options_with numbers.uri_path segments) (option_with numbers.content_format format) (options_with numbers.uri_query arguments) (option_with numbers.accept accepted)
+    lists_in_order (option_with numbers.uri_host host) (option_with numbers.observe observe) (options_with numbers.uri_path segments) (option_with numbers.content_format format) (options_with numbers.uri_query arguments) (option_with numbers.accept accepted)
     ∙ rw (are.host, are.path, are.content_format, are.query, are.accept) refl
 
 -- ---- the whole message
@@ -169,7 +170,7 @@ pub requested : (method : Method) (t : TargetValue) (e : ExtrasValue) (options :
 unfolding request_of
 requested method t e options whole fits are is = rw (fits, ← are) (ap Some is)
 
-pub cancelled : (t : TargetValue) (e : ExtrasValue) (options : List CoapOption) (whole : Message) → has_long_extra e ≡ false → options ≡ with_extra e.extra (own_options t e (Some deregister))
+pub cancel_is_made : (t : TargetValue) (e : ExtrasValue) (options : List CoapOption) (whole : Message) → has_long_extra e ≡ false → options ≡ with_extra e.extra (own_options t e (Some deregister))
     → whole ≡ record { code = codes.get; token = []; options = options; payload = [] } → Some whole ≡ (if has_long_extra e then None else Some (cancel_of t e))
 unfolding cancel_of
-cancelled t e options whole fits are is = rw (fits, ← are) (ap Some is)
+cancel_is_made t e options whole fits are is = rw (fits, ← are) (ap Some is)

@@ -27,8 +27,8 @@ use Rattle.coap_client.specs.declared.plan.ClientPlan.{ClientPlan}
 use Rattle.coap_client.specs.declared.run.Run.{Run}
 use Rattle.coap_client.proofs.CourseLaws.{course_taken, course_queued}
 use Rattle.coap_client.proofs.ClientShown.{took_takes, took_told, took_shown}
-use Rattle.coap_client.proofs.TakenLemmas.{takes_some, cancelled_takes, may_parts, may_not}
-use Rattle.coap_client.proofs.StandLemmas.{bytes_stay, bytes_same, front_length, taking_limits, sent_limits, cancelled_limits, read_limits, read_shown, asked_shown, given_up_shown, sent_told, cancelled_told}
+use Rattle.coap_client.proofs.TakenLemmas.{client_takes_some, cancelled_takes, may_parts, may_not}
+use Rattle.coap_client.proofs.StandLemmas.{bytes_stay, bytes_same, front_length, taking_limits, sent_limits, cancelled_limits, read_limits, read_shown, asked_shown, given_up_shown, send_tells_none, cancel_tells_none}
 use Rattle.coap_serve.proofs.streams.DoorLemmas.{told_then, told_none}
 use Rattle.coap_client.proofs.TargetLemmas.{false_is_true}
 
@@ -91,16 +91,16 @@ some_left : (xs : List ℕ) → (length xs == 0) ≡ false → nat_lt 0 (length 
 some_left [] is = absurd (false_is_true (sym is))
 some_left (x ∷ xs) is = lt-ltb 0 (length (x ∷ xs)) (omega arith)
 
-pub none_left : (xs : List ℕ) → (length xs == 0) ≡ true → xs ≡ []
-none_left xs is = nil_from_length xs (eqb-true (length xs) 0 is)
+pub rest_is_empty : (xs : List ℕ) → (length xs == 0) ≡ true → xs ≡ []
+rest_is_empty xs is = nil_from_length xs (eqb-true (length xs) 0 is)
 
-or_none : (next : Option ℕ) → or_then next None ≡ next
-or_none None = refl
-or_none (Some status) = refl
+or_then_none : (next : Option ℕ) → or_then next None ≡ next
+or_then_none None = refl
+or_then_none (Some status) = refl
 
-or_some : (next : Option ℕ) (got : Got) (why : Reason) → Some why ≡ stop_written next got → or_then next (Some 3) ≡ Some 3
-or_some None got why is = refl
-or_some (Some status) got why is = absurd (some_is_none is)
+or_then_some : (next : Option ℕ) (got : Got) (why : Reason) → Some why ≡ stop_written next got → or_then next (Some 3) ≡ Some 3
+or_then_some None got why is = refl
+or_then_some (Some status) got why is = absurd (some_is_none is)
 
 -- it may rest where all is done, and give up where it is late
 rests_stand : {plan : ClientPlan} {start now : Seen} {r : Run} {c : Course} → Stands plan start now r c → IsDone plan c → Stands plan start now r (Rests c)
@@ -139,8 +139,8 @@ client_stands {plan} {start} {now} {r} {c} stands = stands.shows.same ∙ ap (λ
 
 module _ (plan : ClientPlan) (start now : Seen) (r : Run) (c : Course) (stands : Stands plan start now r c) where
   -- its client is that of the course
-  client_same : r.client ≡ client_in c
-  client_same = client_stands stands
+  client_of_course : r.client ≡ client_in c
+  client_of_course = client_stands stands
 
   -- and accepted its calls
   accepted_all : AreAccepted own_limits 0 (calls_in c)
@@ -150,15 +150,15 @@ module _ (plan : ClientPlan) (start now : Seen) (r : Run) (c : Course) (stands :
   asks_same : is_to_ask r.client.link.phase r.token ≡ is_to_ask (phase_in c) (token_in c)
   asks_same =
       sym (ask_same r.client.link.phase r.token (λ t. t.items))
-      ∙ ap (λ (v : ClientValue). is_to_ask v.link.phase (token_of r)) client_same
+      ∙ ap (λ (v : ClientValue). is_to_ask v.link.phase (token_of r)) client_of_course
       ∙ ap (λ (t : Option (List ℕ)). is_to_ask (phase_in c) t) stands.token
 
   -- ---- what may be taken
 
   taken_by : ((length r.rest == 0) ≡ true) ⊎ ((is_to_ask r.client.link.phase r.token ≡ true) ⊎ (client_takes r.client ≡ false)) → IsTakenUp c
-  taken_by (inl none) = inl (sym stands.rest ∙ none_left r.rest none)
+  taken_by (inl none) = inl (sym stands.rest ∙ rest_is_empty r.rest none)
   taken_by (inr (inl asks)) = inr (inl (sym asks_same ∙ asks))
-  taken_by (inr (inr shut)) = inr (inr (ap client_takes (sym client_same) ∙ shut))
+  taken_by (inr (inr shut)) = inr (inr (ap client_takes (sym client_of_course) ∙ shut))
 
   pub taken_up : may_take r.client r.rest r.token ≡ false → IsTakenUp c
   taken_up is = taken_by (may_not (length r.rest == 0) (is_to_ask r.client.link.phase r.token) (client_takes r.client) is)
@@ -166,7 +166,7 @@ module _ (plan : ClientPlan) (start now : Seen) (r : Run) (c : Course) (stands :
   pub takes_one : may_take r.client r.rest r.token ≡ true → 1 ≤ (taking r.client r.rest).count
   takes_one is =
       let parts = may_parts (length r.rest == 0) (is_to_ask r.client.link.phase r.token) (client_takes r.client) is in
-      let one = takes_some (calls_in c) r.rest accepted_all (ap client_takes (sym client_same) ∙ parts.2) (ltb-true 0 (length r.rest) (some_left r.rest parts.0)) in
+      let one = client_takes_some (calls_in c) r.rest accepted_all (ap client_takes (sym client_of_course) ∙ parts.2) (ltb-true 0 (length r.rest) (some_left r.rest parts.0)) in
       subst (λ (n : ℕ). 1 ≤ n)
       (sym (took_takes r.client r.rest (taking r.client r.rest).count refl 0 (calls_in c) stands.shows ∙ ap (λ (l : LimitValues). takes l 0 (calls_in c) r.rest) stands.limits)) one
 
@@ -181,16 +181,16 @@ module _ (plan : ClientPlan) (start now : Seen) (r : Run) (c : Course) (stands :
       (token : r'.token ≡ r.token) (started : r'.started ≡ r.started) (moment : r'.moment ≡ r.moment) (cancelled : r'.cancelled ≡ r.cancelled)
       (out : AddsBytes now.out o (output_told (taking r.client r.rest).event plan.newline))
       (err : AddsBytes now.err e (errors_told (taking r.client r.rest).event)) where
-    abbrev bytes : List ℕ
-    bytes = take (taking r.client r.rest).count r.rest
+    abbrev taken_of_rest : List ℕ
+    taken_of_rest = take (taking r.client r.rest).count r.rest
 
     -- what it tells
-    event_is : (taking r.client r.rest).event ≡ event_in c (Took bytes)
+    event_is : (taking r.client r.rest).event ≡ event_in c (Took taken_of_rest)
     event_is =
         took_told r.client r.rest (taking r.client r.rest).count (taking r.client r.rest).event refl refl 0 (calls_in c) stands.shows
-        ∙ ap (λ (l : LimitValues). event_of l 0 (calls_in c) (Took bytes)) stands.limits
+        ∙ ap (λ (l : LimitValues). event_of l 0 (calls_in c) (Took taken_of_rest)) stands.limits
 
-    planned : IsPlanned plan c (Took bytes)
+    planned : IsPlanned plan c (Took taken_of_rest)
     planned = (
       sym asks_same ∙ (may_parts (length r.rest == 0) (is_to_ask r.client.link.phase r.token) (client_takes r.client) may).1,
       ap (λ (n : ℕ). take n r.rest) (took_takes r.client r.rest (taking r.client r.rest).count refl 0 (calls_in c) stands.shows)
@@ -198,39 +198,39 @@ module _ (plan : ClientPlan) (start now : Seen) (r : Run) (c : Course) (stands :
           ∙ ap (λ (xs : List ℕ). take (takes own_limits 0 (calls_in c) xs) xs) stands.rest,
     )
 
-    pub took_stands : Stands plan start (seen now.given now.written now.answers now.moments o e) r' (Calls c (Took bytes))
+    pub took_stands : Stands plan start (seen now.given now.written now.answers now.moments o e) r' (Calls c (Took taken_of_rest))
     took_stands = record {
       follows = (stands.follows, goes, planned);
-      shows = subst (λ (v : ClientValue). ClientShows v 0 (calls_in c ++ Took bytes ∷ [])) (sym client) (took_shown r.client r.rest (taking r.client r.rest).count refl 0 (calls_in c) stands.shows);
+      shows = subst (λ (v : ClientValue). ClientShows v 0 (calls_in c ++ Took taken_of_rest ∷ [])) (sym client) (took_shown r.client r.rest (taking r.client r.rest).count refl 0 (calls_in c) stands.shows);
       limits = ap (λ (v : ClientValue). v.link.limits) client ∙ taking_limits r.client r.rest ∙ stands.limits;
-      rest = rest ∙ ap (λ (n : ℕ). drop n r.rest) (sym (front_length (taking r.client r.rest).count r.rest within)) ∙ ap (λ (xs : List ℕ). drop (length bytes) xs) stands.rest;
+      rest = rest ∙ ap (λ (n : ℕ). drop n r.rest) (sym (front_length (taking r.client r.rest).count r.rest within)) ∙ ap (λ (xs : List ℕ). drop (length taken_of_rest) xs) stands.rest;
       token = token_kept r r' token ∙ stands.token;
       started = started ∙ stands.started;
       moment = moment ∙ stands.moment;
       first =
           first
           ∙ ap (λ (e : Option EventValue). first_told e r.first r.moment) event_is
-          ∙ ap (λ (f : Option ℕ). first_told (event_in c (Took bytes)) f r.moment) stands.first
-          ∙ ap (λ (m : ℕ). first_told (event_in c (Took bytes)) (first_in c) m) stands.moment;
+          ∙ ap (λ (f : Option ℕ). first_told (event_in c (Took taken_of_rest)) f r.moment) stands.first
+          ∙ ap (λ (m : ℕ). first_told (event_in c (Took taken_of_rest)) (first_in c) m) stands.moment;
       cancelled = cancelled ∙ stands.cancelled;
       told = record {
         given = stands.told.given;
         written = stands.told.written;
         answers = stands.told.answers;
         moments = stands.told.moments;
-        out = bytes_then start.out now.out o (output_in plan c) (output_told (event_in c (Took bytes)) plan.newline) stands.told.out (subst (λ (e : Option EventValue). AddsBytes now.out o (output_told e plan.newline)) event_is out);
-        err = bytes_then start.err now.err e (errors_in c) (errors_told (event_in c (Took bytes))) stands.told.err (subst (λ (told : Option EventValue). AddsBytes now.err e (errors_told told)) event_is err);
+        out = bytes_then start.out now.out o (output_in plan c) (output_told (event_in c (Took taken_of_rest)) plan.newline) stands.told.out (subst (λ (e : Option EventValue). AddsBytes now.out o (output_told e plan.newline)) event_is out);
+        err = bytes_then start.err now.err e (errors_in c) (errors_told (event_in c (Took taken_of_rest))) stands.told.err (subst (λ (told : Option EventValue). AddsBytes now.err e (errors_told told)) event_is err);
       };
     }
 
-    pub took_status : status_in (Calls c (Took bytes)) ≡ status_told (taking r.client r.rest).event
+    pub took_status : status_in (Calls c (Took taken_of_rest)) ≡ status_told (taking r.client r.rest).event
     took_status = ap status_told (sym event_is)
 
     -- a run that a message ended
     pub took_last : has_looked c ≡ true → (status : ℕ) → Some status ≡ status_told (taking r.client r.rest).event
         → LeadsOn plan start (seen now.given now.written now.answers now.moments o e) r' (IsAsked (turns_in c)) (Some status)
     took_last looked status is = record {
-      course = Calls c (Took bytes);
+      course = Calls c (Took taken_of_rest);
       stands = took_stands;
       ends = took_status ∙ sym is;
       holds = record { turns = refl; looked = looked; asked = λ going. absurd (some_is_none (is ∙ sym took_status ∙ going)); writes = λ ended. tt };
@@ -290,13 +290,13 @@ module _ (plan : ClientPlan) (start now : Seen) (r : Run) (c : Course) (stands :
         → r'.client ≡ client_sent r.client plan.method plan.target (planned_extras plan) → token_of r' ≡ Some (next_token r.client.link.tokens) → AddsBytes now.err e []
         → Stands plan start (seen now.given now.written now.answers now.moments now.out e) r' (Calls c (Sent plan.method plan.target (planned_extras plan)))
     sent_stands asks none client token err =
-        let nothing : event_in c (Sent plan.method plan.target (planned_extras plan)) ≡ None = sent_told (calls_in c) plan.method plan.target (planned_extras plan) own_limits in
+        let nothing : event_in c (Sent plan.method plan.target (planned_extras plan)) ≡ None = send_tells_none (calls_in c) plan.method plan.target (planned_extras plan) own_limits in
         record {
           follows = (stands.follows, goes, (sym asks_same ∙ asks, refl, refl, refl));
           shows = asked_shown r.client r'.client plan.method plan.target (planned_extras plan) (calls_in c) none client stands.shows;
           limits = ap (λ (v : ClientValue). v.link.limits) client ∙ sent_limits r.client plan.method plan.target (planned_extras plan) ∙ stands.limits;
           rest = rest ∙ stands.rest;
-          token = token ∙ ap (λ (v : ClientValue). Some (next_token v.link.tokens)) client_same;
+          token = token ∙ ap (λ (v : ClientValue). Some (next_token v.link.tokens)) client_of_course;
           started = started ∙ stands.started;
           moment = moment ∙ stands.moment;
           first = first ∙ stands.first ∙ ap (λ (told : Option EventValue). first_told told (first_in c) (moment_in c)) (sym nothing);
@@ -322,12 +322,12 @@ module _ (plan : ClientPlan) (start now : Seen) (r : Run) (c : Course) (stands :
     asked_to looked asks None is client token err = record {
       course = Calls c (Sent plan.method plan.target (planned_extras plan));
       stands = sent_stands asks is client token err;
-      ends = ap status_told (sent_told (calls_in c) plan.method plan.target (planned_extras plan) own_limits);
+      ends = ap status_told (send_tells_none (calls_in c) plan.method plan.target (planned_extras plan) own_limits);
       holds = record { turns = refl; looked = looked; asked = λ going still. absurd (no_more_asking (phase_in (Calls c (Sent plan.method plan.target (planned_extras plan)))) (next_token (client_in c).link.tokens) still); writes = λ ended. tt };
     }
     asked_to looked asks (Some fault) is client token err = record {
       course = Refuses c fault;
-      stands = refused_stands fault (inl (asking_refused (is_to_ask (phase_in c) (token_in c)) fault (sym asks_same ∙ asks) (ap (λ (v : ClientValue). send_refusal v.link plan.method plan.target (planned_extras plan)) (sym client_same) ∙ is))) client token err;
+      stands = refused_stands fault (inl (asking_refused (is_to_ask (phase_in c) (token_in c)) fault (sym asks_same ∙ asks) (ap (λ (v : ClientValue). send_refusal v.link plan.method plan.target (planned_extras plan)) (sym client_of_course) ∙ is))) client token err;
       ends = refl;
       holds = record { turns = refl; looked = looked; asked = λ going still. refl; writes = λ ended. tt };
     }
@@ -411,7 +411,7 @@ module _ (plan : ClientPlan) (start now : Seen) (r : Run) (c : Course) (stands :
       (rest : r'.rest ≡ r.rest) (token : r'.token ≡ r.token) (started : r'.started ≡ r.started) (moment : r'.moment ≡ r.moment) (first : r'.first ≡ r.first) (cancelled : r'.cancelled ≡ r.cancelled)
       (wrote : AddsBytes now.written written (bytes_passed r.client.link.waiting got)) (gave : AddsBytes now.given given []) (answered : TellsMore now.answers answers (got ∷ [])) where
     waits_same : r.client.link.waiting ≡ waiting_in c
-    waits_same = ap (λ (v : ClientValue). v.link.waiting) client_same
+    waits_same = ap (λ (v : ClientValue). v.link.waiting) client_of_course
 
     wrote_stands : AddsBytes now.err e (stop_text (stop_written (status_in c) got)) → Stands plan start (seen given written answers now.moments now.out e) r' (Writes c got)
     wrote_stands err = record {
@@ -444,12 +444,12 @@ module _ (plan : ClientPlan) (start now : Seen) (r : Run) (c : Course) (stands :
     }
 
     -- the run goes on, or ends as it did
-    pub wrote_on : (next : Option ℕ) → status_in c ≡ next → None ≡ stop_written next got → AddsBytes now.err e [] → LeadsOn plan start (seen given written answers now.moments now.out e) r' (IsFlushed (turns_in c)) next
-    wrote_on next ends is err = subst (LeadsOn plan start (seen given written answers now.moments now.out e) r' (IsFlushed (turns_in c))) (or_none next) (wrote_leads next ends None is err)
+    pub write_leads_on : (next : Option ℕ) → status_in c ≡ next → None ≡ stop_written next got → AddsBytes now.err e [] → LeadsOn plan start (seen given written answers now.moments now.out e) r' (IsFlushed (turns_in c)) next
+    write_leads_on next ends is err = subst (LeadsOn plan start (seen given written answers now.moments now.out e) r' (IsFlushed (turns_in c))) (or_then_none next) (wrote_leads next ends None is err)
 
     -- the wire ended it
     pub wrote_last : (next : Option ℕ) → status_in c ≡ next → (why : Reason) → Some why ≡ stop_written next got → AddsBytes now.err e (stop_text (Some why)) → LeadsOn plan start (seen given written answers now.moments now.out e) r' (IsFlushed (turns_in c)) (Some 3)
-    wrote_last next ends why is err = subst (LeadsOn plan start (seen given written answers now.moments now.out e) r' (IsFlushed (turns_in c))) (or_some next got why is) (wrote_leads next ends (Some why) is err)
+    wrote_last next ends why is err = subst (LeadsOn plan start (seen given written answers now.moments now.out e) r' (IsFlushed (turns_in c))) (or_then_some next got why is) (wrote_leads next ends (Some why) is err)
 
   -- ---- what is due by the moment
 
@@ -502,7 +502,7 @@ module _ (plan : ClientPlan) (start now : Seen) (r : Run) (c : Course) (stands :
         → r'.client ≡ client_cancelled r.client held plan.target (planned_extras plan) → r'.cancelled ≡ Some r.moment → AddsBytes now.err e []
         → Stands plan start (seen now.given now.written now.answers now.moments now.out e) r' (Calls c (Cancelled held plan.target (planned_extras plan)))
     cancelled_stands held due has none client when err =
-        let nothing : event_in c (Cancelled held plan.target (planned_extras plan)) ≡ None = cancelled_told (calls_in c) held plan.target (planned_extras plan) own_limits in
+        let nothing : event_in c (Cancelled held plan.target (planned_extras plan)) ≡ None = cancel_tells_none (calls_in c) held plan.target (planned_extras plan) own_limits in
         record {
           follows = (stands.follows, goes, (due, sym stands.token ∙ has, refl, refl));
           shows = given_up_shown r.client r'.client held plan.target (planned_extras plan) (calls_in c) none client stands.shows;
@@ -529,7 +529,7 @@ module _ (plan : ClientPlan) (start now : Seen) (r : Run) (c : Course) (stands :
     cancelled_taken held here has client (inl none) = inl none
     cancelled_taken held here has client (inr (inl asks)) = absurd (no_more_asking (phase_in c) held (subst (λ (t : Option (List ℕ)). is_to_ask (phase_in c) t ≡ true) (sym stands.token ∙ has) asks))
     cancelled_taken held here has client (inr (inr shut)) =
-        inr (inr (ap client_takes (sym (client_stands here) ∙ client) ∙ cancelled_takes r.client held plan.target (planned_extras plan) (ap client_takes client_same ∙ shut)))
+        inr (inr (ap client_takes (sym (client_stands here) ∙ client) ∙ cancelled_takes r.client held plan.target (planned_extras plan) (ap client_takes client_of_course ∙ shut)))
 
     ends_refused : (fault : RequestFault) → IsRefused plan c fault → ended_by (Some fault) ≡ Some 3 → r'.client ≡ r.client → r'.cancelled ≡ r.cancelled → AddsBytes now.err e (refusal_text (Some fault)) → Due (ended_by (Some fault))
     ends_refused fault why three client cancelled err = record {
@@ -560,19 +560,19 @@ module _ (plan : ClientPlan) (start now : Seen) (r : Run) (c : Course) (stands :
     cancels_as held due has early None is client when err = record {
       course = Rests (Calls c (Cancelled held plan.target (planned_extras plan)));
       stands = rests_stand (cancelled_stands held due has is client when err) (record {
-        goes_on = ap status_told (cancelled_told (calls_in c) held plan.target (planned_extras plan) own_limits);
+        goes_on = ap status_told (cancel_tells_none (calls_in c) held plan.target (planned_extras plan) own_limits);
         in_time = and_first (nat_lt (moment_in c) (moment_in c)) (has_passed (moment_in c) (moment_in c) plan.wait) (not_below (moment_in c));
         looked = looked;
         taken = cancelled_taken held (cancelled_stands held due has is client when err) has client taken;
         asked = λ still. absurd (no_more_asking (phase_in (Calls c (Cancelled held plan.target (planned_extras plan)))) held (subst (λ (t : Option (List ℕ)). is_to_ask (phase_in (Calls c (Cancelled held plan.target (planned_extras plan)))) t ≡ true) (sym stands.token ∙ has) still));
         cancelled = λ other has again. absurd (false_is_true again);
       });
-      ends = ap status_told (cancelled_told (calls_in c) held plan.target (planned_extras plan) own_limits);
+      ends = ap status_told (cancel_tells_none (calls_in c) held plan.target (planned_extras plan) own_limits);
       holds = record { turns = refl; rests = λ still. tt; writes = tt };
     }
     cancels_as held due has early (Some fault) is client when err =
         refused_by fault
-        (inr (due, ap (λ (t : Option (List ℕ)). cancelling_refusal (client_in c) t plan) (sym stands.token ∙ has) ∙ ap (λ (v : ClientValue). value.cancelling_refusal v.link held plan.target (planned_extras plan)) (sym client_same) ∙ is))
+        (inr (due, ap (λ (t : Option (List ℕ)). cancelling_refusal (client_in c) t plan) (sym stands.token ∙ has) ∙ ap (λ (v : ClientValue). value.cancelling_refusal v.link held plan.target (planned_extras plan)) (sym client_of_course) ∙ is))
         early client when err
 
     cancels_to : is_cancel_due plan c ≡ true → is_overdue plan c ≡ false → (held : Option (List ℕ)) → token_of r ≡ held
@@ -646,8 +646,8 @@ asked_then {plan} {start} {now} {r} n m next status same is led = ended_asked (a
 pub heard_then : {plan : ClientPlan} {start now : Seen} {r : Run} (n : ℕ) (next : Option ℕ) (status : ℕ) → next ≡ Some status → LeadsOn plan start now r (IsHeard n) next → LeadsOn plan start now r (IsFlushed n) (Some status)
 heard_then {plan} {start} {now} {r} n next status is led = ended_heard (subst (LeadsOn plan start now r (IsHeard n)) is led)
 
-pub taken_then : {plan : ClientPlan} {start now : Seen} {r : Run} (n m : ℕ) (next : Option ℕ) (status : ℕ) → n ≡ m → next ≡ Some status → LeadsOn plan start now r (IsTaken n) next → LeadsOn plan start now r (IsFinished m) (Some status)
-taken_then {plan} {start} {now} {r} n m next status same is led =
+pub finished_after_taking : {plan : ClientPlan} {start now : Seen} {r : Run} (n m : ℕ) (next : Option ℕ) (status : ℕ) → n ≡ m → next ≡ Some status → LeadsOn plan start now r (IsTaken n) next → LeadsOn plan start now r (IsFinished m) (Some status)
+finished_after_taking {plan} {start} {now} {r} n m next status same is led =
     as_many IsFinished n m same (record { course = led.course; stands = led.stands; ends = led.ends ∙ is; holds = record { turns = led.holds.turns; rests = λ still. absurd (some_is_none (sym is ∙ sym led.ends ∙ still)); writes = led.holds.writes (λ none. some_is_none (sym is ∙ sym led.ends ∙ none)) } })
 
 -- a run that ended as it asked
@@ -655,8 +655,8 @@ pub ended_taken : {plan : ClientPlan} {start now : Seen} {r : Run} {n status : �
 ended_taken led = record { course = led.course; stands = led.stands; ends = led.ends; holds = record { turns = led.holds.turns; looked = led.holds.looked; asked = led.holds.asked; taken = λ still. absurd (some_is_none (sym led.ends ∙ still)); writes = led.holds.writes } }
 
 -- a run of which all is taken that may be
-pub all_taken : (plan : ClientPlan) (start now : Seen) (r : Run) (n : ℕ) (led : LeadsOn plan start now r (IsAsked n) None) → may_take r.client r.rest r.token ≡ false → LeadsOn plan start now r (IsTaken n) None
-all_taken plan start now r n led shut = record { course = led.course; stands = led.stands; ends = led.ends; holds = record { turns = led.holds.turns; looked = led.holds.looked; asked = led.holds.asked; taken = λ still. taken_up plan start now r led.course led.stands shut; writes = led.holds.writes } }
+pub all_that_may_is_taken : (plan : ClientPlan) (start now : Seen) (r : Run) (n : ℕ) (led : LeadsOn plan start now r (IsAsked n) None) → may_take r.client r.rest r.token ≡ false → LeadsOn plan start now r (IsTaken n) None
+all_that_may_is_taken plan start now r n led shut = record { course = led.course; stands = led.stands; ends = led.ends; holds = record { turns = led.holds.turns; looked = led.holds.looked; asked = led.holds.asked; taken = λ still. taken_up plan start now r led.course led.stands shut; writes = led.holds.writes } }
 
 pub all_gone : (plan : ClientPlan) (start now : Seen) (r : Run) (n : ℕ) (led : LeadsOn plan start now r (IsAsked n) None) → length r.rest ≡ 0 → LeadsOn plan start now r (IsTaken n) None
 all_gone plan start now r n led none = record { course = led.course; stands = led.stands; ends = led.ends; holds = record { turns = led.holds.turns; looked = led.holds.looked; asked = led.holds.asked; taken = λ still. inl (sym led.stands.rest ∙ nil_from_length r.rest none); writes = led.holds.writes } }
@@ -738,8 +738,8 @@ module _ (plan : ClientPlan) (start now : Seen) (r : Run) (c : Course) (stands :
     (r' : Run) (moment : ℕ) (moments : Option (List ℕ)) (client : r'.client ≡ r.client) (rest : r'.rest ≡ r.rest) (token : r'.token ≡ r.token)
     (started : r'.started ≡ r.started) (later : r'.moment ≡ max r.moment moment) (first : r'.first ≡ r.first) (cancelled : r'.cancelled ≡ r.cancelled)
     (asked : TellsMore now.moments moments (moment ∷ [])) where
-  pub turned : Stands plan start (seen now.given now.written now.answers moments now.out now.err) r' (Turns c moment)
-  turned = record {
+  pub turn_made : Stands plan start (seen now.given now.written now.answers moments now.out now.err) r' (Turns c moment)
+  turn_made = record {
     follows = (stands.follows, goes, between);
     shows = subst (λ (v : ClientValue). ClientShows v 0 (calls_in c)) (sym client) stands.shows;
     limits = ap (λ (v : ClientValue). v.link.limits) client ∙ stands.limits;
@@ -763,8 +763,8 @@ module _ (plan : ClientPlan) (start now : Seen) (r : Run) (c : Course) (stands :
 pub few_turns : (turns before counted : ℕ) → turns ≡ before + 1 → before ≡ counted → counted < most_turns → turns ≤ most_turns
 few_turns turns before counted one same more = omega arith
 
-pub all_turns : (turns counted : ℕ) → turns ≡ counted → most_turns ≤ counted → counted ≤ most_turns → turns ≡ most_turns
-all_turns turns counted same more few = omega arith
+pub turns_are : (turns counted : ℕ) → turns ≡ counted → most_turns ≤ counted → counted ≤ most_turns → turns ≡ most_turns
+turns_are turns counted same more few = omega arith
 
 module _ (plan : ClientPlan) (start now : Seen) (r : Run) (c : Course) (stands : Stands plan start now r c) (few : turns_in c ≤ most_turns) where
   pub run_of : (status : ℕ) → IsEnded c status ⊎ IsOutOfTurns c status → IsClientRun plan start now status

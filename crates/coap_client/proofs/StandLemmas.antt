@@ -81,10 +81,10 @@ given_up_shown v new token target extras calls none is shows =
 
 -- ---- of what nothing is told
 
-pub sent_told : (calls : List ClientCall) (method : Method) (target : TargetValue) (extras : ExtrasValue) (limits : LimitValues) → event_of limits 0 calls (Sent method target extras) ≡ None
+pub send_tells_none : (calls : List ClientCall) (method : Method) (target : TargetValue) (extras : ExtrasValue) (limits : LimitValues) → event_of limits 0 calls (Sent method target extras) ≡ None
 unfolding event_of steps_by
-sent_told calls method target extras limits = refl
+send_tells_none calls method target extras limits = refl
 
-pub cancelled_told : (calls : List ClientCall) (token : List ℕ) (target : TargetValue) (extras : ExtrasValue) (limits : LimitValues) → event_of limits 0 calls (Cancelled token target extras) ≡ None
+pub cancel_tells_none : (calls : List ClientCall) (token : List ℕ) (target : TargetValue) (extras : ExtrasValue) (limits : LimitValues) → event_of limits 0 calls (Cancelled token target extras) ≡ None
 unfolding event_of steps_by
-cancelled_told calls token target extras limits = refl
+cancel_tells_none calls token target extras limits = refl

@@ -13,30 +13,30 @@ use Rattle.coap_client.specs.ClientWorld.{ClientCall, stream_in, handles, takes,
 use Rattle.coap_client.specs.Requests.{ExtrasValue}
 use Rattle.coap_client.specs.Targets.{TargetValue}
 use Rattle.coap_client.specs.RunCourse.{own_limits}
-use Rattle.coap_client.proofs.ClientSteps.{rest_unfinished}
-use Rattle.coap_client.proofs.ClientReached.{accepted_is}
+use Rattle.coap_client.proofs.ClientSteps.{stream_rest_unfinished}
+use Rattle.coap_client.proofs.ClientReached.{accepted_reach}
 use Rattle.coap_frame.proofs.FrontLaws.{some_in_front}
 
 -- ---- something is taken of what is not empty
 
 module _ (calls : List ClientCall) where
-  abbrev reached : History
-  reached = client_after own_limits 0 calls
+  abbrev history_so_far : History
+  history_so_far = client_after own_limits 0 calls
 
-  takes_same : client_takes (client_of own_limits 0 calls) ≡ handles reached
+  takes_same : client_takes (client_of own_limits 0 calls) ≡ handles history_so_far
   unfolding client_of
   takes_same = refl
 
-  takes_where : (piece : List ℕ) → handles reached ≡ true → takes own_limits 0 calls piece ≡ (framing own_limits.max_message (stream_in own_limits.max_message calls).rest piece).taken
+  takes_where : (piece : List ℕ) → handles history_so_far ≡ true → takes own_limits 0 calls piece ≡ (framing own_limits.max_message (stream_in own_limits.max_message calls).rest piece).taken
   unfolding takes
   takes_where piece does = ap (λ (b : Bool). cond b (framing own_limits.max_message (stream_in own_limits.max_message calls).rest piece).taken 0) does
 
   -- a client that takes bytes takes one at least
-  pub takes_some : (piece : List ℕ) → AreAccepted own_limits 0 calls → client_takes (client_of own_limits 0 calls) ≡ true → 0 < length piece → 1 ≤ takes own_limits 0 calls piece
-  takes_some piece accepted does some =
-      let handling : handles reached ≡ true = sym takes_same ∙ does in
-      let live = (accepted_is own_limits 0 calls accepted).live (and_parts (takes_messages reached.phase) (nat_le reached.limits.max_sent (free_in (link_of reached))) handling).0 in
-      let unfinished = rest_unfinished own_limits.max_message calls live in
+  pub client_takes_some : (piece : List ℕ) → AreAccepted own_limits 0 calls → client_takes (client_of own_limits 0 calls) ≡ true → 0 < length piece → 1 ≤ takes own_limits 0 calls piece
+  client_takes_some piece accepted does some =
+      let handling : handles history_so_far ≡ true = sym takes_same ∙ does in
+      let live = (accepted_reach own_limits 0 calls accepted).live (and_parts (takes_messages history_so_far.phase) (nat_le history_so_far.limits.max_sent (free_in (link_of history_so_far))) handling).0 in
+      let unfinished = stream_rest_unfinished own_limits.max_message calls live in
       subst (λ (n : ℕ). 1 ≤ n) (sym (takes_where piece handling))
       (some_in_front own_limits.max_message (stream_in own_limits.max_message calls).rest piece unfinished some)
 

@@ -26,11 +26,11 @@ use Rattle.coap_serve.proofs.values.LinkLemmas.{stays_so}
 
 module _ (v : FramerValue) (l : LinkValue) (piece : List ℕ) where
   -- what is told where this was found
-  abbrev told_by : Finding → Option EventValue
-  told_by found = (taking_found (record { frame = v.kept; link = l }) (framing_of v piece) found).event
+  abbrev told_of_finding : Finding → Option EventValue
+  told_of_finding found = (taking_found (record { frame = v.kept; link = l }) (framing_of v piece) found).event
 
-  told_as : (h : Heard) (read : Result Message FormatFault) (found : Finding) → (framing_of v piece).finding ≡ found → heard_value h read ≡ told_by found → heard_value h read ≡ (taking_framed v l piece).event
-  told_as h read found is told = told ∙ ap told_by (sym is)
+  told_as : (h : Heard) (read : Result Message FormatFault) (found : Finding) → (framing_of v piece).finding ≡ found → heard_value h read ≡ told_of_finding found → heard_value h read ≡ (taking_framed v l piece).event
+  told_as h read found is told = told ∙ ap told_of_finding (sym is)
 
   pub told_nothing : (h : Heard) (read : Result Message FormatFault) → (framing_of v piece).finding ≡ Nothing → h ≡ heard.Nothing → heard_value h read ≡ (taking_framed v l piece).event
   told_nothing h read is e = told_as h read Nothing is (ap (λ (k : Heard). heard_value k read) e)
@@ -50,35 +50,35 @@ module _ (v : FramerValue) (l : LinkValue) (piece : List ℕ) where
       → heard_value h (message_of (frame_back (framer_after v piece).spent (take (framing_of v piece).taken piece))) ≡ (taking_framed v l piece).event
   told_message h frame m framer is reads e =
       ap (λ (f : List ℕ). heard_value h (message_of f)) (frame_is_back v piece frame framer is)
-      ∙ ap (heard_value h) reads ∙ e ∙ ap told_read (sym reads) ∙ ap told_by (sym is)
+      ∙ ap (heard_value h) reads ∙ e ∙ ap told_read (sym reads) ∙ ap told_of_finding (sym is)
 
   -- ---- what is kept, and the limits
 
-  count_read : (read : Result Message FormatFault) (n : ℕ) → n ≡ (taking_read (record { frame = v.kept; link = l }) n read).count
-  count_read (Ok m) n = refl
-  count_read (Err e) n = refl
+  count_of_read : (read : Result Message FormatFault) (n : ℕ) → n ≡ (taking_read (record { frame = v.kept; link = l }) n read).count
+  count_of_read (Ok m) n = refl
+  count_of_read (Err e) n = refl
 
   count_by : (found : Finding) → (framing_of v piece).taken ≡ (taking_found (record { frame = v.kept; link = l }) (framing_of v piece) found).count
   count_by Nothing = refl
-  count_by (AFrame frame) = count_read (message_of frame) (framing_of v piece).taken
+  count_by (AFrame frame) = count_of_read (message_of frame) (framing_of v piece).taken
   count_by (AFault fault) = refl
 
   -- as many bytes are taken as the framer takes
   pub framed_count : (framing_of v piece).taken ≡ (taking_framed v l piece).count
   framed_count = count_by (framing_of v piece).finding
 
-  kept_by : (b : Beginning) → (framing_at v.kept piece b).kept ≡ (taking_found (record { frame = v.kept; link = l }) (framing_at v.kept piece b) (framing_at v.kept piece b).finding).client.frame
-  kept_by Unfinished = refl
-  kept_by (Whole frame rest) = kept_frame (message_of frame)
+  kept_by_beginning : (b : Beginning) → (framing_at v.kept piece b).kept ≡ (taking_found (record { frame = v.kept; link = l }) (framing_at v.kept piece b) (framing_at v.kept piece b).finding).client.frame
+  kept_by_beginning Unfinished = refl
+  kept_by_beginning (Whole frame rest) = kept_frame (message_of frame)
     where
       kept_frame : (read : Result Message FormatFault) → [] ≡ (taking_read (record { frame = v.kept; link = l }) (framing_at v.kept piece (Whole frame rest)).taken read).client.frame
       kept_frame (Ok m) = refl
       kept_frame (Err e) = refl
-  kept_by (Faulty fault) = refl
+  kept_by_beginning (Faulty fault) = refl
 
   kept_framed : (framer_after v piece).kept ≡ (taking_framed v l piece).client.frame
   unfolding framing
-  kept_framed = kept_by (beginning v.max (v.kept ++ piece))
+  kept_framed = kept_by_beginning (beginning v.max (v.kept ++ piece))
 
 limits_read : (w : ClientValue) (n : ℕ) (read : Result Message FormatFault) → (taking_read w n read).client.link.limits ≡ w.link.limits
 limits_read w n (Ok m) = stays_so (λ (l : LinkValue). l.limits) (takes_messages w.link.phase) w.link _ refl

@@ -1,5 +1,5 @@
 -- What the parts of a URI name.
-use Rattle.std.proofs.Common.{◌≡◌, ℕ, ◌+◌, ◌-◌, ◌<◌, ◌≤◌, Bool, true, false, cond, ◌==◌, ◌||◌, List, [], ◌∷◌, ◌++◌, length, take, drop, map, codes, decimal, flat_map, Vec, Option, Some, None, Result, Ok, Err, refl, sym, ap, subst, ◌∙◌, ◌⊎◌, inl, inr, ⊎_elim, append-nil, length-append, length-drop, take_at, arith, lit≤}
+use Rattle.std.proofs.Common.{◌≡◌, ℕ, ◌+◌, ◌-◌, ◌<◌, ◌≤◌, Bool, true, false, cond, ◌==◌, ◌||◌, List, [], ◌∷◌, ◌++◌, length, take, drop, map, codes, decimal, flat_map, Vec, Option, Some, None, Result, Ok, Err, refl, sym, ap, subst, ◌∙◌, ⊎_elim, append-nil, length-append, length-drop, take_at, arith, lit≤}
 use Rattle.std.specs.Prelude.{is_some, is_ok, not, nat_le, nat_lt, slice_index, slice_range, unwrap_or, MatchOption}
 use Rattle.std.specs.Borrow.{Bor}
 use Rattle.std.specs.List.{list_any, AllByRecursion}
@@ -21,6 +21,7 @@ use Rattle.percent_encoding.specs.Percent.{percent_decode, is_escape}
 use Rattle.url.specs.Host.{is_empty_host, IsHostOf}
 use Rattle.url.specs.Scheme.{is_special}
 use Rattle.url.specs.declared.scheme.SchemeType.{SchemeType}
+use Rattle.coap_wire.proofs.NumberLaws.{option_cases}
 use Rattle.coap_client.specs.Targets.{TargetValue, is_dotted, domain_named, host_named, value_named, is_long, has_long_part, has_many_parts, form_refusal, size_refusal, unless, target_in}
 use Rattle.coap_client.specs.declared.target.TargetFault.TheVariants as fault
 use Rattle.coap_client.specs.TargetViews.{byte_lists, IsShort, IsTarget}
@@ -35,21 +36,17 @@ dotted_is_read text octets spelled =
 pub false_is_true : false ≡ true → ⊥
 false_is_true e = cc e
 
-option_cases : {A : Type 0} (o : Option A) → (o ≡ None) ⊎ ((x : A) × (o ≡ Some x))
-option_cases None = inl refl
-option_cases (Some x) = inr (x, refl)
-
 -- what is read so is written so
 pub read_is_dotted : (text : List ℕ) → is_dotted text ≡ true → (octets : List ℕ) × IsDotted text octets
 read_is_dotted text read =
     ⊎_elim
-    (λ none. absurd (false_is_true (sym (ap (λ r. is_some (whole_value r)) none) ∙ read)))
     (λ some.
     let sound = read_ipv4_sound text some.0.0 some.0.1 some.1 in
     ⊎_elim
     (λ ended. (some.0.0, subst (λ t. IsDotted t some.0.0) (sym (sound.1 ∙ ap (λ r. sound.0 ++ r) (nil_from_length some.0.1 (grind (arith, nat_tests))) ∙ append-nil sound.0)) sound.2))
     (λ more. absurd (false_is_true (sym (ap (λ r. is_some (whole_value r)) some.1 ∙ ap (λ b. is_some (cond b (Some some.0.0) None)) more) ∙ read)))
     (cases_Bool (length some.0.1 == 0)))
+    (λ none. absurd (false_is_true (sym (ap (λ r. is_some (whole_value r)) none) ∙ read)))
     (option_cases (read_ipv4 text))
 
 not_dotted : (text : List ℕ) → ((a : Ipv4Addr) → ¬ (IsIpv4Text text a)) → is_dotted text ≡ false
@@ -124,12 +121,12 @@ at_most_3 false true c = omega arith
 at_most_3 false false true = omega arith
 at_most_3 false false false = omega arith
 
-some_left : (zeros : ℕ) (digits : List ℕ) → zeros ≤ 3 → length digits ≡ 4 → 0 < length (drop zeros digits)
-some_left zeros digits few four = omega (arith, few, four, length-drop zeros digits)
+digits_left : (zeros : ℕ) (digits : List ℕ) → zeros ≤ 3 → length digits ≡ 4 → 0 < length (drop zeros digits)
+digits_left zeros digits few four = omega (arith, few, four, length-drop zeros digits)
 
 some_hex : (n : ℕ) → 0 < length (hex n)
 unfolding hex
-some_hex n = some_left (leading_zero_digits n) _ (at_most_3 (nat_le 0x1000 n) (nat_le 0x100 n) (nat_le 0x10 n)) refl
+some_hex n = digits_left (leading_zero_digits n) _ (at_most_3 (nat_le 0x1000 n) (nat_le 0x100 n) (nat_le 0x10 n)) refl
 
 some_groups : (segments : List ℕ) → 0 < length segments → 0 < length (groups_text segments)
 some_groups [] some = absurd (omega (arith, some))
@@ -181,15 +178,15 @@ host_is_valid kind (Some host) valid some = valid
 pub some_host : (url : Parts) → has_host url ≡ true → IsValid url → 0 < length (host_named (host_or_empty url))
 some_host url some valid = some_named (kind_of url) (host_or_empty url) some (host_is_valid (kind_of url) url.host valid.head.host some)
 
-second : {A : Type 0} (a b : Bool) (x y : A) (rest : Option A) → cond (not a) (Some x) (cond (not b) (Some y) rest) ≡ None → b ≡ true
-second a true x y rest e = refl
-second true false x y rest e = cc e
-second false false x y rest e = cc e
+second_test_holds : {A : Type 0} (a b : Bool) (x y : A) (rest : Option A) → cond (not a) (Some x) (cond (not b) (Some y) rest) ≡ None → b ≡ true
+second_test_holds a true x y rest e = refl
+second_test_holds true false x y rest e = cc e
+second_test_holds false false x y rest e = cc e
 
 -- a URI that is not refused for its form has a host
 pub form_has_host : (url : Parts) → form_refusal url ≡ None → has_host url ≡ true
 unfolding form_refusal
-form_has_host url none = second _ _ _ _ _ none
+form_has_host url none = second_test_holds _ _ _ _ _ none
 
 pub all_short : (parts : List (List ℕ)) → list_any is_long parts ≡ false → AllByRecursion IsShort parts
 all_short [] none = tt

@@ -63,9 +63,9 @@ call_tokens limits tokens earlier c =
 -- ---- a call that gives one
 
 -- what is not refused has the number behind the last one
-asked_next : (h : History) (m : Message) (e : OutstandingValue) → asking_refusal (asking_now h) m ≡ None
+asked_counts_token : (h : History) (m : Message) (e : OutstandingValue) → asking_refusal (asking_now h) m ≡ None
     → (after_asking h m e).tokens ≡ h.tokens + 1
-asked_next h m e may =
+asked_counts_token h m e may =
     ap (λ (r : Option RequestFault). (cond (is_none r) (record h { queued = h.queued ++ m ∷ []; outstanding = h.outstanding ++ e ∷ []; tokens = h.tokens + 1 }) h).tokens) may
 
 refused_so : (o : Option RequestFault) → else_refusal o (Some TooBig) ≡ None → ⊥
@@ -81,36 +81,36 @@ sent_asked h method target extras =
     (λ long e. absurd (refused_so (new_refusal (asking_now h)) e)) (λ short e. e)
 
 -- the history goes on with one token more, where one was left
-record Gives (h k : History) : Type 0 where
+record UsesToken (h k : History) : Type 0 where
   next : k.tokens ≡ h.tokens + 1
   left : h.tokens < 18446744073709551615
 
 asked_gives : (h : History) (m : Message) (e : OutstandingValue) → asking_refusal (asking_now h) m ≡ None
-    → Gives h (after_asking h m e)
-asked_gives h m e may = record { next = asked_next h m e may; left = token_left h m may }
+    → UsesToken h (after_asking h m e)
+asked_gives h m e may = record { next = asked_counts_token h m e may; left = token_left h m may }
 
 sent_gives : (limits : LimitValues) (tokens : ℕ) (earlier : List ClientCall) (method : Method) (target : TargetValue) (extras : ExtrasValue) → IsAccepted limits tokens earlier (Sent method target extras)
-    → Gives (client_after limits tokens earlier) (client_after limits tokens (earlier ++ Sent method target extras ∷ []))
+    → UsesToken (client_after limits tokens earlier) (client_after limits tokens (earlier ++ Sent method target extras ∷ []))
 unfolding IsAccepted step steps_by
 sent_gives limits tokens earlier method target extras accepted =
     let h : History = client_after limits tokens earlier in
-    subst (Gives h) (sym (client_step limits tokens earlier (Sent method target extras) (Requests (request_of method target extras) extras.observe) refl))
+    subst (UsesToken h) (sym (client_step limits tokens earlier (Sent method target extras) (Requests (request_of method target extras) extras.observe) refl))
     (asked_gives h (with_token (request_of method target extras) (next_token h.tokens)) (entry_of extras.observe (next_token h.tokens))
     (sent_asked h method target extras accepted))
 
 pinged_gives : (limits : LimitValues) (tokens : ℕ) (earlier : List ClientCall) (custody : Bool)
     → IsAccepted limits tokens earlier (Pinged custody)
-    → Gives (client_after limits tokens earlier) (client_after limits tokens (earlier ++ Pinged custody ∷ []))
+    → UsesToken (client_after limits tokens earlier) (client_after limits tokens (earlier ++ Pinged custody ∷ []))
 unfolding IsAccepted step steps_by
 pinged_gives limits tokens earlier custody accepted =
     let h : History = client_after limits tokens earlier in
-    subst (Gives h) (sym (client_step limits tokens earlier (Pinged custody) (Pings custody) refl))
+    subst (UsesToken h) (sym (client_step limits tokens earlier (Pinged custody) (Pings custody) refl))
     (asked_gives h (ping_with custody (next_token h.tokens)) (Ping (next_token h.tokens)) accepted)
 
 -- ---- tokens of later numbers
 
 -- the token of a number behind n, of which one is left
-record IsBehind (n : ℕ) (token : List ℕ) : Type 0 where
+record IsLater (n : ℕ) (token : List ℕ) : Type 0 where
   number : ℕ
   is : token ≡ next_token number
   later : n ≤ number
@@ -118,15 +118,15 @@ record IsBehind (n : ℕ) (token : List ℕ) : Type 0 where
 
 -- all are, and no two are the same
 abbrev AreNew : ℕ → List (List ℕ) → Type 0
-AreNew n ts = AllByRecursion (IsBehind n) ts × AreDifferent ts
+AreNew n ts = AllByRecursion (IsLater n) ts × AreDifferent ts
 
-all_earlier : (n k : ℕ) (ts : List (List ℕ)) → n ≤ k → AllByRecursion (IsBehind k) ts → AllByRecursion (IsBehind n) ts
+all_earlier : (n k : ℕ) (ts : List (List ℕ)) → n ≤ k → AllByRecursion (IsLater k) ts → AllByRecursion (IsLater n) ts
 all_earlier n k [] h each = tt
 all_earlier n k (t ∷ ts) h each =
     (record { number = each.0.number; is = each.0.is; later = omega (arith, h, each.0.later); small = each.0.small }, all_earlier n k ts h each.1)
 
 -- they are other tokens than that of a number before them
-all_other : (n : ℕ) (ts : List (List ℕ)) → n < 18446744073709551615 → AllByRecursion (IsBehind (n + 1)) ts
+all_other : (n : ℕ) (ts : List (List ℕ)) → n < 18446744073709551615 → AllByRecursion (IsLater (n + 1)) ts
     → AllByRecursion (λ other. next_token n ≢ other) ts
 all_other n [] small each = tt
 all_other n (t ∷ ts) small each =
@@ -136,10 +136,10 @@ all_other n (t ∷ ts) small each =
 none_new : (h k : History) (ts : List (List ℕ)) → h.tokens ≤ k.tokens → AreNew k.tokens ts → AreNew h.tokens ([] ++ ts)
 none_new h k ts more are = (all_earlier h.tokens k.tokens ts more are.0, are.1)
 
-one_new : (h k : History) (ts : List (List ℕ)) → Gives h k → AreNew k.tokens ts
+one_new : (h k : History) (ts : List (List ℕ)) → UsesToken h k → AreNew k.tokens ts
     → AreNew h.tokens ((next_token h.tokens ∷ []) ++ ts)
 one_new h k ts gives are =
-    let behind : AllByRecursion (IsBehind (h.tokens + 1)) ts = subst (λ (n : ℕ). AllByRecursion (IsBehind n) ts) gives.next are.0 in (
+    let behind : AllByRecursion (IsLater (h.tokens + 1)) ts = subst (λ (n : ℕ). AllByRecursion (IsLater n) ts) gives.next are.0 in (
       (record { number = h.tokens; is = refl; later = omega arith; small = gives.left }, all_earlier h.tokens (h.tokens + 1) ts (omega arith) behind),
       (all_other h.tokens ts gives.left behind, are.1),
     )

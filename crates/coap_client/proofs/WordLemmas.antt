@@ -23,22 +23,22 @@ pub first_text : (f : Found) (name : Text) (said : Option Text) → said ≡ fir
 first_text f name said e = e ∙ first_value-rows f name
 
 -- one more option makes one more rule
-pub grown : (before after shape : App) (rule : Rule) → after ≡ with_rule before rule → before ≡ shape → after ≡ with_rule shape rule
-grown before after shape rule e h = e ∙ ap (λ (a : App). with_rule a rule) h
+pub shape_with_rule : (before after shape : App) (rule : Rule) → after ≡ with_rule before rule → before ≡ shape → after ≡ with_rule shape rule
+shape_with_rule before after shape rule e h = e ∙ ap (λ (a : App). with_rule a rule) h
 
 -- ---- addresses
 
 -- a value that was read, and the text behind it
-abbrev read_at : {A : Type 0} → A → List ℕ → Read A
-read_at value rest = Some (value, rest)
+abbrev read_with_rest : {A : Type 0} → A → List ℕ → Read A
+read_with_rest value rest = Some (value, rest)
 
-whole_rest : {A : Type 0} (value : A) (rest : List ℕ) → (rest ≡ [] → ⊥) → whole_value (read_at value rest) ≡ None
+whole_rest : {A : Type 0} (value : A) (rest : List ℕ) → (rest ≡ [] → ⊥) → whole_value (read_with_rest value rest) ≡ None
 whole_rest value [] left = absurd (left refl)
 whole_rest value (byte ∷ rest) left = rw (ne_eqb (length (byte ∷ rest)) 0 (omega arith)) refl
 
-whole_none : {A : Type 0} (read : Read A) → ((value : A) → read ≡ read_at value [] → ⊥) → whole_value read ≡ None
+whole_none : {A : Type 0} (read : Read A) → ((value : A) → read ≡ read_with_rest value [] → ⊥) → whole_value read ≡ None
 whole_none None none = refl
-whole_none (Some p) none = whole_rest p.0 p.1 (λ e. none p.0 (ap (read_at p.0) e))
+whole_none (Some p) none = whole_rest p.0 p.1 (λ e. none p.0 (ap (read_with_rest p.0) e))
 
 v4_found : (text octets : List ℕ) → IsDotted text octets → whole_value (read_ipv4 text) ≡ Some octets
 v4_found text octets h = ap whole_value (sym (ap read_ipv4 (append-nil text)) ∙ read_ipv4_complete text octets [] h (lit≤ tt))

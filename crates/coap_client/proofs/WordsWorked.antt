@@ -123,9 +123,9 @@ nothing_said : request_said (matches_of client_app (codes "coap+tcp://h/" ∷ []
 unfolding clap_on_literals request_said uri_said payload_said clashes number_within decimal_value is_used method_named format_named format_of option_bytes extra_of hex_value decode_pairs percent_decode
 nothing_said = refl
 
-all_said : request_said (matches_of client_app (codes "-m" ∷ codes "put" ∷ codes "-t" ∷ codes "application/json" ∷ codes "-A" ∷ codes "060" ∷ codes "coap+tcp://h/" ∷ codes "-s" ∷ codes "5" ∷ codes "-B7" ∷ [])) ≡ Ok (record { method = Put; content_format = Some 50; accept = Some 60; observe = Some 5; wait = 7 })
+all_options_said : request_said (matches_of client_app (codes "-m" ∷ codes "put" ∷ codes "-t" ∷ codes "application/json" ∷ codes "-A" ∷ codes "060" ∷ codes "coap+tcp://h/" ∷ codes "-s" ∷ codes "5" ∷ codes "-B7" ∷ [])) ≡ Ok (record { method = Put; content_format = Some 50; accept = Some 60; observe = Some 5; wait = 7 })
 unfolding clap_on_literals request_said uri_said payload_said clashes number_within decimal_value is_used method_named format_named format_of option_bytes extra_of hex_value decode_pairs percent_decode
-all_said = refl
+all_options_said = refl
 
 not_a_method : request_said (matches_of client_app (codes "-m" ∷ codes "GET" ∷ codes "-t" ∷ codes "x" ∷ codes "coap+tcp://h/" ∷ [])) ≡ Err (codes "-m")
 unfolding clap_on_literals request_said uri_said payload_said clashes number_within decimal_value is_used method_named format_named format_of option_bytes extra_of hex_value decode_pairs percent_decode
@@ -183,6 +183,6 @@ observed_with_put : clashes (matches_of client_app (codes "coap+tcp://h/" ∷ []
 unfolding clap_on_literals request_said uri_said payload_said clashes number_within decimal_value is_used method_named format_named format_of option_bytes extra_of hex_value decode_pairs percent_decode
 observed_with_put = refl
 
-observed : clashes (matches_of client_app (codes "-f" ∷ codes "y" ∷ codes "coap+tcp://h/" ∷ [])) (record { method = Get; content_format = None; accept = None; observe = Some 0; wait = 90 }) ≡ false
+observed_with_get : clashes (matches_of client_app (codes "-f" ∷ codes "y" ∷ codes "coap+tcp://h/" ∷ [])) (record { method = Get; content_format = None; accept = None; observe = Some 0; wait = 90 }) ≡ false
 unfolding clap_on_literals request_said uri_said payload_said clashes number_within decimal_value is_used method_named format_named format_of option_bytes extra_of hex_value decode_pairs percent_decode
-observed = refl
+observed_with_get = refl

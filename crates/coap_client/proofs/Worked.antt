@@ -13,19 +13,19 @@ use Rattle.coap_client.specs.Targets.{target_of, target_in, form_refusal, size_r
 use Rattle.coap_client.specs.Requests.{ExtrasValue, request_of, cancel_of, host_sent, observe_sent, own_options, with_extra, insert_option, is_too_long, has_long_extra}
 
 -- a request that says nothing beside its method and its target
-abbrev nothing : ExtrasValue
-nothing = record { observe = false; plain = false; content_format = None; accept = None; extra = None; payload = [] }
+abbrev defaults : ExtrasValue
+defaults = record { observe = false; plain = false; content_format = None; accept = None; extra = None; payload = [] }
 
 abbrev plain : ExtrasValue
-plain = record nothing { plain = true }
+plain = record defaults { plain = true }
 
 -- the bytes of the request for a text, with the token 1
-abbrev sent : Method → ExtrasValue → List ℕ → Option (List ℕ)
-sent method e text = option_map (λ t. spelling (record (request_of method t e) { token = 1 ∷ [] })) (result_ok (target_of text))
+abbrev request_bytes : Method → ExtrasValue → List ℕ → Option (List ℕ)
+request_bytes method e text = option_map (λ t. spelling (record (request_of method t e) { token = 1 ∷ [] })) (result_ok (target_of text))
 
 -- the bytes of the GET that ends the observation of a text's target, with the token 1
-abbrev ended : ExtrasValue → List ℕ → Option (List ℕ)
-ended e text = option_map (λ t. spelling (record (cancel_of t e) { token = 1 ∷ [] })) (result_ok (target_of text))
+abbrev end_bytes : ExtrasValue → List ℕ → Option (List ℕ)
+end_bytes e text = option_map (λ t. spelling (record (cancel_of t e) { token = 1 ∷ [] })) (result_ok (target_of text))
 
 -- ---- targets
 
@@ -42,9 +42,9 @@ four_numbers : target_of (codes "coap+tcp://127.0.0.1/x") ≡ Ok (record { host 
 unfolding url_on_literals target_in form_refusal size_refusal value_named names_address host_named domain_named segments_named arguments_named decoded_parts percent_decode
 four_numbers = refl
 
-greatest_numbers : target_of (codes "coap+tcp://255.255.255.255") ≡ Ok (record { host = codes "255.255.255.255"; is_address = true; port = 5683; segments = []; arguments = [] })
+greatest_address : target_of (codes "coap+tcp://255.255.255.255") ≡ Ok (record { host = codes "255.255.255.255"; is_address = true; port = 5683; segments = []; arguments = [] })
 unfolding url_on_literals target_in form_refusal size_refusal value_named names_address host_named domain_named segments_named arguments_named decoded_parts percent_decode
-greatest_numbers = refl
+greatest_address = refl
 
 -- no address, so these are names
 number_above_255 : target_of (codes "coap+tcp://256.0.0.1") ≡ Ok (record { host = codes "256.0.0.1"; is_address = false; port = 5683; segments = []; arguments = [] })
@@ -115,9 +115,9 @@ unfolding url_on_literals target_in form_refusal size_refusal value_named names_
 slash_at_the_end = refl
 
 -- the crate `url` resolves dots
-dots : target_of (codes "coap+tcp://h/a/../b/./c") ≡ Ok (record { host = codes "h"; is_address = false; port = 5683; segments = codes "b" ∷ codes "c" ∷ []; arguments = [] })
+dots_resolved : target_of (codes "coap+tcp://h/a/../b/./c") ≡ Ok (record { host = codes "h"; is_address = false; port = 5683; segments = codes "b" ∷ codes "c" ∷ []; arguments = [] })
 unfolding url_on_literals target_in form_refusal size_refusal value_named names_address host_named domain_named segments_named arguments_named decoded_parts percent_decode
-dots = refl
+dots_resolved = refl
 
 escaped_slash : target_of (codes "coap+tcp://h/a%2fb/c") ≡ Ok (record { host = codes "h"; is_address = false; port = 5683; segments = codes "a/b" ∷ codes "c" ∷ []; arguments = [] })
 unfolding url_on_literals target_in form_refusal size_refusal value_named names_address host_named domain_named segments_named arguments_named decoded_parts percent_decode
@@ -248,64 +248,64 @@ greatest_segment = refl
 -- ---- requests
 
 -- a GET with Uri-Path and two Uri-Query, and no Uri-Port
-get_in_brackets : sent Get plain (codes "coap+tcp://[::1]:5700/a%2Fb?x&y") ≡ Some (0x81 ∷ 0x01 ∷ 0x01 ∷ 0xb3 ∷ 0x61 ∷ 0x2f ∷ 0x62 ∷ 0x41 ∷ 0x78 ∷ 0x01 ∷ 0x79 ∷ [])
+get_in_brackets : request_bytes Get plain (codes "coap+tcp://[::1]:5700/a%2Fb?x&y") ≡ Some (0x81 ∷ 0x01 ∷ 0x01 ∷ 0xb3 ∷ 0x61 ∷ 0x2f ∷ 0x62 ∷ 0x41 ∷ 0x78 ∷ 0x01 ∷ 0x79 ∷ [])
 unfolding url_on_literals target_in form_refusal size_refusal value_named names_address host_named domain_named segments_named arguments_named decoded_parts percent_decode request_of cancel_of host_sent observe_sent own_options with_extra insert_option bytes_of_uint spelling
 get_in_brackets = refl
 
-address_has_no_host : sent Get nothing (codes "coap+tcp://[::1]:5700/a%2Fb?x&y") ≡ Some (0x81 ∷ 0x01 ∷ 0x01 ∷ 0xb3 ∷ 0x61 ∷ 0x2f ∷ 0x62 ∷ 0x41 ∷ 0x78 ∷ 0x01 ∷ 0x79 ∷ [])
+address_has_no_host : request_bytes Get defaults (codes "coap+tcp://[::1]:5700/a%2Fb?x&y") ≡ Some (0x81 ∷ 0x01 ∷ 0x01 ∷ 0xb3 ∷ 0x61 ∷ 0x2f ∷ 0x62 ∷ 0x41 ∷ 0x78 ∷ 0x01 ∷ 0x79 ∷ [])
 unfolding url_on_literals target_in form_refusal size_refusal value_named names_address host_named domain_named segments_named arguments_named decoded_parts percent_decode request_of cancel_of host_sent observe_sent own_options with_extra insert_option bytes_of_uint spelling
 address_has_no_host = refl
 
 -- a name is sent as Uri-Host, unless it is to be left out
-localhost : sent Get nothing (codes "coap+tcp://localhost/") ≡ Some (0xa1 ∷ 0x01 ∷ 0x01 ∷ 0x39 ∷ 0x6c ∷ 0x6f ∷ 0x63 ∷ 0x61 ∷ 0x6c ∷ 0x68 ∷ 0x6f ∷ 0x73 ∷ 0x74 ∷ [])
+localhost : request_bytes Get defaults (codes "coap+tcp://localhost/") ≡ Some (0xa1 ∷ 0x01 ∷ 0x01 ∷ 0x39 ∷ 0x6c ∷ 0x6f ∷ 0x63 ∷ 0x61 ∷ 0x6c ∷ 0x68 ∷ 0x6f ∷ 0x73 ∷ 0x74 ∷ [])
 unfolding url_on_literals target_in form_refusal size_refusal value_named names_address host_named domain_named segments_named arguments_named decoded_parts percent_decode request_of cancel_of host_sent observe_sent own_options with_extra insert_option bytes_of_uint spelling
 localhost = refl
 
-plain_localhost : sent Get plain (codes "coap+tcp://localhost/") ≡ Some (0x01 ∷ 0x01 ∷ 0x01 ∷ [])
+plain_localhost : request_bytes Get plain (codes "coap+tcp://localhost/") ≡ Some (0x01 ∷ 0x01 ∷ 0x01 ∷ [])
 unfolding url_on_literals target_in form_refusal size_refusal value_named names_address host_named domain_named segments_named arguments_named decoded_parts percent_decode request_of cancel_of host_sent observe_sent own_options with_extra insert_option bytes_of_uint spelling
 plain_localhost = refl
 
 -- a PUT with Content-Format 0, one more option and a payload
-put_of_all : sent Put (record nothing { content_format = Some 0; extra = Some (record { number = 2048; value = 1 ∷ 2 ∷ [] }); payload = codes "a b" }) (codes "coap+tcp://127.0.0.1/x") ≡ Some (0xc1 ∷ 0x03 ∷ 0x01 ∷ 0xb1 ∷ 0x78 ∷ 0x10 ∷ 0xe2 ∷ 0x06 ∷ 0xe7 ∷ 0x01 ∷ 0x02 ∷ 0xff ∷ 0x61 ∷ 0x20 ∷ 0x62 ∷ [])
+put_of_all : request_bytes Put (record defaults { content_format = Some 0; extra = Some (record { number = 2048; value = 1 ∷ 2 ∷ [] }); payload = codes "a b" }) (codes "coap+tcp://127.0.0.1/x") ≡ Some (0xc1 ∷ 0x03 ∷ 0x01 ∷ 0xb1 ∷ 0x78 ∷ 0x10 ∷ 0xe2 ∷ 0x06 ∷ 0xe7 ∷ 0x01 ∷ 0x02 ∷ 0xff ∷ 0x61 ∷ 0x20 ∷ 0x62 ∷ [])
 unfolding url_on_literals target_in form_refusal size_refusal value_named names_address host_named domain_named segments_named arguments_named decoded_parts percent_decode request_of cancel_of host_sent observe_sent own_options with_extra insert_option bytes_of_uint spelling
 put_of_all = refl
 
-observed : sent Get (record nothing { observe = true }) (codes "coap+tcp://127.0.0.1/") ≡ Some (0x11 ∷ 0x01 ∷ 0x01 ∷ 0x60 ∷ [])
+observe_spelled : request_bytes Get (record defaults { observe = true }) (codes "coap+tcp://127.0.0.1/") ≡ Some (0x11 ∷ 0x01 ∷ 0x01 ∷ 0x60 ∷ [])
 unfolding url_on_literals target_in form_refusal size_refusal value_named names_address host_named domain_named segments_named arguments_named decoded_parts percent_decode request_of cancel_of host_sent observe_sent own_options with_extra insert_option bytes_of_uint spelling
-observed = refl
+observe_spelled = refl
 
-cancelled : ended (record nothing { observe = true; payload = codes "x" }) (codes "coap+tcp://127.0.0.1/") ≡ Some (0x21 ∷ 0x01 ∷ 0x01 ∷ 0x61 ∷ 0x01 ∷ [])
+cancel_spelled : end_bytes (record defaults { observe = true; payload = codes "x" }) (codes "coap+tcp://127.0.0.1/") ≡ Some (0x21 ∷ 0x01 ∷ 0x01 ∷ 0x61 ∷ 0x01 ∷ [])
 unfolding url_on_literals target_in form_refusal size_refusal value_named names_address host_named domain_named segments_named arguments_named decoded_parts percent_decode request_of cancel_of host_sent observe_sent own_options with_extra insert_option bytes_of_uint spelling
-cancelled = refl
+cancel_spelled = refl
 
-cancelled_again : ended nothing (codes "coap+tcp://127.0.0.1/") ≡ Some (0x21 ∷ 0x01 ∷ 0x01 ∷ 0x61 ∷ 0x01 ∷ [])
+cancelled_again : end_bytes defaults (codes "coap+tcp://127.0.0.1/") ≡ Some (0x21 ∷ 0x01 ∷ 0x01 ∷ 0x61 ∷ 0x01 ∷ [])
 unfolding url_on_literals target_in form_refusal size_refusal value_named names_address host_named domain_named segments_named arguments_named decoded_parts percent_decode request_of cancel_of host_sent observe_sent own_options with_extra insert_option bytes_of_uint spelling
 cancelled_again = refl
 
 -- the numbers of formats in as few bytes as possible
-accepted : sent Get (record nothing { content_format = Some 50; accept = Some 65535 }) (codes "coap+tcp://h/?q") ≡ Some (0x91 ∷ 0x01 ∷ 0x01 ∷ 0x31 ∷ 0x68 ∷ 0x91 ∷ 0x32 ∷ 0x31 ∷ 0x71 ∷ 0x22 ∷ 0xff ∷ 0xff ∷ [])
+formats_sent : request_bytes Get (record defaults { content_format = Some 50; accept = Some 65535 }) (codes "coap+tcp://h/?q") ≡ Some (0x91 ∷ 0x01 ∷ 0x01 ∷ 0x31 ∷ 0x68 ∷ 0x91 ∷ 0x32 ∷ 0x31 ∷ 0x71 ∷ 0x22 ∷ 0xff ∷ 0xff ∷ [])
 unfolding url_on_literals target_in form_refusal size_refusal value_named names_address host_named domain_named segments_named arguments_named decoded_parts percent_decode request_of cancel_of host_sent observe_sent own_options with_extra insert_option bytes_of_uint spelling
-accepted = refl
+formats_sent = refl
 
 -- one more option before all others, between them, and behind those with its number
-extra_first : sent Get (record nothing { extra = Some (record { number = 1; value = [] }) }) (codes "coap+tcp://h/p") ≡ Some (0x51 ∷ 0x01 ∷ 0x01 ∷ 0x10 ∷ 0x21 ∷ 0x68 ∷ 0x81 ∷ 0x70 ∷ [])
+extra_first : request_bytes Get (record defaults { extra = Some (record { number = 1; value = [] }) }) (codes "coap+tcp://h/p") ≡ Some (0x51 ∷ 0x01 ∷ 0x01 ∷ 0x10 ∷ 0x21 ∷ 0x68 ∷ 0x81 ∷ 0x70 ∷ [])
 unfolding url_on_literals target_in form_refusal size_refusal value_named names_address host_named domain_named segments_named arguments_named decoded_parts percent_decode request_of cancel_of host_sent observe_sent own_options with_extra insert_option bytes_of_uint spelling
 extra_first = refl
 
-extra_between : sent Get (record nothing { extra = Some (record { number = 11; value = codes "z" }) }) (codes "coap+tcp://h/p/q?r") ≡ Some (0xa1 ∷ 0x01 ∷ 0x01 ∷ 0x31 ∷ 0x68 ∷ 0x81 ∷ 0x70 ∷ 0x01 ∷ 0x71 ∷ 0x01 ∷ 0x7a ∷ 0x41 ∷ 0x72 ∷ [])
+extra_between : request_bytes Get (record defaults { extra = Some (record { number = 11; value = codes "z" }) }) (codes "coap+tcp://h/p/q?r") ≡ Some (0xa1 ∷ 0x01 ∷ 0x01 ∷ 0x31 ∷ 0x68 ∷ 0x81 ∷ 0x70 ∷ 0x01 ∷ 0x71 ∷ 0x01 ∷ 0x7a ∷ 0x41 ∷ 0x72 ∷ [])
 unfolding url_on_literals target_in form_refusal size_refusal value_named names_address host_named domain_named segments_named arguments_named decoded_parts percent_decode request_of cancel_of host_sent observe_sent own_options with_extra insert_option bytes_of_uint spelling
 extra_between = refl
 
-extra_behind : sent Get (record nothing { accept = Some 0; extra = Some (record { number = 17; value = codes "z" }) }) (codes "coap+tcp://127.0.0.1/") ≡ Some (0x41 ∷ 0x01 ∷ 0x01 ∷ 0xd0 ∷ 0x04 ∷ 0x01 ∷ 0x7a ∷ [])
+extra_behind : request_bytes Get (record defaults { accept = Some 0; extra = Some (record { number = 17; value = codes "z" }) }) (codes "coap+tcp://127.0.0.1/") ≡ Some (0x41 ∷ 0x01 ∷ 0x01 ∷ 0xd0 ∷ 0x04 ∷ 0x01 ∷ 0x7a ∷ [])
 unfolding url_on_literals target_in form_refusal size_refusal value_named names_address host_named domain_named segments_named arguments_named decoded_parts percent_decode request_of cancel_of host_sent observe_sent own_options with_extra insert_option bytes_of_uint spelling
 extra_behind = refl
 
 -- ---- what is too long
 
-extra_of_1034 : is_too_long (record nothing { extra = Some (record { number = 1; value = replicate 1034 0 }) }) ≡ false
+extra_of_1034 : is_too_long (record defaults { extra = Some (record { number = 1; value = replicate 1034 0 }) }) ≡ false
 unfolding is_too_long has_long_extra
 extra_of_1034 = refl
 
-extra_of_1035 : is_too_long (record nothing { extra = Some (record { number = 1; value = replicate 1035 0 }) }) ≡ true
+extra_of_1035 : is_too_long (record defaults { extra = Some (record { number = 1; value = replicate 1035 0 }) }) ≡ true
 unfolding is_too_long has_long_extra
 extra_of_1035 = refl

@@ -1,12 +1,5 @@
 -- Worked values of what the laws speak of: calls that are accepted, the tokens that they give, and which client they leave.
 use Rattle.std.proofs.Common.{◌≡◌, List, [], ◌∷◌, true, false, Some, refl, arith}
-use Rattle.coap_wire.specs.Uint.{bytes_of_uint}
-use Rattle.coap_wire.specs.Spelling.{spelling}
-use Rattle.coap_wire.specs.Reading.{declared_of, length_at, one_byte_at, two_bytes_at, four_bytes_at, message_of, head_at, option_number_at, option_head_at, option_at, body_at, body_within}
-use Rattle.coap_wire.specs.Beginning.{beginning}
-use Rattle.coap_wire.specs.Frames.{sized_frames, frames_within}
-use Rattle.coap_wire.specs.Stream.{sized_split, split}
-use Rattle.coap_frame.specs.Framing.{framing}
 use Rattle.coap_conn.specs.Limits.{LimitValues}
 use Rattle.coap_conn.specs.Outstanding.{Ping}
 use Rattle.coap_conn.specs.Announced.{announced}
@@ -19,64 +12,61 @@ use Rattle.coap_conn.specs.declared.reason.Reason.TheVariants.{TokenLength}
 use Rattle.coap_client.specs.ClientValues.{ping_refusal}
 use Rattle.coap_client.specs.ClientWorld.{ClientCall, Took, Pinged, Wrote, client_after, client_of, IsAccepted, AreAcceptedBehind, AreAccepted, takes, steps_of, steps_behind, steps_by, after_steps, step}
 use Rattle.coap_client.specs.ClientLaws.{tokens_given}
+use Rattle.coap_serve.proofs.world.Rows.{bytes_computed}
 
 -- ---- what is computed with: to unfold one of these is to unfold all that its line names
 
-bytes_computed : Unit {0}
-unfolding split sized_split sized_frames frames_within framing beginning declared_of length_at one_byte_at two_bytes_at four_bytes_at message_of head_at option_number_at option_head_at option_at body_at body_within spelling bytes_of_uint
-bytes_computed = tt
-
-calls_computed : Unit {0}
+laws_computed : Unit {0}
 unfolding announced react live_reaction new_refusal asking_refusal step after_steps steps_by steps_behind steps_of client_after client_of takes IsAccepted AreAcceptedBehind
-calls_computed = tt
+laws_computed = tt
 
 -- ---- Pings
 
 -- two may be outstanding
-abbrev limits : LimitValues
-limits = record { max_message = 1152; max_sent = 1152; queue = 1200; pending = 0; observers = 0; outstanding = 2 }
+abbrev roomy : LimitValues
+roomy = record { max_message = 1152; max_sent = 1152; queue = 1200; pending = 0; observers = 0; outstanding = 2 }
 
 -- Capabilities and Settings, two Pings, a Pong to the first one, some bytes written, the beginning of a frame, and the end
 abbrev calls : List ClientCall
 calls = Took (0 ∷ 225 ∷ []) ∷ Pinged true ∷ Pinged false ∷ Took (1 ∷ 227 ∷ 1 ∷ []) ∷ Wrote 3 ∷ Took (1 ∷ []) ∷ []
 
-accepted : AreAccepted limits 0 calls
-unfolding bytes_computed calls_computed
+accepted : AreAccepted roomy 0 calls
+unfolding bytes_computed laws_computed
 accepted = (refl, (refl, (refl, (refl, (omega arith, (refl, tt))))))
 
-tokens_are : tokens_given limits 0 calls ≡ (1 ∷ []) ∷ (2 ∷ []) ∷ []
-unfolding bytes_computed calls_computed
+tokens_are : tokens_given roomy 0 calls ≡ (1 ∷ []) ∷ (2 ∷ []) ∷ []
+unfolding bytes_computed laws_computed
 tokens_are = refl
 
 -- the second one is outstanding
-second_left : (client_after limits 0 calls).outstanding ≡ Ping (2 ∷ []) ∷ []
-unfolding bytes_computed calls_computed
+second_left : (client_after roomy 0 calls).outstanding ≡ Ping (2 ∷ []) ∷ []
+unfolding bytes_computed laws_computed
 second_left = refl
 
 -- a byte is kept
-byte_kept : (client_of limits 0 calls).frame ≡ 1 ∷ []
-unfolding bytes_computed calls_computed
+byte_kept : (client_of roomy 0 calls).frame ≡ 1 ∷ []
+unfolding bytes_computed laws_computed
 byte_kept = refl
 
 -- a third one is refused while two are outstanding
-third_refused : ping_refusal (link_of (client_after limits 0 (Took (0 ∷ 225 ∷ []) ∷ Pinged true ∷ Pinged false ∷ []))) true ≡ Some TooMany
-unfolding bytes_computed calls_computed
+third_refused : ping_refusal (link_of (client_after roomy 0 (Took (0 ∷ 225 ∷ []) ∷ Pinged true ∷ Pinged false ∷ []))) true ≡ Some TooMany
+unfolding bytes_computed laws_computed
 third_refused = refl
 
 -- ---- room
 
 -- the queue has room for the greatest message alone
-abbrev narrow : LimitValues
-narrow = record limits { queue = 1152 }
+abbrev least_queue : LimitValues
+least_queue = record roomy { queue = 1152 }
 
 -- nothing is taken while our Capabilities and Settings wait
-none_taken : takes narrow 0 [] (0 ∷ 225 ∷ []) ≡ 0
-unfolding bytes_computed calls_computed
-none_taken = refl
+none_taken_while_waiting : takes least_queue 0 [] (0 ∷ 225 ∷ []) ≡ 0
+unfolding bytes_computed laws_computed
+none_taken_while_waiting = refl
 
 -- and all of a message once they are written
-then_taken : takes narrow 0 (Wrote 7 ∷ []) (0 ∷ 225 ∷ 0 ∷ []) ≡ 2
-unfolding bytes_computed calls_computed
+then_taken : takes least_queue 0 (Wrote 7 ∷ []) (0 ∷ 225 ∷ 0 ∷ []) ≡ 2
+unfolding bytes_computed laws_computed
 then_taken = refl
 
 -- ---- a fault
@@ -85,18 +75,18 @@ then_taken = refl
 abbrev faulty : List ClientCall
 faulty = Took (0 ∷ 225 ∷ []) ∷ Took (15 ∷ []) ∷ []
 
-fault_accepted : AreAccepted limits 0 faulty
-unfolding bytes_computed calls_computed
+fault_accepted : AreAccepted roomy 0 faulty
+unfolding bytes_computed laws_computed
 fault_accepted = (refl, (refl, tt))
 
-fault_stopped : (client_after limits 0 faulty).phase ≡ Stopped TokenLength
-unfolding bytes_computed calls_computed
+fault_stopped : (client_after roomy 0 faulty).phase ≡ Stopped TokenLength
+unfolding bytes_computed laws_computed
 fault_stopped = refl
 
-nothing_behind : takes limits 0 faulty (0 ∷ 225 ∷ []) ≡ 0
-unfolding bytes_computed calls_computed
+nothing_behind : takes roomy 0 faulty (0 ∷ 225 ∷ []) ≡ 0
+unfolding bytes_computed laws_computed
 nothing_behind = refl
 
-nothing_kept : (client_of limits 0 faulty).frame ≡ []
-unfolding bytes_computed calls_computed
-nothing_kept = refl
+nothing_kept_of_fault : (client_of roomy 0 faulty).frame ≡ []
+unfolding bytes_computed laws_computed
+nothing_kept_of_fault = refl

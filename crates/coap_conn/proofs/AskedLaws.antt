@@ -67,10 +67,10 @@ sent_fewer s m less Whole = omega arith
 sent_fewer s m less Bare = omega arith
 sent_fewer s m less Stopped = omega arith
 
-due_fewer : (s : Standing) (e : Option HeldValue) → length (due_effect s e).outstanding ≤ length s.outstanding
-due_fewer s None = omega arith
-due_fewer s (Some (held.Answer token moment)) = omega arith
-due_fewer s (Some (held.Pong token)) = sent_fewer s (pong_with true token) (pong_with false token) (fit s.limit (pong_with true token) (pong_with false token))
+due_leaves_fewer : (s : Standing) (e : Option HeldValue) → length (due_effect s e).outstanding ≤ length s.outstanding
+due_leaves_fewer s None = omega arith
+due_leaves_fewer s (Some (held.Answer token moment)) = omega arith
+due_leaves_fewer s (Some (held.Pong token)) = sent_fewer s (pong_with true token) (pong_with false token) (fit s.limit (pong_with true token) (pong_with false token))
 
 -- whatever happens
 pub call_few : (h : History) (c : Call) → length h.outstanding ≤ h.limits.outstanding → length (after h c).outstanding ≤ h.limits.outstanding
@@ -80,7 +80,7 @@ call_few h (call.End cut) few = few_by h (call.End cut) few (omega arith)
 call_few h (call.Reply m) few =
     few_by h (call.Reply m) few (sent_fewer (standing_now h) m (bare_response m) (fit (limit_now h) m (bare_response m)))
 call_few h (call.Hold token moment) few = few_by h (call.Hold token moment) few (omega arith)
-call_few h (call.Due now) few = few_by h (call.Due now) few (due_fewer (standing_due now (standing_now h)) (first_due now h.held))
+call_few h (call.Due now) few = few_by h (call.Due now) few (due_leaves_fewer (standing_due now (standing_now h)) (first_due now h.held))
 call_few h call.Release few = few_by h call.Release few (omega arith)
 call_few h (call.Request m observe) few = asked_few h (with_token m (next_token h.tokens)) (entry_of observe (next_token h.tokens)) few
 call_few h (call.Cancel token m) few = few_by h (call.Cancel token m) few (omega (arith, length-map h.outstanding (cancelled_by token)))
@@ -253,12 +253,12 @@ request_ended s m token = react_told s m (λ r. r.verdict ≡ verdict.Answer tok
 })
 
 -- what a Pong does
-abbrev Pongs : Standing → Message → List ℕ → Bool → Effect → Type 0
-Pongs s m token custody e =
+abbrev PongDoes : Standing → Message → List ℕ → Bool → Effect → Type 0
+PongDoes s m token custody e =
     (token ≡ m.token) × (custody ≡ asks_custody m) × (list_any (is_pinged token) s.outstanding ≡ true) × (e ≡ record (stay s) { outstanding = without_pinged token s.outstanding })
 
-pub pong_ends : (s : Standing) (m : Message) (token : List ℕ) (custody : Bool) → (react s m).verdict ≡ verdict.Pong token custody → Pongs s m token custody (react s m).effect
-pong_ends s m token custody = react_told s m (λ r. r.verdict ≡ verdict.Pong token custody → Pongs s m token custody r.effect) (record {
+pub pong_ends : (s : Standing) (m : Message) (token : List ℕ) (custody : Bool) → (react s m).verdict ≡ verdict.Pong token custody → PongDoes s m token custody (react s m).effect
+pong_ends s m token custody = react_told s m (λ r. r.verdict ≡ verdict.Pong token custody → PongDoes s m token custody r.effect) (record {
   plain = λ r plain is. absurd (not_plain r.verdict (verdict.Pong token custody) plain refl is);
   stranger = λ is. absurd cc;
   last = λ e found ends is. absurd cc;
@@ -305,9 +305,9 @@ response_taken s m opened reserved signal method =
     ∙ cond-false (is_signal m.code) _ _ signal
     ∙ cond-false (is_method m.code) _ _ method
 
-pong_taken : (s : Standing) (m : Message) → s.phase ≡ phase.Open → m.code ≡ code.pong → has_critical_option m ≡ false → live_reaction s m ≡ pong_reaction s m
+live_reaction_to_pong : (s : Standing) (m : Message) → s.phase ≡ phase.Open → m.code ≡ code.pong → has_critical_option m ≡ false → live_reaction s m ≡ pong_reaction s m
 unfolding live_reaction
-pong_taken s m opened is plain =
+live_reaction_to_pong s m opened is plain =
     cond-false (is_reserved m.code) _ _ (ap is_reserved is)
     ∙ cond-false (m.code == code.empty) _ _ (ap (λ (n : ℕ). n == code.empty) is)
     ∙ cond-false (m.code == code.abort) _ _ (ap (λ (n : ℕ). n == code.abort) is)
@@ -324,22 +324,22 @@ any_found p (y ∷ ys) e =
     cond_both (p y) (Some y) (find p ys) (λ o. (x : _) × (o ≡ Some x)) (λ passes. (y, refl))
     (λ other. any_found p ys (elim (or_cases (p y) (list_any p ys) e) [ inl passes ↦ absurd (true≢false (sym passes ∙ other)) | inr later ↦ later ]))
 
-answered_so : (s : Standing) (m : Message) (found : Option OutstandingValue) (e : OutstandingValue) → found ≡ Some e → (last : Bool) × ((answered s m found).verdict ≡ verdict.Answer m.token last)
-answered_so s m None e is = absurd cc
-answered_so s m (Some x) e is = cond_both (is_last m x) _ _ (λ (r : Reaction). (last : Bool) × (r.verdict ≡ verdict.Answer m.token last)) (λ f. (true, refl)) (λ f. (false, refl))
+answered_verdict : (s : Standing) (m : Message) (found : Option OutstandingValue) (e : OutstandingValue) → found ≡ Some e → (last : Bool) × ((answered s m found).verdict ≡ verdict.Answer m.token last)
+answered_verdict s m None e is = absurd cc
+answered_verdict s m (Some x) e is = cond_both (is_last m x) _ _ (λ (r : Reaction). (last : Bool) × (r.verdict ≡ verdict.Answer m.token last)) (λ f. (true, refl)) (λ f. (false, refl))
 
 -- a response to what is outstanding is told as its answer
 pub response_told : (s : Standing) (m : Message) → s.phase ≡ phase.Open → is_reserved m.code ≡ false → is_signal m.code ≡ false → is_method m.code ≡ false → list_any (is_asked m.token) s.outstanding ≡ true
     → (last : Bool) × ((react s m).verdict ≡ verdict.Answer m.token last)
 response_told s m opened reserved signal method asked =
     let found = any_found (is_asked m.token) s.outstanding asked in
-    let told = answered_so s m (find (is_asked m.token) s.outstanding) found.0 found.1 in
+    let told = answered_verdict s m (find (is_asked m.token) s.outstanding) found.0 found.1 in
     (told.0, ap (λ (r : Reaction). r.verdict) (react_live s m (ap stop_of opened) ∙ response_taken s m opened reserved signal method) ∙ told.1)
 
 -- and a Pong to a Ping that is outstanding as its Pong
 pub pong_told_of : (s : Standing) (m : Message) → s.phase ≡ phase.Open → m.code ≡ code.pong → has_critical_option m ≡ false → list_any (is_pinged m.token) s.outstanding ≡ true → (react s m).verdict ≡ verdict.Pong m.token (asks_custody m)
 pong_told_of s m opened is plain pinged =
-    ap (λ (r : Reaction). r.verdict) (react_live s m (ap stop_of opened) ∙ pong_taken s m opened is plain ∙ cond-true (list_any (is_pinged m.token) s.outstanding) _ _ pinged)
+    ap (λ (r : Reaction). r.verdict) (react_live s m (ap stop_of opened) ∙ live_reaction_to_pong s m opened is plain ∙ cond-true (list_any (is_pinged m.token) s.outstanding) _ _ pinged)
 
 -- ---- tokens
 

@@ -41,10 +41,10 @@ left_step : (passes : Bool) (e : Outstanding) (one : List Outstanding) (other : 
 left_step true e one other is = ap (λ (es : List OutstandingValue). outstanding_value e ∷ es) is
 left_step false e one other is = is
 
-pub left_of : (test : OutstandingValue → Bool) (entries : List Outstanding)
+pub values_filtered : (test : OutstandingValue → Bool) (entries : List Outstanding)
     → map outstanding_value (filter (λ e. test (outstanding_value e)) entries) ≡ filter test (map outstanding_value entries)
-left_of test [] = refl
-left_of test (e ∷ entries) = left_step (test (outstanding_value e)) e _ _ (left_of test entries)
+values_filtered test [] = refl
+values_filtered test (e ∷ entries) = left_step (test (outstanding_value e)) e _ _ (values_filtered test entries)
 
 -- ---- one after the other is cancelled
 
@@ -116,10 +116,10 @@ asked_after v queued new m sent e entered allowed same same_entry put enters =
 -- ---- an observation that is cancelled
 
 -- where there is one, the size of the message decides
-pub cancel_size : (a : Asking) (token : List ℕ) (m sent : Message) (o : Option RequestFault)
+pub size_decides_cancel : (a : Asking) (token : List ℕ) (m sent : Message) (o : Option RequestFault)
     → is_open a.phase ≡ true → has_observation a token ≡ true → sent ≡ m → size_refusal a (length (spelling sent)) ≡ o → cancel_refusal a token m ≡ o
 unfolding cancel_refusal
-cancel_size a token m sent o opened there same size =
+size_decides_cancel a token m sent o opened there same size =
     ap (λ (b : Bool). cond b (cond (has_observation a token) (size_refusal a (length (spelling m))) (Some NoSuchToken)) (Some NotOpen)) opened
     ∙ ap (λ (b : Bool). cond b (size_refusal a (length (spelling m))) (Some NoSuchToken)) there
     ∙ ap (λ (n : Message). size_refusal a (length (spelling n))) (sym same) ∙ size

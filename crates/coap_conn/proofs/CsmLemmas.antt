@@ -17,9 +17,9 @@ bad_when_long : (os : List CoapOption) (o : CoapOption) → find is_size os ≡ 
 bad_when_long [] o e f = let bad : ◌≡◌ {A = Option CoapOption} None (Some o) = e in cc
 bad_when_long (x ∷ xs) o e f = bad_step x o (find is_size xs) (find (is_bad true) xs) (is_critical x) (is_size x) e f (bad_when_long xs o)
 
-no_number : (r : Option CoapOption) → option_map (λ (o : CoapOption). o.number) r ≡ None → r ≡ None
-no_number None e = refl
-no_number (Some o) e = let bad : ◌≡◌ {A = Option ℕ} (Some o.number) None = e in absurd cc
+no_option_by_number : (r : Option CoapOption) → option_map (λ (o : CoapOption). o.number) r ≡ None → r ≡ None
+no_option_by_number None e = refl
+no_option_by_number (Some o) e = let bad : ◌≡◌ {A = Option ℕ} (Some o.number) None = e in absurd cc
 
 -- where no option may not be there, the first Max-Message-Size is a number
 pub announced_is : (m : Message) (o : CoapOption) (bytes : Option ℕ) → first_size m ≡ Some o → (length o.value ≤ 4 → bytes ≡ Some (uint_of o.value)) → (4 < length o.value → bytes ≡ None)
@@ -27,7 +27,7 @@ pub announced_is : (m : Message) (o : CoapOption) (bytes : Option ℕ) → first
 announced_is m o bytes first within above none =
     elim (cases_lt 4 (length o.value)) [
       | inl long ↦ (
-          let bad : find (is_bad true) m.options ≡ None = no_number (find (is_bad true) m.options) (ap (λ (b : Option ℕ). option_map (λ (p : CoapOption). p.number) (find (is_bad (is_none b)) m.options)) (sym (above long)) ∙ none) in
+          let bad : find (is_bad true) m.options ≡ None = no_option_by_number (find (is_bad true) m.options) (ap (λ (b : Option ℕ). option_map (λ (p : CoapOption). p.number) (find (is_bad (is_none b)) m.options)) (sym (above long)) ∙ none) in
           absurd (bad_when_long m.options o first bad))
       | inr short ↦ within short ∙ ap (option_map (λ (p : CoapOption). uint_of p.value)) (sym first)
     ]

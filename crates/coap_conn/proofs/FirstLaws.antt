@@ -52,14 +52,14 @@ csm_opens : (s : Standing) (m : Message) (bad : Option ℕ) → m.code ≡ code.
 csm_opens s m None code none is = (code, none)
 csm_opens s m (Some number) code none is = absurd cc
 
-not_open : (s : Standing) → s.phase ≡ phase.Waiting → s.phase ≡ phase.Open → ⊥
-not_open s waits opens = let no : ◌≡◌ {A = Phase} phase.Waiting phase.Open = sym waits ∙ opens in cc
+waiting_not_open : (s : Standing) → s.phase ≡ phase.Waiting → s.phase ≡ phase.Open → ⊥
+waiting_not_open s waits opens = let no : ◌≡◌ {A = Phase} phase.Waiting phase.Open = sym waits ∙ opens in cc
 
 live_opens : (s : Standing) (m : Message) → s.phase ≡ phase.Waiting → OpensBy m (live_reaction s m)
 unfolding live_reaction
 live_opens s m waits =
     cond_both (is_reserved m.code) _ _ (OpensBy m) (λ e is. absurd cc)
-    (λ e. cond_both (m.code == code.empty) _ _ (OpensBy m) (λ e is. absurd (not_open s waits is))
+    (λ e. cond_both (m.code == code.empty) _ _ (OpensBy m) (λ e is. absurd (waiting_not_open s waits is))
     (λ e. cond_both (m.code == code.abort) _ _ (OpensBy m) (λ e is. absurd cc)
     (λ e. cond_both (m.code == code.csm) _ _ (OpensBy m) (λ e. csm_opens s m (bad_csm_option m) (eqb-true m.code code.csm e) refl)
     (λ e. cond_both (is_waiting s.phase) _ _ (OpensBy m) (λ e is. absurd cc) (λ f. absurd (let no : ◌≡◌ {A = Bool} false true = sym f ∙ ap is_waiting waits in cc))))))

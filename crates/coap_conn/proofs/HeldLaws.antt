@@ -130,8 +130,8 @@ none_from : {X : Type 0} (p : X → Bool) (n : ℕ) (xs : List X) → position_f
 none_from p n [] e = tt
 none_from p n (x ∷ xs) e = let parts = none_step (p x) n (position_from p (n + 1) xs) e in (parts.0, none_from p (n + 1) xs parts.1)
 
-none_passes : {X : Type 0} (p : X → Bool) (xs : List X) → position p xs ≡ None → AllByRecursion (λ x. p x ≡ false) xs
-none_passes p xs e = none_from p 0 xs (sym (position_from-zero p xs) ∙ e)
+no_position : {X : Type 0} (p : X → Bool) (xs : List X) → position p xs ≡ None → AllByRecursion (λ x. p x ≡ false) xs
+no_position p xs e = none_from p 0 xs (sym (position_from-zero p xs) ∙ e)
 
 -- ---- what is due first
 
@@ -192,7 +192,7 @@ pong_index_has now (Pong token ∷ held) none = record {
 index_at : (now : ℕ) (held : List HeldValue) (least : Option ℕ) (found : Option ℕ) → reduce min (filter_map (come now) held) ≡ least → answer_index least held ≡ found → HasIndex now held (else_index found (pong_index held))
 index_at now held None None e f = pong_index_has now held (none_come now held (reduce_none (filter_map (come now) held) e))
 index_at now held None (Some i) e f = absurd cc
-index_at now held (Some least) None e f = absurd (reduce_apart least (filter_map (come now) held) (all_apart now least held (none_passes (is_answer_at least) held f)) e)
+index_at now held (Some least) None e f = absurd (reduce_apart least (filter_map (come now) held) (all_apart now least held (no_position (is_answer_at least) held f)) e)
 index_at now held (Some least) (Some i) e f = found_has now least held i e f
 
 has_index : (now : ℕ) (held : List HeldValue) → HasIndex now held (due_index now held)
@@ -359,11 +359,11 @@ held_few s m few = react_does s (λ e. length e.held ≤ s.most) (record {
 }) m
 
 -- what is held stays, and more may come behind it
-abbrev Keeps : Standing → Effect → Type 0
-Keeps s e = (more : List HeldValue) × (e.held ≡ s.held ++ more)
+abbrev HoldsMore : Standing → Effect → Type 0
+HoldsMore s e = (more : List HeldValue) × (e.held ≡ s.held ++ more)
 
 pub held_more : (s : Standing) (m : Message) → stop_of (react s m).effect.phase ≡ None → (more : List HeldValue) × ((react s m).effect.held ≡ s.held ++ more)
-held_more s m = react_does s (λ e. stop_of e.phase ≡ None → Keeps s e) (record {
+held_more s m = react_does s (λ e. stop_of e.phase ≡ None → HoldsMore s e) (record {
   stays = λ live. ([], sym (append-nil s.held));
   opens = λ live. ([], sym (append-nil s.held));
   releases = λ live. ([], sym (append-nil s.held));

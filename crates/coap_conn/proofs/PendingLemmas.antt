@@ -84,26 +84,26 @@ nothing_out now held is = ap (without_at held) is
 
 -- ---- what a link does with it
 
-due_is : (v : LinkValue) (now : ℕ) (first : Option HeldValue) (rest : List HeldValue) → first_due now v.held ≡ first → without_due now v.held ≡ rest
+link_after_due : (v : LinkValue) (now : ℕ) (first : Option HeldValue) (rest : List HeldValue) → first_due now v.held ≡ first → without_due now v.held ≡ rest
     → link_after v (call.Due now) ≡ link_with v (due_effect (record (standing_in v) { held = rest }) first)
-due_is v now first rest first_is rest_is =
+link_after_due v now first rest first_is rest_is =
     ap (λ (held : List HeldValue). link_with v (due_effect (record (standing_in v) { held = held }) (first_due now v.held))) rest_is
     ∙ ap (λ (o : Option HeldValue). link_with v (due_effect (record (standing_in v) { held = rest }) o)) first_is
 
-stays : (v : LinkValue) (rest : List HeldValue) → link_with v (stay (record (standing_in v) { held = rest })) ≡ record v { held = rest }
-stays v rest = ap (λ (w : List ℕ). record v { waiting = w; held = rest }) (append-nil v.waiting)
+stay_keeps_link : (v : LinkValue) (rest : List HeldValue) → link_with v (stay (record (standing_in v) { held = rest })) ≡ record v { held = rest }
+stay_keeps_link v rest = ap (λ (w : List ℕ). record v { waiting = w; held = rest }) (append-nil v.waiting)
 
 pub nothing_due : (v : LinkValue) (now : ℕ) → due_index now v.held ≡ None → v ≡ link_after v (call.Due now)
-nothing_due v now is = sym (due_is v now None v.held (nothing_first now v.held is) (nothing_out now v.held is) ∙ stays v v.held)
+nothing_due v now is = sym (link_after_due v now None v.held (nothing_first now v.held is) (nothing_out now v.held is) ∙ stay_keeps_link v v.held)
 
 pub answer_due : (v : LinkValue) (now i : ℕ) (token : List ℕ) (moment : ℕ) → due_index now v.held ≡ Some i → slice_get v.held i ≡ Some (Answer token moment)
     → record v { held = remove v.held i } ≡ link_after v (call.Due now)
 answer_due v now i token moment is there =
-    sym (due_is v now (Some (Answer token moment)) (remove v.held i) (first_at_index now v.held i _ is there) (rest_at_index now v.held i is) ∙ stays v (remove v.held i))
+    sym (link_after_due v now (Some (Answer token moment)) (remove v.held i) (first_at_index now v.held i _ is there) (rest_at_index now v.held i is) ∙ stay_keeps_link v (remove v.held i))
 
 abbrev pub link_sent : LinkValue → List ℕ → LinkValue
 link_sent v token = link_with v (send (standing_in v) (pong_with true token) (pong_with false token))
 
 pub pong_due : (v : LinkValue) (now i : ℕ) (token : List ℕ) → due_index now v.held ≡ Some i → slice_get v.held i ≡ Some (Pong token)
     → link_sent (record v { held = remove v.held i }) token ≡ link_after v (call.Due now)
-pong_due v now i token is there = sym (due_is v now (Some (Pong token)) (remove v.held i) (first_at_index now v.held i _ is there) (rest_at_index now v.held i is))
+pong_due v now i token is there = sym (link_after_due v now (Some (Pong token)) (remove v.held i) (first_at_index now v.held i _ is there) (rest_at_index now v.held i is))

@@ -12,15 +12,15 @@ use Rattle.coap_conn.specs.SignalOptions as option
 use Rattle.coap_conn.specs.LinkValue.{own_csm, own_token_length, first_csm}
 use Rattle.coap_conn.specs.Calls.{release}
 
-abbrev IsShort : ℕ → ℕ × List ℕ → Type 0
-IsShort most form = length form.1 ≤ most
+abbrev HasShortForm : ℕ → ℕ × List ℕ → Type 0
+HasShortForm most form = length form.1 ≤ most
 
-length_extension : (n : ℕ) → IsShort 4 (length_form n)
+length_extension : (n : ℕ) → HasShortForm 4 (length_form n)
 length_extension n =
-    cond_both (ltb n 13) (n, []) _ (IsShort 4) (λ e. omega arith) (λ e. cond_both (ltb n 269) (13, (n - 13) ∷ []) _ (IsShort 4) (λ e. omega arith) (λ e. cond_both (ltb n 65805) _ _ (IsShort 4) (λ e. omega arith) (λ e. omega arith)))
+    cond_both (ltb n 13) (n, []) _ (HasShortForm 4) (λ e. omega arith) (λ e. cond_both (ltb n 269) (13, (n - 13) ∷ []) _ (HasShortForm 4) (λ e. omega arith) (λ e. cond_both (ltb n 65805) _ _ (HasShortForm 4) (λ e. omega arith) (λ e. omega arith)))
 
-option_extension : (n : ℕ) → IsShort 2 (option_form n)
-option_extension n = cond_both (ltb n 13) (n, []) _ (IsShort 2) (λ e. omega arith) (λ e. cond_both (ltb n 269) (13, (n - 13) ∷ []) _ (IsShort 2) (λ e. omega arith) (λ e. omega arith))
+option_extension : (n : ℕ) → HasShortForm 2 (option_form n)
+option_extension n = cond_both (ltb n 13) (n, []) _ (HasShortForm 2) (λ e. omega arith) (λ e. cond_both (ltb n 269) (13, (n - 13) ∷ []) _ (HasShortForm 2) (λ e. omega arith) (λ e. omega arith))
 
 option_size : (base : ℕ) (o : CoapOption) → length (option_spelling base o) ≤ 5 + length o.value
 option_size base o =

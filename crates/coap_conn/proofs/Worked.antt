@@ -41,9 +41,9 @@ pong_waits : (a p : List ℕ) → first_due 9 (Answer a 12 ∷ Pong p ∷ []) �
 unfolding first_due due_index
 pong_waits a p = refl
 
-none_taken : (a p : List ℕ) → without_due 9 (Answer a 12 ∷ Pong p ∷ []) ≡ Answer a 12 ∷ Pong p ∷ []
+none_let_go : (a p : List ℕ) → without_due 9 (Answer a 12 ∷ Pong p ∷ []) ≡ Answer a 12 ∷ Pong p ∷ []
 unfolding without_due due_index
-none_taken a p = refl
+none_let_go a p = refl
 
 -- an answer whose moment has come stands before a Pong that came earlier
 answer_before_pong : (p a : List ℕ) → first_due 9 (Pong p ∷ Answer a 3 ∷ []) ≡ Some (Answer a 3)
@@ -104,18 +104,18 @@ held_pong_sent a = refl
 
 -- ---- Release and Abort
 
-abbrev bare : ℕ → Message
-bare code = record { code = code; token = []; options = []; payload = [] }
+abbrev bare_message : ℕ → Message
+bare_message code = record { code = code; token = []; options = []; payload = [] }
 
 -- a Release keeps what is held
 release_keeps : (a p : List ℕ) (moment : ℕ) →
-    react (server (Answer a moment ∷ Pong p ∷ []) 2) (bare 228) ≡ record { effect = record { queued = []; phase = phase.Releasing reason.PeerRelease; held = Answer a moment ∷ Pong p ∷ []; outstanding = [] }; verdict = verdict.Stopped reason.PeerRelease }
+    react (server (Answer a moment ∷ Pong p ∷ []) 2) (bare_message 228) ≡ record { effect = record { queued = []; phase = phase.Releasing reason.PeerRelease; held = Answer a moment ∷ Pong p ∷ []; outstanding = [] }; verdict = verdict.Stopped reason.PeerRelease }
 unfolding react live_reaction
 release_keeps a p moment = refl
 
 -- an Abort gives it up
 abort_gives_up : (a p : List ℕ) (moment : ℕ) →
-    react (server (Answer a moment ∷ Pong p ∷ []) 2) (bare 229) ≡ record { effect = record { queued = []; phase = phase.Stopped reason.PeerAbort; held = []; outstanding = [] }; verdict = verdict.Stopped reason.PeerAbort }
+    react (server (Answer a moment ∷ Pong p ∷ []) 2) (bare_message 229) ≡ record { effect = record { queued = []; phase = phase.Stopped reason.PeerAbort; held = []; outstanding = [] }; verdict = verdict.Stopped reason.PeerAbort }
 unfolding react live_reaction
 abort_gives_up a p moment = refl
 
@@ -199,7 +199,7 @@ pong_to_nothing = refl
 
 -- a Release gives up what is outstanding, and keeps what is held
 release_gives_up : (a : List ℕ) (moment : ℕ) →
-    react (record (client (Request (1 ∷ []) ∷ Ping (2 ∷ []) ∷ [])) { held = Answer a moment ∷ [] }) (bare 228)
+    react (record (client (Request (1 ∷ []) ∷ Ping (2 ∷ []) ∷ [])) { held = Answer a moment ∷ [] }) (bare_message 228)
     ≡ record { effect = record { queued = []; phase = phase.Releasing reason.PeerRelease; held = Answer a moment ∷ []; outstanding = [] }; verdict = verdict.Stopped reason.PeerRelease }
 unfolding react live_reaction
 release_gives_up a moment = refl
@@ -218,9 +218,9 @@ asking outstanding tokens free = record { phase = phase.Open; outstanding = outs
 abbrev get : Message
 get = response 1 []
 
-asks : asking_refusal (asking (Ping [] ∷ []) 0 3) get ≡ None
+get_not_refused : asking_refusal (asking (Ping [] ∷ []) 0 3) get ≡ None
 unfolding asking_refusal new_refusal spelling
-asks = refl
+get_not_refused = refl
 
 no_third : asking_refusal (asking (Ping [] ∷ Ping [] ∷ []) 0 3) get ≡ Some TooMany
 unfolding asking_refusal new_refusal
@@ -230,9 +230,9 @@ tokens_spent : asking_refusal (asking [] 18446744073709551615 3) get ≡ Some To
 unfolding asking_refusal new_refusal
 tokens_spent = refl
 
-last_token : asking_refusal (asking [] 18446744073709551614 3) get ≡ None
+last_token_is_given : asking_refusal (asking [] 18446744073709551614 3) get ≡ None
 unfolding asking_refusal new_refusal spelling
-last_token = refl
+last_token_is_given = refl
 
 no_room : asking_refusal (asking [] 0 2) get ≡ Some NoRoom
 unfolding asking_refusal new_refusal spelling

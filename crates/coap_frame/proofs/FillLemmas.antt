@@ -40,18 +40,18 @@ module _ (M : ℕ) (old piece new : List ℕ) (taken : ℕ) (size : Declared) (u
   none_taken e = h.bytes ∙ ap (λ (n : ℕ). old ++ take n piece) e ∙ append-nil old
 
   -- the last byte taken
-  one_more : (before : ℕ) → taken ≡ before + 1 → new ≡ (old ++ take before piece) ++ get_or piece before 0 ∷ []
-  one_more before e =
+  last_byte_taken : (before : ℕ) → taken ≡ before + 1 → new ≡ (old ++ take before piece) ++ get_or piece before 0 ∷ []
+  last_byte_taken before e =
       let lt : before < length piece = let w = h.within in omega arith in
       h.bytes ∙ ap (λ (n : ℕ). old ++ take n piece) e ∙ ap (λ (p : List ℕ). old ++ p) (take_more piece before 0 lt) ∙ sym (append_assoc old (take before piece) (get_or piece before 0 ∷ []))
 
   -- a size that is told is above what lies in the buffer
-  pub told : (n : ℕ) → size ≡ Size n → length new < n
-  told n is =
+  pub size_above_filled : (n : ℕ) → size ≡ Size n → length new < n
+  size_above_filled n is =
       let now : declared_of new ≡ Size n = sym h.size_is ∙ is in
       elim h.first [
         | inl none ↦ (let same = none_taken none in rw same (told_unfinished M old n unfinished (ap declared_of (sym same) ∙ now)).1)
-        | inr more ↦ (let e = one_more more.0 more.1 in
+        | inr more ↦ (let e = last_byte_taken more.0 more.1 in
             let last = size_at_last (old ++ take more.0 piece) (get_or piece more.0 0) n more.2 (ap declared_of (sym e) ∙ now) in
             let few = (size_has_bytes new n now).0 in
             omega (arith, ap (λ (s : List ℕ). length s) e, ap size_bytes e, last, few))
@@ -61,7 +61,7 @@ module _ (M : ℕ) (old piece new : List ℕ) (taken : ℕ) (size : Declared) (u
   fault_is_new fault faulty =
       elim h.first [
         | inl none ↦ (let bad : ◌≡◌ {A = Beginning} Unfinished (Faulty fault) = sym unfinished ∙ ap (beginning M) (sym (none_taken none)) ∙ faulty in absurd cc)
-        | inr more ↦ (let e = one_more more.0 more.1 in
+        | inr more ↦ (let e = last_byte_taken more.0 more.1 in
             let last = fault_at_last M (old ++ take more.0 piece) (get_or piece more.0 0) fault (begin_unknown M (old ++ take more.0 piece) more.2) (ap (beginning M) (sym e) ∙ faulty) in
             ap fault_bytes e ∙ last ∙ sym e)
       ]
@@ -104,7 +104,7 @@ module _ (M : ℕ) (old piece new : List ℕ) (taken : ℕ) (size : Declared) (u
 
   pub filled_whole : (n : ℕ) (after : List ℕ) → size ≡ Size n → n ≤ M → n - length new ≤ length behind → after ≡ new ++ take (n - length new) behind → IsFilled M old piece after (taken + (n - length new)) standing.Whole
   filled_whole n after is fits long e =
-      let more : length new < n = told n is in
+      let more : length new < n = size_above_filled n is in
       let size_now : length new + (n - length new) ≡ n = omega arith in
       let enough : n ≤ length (old ++ piece) = omega (arith, length_all) in
       let frame : take n (old ++ piece) ≡ after =

@@ -7,7 +7,7 @@ use Rattle.coap_wire.specs.declared.fault.FrameFault.{FrameFault}
 use Rattle.coap_wire.specs.Beginning.{Beginning, Unfinished, Whole, Faulty, beginning, size_bytes, fault_bytes}
 use Rattle.coap_wire.specs.Frames.{Frames, Sizes, always, sizes_first, size_for, sizes_behind, with_frame, sized_frames}
 use Rattle.coap_wire.proofs.StreamSteps.{whole_parts, whole_itself, whole_more, faulty_more, fault_bytes_more, fault_at_last, size_has_bytes, size_bytes_more, AreAlikeBehind, frames_unfinished, frames_faulty, frames_whole, frames_alike}
-use Rattle.coap_wire.proofs.SizesLaws.{first_in, first_past, behind_first, first_none}
+use Rattle.coap_wire.proofs.SizesLaws.{first_in, first_past, behind_first, first_none, first_always}
 use Rattle.coap_frame.specs.Framing.{FramerValue, IsFramer, Finding, Nothing, AFrame, AFault, Framing, split_frame, framing_at, framing, framing_of, framer_after, without_last, frame_back, MayUnread}
 use Rattle.coap_frame.specs.Raising.{raise_refusal, with_size, asked_for}
 use Rattle.coap_frame.specs.Given.{Handed, Piece, Size, Given, given_then, given_by, stream_given, IsGiven, taken_of, unread_after, last_byte}
@@ -17,14 +17,14 @@ use Rattle.coap_frame.proofs.RaiseLemmas.{unfinished_with, allowed_by, asked_is_
 -- ---- where a fault is known
 
 -- behind the kept bytes the fault is known at the last byte of this front of the piece
-record IsKnown (M : ℕ) (kept piece : List ℕ) (fault : FrameFault) : Type 0 where
+record IsKnownAtFront (M : ℕ) (kept piece : List ℕ) (fault : FrameFault) : Type 0 where
   front : List ℕ
   more : List ℕ
   bytes : piece ≡ front ++ more
   faulty : beginning M (kept ++ front) ≡ Faulty fault
   is : fault_bytes (kept ++ front) ≡ kept ++ front
 
-known_step : (M : ℕ) (kept : List ℕ) (b : ℕ) (piece : List ℕ) (fault : FrameFault) (at : Beginning) → beginning M kept ≡ Unfinished → beginning M ((kept ++ b ∷ []) ++ piece) ≡ Faulty fault → (beginning M (kept ++ b ∷ []) ≡ Unfinished → IsKnown M (kept ++ b ∷ []) piece fault) → beginning M (kept ++ b ∷ []) ≡ at → IsKnown M kept (b ∷ piece) fault
+known_step : (M : ℕ) (kept : List ℕ) (b : ℕ) (piece : List ℕ) (fault : FrameFault) (at : Beginning) → beginning M kept ≡ Unfinished → beginning M ((kept ++ b ∷ []) ++ piece) ≡ Faulty fault → (beginning M (kept ++ b ∷ []) ≡ Unfinished → IsKnownAtFront M (kept ++ b ∷ []) piece fault) → beginning M (kept ++ b ∷ []) ≡ at → IsKnownAtFront M kept (b ∷ piece) fault
 known_step M kept b piece fault Unfinished u e again is =
     let next = again is in
     let same : (kept ++ b ∷ []) ++ next.front ≡ kept ++ b ∷ next.front = append_assoc kept (b ∷ []) next.front in
@@ -43,7 +43,7 @@ known_step M kept b piece fault (Faulty first) u e again is =
     record { front = b ∷ []; more = piece; bytes = refl; faulty = now; is = fault_at_last M kept b fault u now }
 
 -- where the kept bytes are unfinished, a fault is known in the piece
-known : (M : ℕ) (kept piece : List ℕ) (fault : FrameFault) → beginning M kept ≡ Unfinished → beginning M (kept ++ piece) ≡ Faulty fault → IsKnown M kept piece fault
+known : (M : ℕ) (kept piece : List ℕ) (fault : FrameFault) → beginning M kept ≡ Unfinished → beginning M (kept ++ piece) ≡ Faulty fault → IsKnownAtFront M kept piece fault
 known M kept [] fault u e =
     let bad : ◌≡◌ {A = Beginning} Unfinished (Faulty fault) = sym u ∙ ap (beginning M) (sym (append-nil kept)) ∙ e in
     absurd cc
@@ -54,8 +54,8 @@ known M kept (b ∷ piece) fault u e =
 -- ---- one call
 
 -- where the kept bytes are unfinished, a frame has all of them
-kept_within : (M : ℕ) (kept piece frame rest : List ℕ) → beginning M kept ≡ Unfinished → beginning M (kept ++ piece) ≡ Whole frame rest → length kept ≤ length frame
-kept_within M kept piece frame rest u e =
+kept_within_frame : (M : ℕ) (kept piece frame rest : List ℕ) → beginning M kept ≡ Unfinished → beginning M (kept ++ piece) ≡ Whole frame rest → length kept ≤ length frame
+kept_within_frame M kept piece frame rest u e =
     let n = length frame in
     elim (cases_lt n (length kept)) [
       | inl small ↦ (
@@ -85,7 +85,7 @@ call_at max kept piece Unfinished u e = record {
 call_at max kept piece (Whole frame rest) u e =
     let c = whole_parts max (kept ++ piece) frame rest e in
     let n = length piece - length rest in
-    let long = kept_within max kept piece frame rest u e in
+    let long = kept_within_frame max kept piece frame rest u e in
     let all : length kept + length piece ≡ length frame + length rest = sym (length-append kept piece) ∙ ap (λ (s : List ℕ). length s) c.bytes ∙ length-append frame rest in
     let size : length frame ≡ length kept + n = omega (arith, long, all) in
     let bytes : frame ≡ kept ++ take n piece = sym (take_at frame rest (length kept + n) size) ∙ ap (take (length kept + n)) (sym c.bytes) ∙ take-append-add kept piece n in
@@ -110,15 +110,6 @@ found_is : (max : ℕ) (kept piece : List ℕ) (finding : Finding) → beginning
 found_is max kept piece finding u e = subst (λ (f : Finding). IsFoundAt max kept piece (framing max kept piece).taken (framing max kept piece).kept f) e (call_is max kept piece u).found
 
 -- ---- the sizes of the bytes taken
-
-first_always : (n M : ℕ) → sizes_first n M (always M) ≡ always M
-first_always n M =
-    let point : (at : ℕ) → sizes_first n M (always M) at ≡ M = λ at.
-    elim (cases_lt at n) [
-      | inl lt ↦ first_in n M (always M) at lt
-      | inr ge ↦ first_past n M (always M) at ge
-    ] in
-    λ i at. point at i
 
 first_point : (m n M : ℕ) (S : Sizes) (at : ℕ) → sizes_first m M (sizes_first n M S) at ≡ sizes_first (m + n) M S at
 first_point m n M S at =
@@ -312,58 +303,58 @@ framing_frame max kept piece frame e = ap (framing_at kept piece) e
 
 -- a piece that had a frame
 module _ (v : FramerValue) (piece frame : List ℕ) (is : IsFramer v) (found : (framing_of v piece).finding ≡ AFrame frame) where
-  whole : beginning v.max frame ≡ Whole frame []
-  whole = (found_is v.max v.kept piece (AFrame frame) is.unfinished found).1
+  frame_is_whole : beginning v.max frame ≡ Whole frame []
+  frame_is_whole = (found_is v.max v.kept piece (AFrame frame) is.unfinished found).1
 
-  bytes : frame ≡ v.kept ++ taken_of v piece
-  bytes = frame_taken v.max v.kept piece frame is.unfinished found
+  frame_is_kept_and_taken : frame ≡ v.kept ++ taken_of v piece
+  frame_is_kept_and_taken = frame_taken v.max v.kept piece frame is.unfinished found
 
   -- how many bytes were copied then
-  abbrev count : ℕ
-  count = (unread_after v piece).copied
+  abbrev copied_before : ℕ
+  copied_before = (unread_after v piece).copied
 
   -- the framer that keeps the frame but its last byte
   abbrev back : FramerValue
-  back = record v { kept = without_last frame; spent = []; copied = count }
+  back = record v { kept = without_last frame; spent = []; copied = copied_before }
 
   unread_is : unread_after v piece ≡ back
   unread_is =
       let split = ap (λ (s : List ℕ). frame_back s (taken_of v piece)) (frame_leaves v.max v.kept piece frame found).1 in
-      ap (λ (f : List ℕ). record v { kept = without_last f; spent = []; copied = count }) (split ∙ back_is v.kept (taken_of v piece) frame bytes)
+      ap (λ (f : List ℕ). record v { kept = without_last f; spent = []; copied = copied_before }) (split ∙ back_is v.kept (taken_of v piece) frame frame_is_kept_and_taken)
 
   -- the bytes taken but the last finish nothing
-  kept_but_last : without_last frame ≡ v.kept ++ without_last (taken_of v piece)
-  kept_but_last = ap without_last bytes ∙ last_of_second v.kept (taken_of v piece) (takes_a_byte v.max v.kept (taken_of v piece) frame is.unfinished whole bytes)
+  frame_but_last : without_last frame ≡ v.kept ++ without_last (taken_of v piece)
+  frame_but_last = ap without_last frame_is_kept_and_taken ∙ last_of_second v.kept (taken_of v piece) (takes_a_byte v.max v.kept (taken_of v piece) frame is.unfinished frame_is_whole frame_is_kept_and_taken)
 
   but_last : framing_of v (without_last (taken_of v piece)) ≡ framing_at v.kept (without_last (taken_of v piece)) Unfinished
-  but_last = framing_more v.max v.kept (without_last (taken_of v piece)) (ap (beginning v.max) (sym kept_but_last) ∙ front_unfinished v.max frame whole)
+  but_last = framing_more v.max v.kept (without_last (taken_of v piece)) (ap (beginning v.max) (sym frame_but_last) ∙ front_unfinished v.max frame frame_is_whole)
 
   -- a frame that was just given may be unread
   pub unread_allowed : MayUnread (framer_after v piece) (taken_of v piece)
   unread_allowed =
-      subst (λ (after : FramerValue). MayUnread after (taken_of v piece)) (sym (after_frame v piece frame found)) (allowed_at v (taken_of v piece) frame v.kept whole bytes)
+      subst (λ (after : FramerValue). MayUnread after (taken_of v piece)) (sym (after_frame v piece frame found)) (allowed_at v (taken_of v piece) frame v.kept frame_is_whole frame_is_kept_and_taken)
 
   -- the framer is then as if the last byte taken had not come, but for what it has copied
   pub unread_one_less : unread_after v piece ≡ record (framer_after v (without_last (taken_of v piece))) { copied = (unread_after v piece).copied }
   unread_one_less =
       unread_is
-      ∙ ap (λ (k : List ℕ). record v { kept = k; spent = []; copied = count }) kept_but_last
-      ∙ sym (ap (λ (f : Framing). record v { kept = f.kept; spent = f.spent; copied = count }) but_last)
+      ∙ ap (λ (k : List ℕ). record v { kept = k; spent = []; copied = copied_before }) frame_but_last
+      ∙ sym (ap (λ (f : Framing). record v { kept = f.kept; spent = f.spent; copied = copied_before }) but_last)
 
   pub unread_nothing : (framing_of v (without_last (taken_of v piece))).finding ≡ Nothing
   unread_nothing = ap (λ (f : Framing). f.finding) but_last
 
   -- with the last byte the frame comes again
-  again : framing_of (unread_after v piece) (last_byte frame) ≡ framing_at (without_last frame) (last_byte frame) (Whole frame [])
-  again =
+  frame_comes_again : framing_of (unread_after v piece) (last_byte frame) ≡ framing_at (without_last frame) (last_byte frame) (Whole frame [])
+  frame_comes_again =
       ap (λ (b : FramerValue). framing_of b (last_byte frame)) unread_is
-      ∙ framing_frame v.max (without_last frame) (last_byte frame) frame (ap (beginning v.max) (take-append-drop (length frame - 1) frame) ∙ whole)
+      ∙ framing_frame v.max (without_last frame) (last_byte frame) frame (ap (beginning v.max) (take-append-drop (length frame - 1) frame) ∙ frame_is_whole)
 
   pub unread_again : (framing_of (unread_after v piece) (last_byte frame)).finding ≡ AFrame frame
-  unread_again = ap (λ (f : Framing). f.finding) again
+  unread_again = ap (λ (f : Framing). f.finding) frame_comes_again
 
   pub unread_taken : (framing_of (unread_after v piece) (last_byte frame)).taken ≡ 1
   unread_taken =
-      let some = (frame_is_small v.max frame whole).0 in
+      let some = (frame_is_small v.max frame frame_is_whole).0 in
       let one : length (last_byte frame) - 0 ≡ 1 = omega (arith, some, length-drop (length frame - 1) frame) in
-      ap (λ (f : Framing). f.taken) again ∙ one
+      ap (λ (f : Framing). f.taken) frame_comes_again ∙ one

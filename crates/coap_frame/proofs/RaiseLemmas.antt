@@ -16,20 +16,20 @@ use Rattle.coap_frame.specs.declared.fault.RaiseFault.{RaiseFault}
 use Rattle.coap_frame.specs.declared.fault.RaiseFault.TheVariants.{Lower, TooLarge}
 use Rattle.coap_frame.proofs.FillLemmas.{told_unfinished}
 
-unfinished_by : (M N : ℕ) (s : List ℕ) (d : Declared) → beginning M s ≡ Unfinished → (size_bytes s - 1 < length s → M ≤ N) → declared_of s ≡ d → beginning N s ≡ Unfinished
-unfinished_by M N s Unknown u larger e = begin_unknown N s e
-unfinished_by M N s (Size n) u larger e =
+still_unfinished : (M N : ℕ) (s : List ℕ) (d : Declared) → beginning M s ≡ Unfinished → (size_bytes s - 1 < length s → M ≤ N) → declared_of s ≡ d → beginning N s ≡ Unfinished
+still_unfinished M N s Unknown u larger e = begin_unknown N s e
+still_unfinished M N s (Size n) u larger e =
     let told = told_unfinished M s n u e in
     let some = declared_some s (λ unknown. unknown_not_size n (sym unknown ∙ e)) in
     let more : M ≤ N = larger (omega (arith, size_has_bytes s n e, some)) in
     begin_short N s n e (omega (arith, told.0, more)) told.1
-unfinished_by M N s BadToken u larger e =
+still_unfinished M N s BadToken u larger e =
     let bad : ◌≡◌ {A = Beginning} Unfinished (Faulty TokenLength) = sym u ∙ begin_bad_token M s e in
     absurd cc
 
 -- What is unfinished is so with another size, which is no lower where the size is told.
 pub unfinished_with : (M N : ℕ) (s : List ℕ) → beginning M s ≡ Unfinished → (size_bytes s - 1 < length s → M ≤ N) → beginning N s ≡ Unfinished
-unfinished_with M N s u larger = unfinished_by M N s (declared_of s) u larger refl
+unfinished_with M N s u larger = still_unfinished M N s (declared_of s) u larger refl
 
 -- a size that is not refused
 pub raise_allowed : (max new : ℕ) → raise_refusal max new ≡ None → (max ≤ new) × (new ≤ 1048576)
@@ -73,12 +73,12 @@ raised_holds max new copied was now bytes left is larger small begins keeps =
     subst (λ (h : Held). IsFramer (framer_of new h left copied)) (sym begins)
     (subst (λ (b : List ℕ). IsFramer (framer_of new held.Beginning b copied)) (sym keeps) begun)
 
-asked_by : (v : FramerValue) (new : ℕ) (allowed : Bool) → is_none (raise_refusal v.max new) ≡ allowed → IsFramer v → IsFramer (if allowed then with_size v new else v)
-asked_by v new true e is = let fits = allowed_by v.max new e in raised_is_framer v new is fits.0 fits.1
-asked_by v new false e is = is
+framer_where_allowed : (v : FramerValue) (new : ℕ) (allowed : Bool) → is_none (raise_refusal v.max new) ≡ allowed → IsFramer v → IsFramer (if allowed then with_size v new else v)
+framer_where_allowed v new true e is = let fits = allowed_by v.max new e in raised_is_framer v new is fits.0 fits.1
+framer_where_allowed v new false e is = is
 
 pub asked_is_framer : (v : FramerValue) (new : ℕ) → IsFramer v → IsFramer (asked_for v new)
-asked_is_framer v new is = asked_by v new (is_none (raise_refusal v.max new)) refl is
+asked_is_framer v new is = framer_where_allowed v new (is_none (raise_refusal v.max new)) refl is
 
 copied_by : (v : FramerValue) (new : ℕ) (allowed : Bool) → (if allowed then with_size v new else v).copied ≡ v.copied
 copied_by v new true = refl

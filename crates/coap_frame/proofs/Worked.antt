@@ -16,8 +16,8 @@ fresh = record { max = 1152; kept = []; spent = []; copied = 0 }
 -- ---- a frame that is split into 1, 3 and 13 bytes
 
 -- FF and 12 times 78
-abbrev rest : List ℕ
-rest = 0xff ∷ 0x78 ∷ 0x78 ∷ 0x78 ∷ 0x78 ∷ 0x78 ∷ 0x78 ∷ 0x78 ∷ 0x78 ∷ 0x78 ∷ 0x78 ∷ 0x78 ∷ 0x78 ∷ []
+abbrev marked_payload : List ℕ
+marked_payload = 0xff ∷ 0x78 ∷ 0x78 ∷ 0x78 ∷ 0x78 ∷ 0x78 ∷ 0x78 ∷ 0x78 ∷ 0x78 ∷ 0x78 ∷ 0x78 ∷ 0x78 ∷ 0x78 ∷ []
 
 abbrev first : FramerValue
 first = record { max = 1152; kept = 0xd1 ∷ []; spent = []; copied = 1 }
@@ -26,7 +26,7 @@ abbrev second : FramerValue
 second = record { max = 1152; kept = 0xd1 ∷ 0x00 ∷ 0x01 ∷ 0x05 ∷ []; spent = []; copied = 4 }
 
 abbrev third : FramerValue
-third = record { max = 1152; kept = []; spent = second.kept ++ rest; copied = 17 }
+third = record { max = 1152; kept = []; spent = second.kept ++ marked_payload; copied = 17 }
 
 first_is : framer_after fresh (0xd1 ∷ []) ≡ first
 unfolding framing beginning declared_of length_at option_number_at one_byte_at
@@ -36,17 +36,18 @@ second_is : framer_after first (0x00 ∷ 0x01 ∷ 0x05 ∷ []) ≡ second
 unfolding framing beginning declared_of length_at option_number_at one_byte_at
 second_is = refl
 
-third_is : framing_of second rest ≡ record { taken = 13; finding = AFrame third.spent; kept = []; spent = third.spent }
+third_is : framing_of second marked_payload
+    ≡ record { taken = 13; finding = AFrame third.spent; kept = []; spent = third.spent }
 unfolding framing beginning declared_of length_at option_number_at one_byte_at
 third_is = refl
 
-third_after : framer_after second rest ≡ third
+third_after : framer_after second marked_payload ≡ third
 unfolding framing beginning declared_of length_at option_number_at one_byte_at
 third_after = refl
 
 -- taken back it is not copied, and given again one byte is
 abbrev fourth : FramerValue
-fourth = with_frame_back third rest
+fourth = with_frame_back third marked_payload
 
 fourth_copied : fourth.copied ≡ 17
 fourth_copied = refl
@@ -82,8 +83,8 @@ lower = refl
 too_large : raise_refusal 1152 1048577 ≡ Some raise.TooLarge
 too_large = refl
 
-allowed : raise_refusal 1152 2000 ≡ None
-allowed = refl
+greater_allowed : raise_refusal 1152 2000 ≡ None
+greater_allowed = refl
 
 equal : raise_refusal 1152 1152 ≡ None
 equal = refl

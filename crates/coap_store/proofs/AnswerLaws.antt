@@ -286,8 +286,8 @@ bare_of s now m =
 -- ---- how long a payload is
 
 -- at most a mebibyte
-abbrev IsShort : Answer → Type 0
-IsShort a = length a.response.payload ≤ 1048576
+abbrev IsSmall : Answer → Type 0
+IsSmall a = length a.response.payload ≤ 1048576
 
 -- the listing and what is stored are short
 pub record AreShort (s : StoreValue) : Type 0 where
@@ -305,23 +305,23 @@ state_short s now key Listing r short small is = let bytes : listing s.resources
 state_short s now None Dynamic r short small is = absurd cc
 state_short s now (Some path) Dynamic r short small is = short.stored path r is
 
-stored_short : (key : Option Path) (state : Option Representation) (m : Message) → IsShort (stored_under key state m)
+stored_short : (key : Option Path) (state : Option Representation) (m : Message) → IsSmall (stored_under key state m)
 stored_short None state m = omega arith
 stored_short (Some path) None m = omega arith
 stored_short (Some path) (Some r) m = omega arith
 
-short_at : (s : StoreValue) (now : ℕ) (path : Path) (m : Message) → AreShort s → now < 2 ^ 64 → IsShort (answer_at s (target_of s now path) m)
+short_at : (s : StoreValue) (now : ℕ) (path : Path) (m : Message) → AreShort s → now < 2 ^ 64 → IsSmall (answer_at s (target_of s now path) m)
 short_at s now path m short small =
     let t = target_of s now path in
     let none : 0 ≤ 1048576 = omega arith in
-    answer_cases IsShort s t m (λ c e. none) (record {
+    answer_cases IsSmall s t m (λ c e. none) (record {
       read = λ r is. (let bytes : length r.bytes ≤ 1048576 = state_short s now t.key t.place r short small is in
-          get_cases IsShort t.place r m (λ c e. none) (record { valid = λ among. none; late = bytes; content = bytes }));
+          get_cases IsSmall t.place r m (λ c e. none) (record { valid = λ among. none; late = bytes; content = bytes }));
       deleted = λ dynamic other. none;
-      stored = λ dynamic other. store_cases IsShort s t m (λ c e. none) none (λ can. stored_short t.key t.state m);
+      stored = λ dynamic other. store_cases IsSmall s t m (λ c e. none) none (λ can. stored_short t.key t.state m);
     })
 
-short_finally : (b : Bool) (a : Answer) → IsShort a → IsShort (finally b a)
+short_finally : (b : Bool) (a : Answer) → IsSmall a → IsSmall (finally b a)
 short_finally true a is = is
 short_finally false a is = is
 

@@ -8,15 +8,16 @@ use Rattle.coap_store.specs.Answer.{Answer, answer_at, answer_of, finally, remov
 use Rattle.coap_store.specs.declared.plan.Watch.TheVariants.{Drop}
 
 -- the answer before it is said what becomes of the observer
-abbrev pub checked : StoreValue → ℕ → Message → Answer
-checked s now m = answer_at s (target_of s now (path_of m)) m
+abbrev pub answer_before_watch : StoreValue → ℕ → Message → Answer
+answer_before_watch s now m = answer_at s (target_of s now (path_of m)) m
 
-by_finally : (s : StoreValue) (now : ℕ) (m : Message) → finally (removes_watch m) (checked s now m) ≡ answer_of s now m
+by_finally : (s : StoreValue) (now : ℕ) (m : Message)
+    → finally (removes_watch m) (answer_before_watch s now m) ≡ answer_of s now m
 unfolding answer_of
 by_finally s now m = refl
 
-pub answer_removes : (s : StoreValue) (now : ℕ) (m : Message) → removes_watch m ≡ true → record (checked s now m) { watch = Drop } ≡ answer_of s now m
-answer_removes s now m removes = sym (ap (λ b. finally b (checked s now m)) removes) ∙ by_finally s now m
+pub answer_removes : (s : StoreValue) (now : ℕ) (m : Message) → removes_watch m ≡ true → record (answer_before_watch s now m) { watch = Drop } ≡ answer_of s now m
+answer_removes s now m removes = sym (ap (λ b. finally b (answer_before_watch s now m)) removes) ∙ by_finally s now m
 
-pub answer_leaves : (s : StoreValue) (now : ℕ) (m : Message) → removes_watch m ≡ false → checked s now m ≡ answer_of s now m
-answer_leaves s now m leaves = sym (ap (λ b. finally b (checked s now m)) leaves) ∙ by_finally s now m
+pub answer_leaves : (s : StoreValue) (now : ℕ) (m : Message) → removes_watch m ≡ false → answer_before_watch s now m ≡ answer_of s now m
+answer_leaves s now m leaves = sym (ap (λ b. finally b (answer_before_watch s now m)) leaves) ∙ by_finally s now m

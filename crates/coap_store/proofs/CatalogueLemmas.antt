@@ -48,9 +48,9 @@ pub format_found : (entries : List (Path × Resource)) (path : Path) (format : O
 format_found entries path format found is =
     ap (λ f. has_format format (option_map representation f)) is ∙ ap (has_format format) (sym (resources_found key_test key_equality entries path))
 
-pub denied : (b : Bool) → not b ≡ true → false ≡ b
-denied false is = refl
-denied true is = absurd cc
+pub false_by_not : (b : Bool) → not b ≡ true → false ≡ b
+false_by_not false is = refl
+false_by_not true is = absurd cc
 
 pub affirmed : (b : Bool) → not b ≡ false → true ≡ b
 affirmed true is = refl

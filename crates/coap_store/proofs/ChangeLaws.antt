@@ -122,13 +122,13 @@ length_removed (r ∷ rs) path e =
     ] e
 
 -- what is deleted is there
-abbrev IsFound : StoreValue → Change → Type 0
-IsFound s Nothing = Unit {0}
-IsFound s (Put path format bytes) = Unit {0}
-IsFound s (Delete path) = is_some (found_in s.resources path) ≡ true
+abbrev DeletesStored : StoreValue → Change → Type 0
+DeletesStored s Nothing = Unit {0}
+DeletesStored s (Put path format bytes) = Unit {0}
+DeletesStored s (Delete path) = is_some (found_in s.resources path) ≡ true
 
 -- a version more, or a resource less
-other_store : (s : StoreValue) (c : Change) → IsFound s c → changes c ≡ true → changed s c ≢ s
+other_store : (s : StoreValue) (c : Change) → DeletesStored s c → changes c ≡ true → changed s c ≢ s
 other_store s Nothing found e same = absurd cc
 other_store s (Put path format bytes) found e same = omega (arith, ap (λ (v : StoreValue). v.versions) same)
 other_store s (Delete path) found e same = omega (arith, length_removed s.resources path found, ap (λ (v : StoreValue). length v.resources) same)
@@ -176,20 +176,20 @@ tells_at s now path m =
     })
 
 -- what an answer deletes is there
-stored_found : (s : StoreValue) (key : Option Path) (state : Option Representation) (m : Message) → IsFound s (stored_under key state m).change
+stored_found : (s : StoreValue) (key : Option Path) (state : Option Representation) (m : Message) → DeletesStored s (stored_under key state m).change
 stored_found s None state m = tt
 stored_found s (Some path) None m = tt
 stored_found s (Some path) (Some r) m = tt
 
-deletion_found : (s : StoreValue) (key : Option Path) (state : Option Representation) → state ≡ stored_at s key → IsFound s (deletion key state)
+deletion_found : (s : StoreValue) (key : Option Path) (state : Option Representation) → state ≡ stored_at s key → DeletesStored s (deletion key state)
 deletion_found s None state is = tt
 deletion_found s (Some path) None is = tt
 deletion_found s (Some path) (Some r) is = sym (ap (λ (o : Option Representation). is_some o) is)
 
-found_at : (s : StoreValue) (now : ℕ) (path : Path) (m : Message) → IsFound s (answer_at s (target_of s now path) m).change
-found_at s now path m =
+deletes_stored_at : (s : StoreValue) (now : ℕ) (path : Path) (m : Message) → DeletesStored s (answer_at s (target_of s now path) m).change
+deletes_stored_at s now path m =
     let t = target_of s now path in
-    let P : Answer → Type 0 = λ a. IsFound s a.change in
+    let P : Answer → Type 0 = λ a. DeletesStored s a.change in
     answer_cases P s t m (λ c e. tt) (record {
       read = λ r is. get_cases P t.place r m (λ c e. tt) (record { valid = λ among. tt; late = tt; content = tt });
       deleted = λ dynamic other. deletion_found s t.key t.state (state_dynamic s now t.key t.place dynamic);
@@ -212,22 +212,22 @@ prompt_changes_where s now m =
     let a = answer_at s (target_of s now (path_of m)) m in
     subst (Tells (state_of s now (path_of m))) (sym (unheld_finally (removes_watch m) a)) (tells_finally (removes_watch m) (state_of s now (path_of m)) (unheld a) (tells_at s now (path_of m) m).1)
 
-found_of : (s : StoreValue) (now : ℕ) (m : Message) → IsFound s (answer_of s now m).change
+deletes_stored : (s : StoreValue) (now : ℕ) (m : Message) → DeletesStored s (answer_of s now m).change
 unfolding answer_of
-found_of s now m =
+deletes_stored s now m =
     let a = answer_at s (target_of s now (path_of m)) m in
-    subst (IsFound s) (sym (change_finally (removes_watch m) a)) (found_at s now (path_of m) m)
+    subst (DeletesStored s) (sym (change_finally (removes_watch m) a)) (deletes_stored_at s now (path_of m) m)
 
-found_promptly : (s : StoreValue) (now : ℕ) (m : Message) → IsFound s (prompt_answer s now m).change
+found_promptly : (s : StoreValue) (now : ℕ) (m : Message) → DeletesStored s (prompt_answer s now m).change
 unfolding prompt_answer
 found_promptly s now m =
     let a = answer_of s now m in
-    subst (IsFound s) (sym (change_unheld a.hold a)) (found_of s now m)
+    subst (DeletesStored s) (sym (change_unheld a.hold a)) (deletes_stored s now m)
 
 -- ---- a store changes where the response says so, and nowhere else
 
 pub said : (s : StoreValue) (now : ℕ) (m : Message) → says_change (answer_of s now m).response (state_of s now (path_of m)) ≡ true → changed s (answer_of s now m).change ≢ s
-said s now m says = other_store s (answer_of s now m).change (found_of s now m) (changes_where s now m ∙ says)
+said s now m says = other_store s (answer_of s now m).change (deletes_stored s now m) (changes_where s now m ∙ says)
 
 pub not_said : (s : StoreValue) (now : ℕ) (m : Message) → says_change (answer_of s now m).response (state_of s now (path_of m)) ≡ false → changed s (answer_of s now m).change ≡ s
 not_said s now m says = unchanged s (answer_of s now m).change (changes_where s now m ∙ says)

@@ -46,35 +46,35 @@ told_content place format r state is same =
 -- ---- what holds of all of them
 
 -- a 2.05 has the representation, and the format that was told before
-record Tells (place : Place) (now : Option Representation) (before : Option ℕ) (r : Response) : Type 0 where
+record TellsAsBefore (place : Place) (now : Option Representation) (before : Option ℕ) (r : Response) : Type 0 where
   state : TellsState place now r
   format : r.format ≡ before
 
-tells_at : (place : Place) (state : Option Representation) (format : Option ℕ) → (notification_at place state format).code ≡ code.content → Tells place state format (notification_at place state format)
+notified_tells : (place : Place) (state : Option Representation) (format : Option ℕ) → (notification_at place state format).code ≡ code.content → TellsAsBefore place state format (notification_at place state format)
 unfolding notification_at
-tells_at place None format is = absurd (omega arith)
-tells_at place (Some r) format is =
-    elim (option_eq nat_eq r.format format) as (λ b. option_eq nat_eq r.format format ≡ b → (if b then content place r else only code.not_acceptable).code ≡ code.content → Tells place (Some r) format (if b then content place r else only code.not_acceptable)) [
+notified_tells place None format is = absurd (omega arith)
+notified_tells place (Some r) format is =
+    elim (option_eq nat_eq r.format format) as (λ b. option_eq nat_eq r.format format ≡ b → (if b then content place r else only code.not_acceptable).code ≡ code.content → TellsAsBefore place (Some r) format (if b then content place r else only code.not_acceptable)) [
       | true ↦ λ same e. record { state = record { representation = r; there = refl; bytes = refl; format = refl; etag = refl }; format = same_format r.format format (ap not same) }
       | false ↦ λ other e. absurd (omega arith)
     ] refl is
 
 pub notification_tells : (s : StoreValue) (now : ℕ) (path : Path) (format : Option ℕ) → (notification_of s now path format).code ≡ code.content → TellsState (place_of path) (state_of s now path) (notification_of s now path format)
-notification_tells s now path format is = (tells_at (place_of path) (state_of s now path) format is).state
+notification_tells s now path format is = (notified_tells (place_of path) (state_of s now path) format is).state
 
 pub notification_format : (s : StoreValue) (now : ℕ) (path : Path) (format : Option ℕ) → (notification_of s now path format).code ≡ code.content → (notification_of s now path format).format ≡ format
-notification_format s now path format is = (tells_at (place_of path) (state_of s now path) format is).format
+notification_format s now path format is = (notified_tells (place_of path) (state_of s now path) format is).format
 
-short_at : (place : Place) (state : Option Representation) (format : Option ℕ) → ((r : Representation) → state ≡ Some r → length r.bytes ≤ 1048576) → length (notification_at place state format).payload ≤ 1048576
+short_notification_at : (place : Place) (state : Option Representation) (format : Option ℕ) → ((r : Representation) → state ≡ Some r → length r.bytes ≤ 1048576) → length (notification_at place state format).payload ≤ 1048576
 unfolding notification_at
-short_at place None format short = omega arith
-short_at place (Some r) format short =
+short_notification_at place None format short = omega arith
+short_notification_at place (Some r) format short =
     elim (option_eq nat_eq r.format format) as (λ b. length (if b then content place r else only code.not_acceptable).payload ≤ 1048576) [ true ↦ short r refl | false ↦ omega arith ]
 
 pub notification_short : (s : StoreValue) (now : ℕ) (path : Path) (format : Option ℕ) → IsStore s → now < 2 ^ 64 → length (notification_of s now path format).payload ≤ 1048576
 notification_short s now path format is small =
     let are : AreShort s = record { listing = listing_short s is; stored = stored_small s is } in
-    short_at (place_of path) (state_of s now path) format (λ r there. state_short s now (key_for path) (place_of path) r are small there)
+    short_notification_at (place_of path) (state_of s now path) format (λ r there. state_short s now (key_for path) (place_of path) r are small there)
 
 -- ---- a GET is answered the same
 

@@ -84,8 +84,8 @@ length_written (s ∷ ss) =
     omega arith
 
 -- where all bytes fit, so does one segment more
-pub has_room : (segments : List (Bor (List ℕ))) (i : ℕ) (d : Bor (List ℕ)) (bytes : List ℕ) → i < length segments → bytes ++ written (segment_list (drop i segments)) ≡ written (segment_list segments) → written_length (segment_list segments) ≤ 255 → length bytes + 1 + length (get_or segments i d).now ≤ 255
-has_room segments i d bytes within so_far fit =
+pub segment_has_room : (segments : List (Bor (List ℕ))) (i : ℕ) (d : Bor (List ℕ)) (bytes : List ℕ) → i < length segments → bytes ++ written (segment_list (drop i segments)) ≡ written (segment_list segments) → written_length (segment_list segments) ≤ 255 → length bytes + 1 + length (get_or segments i d).now ≤ 255
+segment_has_room segments i d bytes within so_far fit =
     let s = (get_or segments i d).now in
     let after = written (segment_list (drop (i + 1) segments)) in
     let left = ap length (bytes_left segments i d within) in
@@ -94,8 +94,8 @@ has_room segments i d bytes within so_far fit =
     let whole = ap length so_far ∙ length_written (segment_list segments) in
     omega arith
 
-pub goes_on : (segments : List (Bor (List ℕ))) (i : ℕ) (d : Bor (List ℕ)) (bytes : List ℕ) → i < length segments → bytes ++ written (segment_list (drop i segments)) ≡ written (segment_list segments) → ((bytes ++ length (get_or segments i d).now ∷ []) ++ (get_or segments i d).now) ++ written (segment_list (drop (i + 1) segments)) ≡ written (segment_list segments)
-goes_on segments i d bytes within so_far =
+pub path_goes_on : (segments : List (Bor (List ℕ))) (i : ℕ) (d : Bor (List ℕ)) (bytes : List ℕ) → i < length segments → bytes ++ written (segment_list (drop i segments)) ≡ written (segment_list segments) → ((bytes ++ length (get_or segments i d).now ∷ []) ++ (get_or segments i d).now) ++ written (segment_list (drop (i + 1) segments)) ≡ written (segment_list segments)
+path_goes_on segments i d bytes within so_far =
     let s = (get_or segments i d).now in
     let after = written (segment_list (drop (i + 1) segments)) in
     append_assoc (bytes ++ length s ∷ []) s after
@@ -118,8 +118,8 @@ key_of_path p bytes are is =
     let back : segments_at bytes ≡ p = ap segments_at are ∙ segments_written p in
     (ap written back ∙ sym are, ap is_path back ∙ is)
 
-pub key_is_path : (p : Path) (bytes : List ℕ) → bytes ≡ written p → is_path p ≡ true → Some (segments_at bytes) ≡ cond (is_path p) (Some p) None
-key_is_path p bytes are is =
+pub key_of_written : (p : Path) (bytes : List ℕ) → bytes ≡ written p → is_path p ≡ true → Some (segments_at bytes) ≡ cond (is_path p) (Some p) None
+key_of_written p bytes are is =
     ap Some (ap segments_at are ∙ segments_written p) ∙ sym (ap (λ test. cond test (Some p) None) is)
 
 -- ---- the segments of a key

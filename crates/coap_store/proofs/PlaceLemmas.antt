@@ -18,8 +18,8 @@ root_test [] = search rules
 root_test (s ∷ ss) = search rules
 
 -- the path whose kept bytes w are tested against those of q
-same_test : (p q : Path) (w : List ℕ) (b : Bool) → w ≡ written p → pointwise nat_eq w (written q) ≡ b → same_path p q ≡ b
-same_test p q w b kept test = sym (written_equality p q) ∙ sym (ap (λ x. pointwise nat_eq x (written q)) kept) ∙ test
+same_kept : (p q : Path) (w : List ℕ) (b : Bool) → w ≡ written p → pointwise nat_eq w (written q) ≡ b → same_path p q ≡ b
+same_kept p q w b kept test = sym (written_equality p q) ∙ sym (ap (λ x. pointwise nat_eq x (written q)) kept) ∙ test
 
 empty_test : (p : Path) (w : List ℕ) (b : Bool) → w ≡ written p → nat_eq (length w) 0 ≡ b → same_path p root_path ≡ b
 empty_test p w b kept test = sym (root_test p) ∙ sym (ap (λ x. nat_eq (length x) 0) kept) ∙ test
@@ -31,19 +31,19 @@ at_root p w kept a = sym (cond-true _ _ _ (empty_test p w true kept a))
 pub at_time : (p : Path) (w : List ℕ) → w ≡ written p → nat_eq (length w) 0 ≡ false → pointwise nat_eq w (written time_path) ≡ true → Time ≡ place_of p
 unfolding place_of
 at_time p w kept a b =
-    sym (cond-false _ _ _ (empty_test p w false kept a) ∙ cond-true _ _ _ (same_test p time_path w true kept b))
+    sym (cond-false _ _ _ (empty_test p w false kept a) ∙ cond-true _ _ _ (same_kept p time_path w true kept b))
 
 pub at_async : (p : Path) (w : List ℕ) → w ≡ written p → nat_eq (length w) 0 ≡ false → pointwise nat_eq w (written time_path) ≡ false → pointwise nat_eq w (written async_path) ≡ true → Async ≡ place_of p
 unfolding place_of
 at_async p w kept a b c =
-    sym (cond-false _ _ _ (empty_test p w false kept a) ∙ cond-false _ _ _ (same_test p time_path w false kept b) ∙ cond-true _ _ _ (same_test p async_path w true kept c))
+    sym (cond-false _ _ _ (empty_test p w false kept a) ∙ cond-false _ _ _ (same_kept p time_path w false kept b) ∙ cond-true _ _ _ (same_kept p async_path w true kept c))
 
 pub at_listing : (p : Path) (w : List ℕ) → w ≡ written p → nat_eq (length w) 0 ≡ false → pointwise nat_eq w (written time_path) ≡ false → pointwise nat_eq w (written async_path) ≡ false → pointwise nat_eq w (written listing_path) ≡ true → Listing ≡ place_of p
 unfolding place_of
 at_listing p w kept a b c d =
-    sym (cond-false _ _ _ (empty_test p w false kept a) ∙ cond-false _ _ _ (same_test p time_path w false kept b) ∙ cond-false _ _ _ (same_test p async_path w false kept c) ∙ cond-true _ _ _ (same_test p listing_path w true kept d))
+    sym (cond-false _ _ _ (empty_test p w false kept a) ∙ cond-false _ _ _ (same_kept p time_path w false kept b) ∙ cond-false _ _ _ (same_kept p async_path w false kept c) ∙ cond-true _ _ _ (same_kept p listing_path w true kept d))
 
 pub elsewhere : (p : Path) (w : List ℕ) → w ≡ written p → nat_eq (length w) 0 ≡ false → pointwise nat_eq w (written time_path) ≡ false → pointwise nat_eq w (written async_path) ≡ false → pointwise nat_eq w (written listing_path) ≡ false → Dynamic ≡ place_of p
 unfolding place_of
 elsewhere p w kept a b c d =
-    sym (cond-false _ _ _ (empty_test p w false kept a) ∙ cond-false _ _ _ (same_test p time_path w false kept b) ∙ cond-false _ _ _ (same_test p async_path w false kept c) ∙ cond-false _ _ _ (same_test p listing_path w false kept d))
+    sym (cond-false _ _ _ (empty_test p w false kept a) ∙ cond-false _ _ _ (same_kept p time_path w false kept b) ∙ cond-false _ _ _ (same_kept p async_path w false kept c) ∙ cond-false _ _ _ (same_kept p listing_path w false kept d))

@@ -21,17 +21,17 @@ use Rattle.coap_store.proofs.StoreLemmas.{store_put, found_kept}
 -- ---- checks
 
 -- where nothing is refused, a check does not hold, and nothing behind it is refused
-passed : (holds : Bool) (fault : StoreFault) (rest : Option StoreFault) → (if holds then Some fault else rest) ≡ None → (holds ≡ false) × (rest ≡ None)
+pub passed : {F : Type 0} (holds : Bool) (fault : F) (rest : Option F) → (if holds then Some fault else rest) ≡ None → (holds ≡ false) × (rest ≡ None)
 passed true fault rest none = absurd cc
 passed false fault rest none = (refl, none)
 
 -- no check is of memory, so nothing is refused for it
-told : (checks : List (Bool × StoreFault)) (fault : StoreFault) → AllByRecursion (λ check. refusal_in check.1 ≡ Some check.1) checks → first_fault checks ≡ Some fault → refusal_in fault ≡ Some fault
-told [] fault all is = absurd cc
-told (check ∷ checks) fault all is =
+first_fault_refuses : (checks : List (Bool × StoreFault)) (fault : StoreFault) → AllByRecursion (λ check. refusal_in check.1 ≡ Some check.1) checks → first_fault checks ≡ Some fault → refusal_in fault ≡ Some fault
+first_fault_refuses [] fault all is = absurd cc
+first_fault_refuses (check ∷ checks) fault all is =
     elim check.0 as (λ b. (if b then Some check.1 else first_fault checks) ≡ Some fault → refusal_in fault ≡ Some fault) [
       | true ↦ λ here. (let same : check.1 ≡ fault = cc in subst (λ (f : StoreFault). refusal_in f ≡ Some f) same all.0)
-      | false ↦ λ behind. told checks fault all.1 behind
+      | false ↦ λ behind. first_fault_refuses checks fault all.1 behind
     ] is
 
 -- ---- put
@@ -39,7 +39,7 @@ told (check ∷ checks) fault all is =
 pub put_told : (s : StoreValue) (path : Path) (bytes : List ℕ) (fault : StoreFault) → put_refusal s path bytes ≡ Some fault → put_refusal s path bytes ≡ refusal_in fault
 unfolding put_refusal
 put_told s path bytes fault is =
-    is ∙ sym (told ((nat_lt s.rep_max (length bytes), TooLarge) ∷ (not (is_dynamic (place_of path)), BadPath) ∷ (is_none (found_in s.resources path) && nat_le s.dynamic_max (length s.resources), Limit) ∷ (s.versions == greatest_version, VersionsSpent) ∷ []) fault (refl, (refl, (refl, (refl, tt)))) is)
+    is ∙ sym (first_fault_refuses ((nat_lt s.rep_max (length bytes), TooLarge) ∷ (not (is_dynamic (place_of path)), BadPath) ∷ (is_none (found_in s.resources path) && nat_le s.dynamic_max (length s.resources), Limit) ∷ (s.versions == greatest_version, VersionsSpent) ∷ []) fault (refl, (refl, (refl, (refl, tt)))) is)
 
 is_dynamic_place : (dynamic : Bool) → not dynamic ≡ false → dynamic ≡ true
 is_dynamic_place true is = refl

@@ -42,14 +42,14 @@ pub value_passes : (passes : List ℕ → Bool) (number : ℕ) (m : Message) →
 unfolding values_of
 value_passes passes number m = any_in passes number (known_options m.options)
 
-given_none : (passes : List ℕ → Bool) (values : List (List ℕ)) → false ≡ is_given values → false ≡ list_any passes values
-given_none passes [] none = refl
-given_none passes (v ∷ vs) none = absurd cc
+none_given_passes : (passes : List ℕ → Bool) (values : List (List ℕ)) → false ≡ is_given values → false ≡ list_any passes values
+none_given_passes passes [] none = refl
+none_given_passes passes (v ∷ vs) none = absurd cc
 
 -- no value passes where there is none
 pub none_passes : (passes : List ℕ → Bool) (number : ℕ) (m : Message) → false ≡ has_option number m → false ≡ list_any passes (values_of number m)
 unfolding has_option
-none_passes passes number m none = given_none passes (values_of number m) none
+none_passes passes number m none = none_given_passes passes (values_of number m) none
 
 -- ---- the length of a recognised option's value
 

@@ -44,49 +44,49 @@ response_finally false a = refl
 no_error : (c d : ℕ) → is_error c ≡ true → d ≤ 127 → c ≢ d
 no_error c d e small = λ same. (let large : 128 ≤ c = leb-true 128 c e in omega arith)
 
-abbrev Told : Target → Answer → Type 0
-Told t a = (a.response.code ≡ code.content → TellsState t.place t.state a.response) × (a.response.code ≡ code.valid → TellsEtag t.state a.response)
+abbrev TellsTruly : Target → Answer → Type 0
+TellsTruly t a = (a.response.code ≡ code.content → TellsState t.place t.state a.response) × (a.response.code ≡ code.valid → TellsEtag t.state a.response)
 
-told_error : (t : Target) → OfErrors (Told t)
+told_error : (t : Target) → OfErrors (TellsTruly t)
 told_error t c e = ((λ same. absurd (no_error c code.content e (omega arith) same)), (λ same. absurd (no_error c code.valid e (omega arith) same)))
 
 -- where one of the ETags is that of a representation, it is stored
-is_stored : (place : Place) (r : Representation) (values : List (List ℕ)) → is_among (etag_at place r) values ≡ true → etag_at place r ≡ Some (etag_of r)
-is_stored Root r values among = absurd cc
-is_stored Time r values among = absurd cc
-is_stored Async r values among = absurd cc
-is_stored Listing r values among = absurd cc
-is_stored Dynamic r values among = refl
+stored_by_etag : (place : Place) (r : Representation) (values : List (List ℕ)) → is_among (etag_at place r) values ≡ true → etag_at place r ≡ Some (etag_of r)
+stored_by_etag Root r values among = absurd cc
+stored_by_etag Time r values among = absurd cc
+stored_by_etag Async r values among = absurd cc
+stored_by_etag Listing r values among = absurd cc
+stored_by_etag Dynamic r values among = refl
 
-told_stored : (t : Target) (key : Option Path) (state : Option Representation) (m : Message) → Told t (stored_under key state m)
-told_stored t None state m = ((λ same. absurd (omega arith)), (λ same. absurd (omega arith)))
-told_stored t (Some path) None m = ((λ same. absurd (omega arith)), (λ same. absurd (omega arith)))
-told_stored t (Some path) (Some r) m = ((λ same. absurd (omega arith)), (λ same. absurd (omega arith)))
+stored_tells_truly : (t : Target) (key : Option Path) (state : Option Representation) (m : Message) → TellsTruly t (stored_under key state m)
+stored_tells_truly t None state m = ((λ same. absurd (omega arith)), (λ same. absurd (omega arith)))
+stored_tells_truly t (Some path) None m = ((λ same. absurd (omega arith)), (λ same. absurd (omega arith)))
+stored_tells_truly t (Some path) (Some r) m = ((λ same. absurd (omega arith)), (λ same. absurd (omega arith)))
 
-told_at : (s : StoreValue) (t : Target) (m : Message) → Told t (answer_at s t m)
-told_at s t m =
-    answer_cases (Told t) s t m (told_error t) (record {
-      read = λ r is. get_cases (Told t) t.place r m (told_error t) (record {
-        valid = λ among. ((λ same. absurd (omega arith)), (λ same. record { representation = r; there = is; etag = is_stored t.place r (values_of numbers.etag m) among }));
+tells_truly_at : (s : StoreValue) (t : Target) (m : Message) → TellsTruly t (answer_at s t m)
+tells_truly_at s t m =
+    answer_cases (TellsTruly t) s t m (told_error t) (record {
+      read = λ r is. get_cases (TellsTruly t) t.place r m (told_error t) (record {
+        valid = λ among. ((λ same. absurd (omega arith)), (λ same. record { representation = r; there = is; etag = stored_by_etag t.place r (values_of numbers.etag m) among }));
         late = ((λ same. record { representation = r; there = is; bytes = refl; format = refl; etag = refl }), (λ same. absurd (omega arith)));
         content = ((λ same. record { representation = r; there = is; bytes = refl; format = refl; etag = refl }), (λ same. absurd (omega arith)));
       });
       deleted = λ dynamic other. ((λ same. absurd (omega arith)), (λ same. absurd (omega arith)));
-      stored = λ dynamic other. store_cases (Told t) s t m (told_error t) ((λ same. absurd (omega arith)), (λ same. absurd (omega arith))) (λ can. told_stored t t.key t.state m);
+      stored = λ dynamic other. store_cases (TellsTruly t) s t m (told_error t) ((λ same. absurd (omega arith)), (λ same. absurd (omega arith))) (λ can. stored_tells_truly t t.key t.state m);
     })
 
-told : (s : StoreValue) (now : ℕ) (m : Message) → Told (target_of s now (path_of m)) (answer_of s now m)
+tells_truly : (s : StoreValue) (now : ℕ) (m : Message) → TellsTruly (target_of s now (path_of m)) (answer_of s now m)
 unfolding answer_of
-told s now m =
+tells_truly s now m =
     let t = target_of s now (path_of m) in
     let a = answer_at s t m in
-    subst (λ (r : Response). (r.code ≡ code.content → TellsState t.place t.state r) × (r.code ≡ code.valid → TellsEtag t.state r)) (sym (response_finally (removes_watch m) a)) (told_at s t m)
+    subst (λ (r : Response). (r.code ≡ code.content → TellsState t.place t.state r) × (r.code ≡ code.valid → TellsEtag t.state r)) (sym (response_finally (removes_watch m) a)) (tells_truly_at s t m)
 
 pub content_tells : (s : StoreValue) (now : ℕ) (m : Message) → (answer_of s now m).response.code ≡ code.content → TellsState (place_of (path_of m)) (state_of s now (path_of m)) (answer_of s now m).response
-content_tells s now m is = (told s now m).0 is
+content_tells s now m is = (tells_truly s now m).0 is
 
 pub valid_tells : (s : StoreValue) (now : ℕ) (m : Message) → (answer_of s now m).response.code ≡ code.valid → TellsEtag (state_of s now (path_of m)) (answer_of s now m).response
-valid_tells s now m is = (told s now m).1 is
+valid_tells s now m is = (tells_truly s now m).1 is
 
 -- ---- other paths
 
@@ -142,19 +142,19 @@ others_stay s now later m other place apart = state_elsewhere s (answer_of s now
 -- ---- a GET with no option but Uri-Path
 
 -- segments that an option can have
-abbrev AreShort : Path → Type 0
-AreShort p = AllByRecursion (λ s. length s ≤ 255) p
+abbrev HaveShortSegments : Path → Type 0
+HaveShortSegments p = AllByRecursion (λ s. length s ≤ 255) p
 
-short_within : (p : Path) → written_length p ≤ 255 → AreShort p
+short_within : (p : Path) → written_length p ≤ 255 → HaveShortSegments p
 short_within [] fit = tt
 short_within (s ∷ ss) fit = (omega arith, short_within ss (omega arith))
 
-known_plain : (earlier : List CoapOption) (p : Path) → AreShort p → known_behind earlier (each_at numbers.uri_path p) ≡ each_at numbers.uri_path p
+known_plain : (earlier : List CoapOption) (p : Path) → HaveShortSegments p → known_behind earlier (each_at numbers.uri_path p) ≡ each_at numbers.uri_path p
 unfolding known_behind is_recognised kind_of
 known_plain earlier [] short = refl
 known_plain earlier (s ∷ ss) short = rw (le-leb 0 (length s) (omega arith), le-leb (length s) 255 short.0) (ap (λ (os : List CoapOption). record { number = numbers.uri_path; value = s } ∷ os) (known_plain (earlier ++ record { number = numbers.uri_path; value = s } ∷ []) ss short.1))
 
-critical_plain : (earlier : List CoapOption) (p : Path) → AreShort p → first_critical_behind earlier (each_at numbers.uri_path p) ≡ None
+critical_plain : (earlier : List CoapOption) (p : Path) → HaveShortSegments p → first_critical_behind earlier (each_at numbers.uri_path p) ≡ None
 unfolding first_critical_behind is_recognised kind_of
 critical_plain earlier [] short = refl
 critical_plain earlier (s ∷ ss) short = rw (le-leb 0 (length s) (omega arith), le-leb (length s) 255 short.0) (critical_plain (earlier ++ record { number = numbers.uri_path; value = s } ∷ []) ss short.1)
@@ -168,45 +168,45 @@ no_values_each : (number : ℕ) (p : Path) → (numbers.uri_path == number) ≡ 
 no_values_each number [] other = refl
 no_values_each number (s ∷ ss) other = rw other (no_values_each number ss other)
 
-path_plain : (token : List ℕ) (p : Path) → AreShort p → path_of (plain_get token p) ≡ p
+path_plain : (token : List ℕ) (p : Path) → HaveShortSegments p → path_of (plain_get token p) ≡ p
 unfolding values_of
 path_plain token p short = ap (λ (os : List CoapOption). map (λ (o : CoapOption). o.value) (filter (λ (o : CoapOption). o.number == numbers.uri_path) os)) (known_plain [] p short) ∙ values_each p
 
-values_plain : (token : List ℕ) (p : Path) (number : ℕ) → AreShort p → (numbers.uri_path == number) ≡ false → values_of number (plain_get token p) ≡ []
+values_plain : (token : List ℕ) (p : Path) (number : ℕ) → HaveShortSegments p → (numbers.uri_path == number) ≡ false → values_of number (plain_get token p) ≡ []
 unfolding values_of
 values_plain token p number short other = ap (λ (os : List CoapOption). map (λ (o : CoapOption). o.value) (filter (λ (o : CoapOption). o.number == number) os)) (known_plain [] p short) ∙ no_values_each number p other
 
-absent_plain : (token : List ℕ) (p : Path) (number : ℕ) → AreShort p → (numbers.uri_path == number) ≡ false → has_option number (plain_get token p) ≡ false
+absent_plain : (token : List ℕ) (p : Path) (number : ℕ) → HaveShortSegments p → (numbers.uri_path == number) ≡ false → has_option number (plain_get token p) ≡ false
 unfolding has_option
 absent_plain token p number short other = rw (values_plain token p number short other) refl
 
-no_number_plain : (token : List ℕ) (p : Path) (number : ℕ) → AreShort p → (numbers.uri_path == number) ≡ false → number_of number (plain_get token p) ≡ None
+no_number_plain : (token : List ℕ) (p : Path) (number : ℕ) → HaveShortSegments p → (numbers.uri_path == number) ≡ false → number_of number (plain_get token p) ≡ None
 unfolding number_of value_of
 no_number_plain token p number short other = rw (values_plain token p number short other) refl
 
 -- ---- what is stored is served
 
-abbrev stored_target : Path → Representation → Target
-stored_target path r = record { key = Some path; place = Dynamic; state = Some r }
+abbrev target_of_stored : Path → Representation → Target
+target_of_stored path r = record { key = Some path; place = Dynamic; state = Some r }
 
-target_stored : (s : StoreValue) (now : ℕ) (path : Path) (r : Representation) → is_path path ≡ true → place_of path ≡ Dynamic → found_in s.resources path ≡ Some r → target_of s now path ≡ stored_target path r
+target_stored : (s : StoreValue) (now : ℕ) (path : Path) (r : Representation) → is_path path ≡ true → place_of path ≡ Dynamic → found_in s.resources path ≡ Some r → target_of s now path ≡ target_of_stored path r
 unfolding key_for
 target_stored s now path r is place found =
     let key : key_for path ≡ Some path = cond-true (is_path path) (Some path) None is in
     let state : state_of s now path ≡ Some r = state_dynamic s now (key_for path) (place_of path) (ap is_dynamic place) ∙ ap (stored_at s) key ∙ found in
     λ i. record { key = key i; place = place i; state = state i }
 
-get_plain : (token : List ℕ) (path : Path) (r : Representation) → AreShort path → (get_answer Dynamic r (plain_get token path)).response ≡ content_of r
+get_plain : (token : List ℕ) (path : Path) (r : Representation) → HaveShortSegments path → (get_answer Dynamic r (plain_get token path)).response ≡ content_of r
 unfolding get_answer
 get_plain token path r short =
     rw (no_number_plain token path numbers.accept short refl, values_plain token path numbers.etag short refl) refl
 
-resource_plain : (s : StoreValue) (token : List ℕ) (path : Path) (r : Representation) → AreShort path → resource_answer s (stored_target path r) (plain_get token path) ≡ get_answer Dynamic r (plain_get token path)
+resource_plain : (s : StoreValue) (token : List ℕ) (path : Path) (r : Representation) → HaveShortSegments path → resource_answer s (target_of_stored path r) (plain_get token path) ≡ get_answer Dynamic r (plain_get token path)
 unfolding resource_answer method_answer match_holds
 resource_plain s token path r short =
     rw (absent_plain token path numbers.if_match short refl, absent_plain token path numbers.if_none_match short refl) refl
 
-answer_plain : (s : StoreValue) (t : Target) (token : List ℕ) (path : Path) → AreShort path → answer_at s t (plain_get token path) ≡ resource_answer s t (plain_get token path)
+answer_plain : (s : StoreValue) (t : Target) (token : List ℕ) (path : Path) → HaveShortSegments path → answer_at s t (plain_get token path) ≡ resource_answer s t (plain_get token path)
 unfolding answer_at
 answer_plain s t token path short =
     rw (critical_plain [] path short, absent_plain token path numbers.proxy_uri short refl, absent_plain token path numbers.proxy_scheme short refl) refl
@@ -215,11 +215,11 @@ pub stored_is_served : (s : StoreValue) (now : ℕ) (token : List ℕ) (path : P
 unfolding answer_of
 stored_is_served s now token path r is place found =
     let g = plain_get token path in
-    let short : AreShort path = short_within path (path_fits path is) in
-    let target : target_of s now (path_of g) ≡ stored_target path r = ap (target_of s now) (path_plain token path short) ∙ target_stored s now path r is place found in
+    let short : HaveShortSegments path = short_within path (path_fits path is) in
+    let target : target_of s now (path_of g) ≡ target_of_stored path r = ap (target_of s now) (path_plain token path short) ∙ target_stored s now path r is place found in
     response_finally (removes_watch g) (answer_at s (target_of s now (path_of g)) g)
     ∙ ap (λ (t : Target). (answer_at s t g).response) target
-    ∙ ap (λ (a : Answer). a.response) (answer_plain s (stored_target path r) token path short ∙ resource_plain s token path r short)
+    ∙ ap (λ (a : Answer). a.response) (answer_plain s (target_of_stored path r) token path short ∙ resource_plain s token path r short)
     ∙ get_plain token path r short
 
 -- ---- what a request stores is served
@@ -237,9 +237,9 @@ not_stored : (c : ℕ) → is_error c ≡ true → IsStoredCode c → ⊥
 not_stored c e (inl same) = no_error c code.created e (omega arith) same
 not_stored c e (inr same) = no_error c code.changed e (omega arith) same
 
-other_code : (c : ℕ) → (c == code.created) ≡ false → (c == code.changed) ≡ false → IsStoredCode c → ⊥
-other_code c first second (inl same) = let is : (code.created == code.created) ≡ false = ap (λ (n : ℕ). n == code.created) (sym same) ∙ first in absurd cc
-other_code c first second (inr same) = let is : (code.changed == code.changed) ≡ false = ap (λ (n : ℕ). n == code.changed) (sym same) ∙ second in absurd cc
+not_stored_code : (c : ℕ) → (c == code.created) ≡ false → (c == code.changed) ≡ false → IsStoredCode c → ⊥
+not_stored_code c first second (inl same) = let is : (code.created == code.created) ≡ false = ap (λ (n : ℕ). n == code.created) (sym same) ∙ first in absurd cc
+not_stored_code c first second (inr same) = let is : (code.changed == code.changed) ≡ false = ap (λ (n : ℕ). n == code.changed) (sym same) ∙ second in absurd cc
 
 under_stores : (path : Path) (key : Option Path) (state : Option Representation) (m : Message) → key_for path ≡ key → is_dynamic (place_of path) ≡ true → WhereStored path m (stored_under key state m)
 under_stores path None state m is dynamic said = absurd (not_stored code.bad_request refl said)
@@ -254,8 +254,8 @@ stores_at s now path m =
     let P : Answer → Type 0 = WhereStored path m in
     let errors : OfErrors P = λ c e said. absurd (not_stored c e said) in
     answer_cases P s t m errors (record {
-      read = λ r is. get_cases P t.place r m errors (record { valid = λ among said. absurd (other_code code.valid refl refl said); late = λ said. absurd (other_code code.content refl refl said); content = λ said. absurd (other_code code.content refl refl said) });
-      deleted = λ dynamic is said. absurd (other_code code.deleted refl refl said);
+      read = λ r is. get_cases P t.place r m errors (record { valid = λ among said. absurd (not_stored_code code.valid refl refl said); late = λ said. absurd (not_stored_code code.content refl refl said); content = λ said. absurd (not_stored_code code.content refl refl said) });
+      deleted = λ dynamic is said. absurd (not_stored_code code.deleted refl refl said);
       stored = λ dynamic is. store_cases P s t m errors (λ said. absurd (not_stored code.request_entity_too_large refl said)) (λ can. under_stores path t.key t.state m refl dynamic);
     })
 

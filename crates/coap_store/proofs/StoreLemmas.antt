@@ -19,19 +19,19 @@ use Rattle.coap_store.proofs.ChangeLaws.{put_distinct, removed_distinct}
 
 -- ---- each resource
 
-all_to : (P Q : Resource → Type 0) → ((r : Resource) → P r → Q r) → (rs : List Resource) → AllByRecursion P rs → AllByRecursion Q rs
-all_to P Q to [] all = tt
-all_to P Q to (r ∷ rs) all = (to r all.0, all_to P Q to rs all.1)
+all_resources_to : (P Q : Resource → Type 0) → ((r : Resource) → P r → Q r) → (rs : List Resource) → AllByRecursion P rs → AllByRecursion Q rs
+all_resources_to P Q to [] all = tt
+all_resources_to P Q to (r ∷ rs) all = (to r all.0, all_resources_to P Q to rs all.1)
 
 module _ (P : Resource → Type 0) where
   -- what holds of each resource holds of the one that is found
-  pub found_all : (rs : List Resource) (path : Path) (now : Representation) → AllByRecursion P rs → found_in rs path ≡ Some now → P (record { path = path; now = now })
+  pub holds_of_found : (rs : List Resource) (path : Path) (now : Representation) → AllByRecursion P rs → found_in rs path ≡ Some now → P (record { path = path; now = now })
   unfolding found_in
-  found_all [] path now all is = absurd cc
-  found_all (r ∷ rs) path now all is =
+  holds_of_found [] path now all is = absurd cc
+  holds_of_found (r ∷ rs) path now all is =
       elim (same_path path r.path) as (λ b. same_path path r.path ≡ b → (if b then Some r.now else found_in rs path) ≡ Some now → P (record { path = path; now = now })) [
         | true ↦ λ same e. (let here : r.now ≡ now = cc in subst (λ (p : Path). P (record { path = p; now = now })) (sym (same_path_sound path r.path same)) (subst (λ (n : Representation). P (record { path = r.path; now = n })) here all.0))
-        | false ↦ λ other e. found_all rs path now all.1 e
+        | false ↦ λ other e. holds_of_found rs path now all.1 e
       ] refl is
 
   pub put_all : (rs : List Resource) (path : Path) (now : Representation) → AllByRecursion P rs → P (record { path = path; now = now }) → AllByRecursion P (put_at rs path now)
@@ -84,10 +84,10 @@ one_version (r ∷ rs) p q a b own at_p at_q same =
     elim (same_path p r.path) as (λ c. same_path p r.path ≡ c → (if c then Some r.now else found_in rs p) ≡ Some a → (p ≡ q) × (a ≡ b)) [
       | true ↦ λ is_p e. elim (same_path q r.path) as (λ d. same_path q r.path ≡ d → (if d then Some r.now else found_in rs q) ≡ Some b → (p ≡ q) × (a ≡ b)) [
         | true ↦ λ is_q f. (same_path_sound p r.path is_p ∙ sym (same_path_sound q r.path is_q), (let one : r.now ≡ a = cc in let two : r.now ≡ b = cc in sym one ∙ two))
-        | false ↦ λ no f. (let one : r.now ≡ a = cc in absurd (found_all (HasOther r.now.version) rs q b own.0 f (ap (λ (n : Representation). n.version) one ∙ same)))
+        | false ↦ λ no f. (let one : r.now ≡ a = cc in absurd (holds_of_found (HasOther r.now.version) rs q b own.0 f (ap (λ (n : Representation). n.version) one ∙ same)))
       ] refl at_q
       | false ↦ λ no e. elim (same_path q r.path) as (λ d. same_path q r.path ≡ d → (if d then Some r.now else found_in rs q) ≡ Some b → (p ≡ q) × (a ≡ b)) [
-        | true ↦ λ is_q f. (let two : r.now ≡ b = cc in absurd (found_all (HasOther r.now.version) rs p a own.0 e (ap (λ (n : Representation). n.version) two ∙ sym same)))
+        | true ↦ λ is_q f. (let two : r.now ≡ b = cc in absurd (holds_of_found (HasOther r.now.version) rs p a own.0 e (ap (λ (n : Representation). n.version) two ∙ sym same)))
         | false ↦ λ other f. one_version rs p q a b own.1 e f same
       ] refl at_q
     ] refl at_p
@@ -143,15 +143,15 @@ more_given versions more rep_max r le kept = record {
 }
 
 -- a version that was not given is no resource's
-not_given : (versions rep_max : ℕ) (r : Resource) → IsKept versions rep_max r → HasOther (versions + 1) r
-not_given versions rep_max r kept = λ e. omega (arith, kept.given)
+next_version_is_other : (versions rep_max : ℕ) (r : Resource) → IsKept versions rep_max r → HasOther (versions + 1) r
+next_version_is_other versions rep_max r kept = λ e. omega (arith, kept.given)
 
 -- it is a store after a representation is put that it takes
 pub store_put : (s : StoreValue) (path : Path) (format : Option ℕ) (bytes : List ℕ) → IsStore s → TakesPut s path bytes → IfSome format (λ f. f < 65536) → IsStore (put_in s path format bytes)
 store_put s path format bytes is takes short =
     let now : Representation = record { version = s.versions + 1; format = format; bytes = bytes } in
-    let kept = all_to (IsKept s.versions s.rep_max) (IsKept (s.versions + 1) s.rep_max) (λ r. more_given s.versions (s.versions + 1) s.rep_max r (omega arith)) s.resources is.kept in
-    let fresh = all_to (IsKept s.versions s.rep_max) (HasOther (s.versions + 1)) (not_given s.versions s.rep_max) s.resources is.kept in
+    let kept = all_resources_to (IsKept s.versions s.rep_max) (IsKept (s.versions + 1) s.rep_max) (λ r. more_given s.versions (s.versions + 1) s.rep_max r (omega arith)) s.resources is.kept in
+    let fresh = all_resources_to (IsKept s.versions s.rep_max) (HasOther (s.versions + 1)) (next_version_is_other s.versions s.rep_max) s.resources is.kept in
     record {
       paths = put_distinct s.resources path now is.paths;
       own_versions = put_own s.resources path now fresh is.own_versions;
@@ -183,7 +183,7 @@ store_empty dynamic_max rep_max versions most largest fits = record { paths = tt
 
 -- what is found is kept as it is to be
 pub found_kept : (s : StoreValue) (path : Path) (now : Representation) → IsStore s → found_in s.resources path ≡ Some now → IsKept s.versions s.rep_max (record { path = path; now = now })
-found_kept s path now is found = found_all (IsKept s.versions s.rep_max) s.resources path now is.kept found
+found_kept s path now is found = holds_of_found (IsKept s.versions s.rep_max) s.resources path now is.kept found
 
 pub stored_small : (s : StoreValue) → IsStore s → (path : Path) (r : Representation) → found_in s.resources path ≡ Some r → length r.bytes ≤ 1048576
 stored_small s is path r found = let kept = found_kept s path r is found in omega (arith, kept.small, is.largest)
@@ -194,7 +194,8 @@ lent_small s path None is same = tt
 lent_small s path (Some r) is same = stored_small s is path (representation r.now) (sym same)
 
 listable : (versions rep_max : ℕ) (rs : List Resource) → AllByRecursion (IsKept versions rep_max) rs → AllByRecursion CanBeListed rs
-listable versions rep_max rs kept = all_to (IsKept versions rep_max) CanBeListed (λ r is. (is.path, is.format)) rs kept
+listable versions rep_max rs kept =
+    all_resources_to (IsKept versions rep_max) CanBeListed (λ r is. (is.path, is.format)) rs kept
 
 pub listing_short : (s : StoreValue) → IsStore s → length (listing s.resources) ≤ 1048576
 listing_short s is = listing_bound s.resources (listable s.versions s.rep_max s.resources is.kept) (omega (arith, is.few, is.most))

@@ -16,8 +16,8 @@ elsewhere_stays [] = refl
 elsewhere_stays (s ∷ ss) = elsewhere_stays ss
 
 -- the answers of the tests of a path's first segments, as the place is chosen by them
-abbrev chosen : Bool → Bool → Bool → Place
-chosen time async listing = if time then place.Time else (if async then place.Async else (if listing then place.Listing else place.Dynamic))
+abbrev place_by_tests : Bool → Bool → Bool → Place
+place_by_tests time async listing = if time then place.Time else (if async then place.Async else (if listing then place.Listing else place.Dynamic))
 
 -- a first segment is one of three at most
 record IsOne (time async well_known : Bool) : Type 0 where
@@ -35,16 +35,16 @@ and_false true = refl
 and_false false = refl
 
 -- the trail of a first segment, by the answers of its tests
-abbrev begun : Bool → Bool → Bool → Trail
-begun time async well_known = if time then Time else (if async then Async else (if well_known then WellKnown else Elsewhere))
+abbrev trail_begun : Bool → Bool → Bool → Trail
+trail_begun time async well_known = if time then Time else (if async then Async else (if well_known then WellKnown else Elsewhere))
 
-one_segment : (time async well_known : Bool) → place_at (begun time async well_known) ≡ chosen (time && true) (async && true) (well_known && false)
+one_segment : (time async well_known : Bool) → place_at (trail_begun time async well_known) ≡ place_by_tests (time && true) (async && true) (well_known && false)
 one_segment true async well_known = refl
 one_segment false true well_known = refl
 one_segment false false true = refl
 one_segment false false false = refl
 
-two_segments : (time async well_known core : Bool) (t : List ℕ) → same_bytes t (codes "core") ≡ core → IsOne time async well_known → place_at (trail_with (begun time async well_known) t) ≡ chosen (time && false) (async && false) (well_known && (core && true))
+two_segments : (time async well_known core : Bool) (t : List ℕ) → same_bytes t (codes "core") ≡ core → IsOne time async well_known → place_at (trail_with (trail_begun time async well_known) t) ≡ place_by_tests (time && false) (async && false) (well_known && (core && true))
 two_segments true async well_known core t is one = rw (one.time_alone refl, and_false async) refl
 two_segments false true well_known core t is one = rw (one.async_alone refl) refl
 two_segments false false true true t is one = rw is refl
@@ -59,13 +59,13 @@ core_last : (core : Bool) → IsLast (if core then Listing else Elsewhere)
 core_last true s = refl
 core_last false s = refl
 
-second_last : (time async well_known : Bool) (t : List ℕ) → IsLast (trail_with (begun time async well_known) t)
+second_last : (time async well_known : Bool) (t : List ℕ) → IsLast (trail_with (trail_begun time async well_known) t)
 second_last true async well_known t s = refl
 second_last false true well_known t s = refl
 second_last false false true t s = core_last (same_bytes t (codes "core")) s
 second_last false false false t s = refl
 
-more_segments : (time async well_known core : Bool) → place.Dynamic ≡ chosen (time && false) (async && false) (well_known && (core && false))
+more_segments : (time async well_known core : Bool) → place.Dynamic ≡ place_by_tests (time && false) (async && false) (well_known && (core && false))
 more_segments time async well_known core = rw (and_false time, and_false async, and_false core, and_false well_known) refl
 
 pub place_by_trail : (path : Path) → place_at (trail_behind Root path) ≡ place_of path

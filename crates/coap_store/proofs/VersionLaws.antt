@@ -18,12 +18,13 @@ etag_tells a b fits_a fits_b same = bytes_are_one a.version b.version fits_a fit
 
 -- ---- in one store
 
-pub version_fits : (s : StoreValue) (path : Path) (r : Representation) → IsStore s → found_in s.resources path ≡ Some r → r.version < 2 ^ 64
-version_fits s path r is found = let kept = found_kept s path r is found in omega (arith, kept.given, is.versions)
+pub stored_version_fits : (s : StoreValue) (path : Path) (r : Representation) → IsStore s → found_in s.resources path ≡ Some r → r.version < 2 ^ 64
+stored_version_fits s path r is found =
+    let kept = found_kept s path r is found in omega (arith, kept.given, is.versions)
 
 pub together : (s : StoreValue) (p q : Path) (a b : Representation) → IsStore s → found_in s.resources p ≡ Some a → found_in s.resources q ≡ Some b → etag_of a ≡ etag_of b → (p ≡ q) × (a ≡ b)
 together s p q a b is at_p at_q same =
-    one_version s.resources p q a b is.own_versions at_p at_q (etag_tells a b (version_fits s p a is at_p) (version_fits s q b is at_q) same)
+    one_version s.resources p q a b is.own_versions at_p at_q (etag_tells a b (stored_version_fits s p a is at_p) (stored_version_fits s q b is at_q) same)
 
 -- ---- over changes
 
@@ -35,8 +36,8 @@ pub record ComesLater (s t : StoreValue) : Type 0 where
   pub later : s.versions ≤ t.versions
   pub stays : (q : Path) (b : Representation) → found_in t.resources q ≡ Some b → (s.versions < b.version) ⊎ (found_in s.resources q ≡ Some b)
 
-at_once : (s : StoreValue) → IsStore s → ComesLater s s
-at_once s is = record {
+later_than_itself : (s : StoreValue) → IsStore s → ComesLater s s
+later_than_itself s is = record {
   distinct = is.paths;
   fits = is.versions;
   given = λ q b found. (found_kept s q b is found).given;
@@ -86,8 +87,8 @@ changes_later s t (c ∷ cs) so takes = changes_later s (changed t c) cs (change
 -- what is stored before and after changes with one ETag is one representation of one path
 pub later : (s : StoreValue) (cs : List Change) (p q : Path) (a b : Representation) → IsStore s → TakesChanges s cs → found_in s.resources p ≡ Some a → found_in (changed_by s cs).resources q ≡ Some b → etag_of a ≡ etag_of b → (p ≡ q) × (a ≡ b)
 later s cs p q a b is takes at_p at_q same =
-    let so = changes_later s s cs (at_once s is) takes in
-    let versions : a.version ≡ b.version = etag_tells a b (version_fits s p a is at_p) (omega (arith, so.given q b at_q, so.fits)) same in
+    let so = changes_later s s cs (later_than_itself s is) takes in
+    let versions : a.version ≡ b.version = etag_tells a b (stored_version_fits s p a is at_p) (omega (arith, so.given q b at_q, so.fits)) same in
     elim (so.stays q b at_q) [
       | inl newer ↦ absurd (omega (arith, newer, versions, (found_kept s p a is at_p).given))
       | inr before ↦ one_version s.resources p q a b is.own_versions at_p before versions

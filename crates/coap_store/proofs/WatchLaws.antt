@@ -20,16 +20,16 @@ use Rattle.coap_store.proofs.TargetLemmas.{is_time}
 
 -- ---- which places are watched
 
-observed : (b : Bool) → (if b then watch.Add else watch.Nothing) ≡ watch.Add → b ≡ true
-observed true e = refl
-observed false e = absurd cc
+adds_if_so : (b : Bool) → (if b then watch.Add else watch.Nothing) ≡ watch.Add → b ≡ true
+adds_if_so true e = refl
+adds_if_so false e = absurd cc
 
 left_true : (a b : Bool) → (a && b) ≡ true → a ≡ true
 left_true true b e = refl
 left_true false b e = absurd cc
 
 watched_place : (place : Place) (m : Message) → watch_of place m ≡ watch.Add → is_observable place ≡ true
-watched_place place m e = left_true (is_observable place) (is_number (number_of numbers.observe m) 0) (observed _ e)
+watched_place place m e = left_true (is_observable place) (is_number (number_of numbers.observe m) 0) (adds_if_so _ e)
 
 -- ---- their paths are paths of resources
 

@@ -32,16 +32,16 @@ text_at s m = spelling (response_message m.token (answer_of s 0 m).response)
 abbrev after : StoreValue → Message → StoreValue
 after s m = changed s (answer_of s 0 m).change
 
-root : text_at (empty_store 0) (asks code.get 1 [] []) ≡ 0xa1 ∷ 0x45 ∷ 0x01 ∷ 0xc0 ∷ 0xff ∷ codes "coap+tcp"
+root_answered : text_at (empty_store 0) (asks code.get 1 [] []) ≡ 0xa1 ∷ 0x45 ∷ 0x01 ∷ 0xc0 ∷ 0xff ∷ codes "coap+tcp"
 unfolding spelling answer_of answer_at resource_answer method_answer get_answer store_answer state_at key_for place_of is_path found_in put_at removed_at values_of has_option value_of number_of match_holds is_seconds listing entry_bytes path_bytes encoded_byte bytes_of_uint kind_of is_recognised known_behind first_critical_behind
-root = refl
+root_answered = refl
 
 -- PUT a, PUT b, DELETE a, DELETE a again, PUT b, the listing, where one resource may be there
 abbrev first_put : Message
 first_put = asks code.put 1 (option numbers.uri_path (codes "a") ∷ []) (codes "x")
 
-abbrev other_put : Message
-other_put = asks code.put 2 (option numbers.uri_path (codes "b") ∷ []) (codes "y")
+abbrev put_of_other : Message
+put_of_other = asks code.put 2 (option numbers.uri_path (codes "b") ∷ []) (codes "y")
 
 abbrev removal : Message
 removal = asks code.delete 3 (option numbers.uri_path (codes "a") ∷ []) []
@@ -50,7 +50,7 @@ created : text_at (empty_store 1) first_put ≡ 0x01 ∷ 0x41 ∷ 0x01 ∷ []
 unfolding spelling answer_of answer_at resource_answer method_answer get_answer store_answer state_at key_for place_of is_path found_in put_at removed_at values_of has_option value_of number_of match_holds is_seconds listing entry_bytes path_bytes encoded_byte bytes_of_uint kind_of is_recognised known_behind first_critical_behind
 created = refl
 
-full : text_at (after (empty_store 1) first_put) other_put ≡ 0x01 ∷ 0x86 ∷ 0x02 ∷ []
+full : text_at (after (empty_store 1) first_put) put_of_other ≡ 0x01 ∷ 0x86 ∷ 0x02 ∷ []
 unfolding spelling answer_of answer_at resource_answer method_answer get_answer store_answer state_at key_for place_of is_path found_in put_at removed_at values_of has_option value_of number_of match_holds is_seconds listing entry_bytes path_bytes encoded_byte bytes_of_uint kind_of is_recognised known_behind first_critical_behind
 full = refl
 
@@ -58,6 +58,6 @@ deleted : text_at (after (empty_store 1) first_put) removal ≡ 0x01 ∷ 0x42 �
 unfolding spelling answer_of answer_at resource_answer method_answer get_answer store_answer state_at key_for place_of is_path found_in put_at removed_at values_of has_option value_of number_of match_holds is_seconds listing entry_bytes path_bytes encoded_byte bytes_of_uint kind_of is_recognised known_behind first_critical_behind
 deleted = refl
 
-listed : text_at (after (after (after (empty_store 1) first_put) removal) other_put) (asks code.get 6 (option numbers.uri_path (codes ".well-known") ∷ option numbers.uri_path (codes "core") ∷ []) []) ≡ 0xd1 ∷ 0x26 ∷ 0x45 ∷ 0x06 ∷ 0xc1 ∷ 0x28 ∷ 0xff ∷ codes "</>;ct=0,</time>;ct=0;obs,</async>;ct=0,</b>;obs"
+listed : text_at (after (after (after (empty_store 1) first_put) removal) put_of_other) (asks code.get 6 (option numbers.uri_path (codes ".well-known") ∷ option numbers.uri_path (codes "core") ∷ []) []) ≡ 0xd1 ∷ 0x26 ∷ 0x45 ∷ 0x06 ∷ 0xc1 ∷ 0x28 ∷ 0xff ∷ codes "</>;ct=0,</time>;ct=0;obs,</async>;ct=0,</b>;obs"
 unfolding spelling answer_of answer_at resource_answer method_answer get_answer store_answer state_at key_for place_of is_path found_in put_at removed_at values_of has_option value_of number_of match_holds is_seconds listing entry_bytes path_bytes encoded_byte bytes_of_uint kind_of is_recognised known_behind first_critical_behind
 listed = refl

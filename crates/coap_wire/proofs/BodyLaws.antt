@@ -41,8 +41,8 @@ pub record TakesBoth (x y : ℕ) (s : List ℕ) (delta len : ℕ) (after : List 
   pub parts : s ≡ delta_extension ++ (length_extension ++ after)
   pub rest_fits : AreBytes after
 
-joined : (s d t r : List ℕ) → s ≡ d ++ t → t ≡ r → s ≡ d ++ r
-joined s d t r p q = cc
+front_with_same_rest : (s d t r : List ℕ) → s ≡ d ++ t → t ≡ r → s ≡ d ++ r
+front_with_same_rest s d t r p q = cc
 
 both_takes : (x y : ℕ) (s : List ℕ) (h : ℕ × ℕ × List ℕ) → x < 15 → y < 15 → AreBytes s → both_at x y s ≡ Ok h → TakesBoth x y s h.0 h.1 h.2
 both_takes x y s h small small_too fits e =
@@ -57,7 +57,7 @@ both_takes x y s h small small_too fits e =
       length_extension = second.extension;
       delta_form = first.form;
       length_form = second.form;
-      parts = joined s first.extension a.0.1 (second.extension ++ b.0.1) first.parts second.parts;
+      parts = front_with_same_rest s first.extension a.0.1 (second.extension ++ b.0.1) first.parts second.parts;
       rest_fits = second.rest_fits;
     })
 

@@ -96,18 +96,19 @@ option_shorter base b s x e =
 
 -- ---- the turns do not matter
 
-within_same : (m n base : ℕ) (s : List ℕ) → length s ≤ m → length s ≤ n → body_within m base s ≡ body_within n base s
+body_within_same : (m n base : ℕ) (s : List ℕ) → length s ≤ m → length s ≤ n
+    → body_within m base s ≡ body_within n base s
 unfolding body_within
-within_same zero zero base s p q = refl
-within_same zero (suc n) base [] p q = refl
-within_same zero (suc n) base (b ∷ s) p q = absurd (omega arith)
-within_same (suc m) zero base [] p q = refl
-within_same (suc m) zero base (b ∷ s) p q = absurd (omega arith)
-within_same (suc m) (suc n) base [] p q = refl
-within_same (suc m) (suc n) base (b ∷ s) p q =
+body_within_same zero zero base s p q = refl
+body_within_same zero (suc n) base [] p q = refl
+body_within_same zero (suc n) base (b ∷ s) p q = absurd (omega arith)
+body_within_same (suc m) zero base [] p q = refl
+body_within_same (suc m) zero base (b ∷ s) p q = absurd (omega arith)
+body_within_same (suc m) (suc n) base [] p q = refl
+body_within_same (suc m) (suc n) base (b ∷ s) p q =
     let again : (x : CoapOption × List ℕ) → option_at base b s ≡ Ok x → body_within m x.0.number x.1 ≡ body_within n x.0.number x.1 =
     λ x e. let shorter : length x.1 ≤ length s = option_shorter base b s x e in
-    within_same m n x.0.number x.1 (omega arith) (omega arith) in
+    body_within_same m n x.0.number x.1 (omega arith) (omega arith) in
     let go : (x : CoapOption × List ℕ) → option_at base b s ≡ Ok x → (body_within m x.0.number x.1 >>= λ others. Ok (x.0 ∷ others.0, others.1)) ≡ (body_within n x.0.number x.1 >>= λ others. Ok (x.0 ∷ others.0, others.1)) =
     λ x e. ap (λ (r : Result (List CoapOption × List ℕ) FormatFault). r >>= λ others. Ok (x.0 ∷ others.0, others.1)) (again x e) in
     ap (λ (r : Result (List CoapOption × List ℕ) FormatFault). cond (eqb b 255) (cond (eqb (length s) 0) (Err EmptyPayload) (Ok ([], s))) r)
@@ -116,7 +117,7 @@ within_same (suc m) (suc n) base (b ∷ s) p q =
 -- no more turns are needed than there are bytes
 pub body_enough : (turns base : ℕ) (s : List ℕ) → length s ≤ turns → body_within turns base s ≡ body_at base s
 unfolding body_at
-body_enough turns base s h = within_same turns (length s) base s h (omega arith)
+body_enough turns base s h = body_within_same turns (length s) base s h (omega arith)
 
 -- ---- the steps
 

@@ -55,8 +55,8 @@ both_cut x y s h =
       | inr none ↦ rw none refl
     ]
 
-head_fault : (base b : ℕ) (s : List ℕ) (e : FormatFault) → b < 256 → b ≢ 255 → option_head_at b s ≡ Err e → IsOptionFault base (b ∷ s) e
-head_fault base b s e byte other h =
+option_head_fault : (base b : ℕ) (s : List ℕ) (e : FormatFault) → b < 256 → b ≢ 255 → option_head_at b s ≡ Err e → IsOptionFault base (b ∷ s) e
+option_head_fault base b s e byte other h =
     elim (cases_eq (b / 16) 15) [
       | inl delta ↦ subst (IsOptionFault base (b ∷ s)) (err_is {A = ℕ × ℕ × List ℕ} OptionDelta e (sym (option_head_delta b s delta) ∙ h)) (b, s, refl, other, delta)
       | inr no_delta ↦
@@ -92,7 +92,7 @@ option_fault base b s e fits other h =
           value_fault base (b ∷ s) good.0.0 good.0.1 good.0.2 e (option_head_takes b s good.0 fits good.1).0 then
       | inr bad ↦
           let then : ◌≡◌ {A = Result (CoapOption × List ℕ) FormatFault} (Err bad.0) (Err e) = rw bad.1 at h in
-          subst (IsOptionFault base (b ∷ s)) (err_is {A = CoapOption × List ℕ} bad.0 e then) (head_fault base b s bad.0 (fits 0) other bad.1)
+          subst (IsOptionFault base (b ∷ s)) (err_is {A = CoapOption × List ℕ} bad.0 e then) (option_head_fault base b s bad.0 (fits 0) other bad.1)
     ]
 
 cut_again : (base : ℕ) (s : List ℕ) → IsOptionHeadCut s → body_at base s ≡ Err OptionCut

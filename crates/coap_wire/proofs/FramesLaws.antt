@@ -14,19 +14,20 @@ use Rattle.coap_wire.proofs.StreamLaws.{AreBytes-front, whole_frame, fault_found
 -- ---- going on
 
 -- the rest of frames is no longer than the bytes
-abbrev IsWithin : Holding
-IsWithin sizes s = length (sized_frames sizes s).rest ≤ length s
+abbrev FramesAreWithin : Holding
+FramesAreWithin sizes s = length (sized_frames sizes s).rest ≤ length s
 
-within_step : (sizes : Sizes) (s : List ℕ) (b : Beginning) → HoldsBehind IsWithin sizes s → beginning (size_for sizes s) s ≡ b → IsWithin sizes s
-within_step sizes s Unfinished again e = omega (arith, ap (λ (f : Frames). length f.rest) (frames_unfinished sizes s e))
-within_step sizes s (Faulty fault) again e =
+frames_within_step : (sizes : Sizes) (s : List ℕ) (b : Beginning) → HoldsBehind FramesAreWithin sizes s → beginning (size_for sizes s) s ≡ b → FramesAreWithin sizes s
+frames_within_step sizes s Unfinished again e =
+    omega (arith, ap (λ (f : Frames). length f.rest) (frames_unfinished sizes s e))
+frames_within_step sizes s (Faulty fault) again e =
     omega (arith, ap (λ (f : Frames). length f.rest) (frames_faulty sizes s fault e), length-take (size_bytes s) s)
-within_step sizes s (Whole frame rest) again e =
+frames_within_step sizes s (Whole frame rest) again e =
     let c = whole_parts (size_for sizes s) s frame rest e in
     omega (arith, ap (λ (l : List ℕ). length l) c.bytes, length-append frame rest, again frame rest e, ap (λ (f : Frames). length f.rest) (frames_whole sizes s frame rest e))
 
 frames_rest_within : (sizes : Sizes) (s : List ℕ) → length (sized_frames sizes s).rest ≤ length s
-frames_rest_within sizes s = by_frames IsWithin (λ at r again. within_step at r (beginning (size_for at r) r) again refl) sizes s
+frames_rest_within sizes s = by_frames FramesAreWithin (λ at r again. frames_within_step at r (beginning (size_for at r) r) again refl) sizes s
 
 -- a frame in front of frames stands in front of the frames gone on
 frame_on : (frame : List ℕ) (found others : Frames) (fault : Option FrameFault) → frames_gone_on (with_frame frame found) fault others ≡ with_frame frame (frames_gone_on found fault others)
@@ -34,22 +35,22 @@ frame_on frame found others None = refl
 frame_on frame found others (Some fault) = refl
 
 -- the frames of s go on with t
-abbrev GoesOn : List ℕ → Holding
-GoesOn t sizes s = sized_frames sizes (s ++ t) ≡ frames_on (sizes_of_rest sizes s (sized_frames sizes s).rest) (sized_frames sizes s) t
+abbrev FramesGoOn : List ℕ → Holding
+FramesGoOn t sizes s = sized_frames sizes (s ++ t) ≡ frames_on (sizes_of_rest sizes s (sized_frames sizes s).rest) (sized_frames sizes s) t
 
 -- the frames first gone on with t
-abbrev on_with : Sizes → List ℕ → List ℕ → Frames → Frames
-on_with sizes s t first = frames_on (sizes_of_rest sizes s first.rest) first t
+abbrev frames_on_with : Sizes → List ℕ → List ℕ → Frames → Frames
+frames_on_with sizes s t first = frames_on (sizes_of_rest sizes s first.rest) first t
 
-on_step : (t : List ℕ) (sizes : Sizes) (s : List ℕ) (b : Beginning) → HoldsBehind (GoesOn t) sizes s → beginning (size_for sizes s) s ≡ b → GoesOn t sizes s
-on_step t sizes s Unfinished again e =
+frames_on_step : (t : List ℕ) (sizes : Sizes) (s : List ℕ) (b : Beginning) → HoldsBehind (FramesGoOn t) sizes s → beginning (size_for sizes s) s ≡ b → FramesGoOn t sizes s
+frames_on_step t sizes s Unfinished again e =
     ap (λ (f : Sizes). sized_frames f (s ++ t)) (sym (rest_is_all sizes s))
-    ∙ sym (ap (on_with sizes s t) (frames_unfinished sizes s e))
-on_step t sizes s (Faulty fault) again e =
+    ∙ sym (ap (frames_on_with sizes s t) (frames_unfinished sizes s e))
+frames_on_step t sizes s (Faulty fault) again e =
     frames_faulty sizes (s ++ t) fault (sized_faulty_more sizes s t fault e)
     ∙ ap (λ (r : List ℕ). record { frames = []; rest = r; fault = Some fault }) (fault_bytes_more (size_for sizes s) s t fault e)
-    ∙ sym (ap (on_with sizes s t) (frames_faulty sizes s fault e))
-on_step t sizes s (Whole frame rest) again e =
+    ∙ sym (ap (frames_on_with sizes s t) (frames_faulty sizes s fault e))
+frames_on_step t sizes s (Whole frame rest) again e =
     let first : Frames = frames_from sizes frame rest in
     let c = whole_parts (size_for sizes s) s frame rest e in
     let all : length s ≡ length frame + length rest = ap (λ (l : List ℕ). length l) c.bytes ∙ length-append frame rest in
@@ -58,11 +59,11 @@ on_step t sizes s (Whole frame rest) again e =
     ∙ ap (with_frame frame) (again frame rest e)
     ∙ ap (λ (f : Sizes). with_frame frame (frames_on f first t)) same
     ∙ sym (frame_on frame first (sized_frames (sizes_of_rest sizes s first.rest) (first.rest ++ t)) first.fault)
-    ∙ sym (ap (on_with sizes s t) (frames_whole sizes s frame rest e))
+    ∙ sym (ap (frames_on_with sizes s t) (frames_whole sizes s frame rest e))
 
 -- Where bytes are cut does not matter to their frames.
 pub frames_go_on : (sizes : Sizes) (s more : List ℕ) → sized_frames sizes (s ++ more) ≡ frames_on (sizes_of_rest sizes s (sized_frames sizes s).rest) (sized_frames sizes s) more
-frames_go_on sizes s more = by_frames (GoesOn more) (λ at r again. on_step more at r (beginning (size_for at r) r) again refl) sizes s
+frames_go_on sizes s more = by_frames (FramesGoOn more) (λ at r again. frames_on_step more at r (beginning (size_for at r) r) again refl) sizes s
 
 -- ---- what the function gives, the relation allows
 
@@ -98,10 +99,10 @@ framed_whole sizes frame rest found is small others = record {
 }
 
 -- where s has bytes only, its frames are found
-abbrev IsFound : Holding
-IsFound sizes s = AreBytes s → FramedAs sizes s (sized_frames sizes s)
+abbrev FramesAreFound : Holding
+FramesAreFound sizes s = AreBytes s → FramedAs sizes s (sized_frames sizes s)
 
-framed_step : (sizes : Sizes) (s : List ℕ) (b : Beginning) → HoldsBehind IsFound sizes s → beginning (size_for sizes s) s ≡ b → IsFound sizes s
+framed_step : (sizes : Sizes) (s : List ℕ) (b : Beginning) → HoldsBehind FramesAreFound sizes s → beginning (size_for sizes s) s ≡ b → FramesAreFound sizes s
 framed_step sizes s Unfinished again e fits = subst (FramedAs sizes s) (sym (frames_unfinished sizes s e)) (framed_unfinished sizes s e)
 framed_step sizes s (Faulty fault) again e fits = subst (FramedAs sizes s) (sym (frames_faulty sizes s fault e)) (framed_faulty sizes s fault fits e)
 framed_step sizes s (Whole frame rest) again e fits =
@@ -116,7 +117,7 @@ framed_step sizes s (Whole frame rest) again e fits =
 
 -- What the function gives, the relation allows.
 pub frames_framed : (sizes : Sizes) (s : List ℕ) → AreBytes s → FramedAs sizes s (sized_frames sizes s)
-frames_framed sizes s = by_frames IsFound (λ at r again. framed_step at r (beginning (size_for at r) r) again refl) sizes s
+frames_framed sizes s = by_frames FramesAreFound (λ at r again. framed_step at r (beginning (size_for at r) r) again refl) sizes s
 
 -- ---- what the relation allows, the function gives
 

@@ -60,9 +60,9 @@ forms-push [] o each here = (here, tt)
 forms-push (p ∷ os) o each here = (each.0, forms-push os o each.1 here)
 
 -- the length with one option more
-pub size_more : (xs : List OptionRef) (i size base step : ℕ) (x : OptionRef) → i < length xs → size ≡ length (options_spelling 0 (coap_options (take i xs))) → base ≡ last_number 0 (coap_options (take i xs))
+pub length_with_option : (xs : List OptionRef) (i size base step : ℕ) (x : OptionRef) → i < length xs → size ≡ length (options_spelling 0 (coap_options (take i xs))) → base ≡ last_number 0 (coap_options (take i xs))
     → step ≡ length (option_spelling base (coap_option (get_or xs i x))) → size + step ≡ length (options_spelling 0 (coap_options (take (i + 1) xs)))
-size_more xs i size base step x lt size_is base_is step_is =
+length_with_option xs i size base step x lt size_is base_is step_is =
     rw (spelling_more 0 xs i x lt, size_is, step_is, base_is) (sym (length-append (options_spelling 0 (coap_options (take i xs))) (option_spelling (last_number 0 (coap_options (take i xs))) (coap_option (get_or xs i x)))))
 
 -- the length with one option more at the end
@@ -88,7 +88,7 @@ last_found (x ∷ xs) o e = last_number_is 0 x xs o (let k : suc (length xs) - 1
 pub room_for : (xs : List OptionRef) (i base space total : ℕ) (x : OptionRef) → i < length xs → base ≡ last_number 0 (coap_options (take i xs)) → space + length (options_spelling 0 (coap_options (take i xs))) ≡ total
     → length (options_spelling 0 (coap_options xs)) ≤ total → length (option_spelling base (coap_option (get_or xs i x))) ≤ space
 room_for xs i base space total x lt base_is so_far room =
-    omega (arith, spelling_of_front 0 xs (i + 1), size_more xs i (length (options_spelling 0 (coap_options (take i xs)))) base (length (option_spelling base (coap_option (get_or xs i x)))) x lt refl base_is refl)
+    omega (arith, spelling_of_front 0 xs (i + 1), length_with_option xs i (length (options_spelling 0 (coap_options (take i xs)))) base (length (option_spelling base (coap_option (get_or xs i x)))) x lt refl base_is refl)
 
 pub appended_more : (xs : List OptionRef) (i base : ℕ) (start old new : List ℕ) (x : OptionRef) → i < length xs → base ≡ last_number 0 (coap_options (take i xs)) → old ≡ start ++ options_spelling 0 (coap_options (take i xs))
     → new ≡ old ++ option_spelling base (coap_option (get_or xs i x)) → new ≡ start ++ options_spelling 0 (coap_options (take (i + 1) xs))
@@ -98,4 +98,4 @@ appended_more xs i base start old new x lt base_is old_is new_is =
 pub room_more : (xs : List OptionRef) (i base old new total : ℕ) (x : OptionRef) → i < length xs → base ≡ last_number 0 (coap_options (take i xs)) → old + length (options_spelling 0 (coap_options (take i xs))) ≡ total
     → new + length (option_spelling base (coap_option (get_or xs i x))) ≡ old → new + length (options_spelling 0 (coap_options (take (i + 1) xs))) ≡ total
 room_more xs i base old new total x lt base_is so_far step =
-    omega (arith, size_more xs i (length (options_spelling 0 (coap_options (take i xs)))) base (length (option_spelling base (coap_option (get_or xs i x)))) x lt refl base_is refl)
+    omega (arith, length_with_option xs i (length (options_spelling 0 (coap_options (take i xs)))) base (length (option_spelling base (coap_option (get_or xs i x)))) x lt refl base_is refl)

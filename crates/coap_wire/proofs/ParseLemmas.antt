@@ -6,6 +6,7 @@ use Rattle.coap_wire.specs.Spelling.{Spells}
 use Rattle.coap_wire.specs.Faults.{IsFirstFault}
 use Rattle.coap_wire.specs.Reading.{message_of}
 use Rattle.coap_wire.specs.declared.fault.FormatFault.{FormatFault}
+use Rattle.coap_wire.proofs.FaultLaws.{err_is}
 use Rattle.coap_wire.proofs.ReadingLaws.{message_spelled, message_again, fault_is_first, first_fault_again}
 
 pub found_is_spelled : (s : List ℕ) (r : Result Message FormatFault) → AreBytes s → r ≡ message_of s → IfOk r (λ m. Spells s m)
@@ -16,11 +17,8 @@ pub fault_is_the_first : (s : List ℕ) (r : Result Message FormatFault) → Are
 fault_is_the_first s (Ok m) bytes e = tt
 fault_is_the_first s (Err f) bytes e = fault_is_first s f bytes (sym e)
 
-err_is : (f g : FormatFault) → ◌≡◌ {A = Result Message FormatFault} (Err f) (Err g) → f ≡ g
-err_is f g e = cc
-
 pub one_first_fault : (s : List ℕ) (f g : FormatFault) → AreBytes s → IsFirstFault s f → IsFirstFault s g → f ≡ g
-one_first_fault s f g bytes first other = err_is f g (sym (first_fault_again s f bytes first) ∙ first_fault_again s g bytes other)
+one_first_fault s f g bytes first other = err_is {A = Message} f g (sym (first_fault_again s f bytes first) ∙ first_fault_again s g bytes other)
 
 pub no_fault_of_spelling : (s : List ℕ) (m : Message) (f : FormatFault) → AreBytes s → Spells s m → IsFirstFault s f → ⊥
 no_fault_of_spelling s m f bytes spelled fault =

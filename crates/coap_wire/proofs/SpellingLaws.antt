@@ -61,10 +61,10 @@ options_spelled_as base (o ∷ os) s tail bytes =
     ∙ sym (append_assoc (option_spelling base o) (options_spelling o.number os) tail)
 
 -- Options that are spelled stand in order.
-pub options_ordered : (base : ℕ) (os : List CoapOption) (s tail : List ℕ) → IsOptionBytes base os s tail → AreOrdered base os
-options_ordered base [] s tail bytes = tt
-options_ordered base (o ∷ os) s tail bytes =
-    (number_above base bytes.1.delta o.number bytes.1.number, options_ordered o.number os bytes.0 tail bytes.2)
+pub spelled_options_ordered : (base : ℕ) (os : List CoapOption) (s tail : List ℕ) → IsOptionBytes base os s tail → AreOrdered base os
+spelled_options_ordered base [] s tail bytes = tt
+spelled_options_ordered base (o ∷ os) s tail bytes =
+    (number_above base bytes.1.delta o.number bytes.1.number, spelled_options_ordered o.number os bytes.0 tail bytes.2)
 
 -- Options that are spelled have a form each.
 pub options_have_form : (base : ℕ) (os : List CoapOption) (s tail : List ℕ) → IsOptionBytes base os s tail → AllByRecursion HasOptionForm os
@@ -126,7 +126,7 @@ spelled_as s m spelled =
 pub has_spelling : (s : List ℕ) (m : Message) → Spells s m → HasSpelling m
 has_spelling s m spelled = record {
   token = spelled.head.token_form.1;
-  ordered = options_ordered 0 m.options spelled.body (payload_bytes m.payload) spelled.options;
+  ordered = spelled_options_ordered 0 m.options spelled.body (payload_bytes m.payload) spelled.options;
   each = options_have_form 0 m.options spelled.body (payload_bytes m.payload) spelled.options;
   body = subst (λ (body : List ℕ). length body ≤ greatest_length) (body_spelled_as s m spelled) (length_form_bound spelled.head.length_nibble spelled.head.extension (length spelled.body) spelled.head.length_form).1;
 }

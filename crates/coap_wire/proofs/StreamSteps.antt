@@ -286,7 +286,7 @@ unfolding beginning
 begin_whole M s n e h k = ap (begins_with M s) e ∙ rw (le-ltb M n h, le-ltb (length s) n k) refl
 
 -- a size of at most M is known, and a byte of the frame is missing
-record IsShort (M : ℕ) (s : List ℕ) : Type 0 where
+record LacksBytes (M : ℕ) (s : List ℕ) : Type 0 where
   size : ℕ
   declared : declared_of s ≡ Size size
   small : size ≤ M
@@ -303,7 +303,7 @@ record IsWhole (M : ℕ) (s frame rest : List ℕ) : Type 0 where
 
 -- what is known of s where this stands at its front
 abbrev IsFront : ℕ → List ℕ → Beginning → Type 0
-IsFront M s Unfinished = (declared_of s ≡ Unknown) ⊎ IsShort M s
+IsFront M s Unfinished = (declared_of s ≡ Unknown) ⊎ LacksBytes M s
 IsFront M s (Whole frame rest) = IsWhole M s frame rest
 IsFront M s (Faulty TokenLength) = declared_of s ≡ BadToken
 IsFront M s (Faulty TooLarge) = (n : ℕ) × (declared_of s ≡ Size n) × (M < n)
@@ -624,8 +624,8 @@ module _ (sizes : Sizes) (s : List ℕ) where
 
 -- ---- going on
 
-no_fault : (o : Option StreamFault) (fault : StreamFault) → o ≡ Some fault → o ≡ None → ⊥
-no_fault o fault e h = none_or_some fault (sym h ∙ e)
+not_both_fault_and_none : (o : Option StreamFault) (fault : StreamFault) → o ≡ Some fault → o ≡ None → ⊥
+not_both_fault_and_none o fault e h = none_or_some fault (sym h ∙ e)
 
 -- the rest of a stream is no longer than it
 abbrev IsWithin : Holding
@@ -681,14 +681,14 @@ message_on m stream others None = refl
 message_on m stream others (Some fault) = refl
 
 -- the stream of s goes on with t
-abbrev GoesOn : List ℕ → Holding
-GoesOn t sizes s = sized_split sizes (s ++ t) ≡ sized_split_on (sizes_of_rest sizes s (sized_split sizes s).rest) (sized_split sizes s) t
+abbrev StreamGoesOn : List ℕ → Holding
+StreamGoesOn t sizes s = sized_split sizes (s ++ t) ≡ sized_split_on (sizes_of_rest sizes s (sized_split sizes s).rest) (sized_split sizes s) t
 
 -- the stream first gone on with t
 abbrev on_with : Sizes → List ℕ → List ℕ → Stream → Stream
 on_with sizes s t first = sized_split_on (sizes_of_rest sizes s first.rest) first t
 
-on_step : (t : List ℕ) (sizes : Sizes) (s : List ℕ) (b : Beginning) → HoldsBehind (GoesOn t) sizes s → beginning (size_for sizes s) s ≡ b → GoesOn t sizes s
+on_step : (t : List ℕ) (sizes : Sizes) (s : List ℕ) (b : Beginning) → HoldsBehind (StreamGoesOn t) sizes s → beginning (size_for sizes s) s ≡ b → StreamGoesOn t sizes s
 on_step t sizes s Unfinished again e =
     ap (λ (f : Sizes). sized_split f (s ++ t)) (sym (rest_is_all sizes s))
     ∙ sym (ap (on_with sizes s t) (sized_unfinished sizes s e))
@@ -715,21 +715,21 @@ on_step t sizes s (Whole frame rest) again e =
 
 -- Where bytes are cut does not matter.
 pub sized_goes_on : (sizes : Sizes) (s more : List ℕ) → sized_split sizes (s ++ more) ≡ sized_split_on (sizes_of_rest sizes s (sized_split sizes s).rest) (sized_split sizes s) more
-sized_goes_on sizes s more = by_frames (GoesOn more) (λ at r again. on_step more at r (beginning (size_for at r) r) again refl) sizes s
+sized_goes_on sizes s more = by_frames (StreamGoesOn more) (λ at r again. on_step more at r (beginning (size_for at r) r) again refl) sizes s
 
 -- where s has no fault, what is left of it is not finished
 abbrev LeavesUnfinished : Holding
 LeavesUnfinished sizes s = (sized_split sizes s).fault ≡ None → beginning (size_for (sizes_of_rest sizes s (sized_split sizes s).rest) (sized_split sizes s).rest) (sized_split sizes s).rest ≡ Unfinished
 
 -- what stands at the front of what is left
-abbrev left_of : Sizes → List ℕ → List ℕ → Beginning
-left_of sizes s left = beginning (size_for (sizes_of_rest sizes s left) left) left
+abbrev front_of_rest : Sizes → List ℕ → List ℕ → Beginning
+front_of_rest sizes s left = beginning (size_for (sizes_of_rest sizes s left) left) left
 
 rest_step : (sizes : Sizes) (s : List ℕ) (b : Beginning) → HoldsBehind LeavesUnfinished sizes s → beginning (size_for sizes s) s ≡ b → LeavesUnfinished sizes s
 rest_step sizes s Unfinished again e h =
-    ap (λ (u : Stream). left_of sizes s u.rest) (sized_unfinished sizes s e) ∙ ap (λ (f : Sizes). beginning (size_for f s) s) (rest_is_all sizes s) ∙ e
+    ap (λ (u : Stream). front_of_rest sizes s u.rest) (sized_unfinished sizes s e) ∙ ap (λ (f : Sizes). beginning (size_for f s) s) (rest_is_all sizes s) ∙ e
 rest_step sizes s (Faulty fault) again e h =
-    absurd (no_fault (sized_split sizes s).fault (OfFrame fault) (ap (λ (u : Stream). u.fault) (sized_faulty sizes s fault e)) h)
+    absurd (not_both_fault_and_none (sized_split sizes s).fault (OfFrame fault) (ap (λ (u : Stream). u.fault) (sized_faulty sizes s fault e)) h)
 rest_step sizes s (Whole frame rest) again e h =
     elim (result_cases (message_of frame)) [
       | inl good ↦
@@ -738,10 +738,10 @@ rest_step sizes s (Whole frame rest) again e h =
           let all : length s ≡ length frame + length rest = ap (λ (l : List ℕ). length l) c.bytes ∙ length-append frame rest in
           let same = rest_behind sizes frame rest s first.rest all (rest_within (sizes_behind (length frame) sizes) rest) in
           let is = sized_message sizes s frame rest good.0 e good.1 in
-          ap (λ (u : Stream). left_of sizes s u.rest) is
+          ap (λ (u : Stream). front_of_rest sizes s u.rest) is
           ∙ ap (λ (f : Sizes). beginning (size_for f first.rest) first.rest) (sym same)
           ∙ again frame rest e (sym (ap (λ (u : Stream). u.fault) is) ∙ h)
-      | inr bad ↦ absurd (no_fault (sized_split sizes s).fault Format (ap (λ (u : Stream). u.fault) (sized_bad sizes s frame rest bad.0 e bad.1)) h)
+      | inr bad ↦ absurd (not_both_fault_and_none (sized_split sizes s).fault Format (ap (λ (u : Stream). u.fault) (sized_bad sizes s frame rest bad.0 e bad.1)) h)
     ]
 
 -- Where there is no fault, what is left is not finished.
@@ -883,10 +883,6 @@ module _ (M : ℕ) (s : List ℕ) where
   pub split_goes_on : (more : List ℕ) → split M (s ++ more) ≡ split_on M (split M s) more
   unfolding split
   split_goes_on more = sized_goes_on (always M) s more
-
-  -- What bytes spell goes on from the messages and the rest that the first of them spell, where these have no fault.
-  pub split_more : (t : List ℕ) → (split M s).fault ≡ None → split M (s ++ t) ≡ record { messages = (split M s).messages ++ (split M ((split M s).rest ++ t)).messages; rest = (split M ((split M s).rest ++ t)).rest; fault = (split M ((split M s).rest ++ t)).fault }
-  split_more t h = split_goes_on t ∙ ap (λ (fault : Option StreamFault). gone_on (split M s) fault (split M ((split M s).rest ++ t))) h
 
   pub split_rest : (split M s).fault ≡ None → beginning M (split M s).rest ≡ Unfinished
   unfolding split

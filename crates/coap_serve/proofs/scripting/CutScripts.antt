@@ -214,14 +214,17 @@ module _ (v : ServerValue) (before : List Event) (es fs : List EventValue) (show
   shown : IsShown v
   shown = record { events = before; shows = shows; ids = ids }
 
-  first : RunAlike v es (joined es)
-  first = joined_alike v es shown one
+  first_runs_alike : RunAlike v es (joined es)
+  first_runs_alike = joined_alike v es shown one
 
-  second : RunAlike v fs (joined fs)
-  second = joined_alike v fs shown other
+  second_runs_alike : RunAlike v fs (joined fs)
+  second_runs_alike = joined_alike v fs shown other
 
   pub cuts_alike_servers : (replayed v es).server ≡ (replayed v fs).server
-  cuts_alike_servers = first.server ∙ ap (λ (gs : List EventValue). (replayed v gs).server) alike ∙ sym second.server
+  cuts_alike_servers =
+      first_runs_alike.server
+      ∙ ap (λ (gs : List EventValue). (replayed v gs).server) alike
+      ∙ sym second_runs_alike.server
 
   pub same_lines : other_lines v es ≡ other_lines v fs
-  same_lines = first.lines ∙ ap (other_lines v) alike ∙ sym second.lines
+  same_lines = first_runs_alike.lines ∙ ap (other_lines v) alike ∙ sym second_runs_alike.lines

@@ -24,7 +24,7 @@ use Rattle.coap_serve.proofs.world.TookLaws.{Adds, adds_nothing, no_bytes_steps}
 use Rattle.coap_serve.proofs.world.ReachedLaws.{accepted_is, handling_goes_on, takes_there}
 use Rattle.coap_serve.proofs.world.ShowLaws.{session_there, side_there, takes_shown, shows_taken}
 use Rattle.coap_serve.proofs.streams.TakeLemmas.{config_stays}
-use Rattle.coap_serve.proofs.scripting.ReplayLemmas.{stays_over}
+use Rattle.coap_serve.proofs.scripting.ReplayLemmas.{fed_turns_stay}
 
 -- ---- servers that show the same
 
@@ -275,7 +275,7 @@ is_over v id bytes =
 all_turns_enough : (v : ServerValue) (id : ℕ) (bytes : List ℕ) (turns : ℕ) → length bytes ≤ turns → fed_turns turns v id bytes ≡ fed v id bytes
 all_turns_enough v id bytes turns many =
     let same : turns ≡ length bytes + (turns - length bytes) = omega (arith, many) in
-    ap (λ (m : ℕ). fed_turns m v id bytes) same ∙ stays_over v id bytes (length bytes) (is_over v id bytes) (turns - length bytes)
+    ap (λ (m : ℕ). fed_turns m v id bytes) same ∙ fed_turns_stay v id bytes (length bytes) (is_over v id bytes) (turns - length bytes)
 
 -- the first take, and then those of the bytes that it left
 fed_by : (v : ServerValue) (id : ℕ) (bytes : List ℕ) (n : ℕ) → count_taken v id bytes ≡ n → 1 ≤ n → n ≤ length bytes → fed v id bytes ≡ shifted n (fed (server_taken v id bytes) id (drop n bytes))

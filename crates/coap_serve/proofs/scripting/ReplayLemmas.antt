@@ -129,19 +129,19 @@ over : (id : ℕ) (bytes : List ℕ) (f : Fed) → goes_on bytes f ≡ false →
 over id bytes f is = ap (λ (b : Bool). if b then fed_more id (drop f.count bytes) f else f) is
 
 -- once no take follows, more turns do nothing
-pub stays_over : (v : ServerValue) (id : ℕ) (bytes : List ℕ) (n : ℕ) → goes_on bytes (fed_turns n v id bytes) ≡ false → (k : ℕ) → fed_turns (n + k) v id bytes ≡ fed_turns n v id bytes
+pub fed_turns_stay : (v : ServerValue) (id : ℕ) (bytes : List ℕ) (n : ℕ) → goes_on bytes (fed_turns n v id bytes) ≡ false → (k : ℕ) → fed_turns (n + k) v id bytes ≡ fed_turns n v id bytes
 unfolding fed_turns
-stays_over v id bytes n is zero =
+fed_turns_stay v id bytes n is zero =
     let same : n + 0 ≡ n = omega arith in
     ap (λ (m : ℕ). fed_turns m v id bytes) same
-stays_over v id bytes n is (suc k) =
+fed_turns_stay v id bytes n is (suc k) =
     let same : n + suc k ≡ suc (n + k) = omega arith in
-    ap (λ (m : ℕ). fed_turns m v id bytes) same ∙ ap (fed_once id bytes) (stays_over v id bytes n is k) ∙ over id bytes (fed_turns n v id bytes) is
+    ap (λ (m : ℕ). fed_turns m v id bytes) same ∙ ap (fed_once id bytes) (fed_turns_stay v id bytes n is k) ∙ over id bytes (fed_turns n v id bytes) is
 
 no_more_turns : (v : ServerValue) (id : ℕ) (bytes : List ℕ) (n : ℕ) → goes_on bytes (fed_turns n v id bytes) ≡ false → n ≤ length bytes → fed v id bytes ≡ fed_turns n v id bytes
 no_more_turns v id bytes n is few =
     let same : length bytes ≡ n + (length bytes - n) = omega arith in
-    ap (λ (m : ℕ). fed_turns m v id bytes) same ∙ stays_over v id bytes n is (length bytes - n)
+    ap (λ (m : ℕ). fed_turns m v id bytes) same ∙ fed_turns_stay v id bytes n is (length bytes - n)
 
 one_turn_more : (v : ServerValue) (id : ℕ) (bytes : List ℕ) (n : ℕ) → fed_turns (n + 1) v id bytes ≡ fed_once id bytes (fed_turns n v id bytes)
 unfolding fed_turns
@@ -162,7 +162,7 @@ takes_over v id bytes n is (suc k) =
     let same : n + suc k ≡ suc (n + k) = omega arith in
     ap (λ (m : ℕ). took_turns m v id bytes) same
     ∙ ap (λ (es : List world.Event). es ++ took_once id bytes (fed_turns (n + k) v id bytes)) (takes_over v id bytes n is k)
-    ∙ ap (λ (f : Fed). took_turns n v id bytes ++ took_once id bytes f) (stays_over v id bytes n is k)
+    ∙ ap (λ (f : Fed). took_turns n v id bytes ++ took_once id bytes f) (fed_turns_stay v id bytes n is k)
     ∙ ap (λ (es : List world.Event). took_turns n v id bytes ++ es) (took_over id bytes (fed_turns n v id bytes) is)
     ∙ append-nil (took_turns n v id bytes)
 

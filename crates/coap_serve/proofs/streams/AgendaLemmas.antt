@@ -160,11 +160,11 @@ take_more (y ∷ xs) (suc i) x at = ap (λ ys. y ∷ ys) (take_more xs i x at)
 pub front_more : {X : Type 0} (far : X → FarEnd) (xs : List X) (i : ℕ) (x : X) → slice_get xs i ≡ Some x → map far (take (i + 1) xs) ≡ map far (take i xs) ++ far x ∷ []
 front_more far xs i x at = ap (λ n. map far (take n xs)) (let next : i + 1 ≡ suc i = omega arith in next) ∙ ap (map far) (take_more xs i x at) ∙ map-append far (take i xs) (x ∷ [])
 
-pub front_kept : {X : Type 0} (xs : List X) (i : ℕ) → take i (remove xs i) ≡ take i xs
-front_kept [] zero = refl
-front_kept [] (suc i) = refl
-front_kept (x ∷ xs) zero = refl
-front_kept (x ∷ xs) (suc i) = ap (λ ys. x ∷ ys) (front_kept xs i)
+pub front_stays : {X : Type 0} (xs : List X) (i : ℕ) → take i (remove xs i) ≡ take i xs
+front_stays [] zero = refl
+front_stays [] (suc i) = refl
+front_stays (x ∷ xs) zero = refl
+front_stays (x ∷ xs) (suc i) = ap (λ ys. x ∷ ys) (front_stays xs i)
 
 -- as many values as keys
 pub same_length : {P : Type 0} (es fs : List (ℕ × P)) → keys_of es ≡ keys_of fs → length es ≡ length fs
@@ -210,7 +210,7 @@ served_later far es fs i a b was is stamp later concerns seen same_front before 
 -- one that is dropped
 pub dropped_step : {P : Type 0} (far : P → FarEnd) (fs gs : List (ℕ × P)) (i : ℕ) (b : Agenda) (later : Stamp) → IsAgendaOf b later (map (λ e. far e.1) (take i fs)) → gs ≡ remove fs i → IsAgendaOf b later (map (λ e. far e.1) (take i gs))
 dropped_step far fs gs i b later seen is =
-    subst (λ xs. IsAgendaOf b later (map (λ e. far e.1) xs)) (sym (ap (λ xs. take i xs) is ∙ front_kept fs i)) seen
+    subst (λ xs. IsAgendaOf b later (map (λ e. far e.1) xs)) (sym (ap (λ xs. take i xs) is ∙ front_stays fs i)) seen
 
 -- ---- what is passed over
 

@@ -19,7 +19,7 @@ use Rattle.coap_serve.proofs.world.EntryLemmas.{count_due, count_within}
 use Rattle.coap_serve.proofs.world.SettleLaws.{IsAtRest, left_on, once_less, at_rest, settled_rests}
 use Rattle.coap_serve.proofs.world.PlaceLaws.{all_there, changed_here}
 use Rattle.coap_serve.proofs.world.HearingLaws.{AllHear, step_hears}
-use Rattle.coap_serve.proofs.world.ShownLemmas.{unchanged, side_at_rest_stays}
+use Rattle.coap_serve.proofs.world.ShownLemmas.{places_unchanged, side_at_rest_stays}
 use Rattle.coap_serve.proofs.world.HeldLaws.{written_same}
 
 -- ---- one write
@@ -205,7 +205,7 @@ unfolding acted
 none_acted limits id w =
     let same : ◌≡◌ {A = Side → Side} (λ t. side_written t 0) (λ t. t) = λ i t. none_written t i in
     ap (λ (f : Side → Side). record w { sides = map (changed_at id f) w.sides }) same
-    ∙ ap (λ (ps : List Place). record w { sides = ps }) (unchanged id w.sides)
+    ∙ ap (λ (ps : List Place). record w { sides = ps }) (places_unchanged id w.sides)
 
 -- Where nothing waits, a turn leaves the world.
 pub quiet_once : (limits : LimitValues) (id : ℕ) (w : World) (s : Side) → AllHear w → side_of id w.sides ≡ Some s → waiting_on s ≡ [] → written_once limits id w ≡ w

@@ -36,10 +36,10 @@ IsOfBytes id (world.Handled at m) = at ≡ id
 IsOfBytes id (world.Faulted at fault) = at ≡ id
 IsOfBytes id other = ⊥
 
-bytes_cases : (id : ℕ) (P : Step → Type 0) → ((m : Message) → P (world.Handled id m)) → ((fault : StreamFault) → P (world.Faulted id fault)) → (st : Step) → IsOfBytes id st → P st
-bytes_cases id P message faulted (world.Handled at m) of = subst (λ (n : ℕ). P (world.Handled n m)) (sym of) (message m)
-bytes_cases id P message faulted (world.Faulted at fault) of = subst (λ (n : ℕ). P (world.Faulted n fault)) (sym of) (faulted fault)
-bytes_cases id P message faulted other of = absurd of
+byte_cases : (id : ℕ) (P : Step → Type 0) → ((m : Message) → P (world.Handled id m)) → ((fault : StreamFault) → P (world.Faulted id fault)) → (st : Step) → IsOfBytes id st → P st
+byte_cases id P message faulted (world.Handled at m) of = subst (λ (n : ℕ). P (world.Handled n m)) (sym of) (message m)
+byte_cases id P message faulted (world.Faulted at fault) of = subst (λ (n : ℕ). P (world.Faulted n fault)) (sym of) (faulted fault)
+byte_cases id P message faulted other of = absurd of
 
 abbrev pub AreOfBytes : ℕ → List Step → Type 0
 AreOfBytes id steps = AllByRecursion (IsOfBytes id) steps
@@ -119,12 +119,12 @@ module _ (limits : LimitValues) (P : World → Type 0) (keeps : (w : World) (st 
 
 -- ---- what a flush behind each step adds
 
-pub step_grows : (limits : LimitValues) (id : ℕ) (w : World) (st : Step) (s : Side) → IsOfBytes id st → side_of id w.sides ≡ Some s → HasGrown id s (step limits w st)
-step_grows limits id w st s is there = bytes_cases id (λ st. HasGrown id s (step limits w st)) (λ m. handled_grows limits w id m s there) (λ fault. faulted_grows limits w id fault s there) st is
+pub step_has_grown : (limits : LimitValues) (id : ℕ) (w : World) (st : Step) (s : Side) → IsOfBytes id st → side_of id w.sides ≡ Some s → HasGrown id s (step limits w st)
+step_has_grown limits id w st s is there = byte_cases id (λ st. HasGrown id s (step limits w st)) (λ m. handled_grows limits w id m s there) (λ fault. faulted_grows limits w id fault s there) st is
 
 step_flushed_grows : (limits : LimitValues) (id : ℕ) (w : World) (st : Step) (s : Side) → IsOfBytes id st → side_of id w.sides ≡ Some s → HasGrown id s (flushed limits id (step limits w st))
 step_flushed_grows limits id w st s is there =
-    let one : HasGrown id s (step limits w st) = step_grows limits id w st s is there in
+    let one : HasGrown id s (step limits w st) = step_has_grown limits id w st s is there in
     grown_then id s (step limits w st) (flushed limits id (step limits w st)) one (flushed_grows limits id (step limits w st) one.side one.there)
 
 pub bytes_grow : (limits : LimitValues) (id : ℕ) (w : World) (ss : List Step) (s : Side) → AreOfBytes id ss → side_of id w.sides ≡ Some s → HasGrown id s (flushed_after limits id w ss)
@@ -141,7 +141,7 @@ AllIsWritten id w = (s : Side) × (side_of id w.sides ≡ Some s) × (waiting_on
 
 step_flushed_written : (limits : LimitValues) (id : ℕ) (w : World) (st : Step) (s : Side) → IsOfBytes id st → side_of id w.sides ≡ Some s → AllIsWritten id (flushed limits id (step limits w st))
 step_flushed_written limits id w st s is there =
-    let one : HasGrown id s (step limits w st) = step_grows limits id w st s is there in
+    let one : HasGrown id s (step limits w st) = step_has_grown limits id w st s is there in
     flushed_empties limits id (step limits w st) one.side one.there
 
 after_written_all : (limits : LimitValues) (id : ℕ) (w : World) (ss : List Step) → AreOfBytes id ss → AllIsWritten id w → AllIsWritten id (flushed_after limits id w ss)
@@ -152,7 +152,7 @@ after_written_all limits id w (st ∷ ss) all written =
 
 -- where the connection takes no message, nothing changes
 stopped_by : (c : ConfigValues) (id : ℕ) (w : World) (st : Step) (s : Side) → IsOfBytes id st → AreDistinct w.sides → AllHear w → side_of id w.sides ≡ Some s → takes_messages s.history.phase ≡ false → step c.limits w st ≡ w
-stopped_by c id w st s of is hear there over = bytes_cases id (λ st. step c.limits w st ≡ w) (stopped_step c w id s is hear there over) (stopped_fault c w id s is hear there over) st of
+stopped_by c id w st s of is hear there over = byte_cases id (λ st. step c.limits w st ≡ w) (stopped_step c w id s is hear there over) (stopped_fault c w id s is hear there over) st of
 
 pub after_stopped : (c : ConfigValues) (id : ℕ) (w : World) (ss : List Step) (s : Side) → AreOfBytes id ss → AreDistinct w.sides → AllHear w → side_of id w.sides ≡ Some s → waiting_on s ≡ [] → takes_messages s.history.phase ≡ false → flushed_after c.limits id w ss ≡ w
 unfolding flushed_after

@@ -13,7 +13,7 @@ use Rattle.coap_serve.specs.values.Servers.{ServerValue, server_opened, server_d
 use Rattle.coap_serve.specs.values.ServerAnswers.{open_refusal}
 use Rattle.coap_serve.specs.streams.Turns.{IsServed, IsAtRest, IsInTurn, end_of}
 use Rattle.coap_serve.specs.streams.Serving.{HasGoneOn, HasOneMore, AreServed, NoMore, PassedOver, HadItsPart}
-use Rattle.coap_serve.proofs.streams.AgendaLemmas.{front_between, front_kept, take_more}
+use Rattle.coap_serve.proofs.streams.AgendaLemmas.{front_between, front_stays, take_more}
 
 -- ---- parts of a list
 
@@ -29,10 +29,10 @@ parted [] (suc from) (suc to) order = refl
 parted (x ∷ xs) (suc from) zero order = absurd (omega (arith, order))
 parted (x ∷ xs) (suc from) (suc to) order = parted xs from to (omega (arith, order))
 
-one_at : {X : Type 0} (xs : List X) (i : ℕ) → i < length xs → (x : X) × (slice_get xs i ≡ Some x)
-one_at [] i within = absurd (omega (arith, within))
-one_at (x ∷ xs) zero within = (x, refl)
-one_at (x ∷ xs) (suc i) within = one_at xs i (omega (arith, within))
+some_at_index : {X : Type 0} (xs : List X) (i : ℕ) → i < length xs → (x : X) × (slice_get xs i ≡ Some x)
+some_at_index [] i within = absurd (omega (arith, within))
+some_at_index (x ∷ xs) zero within = (x, refl)
+some_at_index (x ∷ xs) (suc i) within = some_at_index xs i (omega (arith, within))
 
 next_first : {X : Type 0} (xs : List X) (i : ℕ) (x : X) → slice_get xs i ≡ Some x → drop i xs ≡ x ∷ drop (suc i) xs
 next_first [] i x at = absurd cc
@@ -131,8 +131,8 @@ module _ {W : Type 0} (readable writable : W → Option Bool) where
 
     pub one_open : IfSome (slice_get es i) (λ was. IfSome (slice_get mid i) (λ is. IsServed (readable was.1.wire) (writable was.1.wire) v was.0 was.1.rest between is.1.rest Open)) → HasGoneOn readable writable v es i between mid (i + 1)
     one_open part =
-        let was = one_at es i within in
-        let is = one_at mid i (omega (arith, within, as_many)) in
+        let was = some_at_index es i within in
+        let is = some_at_index mid i (omega (arith, within, as_many)) in
         let served = if_there (slice_get mid i) _ is.0 is.1 (if_there (slice_get es i) _ was.0 was.1 part) in
         record {
           e = was.0;
@@ -146,8 +146,8 @@ module _ {W : Type 0} (readable writable : W → Option Bool) where
     pub one_over : (after : ServerValue) (now : List (ℕ × Peer W)) → IfSome (slice_get es i) (λ was. IfSome (slice_get mid i) (λ is. IsServed (readable was.1.wire) (writable was.1.wire) v was.0 was.1.rest between is.1.rest Over))
         → now ≡ remove mid i → IfSome (slice_get (keys_of mid) i) (λ id. after ≡ server_dropped between id) → HasGoneOn readable writable v es i after now i
     one_over after now part removed dropped =
-        let was = one_at es i within in
-        let is = one_at mid i (omega (arith, within, as_many)) in
+        let was = some_at_index es i within in
+        let is = some_at_index mid i (omega (arith, within, as_many)) in
         let served = if_there (slice_get mid i) _ is.0 is.1 (if_there (slice_get es i) _ was.0 was.1 part) in
         record {
           e = was.0;
@@ -161,6 +161,6 @@ module _ {W : Type 0} (readable writable : W → Option Bool) where
             server = if_there (slice_get (keys_of mid) i) (λ id. after ≡ server_dropped between id) was.0.0 (ap (λ ks. slice_get ks i) keys ∙ key_at es i was.0 was.1) dropped;
             far_end = refl;
           };
-          front = ap (λ xs. take i xs) removed ∙ front_kept mid i ∙ before ∙ sym (append-nil (take i es));
+          front = ap (λ xs. take i xs) removed ∙ front_stays mid i ∙ before ∙ sym (append-nil (take i es));
           back = ap (λ xs. drop i xs) removed ∙ back_stays mid i ∙ back_same;
         }

@@ -36,9 +36,9 @@ untouched v id i s piece lies here settled closed =
     ∙ ap (λ (es : Entries). record v { sessions = map (settled_entry v.host) es }) (sym (changed_one id (λ _. s) v.sessions i lies.distinct lies.index lies.within) ∙ shown_the_same v.sessions i s (sym lies.found ∙ here))
     ∙ ap (λ (es : Entries). record v { sessions = es }) (all_settled_stay v.host v.sessions settled)
 
-none_taken : (v : ServerValue) (id : ℕ) (s : SessionValue) (piece : List ℕ) → session_of id v.sessions ≡ Some s → session_takes s ≡ false → count_taken v id piece ≡ 0
+closed_takes_none : (v : ServerValue) (id : ℕ) (s : SessionValue) (piece : List ℕ) → session_of id v.sessions ≡ Some s → session_takes s ≡ false → count_taken v id piece ≡ 0
 unfolding count_taken
-none_taken v id s piece here closed = ap (count_on v piece) here ∙ ap (λ t. t.count) (taking_stopped v.host s piece closed)
+closed_takes_none v id s piece here closed = ap (count_on v piece) here ∙ ap (λ t. t.count) (taking_stopped v.host s piece closed)
 
 record IsUntouched (v : ServerValue) (f : Fed) : Type 0 where
   server : f.server ≡ v
@@ -55,7 +55,7 @@ untouched_where_stopped v id i s bytes (suc turns) lies here settled closed =
         server = ap (λ w. server_taken w id (drop f.count bytes)) so_far.server ∙ untouched v id i s (drop f.count bytes) lies here settled closed;
         count =
             let moved = ap (λ w. count_taken w id (drop f.count bytes)) so_far.server in
-            let none = none_taken v id s (drop f.count bytes) here closed in
+            let none = closed_takes_none v id s (drop f.count bytes) here closed in
             omega (arith, so_far.count, moved, none);
       }
       | false ↦ so_far
@@ -124,9 +124,9 @@ passed_on_untouched v id i s rest may_read may_write lies here settled idle on =
 
 -- ---- whatever its wire does
 
-and_false : (b : Bool) → (b && true) ≡ false → b ≡ false
-and_false true e = e
-and_false false e = refl
+false_beside_true : (b : Bool) → (b && true) ≡ false → b ≡ false
+false_beside_true true e = e
+false_beside_true false e = refl
 
 not_heard : (may_read is_empty takes : Bool) → ((is_empty && takes) && may_read) ≡ false → ((may_read && is_empty) && takes) ≡ false
 not_heard false is_empty takes e = refl
@@ -136,7 +136,7 @@ not_heard true true false e = refl
 
 not_written : (may_write : Bool) (waiting : List ℕ) → (nat_lt 0 (length waiting) && may_write) ≡ false → (if may_write then waiting else []) ≡ []
 not_written false waiting e = refl
-not_written true waiting e = nil_from_length waiting (let none = ltb-false 0 (length waiting) (and_false (nat_lt 0 (length waiting)) e) in omega (arith, none))
+not_written true waiting e = nil_from_length waiting (let none = ltb-false 0 (length waiting) (false_beside_true (nat_lt 0 (length waiting)) e) in omega (arith, none))
 
 module _ (v : ServerValue) (id i : ℕ) (s : SessionValue) (rest : List ℕ) (may_read may_write : Bool) (lies : LiesAt id i v.sessions) (here : session_of id v.sessions ≡ Some s) (settled : AreSettled v.host v.sessions) where
   module _ (idle : can_go_on (wants_of v id rest) may_read may_write ≡ false) where

@@ -14,7 +14,7 @@ use Rattle.coap_serve.specs.streams.Standing.{IsGoing, Says, IsWhole, IsCut, IsR
 use Rattle.coap_serve.specs.streams.StdioRun.{IsLastByte}
 use Rattle.coap_serve.proofs.streams.DeviceLemmas.{bytes_none, bytes_then}
 use Rattle.coap_serve.proofs.streams.OutputLaws.{output_grows, stopped_output, stopped_outcome}
-use Rattle.coap_serve.proofs.streams.TakeLemmas.{FrontServed, first_none, is_not_missing, front_refused}
+use Rattle.coap_serve.proofs.streams.TakeLemmas.{FrontServed, front_of_nothing, is_not_missing, front_refused}
 
 -- Of a piece behind some bytes a front was taken and this rest is left; x and y are what the outlet told before the piece and
 -- tells now.
@@ -62,20 +62,20 @@ module _ (c : ConfigValues) (id : ℕ) (bytes piece : List ℕ) (v : ServerValue
     abbrev rest_front : List ℕ
     rest_front = take n rest
 
-    abbrev rest_behind : List ℕ
-    rest_behind = drop n rest
+    abbrev rest_not_taken : List ℕ
+    rest_not_taken = drop n rest
 
-    split_so : piece ≡ (so_far.taken ++ rest_front) ++ rest_behind
-    split_so = so_far.all ∙ ap (λ (b : List ℕ). so_far.taken ++ b) (sym (take-append-drop n rest)) ∙ sym (append_assoc so_far.taken rest_front rest_behind)
+    split_so : piece ≡ (so_far.taken ++ rest_front) ++ rest_not_taken
+    split_so = so_far.all ∙ ap (λ (b : List ℕ). so_far.taken ++ b) (sym (take-append-drop n rest)) ∙ sym (append_assoc so_far.taken rest_front rest_not_taken)
 
     further_bytes : bytes ++ (so_far.taken ++ rest_front) ≡ here ++ rest_front
     further_bytes = sym (append_assoc bytes so_far.taken rest_front)
 
-    whole_bytes : bytes ++ piece ≡ (here ++ rest_front) ++ rest_behind
-    whole_bytes = ap (λ (b : List ℕ). bytes ++ b) split_so ∙ sym (append_assoc bytes (so_far.taken ++ rest_front) rest_behind) ∙ ap (λ (b : List ℕ). b ++ rest_behind) further_bytes
+    whole_bytes : bytes ++ piece ≡ (here ++ rest_front) ++ rest_not_taken
+    whole_bytes = ap (λ (b : List ℕ). bytes ++ b) split_so ∙ sym (append_assoc bytes (so_far.taken ++ rest_front) rest_not_taken) ∙ ap (λ (b : List ℕ). b ++ rest_not_taken) further_bytes
 
     -- the front was served, and the connection goes on
-    pub serves_more : (z : Option (List ℕ)) (after : ServerValue) (more : ℕ) → FrontServed c id here rest_front after (AddsBytes y z) more → stop_on (session_of id after.sessions) ≡ None → Serves c id bytes piece after rest_behind x z (messages + more)
+    pub serves_more : (z : Option (List ℕ)) (after : ServerValue) (more : ℕ) → FrontServed c id here rest_front after (AddsBytes y z) more → stop_on (session_of id after.sessions) ≡ None → Serves c id bytes piece after rest_not_taken x z (messages + more)
     serves_more z after more did going =
         let said = did.whole in
         let none : (outcome c (here ++ rest_front)).stop ≡ None = sym did.stop ∙ going in
@@ -94,13 +94,13 @@ module _ (c : ConfigValues) (id : ℕ) (bytes piece : List ℕ) (v : ServerValue
     serves_last z after more why did stopped =
         let said = did.whole in
         let over : (outcome c (here ++ rest_front)).stop ≡ Some why = sym did.stop ∙ stopped in
-        let same : outcome c (bytes ++ piece) ≡ outcome c (here ++ rest_front) = ap (outcome c) whole_bytes ∙ stopped_outcome c (here ++ rest_front) rest_behind why over in
+        let same : outcome c (bytes ++ piece) ≡ outcome c (here ++ rest_front) = ap (outcome c) whole_bytes ∙ stopped_outcome c (here ++ rest_front) rest_not_taken why over in
         record {
           stands = record {
             config = said.stands.config;
             events = said.stands.events;
             shows = said.stands.shows;
-            world = said.stands.world ∙ sym (stopped_output c (here ++ rest_front) rest_behind why over) ∙ ap (world_for c) (sym whole_bytes);
+            world = said.stands.world ∙ sym (stopped_output c (here ++ rest_front) rest_not_taken why over) ∙ ap (world_for c) (sym whole_bytes);
             spelled = λ none. let bad : ◌≡◌ {A = Option Reason} None (Some why) = sym none ∙ ap (λ (o : Outcome). o.stop) same ∙ over in absurd cc;
           };
           text = so_far.text ++ said.text;
@@ -112,11 +112,11 @@ module _ (c : ConfigValues) (id : ℕ) (bytes piece : List ℕ) (v : ServerValue
     -- what the front brings about was not written whole
     pub cut_off : (z : Option (List ℕ)) → IsCut c here rest_front (AddsBytes y z) → IsCut c bytes piece (AddsBytes x z)
     cut_off z did =
-        let more = output_grows c (here ++ rest_front) rest_behind in
+        let more = output_grows c (here ++ rest_front) rest_not_taken in
         record {
           part = so_far.text ++ did.part;
           missing = did.missing ++ more.0;
-          some = λ none. did.some (first_none did.missing more.0 none);
+          some = λ none. did.some (front_of_nothing did.missing more.0 none);
           says =
               ap (stdio_output c) whole_bytes
               ∙ more.1

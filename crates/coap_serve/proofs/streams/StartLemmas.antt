@@ -23,7 +23,7 @@ use Rattle.coap_serve.proofs.streams.DeviceLemmas.{bytes_none, bytes_then, given
 use Rattle.coap_serve.proofs.streams.OutputLaws.{opened_there, world_for_none, none_stops, no_bytes_spell}
 use Rattle.coap_serve.proofs.streams.FlushShown.{FlushShown}
 use Rattle.coap_serve.proofs.streams.FlushShown as shown
-use Rattle.coap_serve.proofs.streams.TakeLemmas.{all_said, stands_behind, first_none, text_grows}
+use Rattle.coap_serve.proofs.streams.TakeLemmas.{all_said, stands_behind, front_of_nothing, text_grows}
 use Rattle.coap_serve.proofs.streams.RunLemmas.{Ran}
 
 opened_one : (M id : ℕ) → steps_by M [] (Opened id) ≡ world.Opened id ∷ []
@@ -92,7 +92,7 @@ module _ (c : ConfigValues) (v : ServerValue) (ranges : AreInRange c.limits) (co
           inl refl,
           record {
             missing = did.part.1 ++ more.0;
-            some = λ none. did.part.2 (first_none did.part.1 more.0 none);
+            some = λ none. did.part.2 (front_of_nothing did.part.1 more.0 none);
             written = sym (first_text_is all ends ∙ more.1 ∙ ap (λ (b : List ℕ). b ++ more.0) did.part.3 ∙ append_assoc did.part.0 did.part.1 more.0);
           },
         ),

@@ -36,7 +36,7 @@ use Rattle.coap_serve.proofs.world.GoingOn.{side_is}
 use Rattle.coap_serve.proofs.world.ReachedLaws.{IsReached, accepted_is, takes_there, handling_goes_on}
 use Rattle.coap_serve.proofs.world.ShowLaws.{side_there}
 use Rattle.coap_serve.proofs.world.HandlingLaws.{messages_counted, one_step_at_most}
-use Rattle.coap_serve.proofs.world.GrowLaws.{SideGrows, front_written, same_front, all_written, took_grows}
+use Rattle.coap_serve.proofs.world.GrowLaws.{SideGrows, front_written, same_front, none_waits_all_written, took_grows}
 use Rattle.coap_serve.proofs.streams.FlushLaws.{quiet_flush}
 use Rattle.coap_serve.proofs.streams.OutputLaws.{one_step_more, no_step_more, world_for_written, world_for_hears, output_of, stop_there}
 use Rattle.coap_serve.proofs.streams.FlushShown.{FlushShown, session_is}
@@ -66,9 +66,9 @@ text_grows id v few (suc many) within =
           (before.0 ++ w, text_next id v many ∙ ap (λ (b : List ℕ). b ++ w) before.1 ∙ append_assoc (flush_turns few id v).text before.0 w))
     ]
 
-pub first_none : (xs ys : List ℕ) → xs ++ ys ≡ [] → xs ≡ []
-first_none [] ys none = refl
-first_none (x ∷ xs) ys none = absurd cc
+pub front_of_nothing : (xs ys : List ℕ) → xs ++ ys ≡ [] → xs ≡ []
+front_of_nothing [] ys none = refl
+front_of_nothing (x ∷ xs) ys none = absurd cc
 
 -- ---- memory was refused
 
@@ -118,7 +118,7 @@ module _ (c : ConfigValues) (es : List Event) (s : Side) (turns : ℕ) (after : 
   all_said =
       let all = world_for_written c bytes in
       let none : waiting_on f.side ≡ [] = ap waiting_on (same_there f.side all.0 (sym side_is_there ∙ all.1)) ∙ all.2 in
-      output_of c bytes f.side side_is_there ∙ sym (all_written f.side none) ∙ f.said
+      output_of c bytes f.side side_is_there ∙ sym (none_waits_all_written f.side none) ∙ f.said
 
   pub stands_behind : spelled_on c.limits.max_message (only_id c) es ≡ (stream_of c bytes, c.limits.max_message) → Stands c after bytes
   stands_behind spelled = record { config = f.config; events = f.events; shows = f.shows; world = ends; spelled = λ still. f.spelled ∙ spelled }
@@ -265,7 +265,7 @@ module _ (v : ServerValue) (bytes piece : List ℕ) (stands : Stands v.config v 
     said_before : front_written s1 ≡ stdio_output c bytes
     said_before =
         same_front side_before s1 (side_is c es id side_before side_is_there_now).is_history grown.2
-        ∙ all_written side_before side_written_out.2
+        ∙ none_waits_all_written side_before side_written_out.2
         ∙ sym (output_of c bytes side_before side_written_out.1)
 
     counted_before : length s1.history.handled ≡ (outcome c bytes).messages + count_of t.handled
@@ -335,7 +335,7 @@ module _ (v : ServerValue) (bytes piece : List ℕ) (stands : Stands v.config v 
         record {
           part = did.part.0;
           missing = did.part.1 ++ more.0;
-          some = λ none. did.part.2 (first_none did.part.1 more.0 none);
+          some = λ none. did.part.2 (front_of_nothing did.part.1 more.0 none);
           says =
               take_text_is all ends
               ∙ ap (λ (b : List ℕ). stdio_output c bytes ++ b) (more.1 ∙ ap (λ (b : List ℕ). b ++ more.0) did.part.3 ∙ append_assoc did.part.0 did.part.1 more.0);

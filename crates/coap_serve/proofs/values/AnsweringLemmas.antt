@@ -184,10 +184,10 @@ gone_entries host l entries index o first goes =
     ∙ ap (λ (b : Bool). first_becomes (is_stale host) (entry_left host o b) entries) (sym goes)
 
 -- whether an observer stays, by what the code computes
-pub stays_by : (host : Host) (l : LinkValue) (o : ObserverValue) (a : Answer) (c : ℕ) (goes : Bool) (reply : Reply) → a ≡ says (notification_of host.store host.now o.path o.format) → c ≡ a.response.code → goes ≡ (c == code.content)
+pub observer_stays_by : (host : Host) (l : LinkValue) (o : ObserverValue) (a : Answer) (c : ℕ) (goes : Bool) (reply : Reply) → a ≡ says (notification_of host.store host.now o.path o.format) → c ≡ a.response.code → goes ≡ (c == code.content)
     → reply ≡ fit (limit_in l) (response_with_observe o.token goes a.response) (bare_response (response_with_observe o.token goes a.response))
     → goes_whole host l o ≡ (goes && is_whole reply)
-stays_by host l o a c goes reply told code_is goes_is sent =
+observer_stays_by host l o a c goes reply told code_is goes_is sent =
     let r : Response = notification_of host.store host.now o.path o.format in
     let going : goes ≡ goes_on r = goes_is ∙ ap (λ (k : ℕ). k == code.content) (code_is ∙ ap (λ (b : Answer). b.response.code) told) in
     let message : response_with_observe o.token goes a.response ≡ notification_on host o =

@@ -4,7 +4,7 @@ use Rattle.std.specs.Prelude.{find, map, not, slice_get, if◌then◌else◌}
 use Rattle.std.specs.List.{AllByRecursion}
 use Rattle.std.specs.Map.{values_of}
 use Rattle.indexmap.specs.IndexMap.{set_value_at}
-use Rattle.coap_store.specs.Paths.{Path, is_path}
+use Rattle.coap_store.specs.Paths.{Path}
 use Rattle.coap_store.specs.Store.{StoreValue, found_in, put_in, removed_in}
 use Rattle.coap_store.specs.State.{place_of, key_for, state_at}
 use Rattle.coap_store.specs.declared.place.Place.{Place}
@@ -12,6 +12,7 @@ use Rattle.coap_store.specs.declared.place.Place.TheVariants.{Root, Time, Async,
 use Rattle.coap_store.specs.Answer.{Change, Nothing, Put, Delete, changed}
 use Rattle.coap_store.specs.Changes.{changes}
 use Rattle.coap_store.specs.Invariant.{IsStore}
+use Rattle.coap_store.proofs.AnswerLaws.{key_is}
 use Rattle.coap_store.proofs.ChangeLaws.{other_is_kept_on_put, other_is_kept_on_delete}
 use Rattle.coap_serve.specs.declared.host.Host.{Host}
 use Rattle.coap_serve.specs.declared.cause.Cause.{Cause}
@@ -40,10 +41,6 @@ kept_elsewhere s (Delete path) hash is q other =
 
 -- ---- a state that did not change
 
-key_is : (p q : Path) → key_for p ≡ Some q → p ≡ q
-unfolding key_for
-key_is p q e = elim (is_path p) as (λ b. (if b then Some p else None) ≡ Some q → p ≡ q) [ true ↦ λ is. cc | false ↦ λ is. absurd cc ] e
-
 -- what is built in has the moment as its mark, whatever is stored
 marked_alike : (s t : StoreValue) (now mark : ℕ) (key : Option Path) (p : Place) → ((q : Path) → key ≡ Some q → found_in t.resources q ≡ found_in s.resources q) → is_marked now mark (state_at t now key p) ≡ is_marked now mark (state_at s now key p)
 unfolding state_at
@@ -58,7 +55,7 @@ stale_elsewhere : (host : Host) (c : Change) (hash : ℕ) (o : ObserverValue) �
 unfolding is_stale
 stale_elsewhere host c hash o is other =
     ap not (sym (marked_alike host.store (changed host.store c) host.now o.mark (key_for o.path) (place_of o.path)
-    (λ q e. kept_elsewhere host.store c hash is q (λ same. other (ap path_hash (key_is o.path q e) ∙ same)))))
+    (λ q e. kept_elsewhere host.store c hash is q (λ same. other (ap path_hash (key_is o.path q e).1 ∙ same)))))
 
 none_elsewhere : (host : Host) (c : Change) (hash : ℕ) (os : List ObserverValue) → change_hash c ≡ Some hash → ObservesNone hash os → find (is_stale host) os ≡ None → find (is_stale (host_changed host c)) os ≡ None
 none_elsewhere host c hash [] is others none = refl
@@ -123,14 +120,14 @@ settled_first host zero (e ∷ es) s at =
 settled_first host (suc i) (e ∷ es) s at = ap (λ (rest : Entries). settled_entry host e ∷ rest) (settled_first host i es s at)
 
 module _ (host : Host) (i hash : ℕ) (es : Entries) (s after : SessionValue) (at : slice_get (values_of es) i ≡ Some s) (settles : after ≡ session_settled host s) where
-  first_is : set_value_at es i after ≡ changed_at i (λ _. session_settled host s) es
-  first_is = ap (set_value_at es i) settles ∙ written_at_index (λ _. session_settled host s) es i s at
+  settled_at_index : set_value_at es i after ≡ changed_at i (λ _. session_settled host s) es
+  settled_at_index = ap (set_value_at es i) settles ∙ written_at_index (λ _. session_settled host s) es i s at
 
   pub others_untouched : AreOthersSettled (Some hash) i host es → AreSettledUntouched (cause.Path hash) host (set_value_at es i after)
-  others_untouched others = subst (AreSettledUntouched (cause.Path hash) host) (sym first_is) (others (session_settled host s) (settled_is_settled host s))
+  others_untouched others = subst (AreSettledUntouched (cause.Path hash) host) (sym settled_at_index) (others (session_settled host s) (settled_is_settled host s))
 
   pub all_settle : map (settled_entry host) (set_value_at es i after) ≡ map (settled_entry host) es
-  all_settle = ap (map (settled_entry host)) first_is ∙ settled_first host i es s at
+  all_settle = ap (map (settled_entry host)) settled_at_index ∙ settled_first host i es s at
 
 one_in_place : (P : ℕ × SessionValue → Type 0) (i : ℕ) (es : Entries) (s u : SessionValue) → AllByRecursion P es → ((n : ℕ) → P (n, s)) → AllByRecursion P (changed_at i (λ _. s) (set_value_at es i u))
 unfolding changed_at

@@ -16,7 +16,7 @@ use Rattle.coap_serve.specs.values.Sessions.{ObserverValue, SessionValue, mark_a
 use Rattle.coap_serve.specs.values.Servers.{ServerValue, AreSettled}
 use Rattle.coap_serve.specs.values.Dues.{sooner, next_second, tells_time, next_told, due_on, IsBefore, WaitsForWhatIsDue}
 use Rattle.coap_serve.proofs.values.ServerLemmas.{all_settled_stay, Entries}
-use Rattle.coap_serve.proofs.world.SettleLaws.{nothing_first}
+use Rattle.coap_serve.proofs.world.SettleLaws.{nothing_due_first}
 
 abbrev pub at_moment : Host → ℕ → Host
 at_moment host later = record host { now = later }
@@ -56,16 +56,16 @@ not_come now later (Answer token moment) none after = elim (cases_lt now moment)
       absurd cc
 ]
 
-none_come : (now later : ℕ) (held : List HeldValue) → AllByRecursion (λ e. come now e ≡ None) held → AllByRecursion (λ x. later < x) (filter_map (to_come now) held) → AllByRecursion (λ e. come later e ≡ None) held
-none_come now later [] none after = tt
-none_come now later (e ∷ held) none after =
+none_come_later : (now later : ℕ) (held : List HeldValue) → AllByRecursion (λ e. come now e ≡ None) held → AllByRecursion (λ x. later < x) (filter_map (to_come now) held) → AllByRecursion (λ e. come later e ≡ None) held
+none_come_later now later [] none after = tt
+none_come_later now later (e ∷ held) none after =
     let parts = cons_parts (λ x. later < x) (to_come now e) (filter_map (to_come now) held) after in
-    (not_come now later e none.0 parts.0, none_come now later held none.1 parts.1)
+    (not_come now later e none.0 parts.0, none_come_later now later held none.1 parts.1)
 
 not_due_later : (now later : ℕ) (held : List HeldValue) → first_due now held ≡ None → IsBefore later (next_moment now held) → first_due later held ≡ None
 not_due_later now later held none before =
     let nothing = (due_nothing now held none).0 in
-    nothing_first later held (none_come now later held nothing.0 (before_each later (filter_map (to_come now) held) before), nothing.1)
+    nothing_due_first later held (none_come_later now later held nothing.0 (before_each later (filter_map (to_come now) held) before), nothing.1)
 
 -- ---- what is observed
 
@@ -125,8 +125,8 @@ none_stale host later (o ∷ os) store stored none =
     ∙ none_stale host later os store parts.1 found.1
 
 -- where somebody observes the moment, no later one comes before the next one
-told_first : (now later : ℕ) (observers : List ObserverValue) → now < later → later < 2 ^ 64 → IsBefore later (next_told now observers) → list_any tells_time observers ≡ false
-told_first now later observers more fits before = elim (list_any tells_time observers) as (λ b. list_any tells_time observers ≡ b → IsBefore later (if b then next_second now else None) → list_any tells_time observers ≡ false) [
+none_tells_time_before : (now later : ℕ) (observers : List ObserverValue) → now < later → later < 2 ^ 64 → IsBefore later (next_told now observers) → list_any tells_time observers ≡ false
+none_tells_time_before now later observers more fits before = elim (list_any tells_time observers) as (λ b. list_any tells_time observers ≡ b → IsBefore later (if b then next_second now else None) → list_any tells_time observers ≡ false) [
   | true ↦ λ is before.
       let next : next_second now ≡ Some (now + 1) = cond-false (now == 18446744073709551615) None (Some (now + 1)) (ne_eqb now 18446744073709551615 (λ e. omega (arith, e, more, fits))) in
       let sooner_than : later < now + 1 = subst (IsBefore later) next before in
@@ -144,7 +144,8 @@ stays_settled host later v store settled more fits before =
     elim (session_ready v) as (λ b. (if b then first_due host.now v.link.held else None) ≡ None → (if b then find (is_stale host) v.observers else None) ≡ None → ((if b then first_due later v.link.held else None) ≡ None) × ((if b then find (is_stale (at_moment host later)) v.observers else None) ≡ None)) [
       | true ↦ λ sent fresh. (
         not_due_later host.now later v.link.held sent held,
-        none_stale host later v.observers store (told_first host.now later v.observers more fits told) fresh,
+        none_stale host later v.observers store
+        (none_tells_time_before host.now later v.observers more fits told) fresh,
       )
       | false ↦ λ sent fresh. (refl, refl)
     ] settled.0 settled.1

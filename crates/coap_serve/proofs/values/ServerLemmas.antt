@@ -91,11 +91,11 @@ pub written_back : (es : Entries) (i : ℕ) (s back : SessionValue) → slice_ge
 written_back es i s back at is = ap (set_value_at es i) is ∙ nothing_written es i s at
 
 -- connections with other numbers stay
-pub others_stay : (id : ℕ) (f : SessionValue → SessionValue) (es : Entries) → AllByRecursion (λ k. nat_eq id k ≡ false) (keys_of es) → map (session_becomes id f) es ≡ es
-others_stay id f [] apart = refl
-others_stay id f (e ∷ es) apart =
+pub others_same : (id : ℕ) (f : SessionValue → SessionValue) (es : Entries) → AllByRecursion (λ k. nat_eq id k ≡ false) (keys_of es) → map (session_becomes id f) es ≡ es
+others_same id f [] apart = refl
+others_same id f (e ∷ es) apart =
     let first : session_becomes id f e ≡ e = rw (same_either_way e.0 id ∙ apart.0) refl in
-    ap (λ x. x ∷ map (session_becomes id f) es) first ∙ ap (λ rest. e ∷ rest) (others_stay id f es apart.1)
+    ap (λ x. x ∷ map (session_becomes id f) es) first ∙ ap (λ rest. e ∷ rest) (others_same id f es apart.1)
 
 at_front : (b : Bool) (n : ℕ) → zero ≡ cond (not b) (1 + n) 0 → b ≡ true
 at_front true n is = refl
@@ -112,7 +112,7 @@ changed_one id f [] i distinct index within = absurd (omega arith)
 changed_one id f (e ∷ es) zero distinct index within =
     let there : nat_eq id e.0 ≡ true = at_front _ _ (sym index) in
     let apart : AllByRecursion (λ k. nat_eq id k ≡ false) (keys_of es) = subst (λ n. AllByRecursion (λ k. nat_eq n k ≡ false) (keys_of es)) (sym (eqb-true id e.0 there)) distinct.0 in
-    sym (rw (same_either_way e.0 id ∙ there) (ap (λ (rest : Entries). (e.0, f e.1) ∷ rest) (others_stay id f es apart)))
+    sym (rw (same_either_way e.0 id ∙ there) (ap (λ (rest : Entries). (e.0, f e.1) ∷ rest) (others_same id f es apart)))
 changed_one id f (e ∷ es) (suc i) distinct index within =
     let later = at_later (nat_eq id e.0) i (position_or_len (nat_eq id) (keys_of es)) (sym index) in
     let rest = changed_one id f es i distinct.1 (sym later.1) (omega arith) in

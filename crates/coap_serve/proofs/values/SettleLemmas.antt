@@ -156,21 +156,21 @@ no_stale_due host v none =
     elim (session_ready v) as (λ b. (if b then find (is_stale host) v.observers else None) ≡ None) [ true ↦ none_counted (is_stale host) v.observers (omega (arith, none)) | false ↦ refl ]
 
 -- what is left to settle: what is held, and the observers that are stale
-abbrev left_of : Host → SessionValue → ℕ
-left_of host v = length v.link.held + count_due (is_stale host) v.observers
+abbrev left_to_settle : Host → SessionValue → ℕ
+left_to_settle host v = length v.link.held + count_due (is_stale host) v.observers
 
 -- each turn that finds any leaves less
-less_held : (host : Host) (v : SessionValue) (e : HeldValue) (n : ℕ) → next_held_in host.now v ≡ Some e → left_of host v ≤ suc n → left_of host (session_with v.frame (link_sent v.link host.now e) v.observers) ≤ n
+less_held : (host : Host) (v : SessionValue) (e : HeldValue) (n : ℕ) → next_held_in host.now v ≡ Some e → left_to_settle host v ≤ suc n → left_to_settle host (session_with v.frame (link_sent v.link host.now e) v.observers) ≤ n
 less_held host v e n found many =
     let fewer = fewer_held v.link host.now e (found_held host.now v e found).1 in
     let told = fewer_open host (link_sent v.link host.now e) v.observers in
     omega (arith, fewer, told, many)
 
-less_stale : (host : Host) (v : SessionValue) (o : ObserverValue) (n : ℕ) → next_stale host v ≡ Some o → left_of host v ≤ suc n → left_of host (session_notified host v (Some o)) ≤ n
+less_stale : (host : Host) (v : SessionValue) (o : ObserverValue) (n : ℕ) → next_stale host v ≡ Some o → left_to_settle host v ≤ suc n → left_to_settle host (session_notified host v (Some o)) ≤ n
 less_stale host v o n found many = omega (arith, fewer_stale host v o (found_stale host v o found), reply_held v.link (notification_on host o), many)
 
 -- as many turns as there are of both leave nothing to settle
-enough_turns : (host : Host) (turns : ℕ) (v : SessionValue) → left_of host v ≤ turns → IsSettled host (session_settled_within turns host v)
+enough_turns : (host : Host) (turns : ℕ) (v : SessionValue) → left_to_settle host v ≤ turns → IsSettled host (session_settled_within turns host v)
 unfolding session_settled_within
 enough_turns host zero v many = (no_held_due host.now v (omega (arith, many)), no_stale_due host v (omega (arith, many)))
 enough_turns host (suc turns) v many =

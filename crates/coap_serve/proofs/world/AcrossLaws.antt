@@ -217,8 +217,8 @@ unfolding world_after
 kept_by c P first keeps es = steps_keep c.limits P first keeps (new_world c) (steps_of c.limits.max_message es) (λ id s there. absurd (none_or_some s (sym (nobody id) ∙ there)))
 
 -- what is kept composes
-pub keeping : (P : History → Type 0) → Composes (λ h k. P h → P k)
-keeping P = record { same = λ h is. is; then = λ h k g one two is. two (one is) }
+pub keeping_composes : (P : History → Type 0) → Composes (λ h k. P h → P k)
+keeping_composes P = record { same = λ h is. is; then = λ h k g one two is. two (one is) }
 
 -- the same of what each part of what happens keeps of a history
 pub kept_history : (c : ConfigValues) (P : History → Type 0) → P (new_history Server c.limits 0) → KeepsAll (λ h k. P h → P k)

@@ -20,9 +20,9 @@ coded c = class_of c == 2 || (class_of c == 4 || class_of c == 5)
 abbrev IsCoded : Answer → Type 0
 IsCoded a = coded a.response.code ≡ true
 
-checked : (b : Bool) (a : Answer) (checks : List (Option Answer)) (last : Answer) → IsCoded a → IsCoded (first_of checks last) → IsCoded (first_of (when b a ∷ checks) last)
-checked true a checks last here later = here
-checked false a checks last here later = later
+coded_by_check : (b : Bool) (a : Answer) (checks : List (Option Answer)) (last : Answer) → IsCoded a → IsCoded (first_of checks last) → IsCoded (first_of (when b a ∷ checks) last)
+coded_by_check true a checks last here later = here
+coded_by_check false a checks last here later = later
 
 get_coded : (place : Place) (r : Representation) (m : Message) → IsCoded (get_answer place r m)
 unfolding get_answer
@@ -34,10 +34,10 @@ get_coded place r m =
     let is_valid = is_among (etag_at place r) (values_of numbers.etag m) in
     let second = when is_valid (watched place m (valid place r)) ∷ third in
     let other_format = not (is_accepted (number_of numbers.accept m) r.format) in
-    checked other_format (says (only code.not_acceptable)) second last refl
-    (checked is_valid (watched place m (valid place r)) third last refl
-    (checked wants_late (says (only code.bad_request)) fourth last refl
-    (checked (is_async place) (late place r m) [] last refl refl)))
+    coded_by_check other_format (says (only code.not_acceptable)) second last refl
+    (coded_by_check is_valid (watched place m (valid place r)) third last refl
+    (coded_by_check wants_late (says (only code.bad_request)) fourth last refl
+    (coded_by_check (is_async place) (late place r m) [] last refl refl)))
 
 stored_coded : (key : Option Path) (state : Option Representation) (m : Message) → IsCoded (stored_under key state m)
 stored_coded None state m = refl
@@ -53,10 +53,10 @@ store_coded s t m =
     let third = refuse is_full code.not_acceptable ∷ fourth in
     let is_nowhere = is_none t.state && is_none t.key in
     let second = refuse is_nowhere code.bad_request ∷ third in
-    checked (nat_lt s.rep_max (length m.payload)) (too_large s) second last refl
-    (checked is_nowhere (says (only code.bad_request)) third last refl
-    (checked is_full (says (only code.not_acceptable)) fourth last refl
-    (checked (s.versions == greatest_version) (says (only code.service_unavailable)) [] last refl (stored_coded t.key t.state m))))
+    coded_by_check (nat_lt s.rep_max (length m.payload)) (too_large s) second last refl
+    (coded_by_check is_nowhere (says (only code.bad_request)) third last refl
+    (coded_by_check is_full (says (only code.not_acceptable)) fourth last refl
+    (coded_by_check (s.versions == greatest_version) (says (only code.service_unavailable)) [] last refl (stored_coded t.key t.state m))))
 
 read_coded : (place : Place) (state : Option Representation) (m : Message) → IsCoded (read_answer place state m)
 read_coded place None m = refl
@@ -77,9 +77,9 @@ resource_coded s t m =
     let only_read = not (is_dynamic t.place) && not (is_get m) in
     let second = refuse only_read code.method_not_allowed ∷ third in
     let is_absent = is_none t.state && needs_resource s m in
-    checked is_absent (says (only code.not_found)) second last refl
-    (checked only_read (says (only code.method_not_allowed)) third last refl
-    (checked fails (says (only code.precondition_failed)) [] last refl (method_coded s t m)))
+    coded_by_check is_absent (says (only code.not_found)) second last refl
+    (coded_by_check only_read (says (only code.method_not_allowed)) third last refl
+    (coded_by_check fails (says (only code.precondition_failed)) [] last refl (method_coded s t m)))
 
 answer_coded : (s : StoreValue) (t : Target) (m : Message) → IsCoded (answer_at s t m)
 unfolding answer_at
@@ -89,9 +89,9 @@ answer_coded s t m =
     let asks_proxy = has_option numbers.proxy_uri m || has_option numbers.proxy_scheme m in
     let second = refuse asks_proxy code.proxying_not_supported ∷ third in
     let has_critical = is_some (first_critical m.options) in
-    checked has_critical (says (only code.bad_option)) second last refl
-    (checked asks_proxy (says (only code.proxying_not_supported)) third last refl
-    (checked (not (is_method m)) (says (only code.method_not_allowed)) [] last refl (resource_coded s t m)))
+    coded_by_check has_critical (says (only code.bad_option)) second last refl
+    (coded_by_check asks_proxy (says (only code.proxying_not_supported)) third last refl
+    (coded_by_check (not (is_method m)) (says (only code.method_not_allowed)) [] last refl (resource_coded s t m)))
 
 finally_coded : (b : Bool) (a : Answer) → IsCoded a → IsCoded (finally b a)
 finally_coded true a is = is

@@ -121,14 +121,14 @@ pong_for_more : (ms more : List Message) (n k : Tally) (e : HeldValue) → AtMos
 pong_for_more ms more n k (Answer token moment) grows is = tt
 pong_for_more ms more n k (Pong token) grows is = still_behind ms more n k token grows is
 
-pub held_more : (ms more : List Message) (n k : Tally) (es : List HeldValue) → AtMost n k → HeldBehind ms n es → HeldBehind (ms ++ more) k es
-held_more ms more n k [] grows is = tt
-held_more ms more n k (e ∷ es) grows is =
-    (pong_for_more ms more n k e grows is.0, held_more ms more (plus n (held_back (e ∷ []))) (plus k (held_back (e ∷ []))) es (λ t. omega (arith, grows t)) is.1)
+pub held_behind_more : (ms more : List Message) (n k : Tally) (es : List HeldValue) → AtMost n k → HeldBehind ms n es → HeldBehind (ms ++ more) k es
+held_behind_more ms more n k [] grows is = tt
+held_behind_more ms more n k (e ∷ es) grows is =
+    (pong_for_more ms more n k e grows is.0, held_behind_more ms more (plus n (held_back (e ∷ []))) (plus k (held_back (e ∷ []))) es (λ t. omega (arith, grows t)) is.1)
 
 -- with no message more
 pub held_grows : (ms : List Message) (n k : Tally) (es : List HeldValue) → AtMost n k → HeldBehind ms n es → HeldBehind ms k es
-held_grows ms n k es grows is = subst (λ (xs : List Message). HeldBehind xs k es) (append-nil ms) (held_more ms [] n k es grows is)
+held_grows ms n k es grows is = subst (λ (xs : List Message). HeldBehind xs k es) (append-nil ms) (held_behind_more ms [] n k es grows is)
 
 -- one more that is held
 pub held_last : (ms : List Message) (n : Tally) (es : List HeldValue) (e : HeldValue) → HeldBehind ms n es → IsPongFor e (IsBehind ms (plus n (held_back es))) → HeldBehind ms n (es ++ e ∷ [])
@@ -141,14 +141,14 @@ held_last ms n (d ∷ es) e is last =
     (is.0, held_last ms k es e is.1 (subst (λ (xs : List Message). IsPongFor e (IsBehind xs (plus k (held_back es)))) (append-nil ms) (pong_for_more ms [] (plus n (held_back (d ∷ es))) (plus k (held_back es)) e (λ t. omega arith) last)))
 
 -- an answer that goes out of what is held to what is queued
-held_without : (ms : List Message) (n k : Tally) (es : List HeldValue) (i : ℕ) (e : HeldValue) → slice_get es i ≡ Some e → AtMost (plus n (held_back (e ∷ []))) k → HeldBehind ms n es → HeldBehind ms k (remove es i)
-held_without ms n k [] i e there grows is = absurd cc
-held_without ms n k (d ∷ es) zero e there grows is =
+held_behind_without : (ms : List Message) (n k : Tally) (es : List HeldValue) (i : ℕ) (e : HeldValue) → slice_get es i ≡ Some e → AtMost (plus n (held_back (e ∷ []))) k → HeldBehind ms n es → HeldBehind ms k (remove es i)
+held_behind_without ms n k [] i e there grows is = absurd cc
+held_behind_without ms n k (d ∷ es) zero e there grows is =
     let same : d ≡ e = cc in
     held_grows ms (plus n (held_back (d ∷ []))) k es (λ t. omega (arith, grows t, ap (λ (x : HeldValue). held_back (x ∷ []) t) same)) is.1
-held_without ms n k (d ∷ es) (suc i) e there grows is = (
+held_behind_without ms n k (d ∷ es) (suc i) e there grows is = (
   subst (λ (xs : List Message). IsPongFor d (IsBehind xs k)) (append-nil ms) (pong_for_more ms [] n k d (λ t. omega (arith, grows t)) is.0),
-  held_without ms (plus n (held_back (d ∷ []))) (plus k (held_back (d ∷ []))) es i e there (λ t. omega (arith, grows t)) is.1,
+  held_behind_without ms (plus n (held_back (d ∷ []))) (plus k (held_back (d ∷ []))) es i e there (λ t. omega (arith, grows t)) is.1,
 )
 
 -- as many fewer are held
@@ -163,7 +163,7 @@ awaited_without (d ∷ es) (suc i) e there token = omega (arith, awaited_without
 
 at_moves : (ms : List Message) (n k : Tally) (es : List HeldValue) (index : Option ℕ) (e : HeldValue) → held_at es index ≡ Some e → AtMost (plus n (held_back (e ∷ []))) k → HeldBehind ms n es → HeldBehind ms k (without_at es index)
 at_moves ms n k es None e there grows is = absurd cc
-at_moves ms n k es (Some i) e there grows is = held_without ms n k es i e there grows is
+at_moves ms n k es (Some i) e there grows is = held_behind_without ms n k es i e there grows is
 
 pub due_moves : (ms : List Message) (n k : Tally) (es : List HeldValue) (now : ℕ) (e : HeldValue) → first_due now es ≡ Some e → AtMost (plus n (held_back (e ∷ []))) k → HeldBehind ms n es → HeldBehind ms k (without_due now es)
 unfolding first_due without_due
@@ -173,9 +173,9 @@ at_fewer : (es : List HeldValue) (index : Option ℕ) (e : HeldValue) → held_a
 at_fewer es None e there token = absurd cc
 at_fewer es (Some i) e there token = awaited_without es i e there token
 
-pub due_fewer : (es : List HeldValue) (now : ℕ) (e : HeldValue) → first_due now es ≡ Some e → (token : List ℕ) → held_back es token ≡ held_back (without_due now es) token + held_back (e ∷ []) token
+pub due_counts_apart : (es : List HeldValue) (now : ℕ) (e : HeldValue) → first_due now es ≡ Some e → (token : List ℕ) → held_back es token ≡ held_back (without_due now es) token + held_back (e ∷ []) token
 unfolding first_due without_due
-due_fewer es now e due token = at_fewer es (due_index now es) e due token
+due_counts_apart es now e due token = at_fewer es (due_index now es) e due token
 
 -- ---- answers of their own
 

@@ -44,7 +44,7 @@ use Rattle.coap_serve.proofs.world.GoingOn.{Keeps, kept_after}
 use Rattle.coap_serve.proofs.world.SideLaws.{held_room}
 use Rattle.coap_serve.proofs.world.ToldMessages.{Queues, IsPlain, reject_queues, end_queues, release_queues, abort_plain}
 use Rattle.coap_serve.proofs.world.CustodyLaws.{response_no_pong, bare_no_pong, held_at_all, asked_open, IsNoPong}
-use Rattle.coap_serve.proofs.world.AnswerCounts.{one, count_more, Tally, AtMost, plus, asks_with, requests, responses, awaits, held_back, IsBehind, PongsBehind, pongs_more, pongs_then, pongs_other, pong_at, HeldBehind, held_more, held_grows, held_last, due_moves, due_fewer, own_answers}
+use Rattle.coap_serve.proofs.world.AnswerCounts.{one, count_more, Tally, AtMost, plus, asks_with, requests, responses, awaits, held_back, IsBehind, PongsBehind, pongs_more, pongs_then, pongs_other, pong_at, HeldBehind, held_behind_more, held_grows, held_last, due_moves, due_counts_apart, own_answers}
 use Rattle.coap_serve.proofs.world.AnswerCodes.{coded, prompt_coded, bare_coded}
 
 plain_no_pong : (ms : List Message) → AllByRecursion IsPlain ms → AllByRecursion IsNoPong ms
@@ -128,20 +128,20 @@ sent_pays b d h m less Stopped first then whole bare all all_bare = record { oth
 
 -- a response is sent where responses are
 module _ (b d : Tally) (h : History) (token : List ℕ) (observe : Bool) (r : Response) (is : FollowsBut b d h) where
-  abbrev whole : Message
-  whole = response_with_observe token observe r
+  abbrev whole_response : Message
+  whole_response = response_with_observe token observe r
 
-  sent_follows : MayPay b whole → MayPay b (bare_response whole) → MayPay d whole → MayPay d (bare_response whole) → PongsFollow (sent h whole (bare_response whole))
+  sent_follows : MayPay b whole_response → MayPay b (bare_response whole_response) → MayPay d whole_response → MayPay d (bare_response whole_response) → PongsFollow (sent h whole_response (bare_response whole_response))
   sent_follows first bare all all_bare =
-      paid b d h (send (standing_now h) whole (bare_response whole)) is
-      (sent_pays b d h whole (bare_response whole) (fit (standing_now h).limit whole (bare_response whole)) (response_no_pong token observe r) (bare_no_pong whole) first bare all all_bare)
+      paid b d h (send (standing_now h) whole_response (bare_response whole_response)) is
+      (sent_pays b d h whole_response (bare_response whole_response) (fit (standing_now h).limit whole_response (bare_response whole_response)) (response_no_pong token observe r) (bare_no_pong whole_response) first bare all all_bare)
 
   -- one that is owed
-  owed_follows : (does : Bool) → does ≡ true → coded r.code ≡ true → OwesToken b token → OwesToken d token → PongsFollow (cond does (sent h whole (bare_response whole)) h)
+  owed_follows : (does : Bool) → does ≡ true → coded r.code ≡ true → OwesToken b token → OwesToken d token → PongsFollow (cond does (sent h whole_response (bare_response whole_response)) h)
   owed_follows false does is_coded first all = absurd cc
   owed_follows true does is_coded first all =
-      let bare : is_response (bare_response whole) ≡ true = bare_coded r.code is_coded in
-      sent_follows (token_pays b whole first is_coded) (token_pays b (bare_response whole) first bare) (token_pays d whole all is_coded) (token_pays d (bare_response whole) all bare)
+      let bare : is_response (bare_response whole_response) ≡ true = bare_coded r.code is_coded in
+      sent_follows (token_pays b whole_response first is_coded) (token_pays b (bare_response whole_response) first bare) (token_pays d whole_response all is_coded) (token_pays d (bare_response whole_response) all bare)
 
 -- one that nobody waits for
 told_follows : (h : History) (token : List ℕ) (observe : Bool) (r : Response) (does : Bool) → PongsFollow h → PongsFollow (cond does (sent h (response_with_observe token observe r) (bare_response (response_with_observe token observe r))) h)
@@ -187,28 +187,28 @@ module _ (h : History) (m : Message) (server : h.role ≡ Server) (live : takes_
   no_request other token = ap (λ (b : Bool). one (b && same_bytes m.token token)) other
 
   still_held : HeldBehind now_handled (plus (responses h.queued) (responses [])) h.held
-  still_held = held_more h.handled (m ∷ []) (plus nothing (responses h.queued)) (plus (responses h.queued) (responses [])) h.held (λ t. omega arith) is.held
+  still_held = held_behind_more h.handled (m ∷ []) (plus nothing (responses h.queued)) (plus (responses h.queued) (responses [])) h.held (λ t. omega arith) is.held
 
   -- a message that is no request, and queues no Pong with Custody
-  stays_so : (now : Phase) (outstanding : List OutstandingValue) (what : VerdictValue) (qs : List Message) → is_asking m ≡ false → AllByRecursion IsNoPong qs → (answers now ≡ false → answers h.phase ≡ false)
+  stays_follow : (now : Phase) (outstanding : List OutstandingValue) (what : VerdictValue) (qs : List Message) → is_asking m ≡ false → AllByRecursion IsNoPong qs → (answers now ≡ false → answers h.phase ≡ false)
       → Claim (record { effect = record (stay s) { queued = qs; phase = now; outstanding = outstanding }; verdict = what })
-  stays_so now outstanding what qs other none on = record {
+  stays_follow now outstanding what qs other none on = record {
     pongs = pongs_other now_handled (responses h.queued) qs none;
-    held = held_more h.handled (m ∷ []) (plus nothing (responses h.queued)) (plus (responses h.queued) (responses qs)) h.held (λ t. omega arith) is.held;
+    held = held_behind_more h.handled (m ∷ []) (plus nothing (responses h.queued)) (plus (responses h.queued) (responses qs)) h.held (λ t. omega arith) is.held;
     all = λ takes t. omega (arith, is.all live t, one_asked t, no_request other t);
     quiet = λ off. is.quiet (on off);
   }
 
-  stops_so : (why : Reason) (farewell : List Message) (what : VerdictValue) → AllByRecursion IsNoPong farewell → Claim (record { effect = stop s why farewell; verdict = what })
-  stops_so why farewell what none = record {
+  stops_follow : (why : Reason) (farewell : List Message) (what : VerdictValue) → AllByRecursion IsNoPong farewell → Claim (record { effect = stop s why farewell; verdict = what })
+  stops_follow why farewell what none = record {
     pongs = pongs_other now_handled (responses h.queued) farewell none;
     held = tt;
     all = λ takes. absurd cc;
     quiet = λ off. refl;
   }
 
-  aborts_so : (why : Reason) → Claim (aborts s why)
-  aborts_so why = stops_so why (abort_fitted s.limit (abort_of why)) (verdict.Stopped why) (plain_no_pong (abort_fitted s.limit (abort_of why)) (abort_plain s.limit (abort_text why) why refl))
+  aborts_follow : (why : Reason) → Claim (aborts s why)
+  aborts_follow why = stops_follow why (abort_fitted s.limit (abort_of why)) (verdict.Stopped why) (plain_no_pong (abort_fitted s.limit (abort_of why)) (abort_plain s.limit (abort_text why) why refl))
 
   -- ---- Pings
 
@@ -223,34 +223,34 @@ module _ (h : History) (m : Message) (server : h.role ≡ Server) (live : takes_
     few = λ t. omega (arith, is.all live t);
   }
 
-  sends_so : (n less : Message) (r : Reply) → is_asking m ≡ false → (is_custody_pong n ≡ true → IsBehind now_handled (responses h.queued) n.token) → IsNoPong less → Claim (record { effect = send_as s n less r; verdict = told_of r })
-  sends_so n less Whole other behind none = record {
+  sends_follow : (n less : Message) (r : Reply) → is_asking m ≡ false → (is_custody_pong n ≡ true → IsBehind now_handled (responses h.queued) n.token) → IsNoPong less → Claim (record { effect = send_as s n less r; verdict = told_of r })
+  sends_follow n less Whole other behind none = record {
     pongs = (behind, tt);
-    held = held_more h.handled (m ∷ []) (plus nothing (responses h.queued)) (plus (responses h.queued) (responses (n ∷ []))) h.held (λ t. omega arith) is.held;
+    held = held_behind_more h.handled (m ∷ []) (plus nothing (responses h.queued)) (plus (responses h.queued) (responses (n ∷ []))) h.held (λ t. omega arith) is.held;
     all = λ takes t. omega (arith, is.all live t, one_asked t, no_request other t);
     quiet = λ off. is.quiet off;
   }
-  sends_so n less Bare other behind none = stays_so h.phase h.outstanding (told_of Bare) (less ∷ []) other (none, tt) (λ off. off)
-  sends_so n less Stopped other behind none = stops_so reason.PeerTooSmall [] (told_of Stopped) tt
+  sends_follow n less Bare other behind none = stays_follow h.phase h.outstanding (told_of Bare) (less ∷ []) other (none, tt) (λ off. off)
+  sends_follow n less Stopped other behind none = stops_follow reason.PeerTooSmall [] (told_of Stopped) tt
 
   -- nothing is held where the Pong is queued at once
-  at_once : (es : List HeldValue) (custody : Bool) → (custody && nat_lt 0 (length es)) ≡ false → custody ≡ true → (t : List ℕ) → held_back es t ≡ 0
-  at_once [] custody none asks t = refl
-  at_once (e ∷ es) true none asks t = absurd (omega (arith, ltb-false 0 (length (e ∷ es)) none))
-  at_once (e ∷ es) false none asks t = absurd cc
+  none_held_at_once : (es : List HeldValue) (custody : Bool) → (custody && nat_lt 0 (length es)) ≡ false → custody ≡ true → (t : List ℕ) → held_back es t ≡ 0
+  none_held_at_once [] custody none asks t = refl
+  none_held_at_once (e ∷ es) true none asks t = absurd (omega (arith, ltb-false 0 (length (e ∷ es)) none))
+  none_held_at_once (e ∷ es) false none asks t = absurd cc
 
   pong_behind : (m.code == code.ping) ≡ true → (asks_custody m && nat_lt 0 (length h.held)) ≡ false → is_custody_pong (pong_of m) ≡ true → IsBehind now_handled (responses h.queued) m.token
   pong_behind ping none custody =
       let asks : asks_custody m ≡ true = custody_of (asks_custody m) custody in
       let all = ping_behind ping asks in
-      record { earlier = all.earlier; ping = all.ping; later = all.later; there = all.there; asks = all.asks; few = λ t. omega (arith, all.few t, at_once h.held (asks_custody m) none asks t) }
+      record { earlier = all.earlier; ping = all.ping; later = all.later; there = all.there; asks = all.asks; few = λ t. omega (arith, all.few t, none_held_at_once h.held (asks_custody m) none asks t) }
     where
       custody_of : (b : Bool) → is_custody_pong (pong_with b m.token) ≡ true → b ≡ true
       custody_of true e = refl
       custody_of false e = absurd cc
 
-  ping_so : answers h.phase ≡ true → (m.code == code.ping) ≡ true → is_asking m ≡ false → Claim (ping_reaction s m)
-  ping_so on ping other =
+  ping_follows : answers h.phase ≡ true → (m.code == code.ping) ≡ true → is_asking m ≡ false → Claim (ping_reaction s m)
+  ping_follows on ping other =
       let late : Message = pong_with false m.token in
       let now : Message = pong_of m in
       cond_both (asks_custody m && nat_lt 0 (length s.held)) _ _ Claim
@@ -261,8 +261,8 @@ module _ (h : History) (m : Message) (server : h.role ≡ Server) (live : takes_
         all = λ takes t. omega (arith, is.all live t, one_asked t, no_request other t, count_more (awaits t) h.held (Pong m.token ∷ []));
         quiet = λ off. absurd (both_ways (answers h.phase) off on);
       }))
-      (λ full. sends_so late late (fit s.limit late late) other (λ custody. absurd cc) refl))
-      (λ none. sends_so now (without_options now) (fit s.limit now (without_options now)) other (pong_behind ping none) refl)
+      (λ full. sends_follow late late (fit s.limit late late) other (λ custody. absurd cc) refl))
+      (λ none. sends_follow now (without_options now) (fit s.limit now (without_options now)) other (pong_behind ping none) refl)
     where
       grown : IsBehind now_handled (plus (responses h.queued) (held_back h.held)) m.token → IsBehind now_handled (plus (plus (responses h.queued) (responses [])) (held_back h.held)) m.token
       grown all = record { earlier = all.earlier; ping = all.ping; later = all.later; there = all.there; asks = all.asks; few = λ t. omega (arith, all.few t) }
@@ -270,62 +270,64 @@ module _ (h : History) (m : Message) (server : h.role ≡ Server) (live : takes_
   -- ---- all other messages
 
   -- a code that is no method's
-  other_code : (c : ℕ) → (m.code == c) ≡ true → is_method c ≡ false → is_asking m ≡ false
-  other_code c same other = and_left (is_method m.code) (not (m.code == code.empty)) (ap is_method (eqb-true m.code c same) ∙ other)
+  other_code_asks_nothing : (c : ℕ) → (m.code == c) ≡ true → is_method c ≡ false → is_asking m ≡ false
+  other_code_asks_nothing c same other = and_left (is_method m.code) (not (m.code == code.empty)) (ap is_method (eqb-true m.code c same) ∙ other)
 
   signal_other : is_signal m.code ≡ true → is_asking m ≡ false
   signal_other signal = and_left (is_method m.code) (not (m.code == code.empty)) (ap (λ (n : ℕ). n == 0) (eqb-true (m.code / 32) 7 signal))
 
-  tells_so : (what : VerdictValue) → is_asking m ≡ false → Claim (tells s what)
-  tells_so what other = stays_so h.phase h.outstanding what [] other tt (λ off. off)
+  tells_follow : (what : VerdictValue) → is_asking m ≡ false → Claim (tells s what)
+  tells_follow what other = stays_follow h.phase h.outstanding what [] other tt (λ off. off)
 
-  csm_so : is_asking m ≡ false → (bad : Option ℕ) → Claim (csm_reaction s bad)
-  csm_so other (Some number) = aborts_so (reason.BadCsm number)
-  csm_so other None = stays_so phase.Open h.outstanding (cond (is_waiting s.phase) verdict.Opened verdict.Done) [] other tt (λ off. absurd cc)
+  csm_follows : is_asking m ≡ false → (bad : Option ℕ) → Claim (csm_reaction s bad)
+  csm_follows other (Some number) = aborts_follow (reason.BadCsm number)
+  csm_follows other None = stays_follow phase.Open h.outstanding (cond (is_waiting s.phase) verdict.Opened verdict.Done) [] other tt (λ off. absurd cc)
 
-  release_so : is_asking m ≡ false → Claim (release_reaction s)
-  release_so other = record {
+  release_follows : is_asking m ≡ false → Claim (release_reaction s)
+  release_follows other = record {
     pongs = tt;
     held = still_held;
     all = λ takes. absurd cc;
     quiet = λ off. absurd cc;
   }
 
-  leaves_so : (outstanding : List OutstandingValue) (what : VerdictValue) → is_asking m ≡ false → Claim (leaves s outstanding what)
-  leaves_so outstanding what other = stays_so h.phase outstanding what [] other tt (λ off. off)
+  leaves_follow : (outstanding : List OutstandingValue) (what : VerdictValue) → is_asking m ≡ false → Claim (leaves s outstanding what)
+  leaves_follow outstanding what other = stays_follow h.phase outstanding what [] other tt (λ off. off)
 
-  pong_so : is_asking m ≡ false → Claim (pong_reaction s m)
-  pong_so other =
+  pong_follows : is_asking m ≡ false → Claim (pong_reaction s m)
+  pong_follows other =
       cond_both (list_any (is_pinged m.token) s.outstanding) _ _ Claim
-      (λ e. leaves_so (without_pinged m.token s.outstanding) (verdict.Pong m.token (asks_custody m)) other) (λ e. tells_so verdict.Stranger other)
+      (λ e. leaves_follow (without_pinged m.token s.outstanding) (verdict.Pong m.token (asks_custody m)) other) (λ e. tells_follow verdict.Stranger other)
 
-  answered_so : is_asking m ≡ false → (found : Option OutstandingValue) → Claim (answered s m found)
-  answered_so other None = tells_so verdict.Stranger other
-  answered_so other (Some e) =
-      cond_both (is_last m e) _ _ Claim (λ f. leaves_so (without_asked m.token s.outstanding) (verdict.Answer m.token true) other) (λ f. tells_so (verdict.Answer m.token false) other)
+  answered_follows : is_asking m ≡ false → (found : Option OutstandingValue) → Claim (answered s m found)
+  answered_follows other None = tells_follow verdict.Stranger other
+  answered_follows other (Some e) =
+      cond_both (is_last m e) _ _ Claim (λ f. leaves_follow (without_asked m.token s.outstanding) (verdict.Answer m.token true) other) (λ f. tells_follow (verdict.Answer m.token false) other)
 
   -- a request owes a response
-  request_so : (role : Role) → s.role ≡ role → Claim (request_reaction s m role)
-  request_so Server same = record {
+  request_follows : (role : Role) → s.role ≡ role → Claim (request_reaction s m role)
+  request_follows Server same = record {
     pongs = tt;
     held = still_held;
     all = λ takes t. omega (arith, is.all live t, one_asked t);
     quiet = λ off. is.quiet off;
   }
-  request_so Client same = absurd (no_client (sym same ∙ server))
+  request_follows Client same = absurd (no_client (sym same ∙ server))
     where
       no_client : ◌≡◌ {A = Role} Client Server → ⊥
       no_client e = cc
 
-  open_so : answers h.phase ≡ true → Claim (open_reaction s m)
-  open_so on =
-      cond_both (minds_critical_options m.code && has_critical_option m) _ _ Claim (λ e. aborts_so reason.BadSignalOption)
-      (λ e. cond_both (m.code == code.ping) _ _ Claim (λ ping. ping_so on ping (other_code code.ping ping refl))
-      (λ e. cond_both (m.code == code.release) _ _ Claim (λ is. release_so (other_code code.release is refl))
-      (λ e. cond_both (m.code == code.pong) _ _ Claim (λ is. pong_so (other_code code.pong is refl))
-      (λ e. cond_both (is_signal m.code) _ _ Claim (λ is. tells_so verdict.Done (signal_other is))
-      (λ e. cond_both (is_method m.code) _ _ Claim (λ e. request_so s.role refl)
-      (λ none. answered_so (and_left (is_method m.code) (not (m.code == code.empty)) none) (find (is_asked m.token) s.outstanding)))))))
+  open_follows : answers h.phase ≡ true → Claim (open_reaction s m)
+  open_follows on =
+      cond_both (minds_critical_options m.code && has_critical_option m) _ _ Claim (λ e. aborts_follow reason.BadSignalOption)
+      (λ e. cond_both (m.code == code.ping) _ _ Claim
+      (λ ping. ping_follows on ping (other_code_asks_nothing code.ping ping refl))
+      (λ e. cond_both (m.code == code.release) _ _ Claim
+      (λ is. release_follows (other_code_asks_nothing code.release is refl))
+      (λ e. cond_both (m.code == code.pong) _ _ Claim (λ is. pong_follows (other_code_asks_nothing code.pong is refl))
+      (λ e. cond_both (is_signal m.code) _ _ Claim (λ is. tells_follow verdict.Done (signal_other is))
+      (λ e. cond_both (is_method m.code) _ _ Claim (λ e. request_follows s.role refl)
+      (λ none. answered_follows (and_left (is_method m.code) (not (m.code == code.empty)) none) (find (is_asked m.token) s.outstanding)))))))
 
   on_at : (p : Phase) → takes_messages p ≡ true → is_waiting p ≡ false → answers p ≡ true
   on_at phase.Waiting takes now = absurd cc
@@ -333,30 +335,31 @@ module _ (h : History) (m : Message) (server : h.role ≡ Server) (live : takes_
   on_at (phase.Releasing why) takes now = absurd cc
   on_at (phase.Stopped why) takes now = absurd cc
 
-  live_so : Claim (live_reaction s m)
+  live_follows : Claim (live_reaction s m)
   unfolding live_reaction
-  live_so =
-      cond_both (is_reserved m.code) _ _ Claim (λ e. aborts_so reason.ReservedCode)
-      (λ e. cond_both (m.code == code.empty) _ _ Claim (λ empty. tells_so verdict.Done (and_right (is_method m.code) (not (m.code == code.empty)) (ap not empty)))
-      (λ e. cond_both (m.code == code.abort) _ _ Claim (λ e. aborts_so reason.PeerAbort)
-      (λ e. cond_both (m.code == code.csm) _ _ Claim (λ is. csm_so (other_code code.csm is refl) (bad_csm_option m))
-      (λ e. cond_both (is_waiting s.phase) _ _ Claim (λ e. aborts_so reason.CsmExpected) (λ opened. open_so (on_at h.phase live opened))))))
+  live_follows =
+      cond_both (is_reserved m.code) _ _ Claim (λ e. aborts_follow reason.ReservedCode)
+      (λ e. cond_both (m.code == code.empty) _ _ Claim (λ empty. tells_follow verdict.Done (and_right (is_method m.code) (not (m.code == code.empty)) (ap not empty)))
+      (λ e. cond_both (m.code == code.abort) _ _ Claim (λ e. aborts_follow reason.PeerAbort)
+      (λ e. cond_both (m.code == code.csm) _ _ Claim
+      (λ is. csm_follows (other_code_asks_nothing code.csm is refl) (bad_csm_option m))
+      (λ e. cond_both (is_waiting s.phase) _ _ Claim (λ e. aborts_follow reason.CsmExpected) (λ opened. open_follows (on_at h.phase live opened))))))
 
-  unless_so : (over : Option Reason) → is_none over ≡ true → Claim (reaction_unless s m over)
-  unless_so None none = live_so
-  unless_so (Some why) none = absurd cc
+  unless_follows : (over : Option Reason) → is_none over ≡ true → Claim (reaction_unless s m over)
+  unless_follows None none = live_follows
+  unless_follows (Some why) none = absurd cc
 
-  react_so : Claim (react s m)
+  react_follows : Claim (react s m)
   unfolding react
-  react_so = unless_so (stop_of s.phase) live
+  react_follows = unless_follows (stop_of s.phase) live
 
   -- the history behind it
   heard_follows : FollowsBut nothing (owed (react s m)) (heard h m)
   heard_follows = record {
-    pongs = pongs_then now_handled nothing (responses h.queued) h.queued (react s m).effect.queued (λ t. omega arith) (pongs_more h.handled (m ∷ []) nothing nothing h.queued (λ t. omega arith) is.pongs) react_so.pongs;
-    held = held_grows now_handled (plus (responses h.queued) (responses (react s m).effect.queued)) (plus nothing (responses (h.queued ++ (react s m).effect.queued))) (react s m).effect.held (λ t. omega (arith, more_answered h.queued (react s m).effect.queued t)) react_so.held;
-    all = λ takes t. omega (arith, react_so.all takes t, more_answered h.queued (react s m).effect.queued t);
-    quiet = react_so.quiet;
+    pongs = pongs_then now_handled nothing (responses h.queued) h.queued (react s m).effect.queued (λ t. omega arith) (pongs_more h.handled (m ∷ []) nothing nothing h.queued (λ t. omega arith) is.pongs) react_follows.pongs;
+    held = held_grows now_handled (plus (responses h.queued) (responses (react s m).effect.queued)) (plus nothing (responses (h.queued ++ (react s m).effect.queued))) (react s m).effect.held (λ t. omega (arith, more_answered h.queued (react s m).effect.queued t)) react_follows.held;
+    all = λ takes t. omega (arith, react_follows.all takes t, more_answered h.queued (react s m).effect.queued t);
+    quiet = react_follows.quiet;
   }
 
 -- ---- a request and its answer
@@ -428,10 +431,10 @@ module _ (store : StoreValue) (now : ℕ) (s : Side) (m : Message) (server : s.h
 -- ---- settling
 
 -- where nothing is held, nothing is due
-none_left : (now : ℕ) (es : List HeldValue) → es ≡ [] → without_due now es ≡ []
+none_held_none_due : (now : ℕ) (es : List HeldValue) → es ≡ [] → without_due now es ≡ []
 unfolding without_due due_index
-none_left now [] none = refl
-none_left now (x ∷ es) none = absurd cc
+none_held_none_due now [] none = refl
+none_held_none_due now (x ∷ es) none = absurd cc
 
 none_due_of_none : (now : ℕ) (e : HeldValue) (es : List HeldValue) → es ≡ [] → first_due now es ≡ Some e → ⊥
 unfolding first_due due_index
@@ -443,8 +446,8 @@ let_go : (h : History) (now : ℕ) (token : List ℕ) (moment : ℕ) → first_d
 let_go h now token moment due is = record {
   pongs = pongs_then h.handled nothing (responses h.queued) h.queued [] (λ t. omega arith) is.pongs tt;
   held = due_moves h.handled (plus nothing (responses h.queued)) (plus (λ t. one (same_bytes token t)) (responses (h.queued ++ []))) h.held now (Answer token moment) due (λ t. omega (arith, more_answered h.queued [] t)) is.held;
-  all = λ takes t. omega (arith, is.all takes t, more_answered h.queued [] t, due_fewer h.held now (Answer token moment) due t);
-  quiet = λ off. none_left now h.held (is.quiet off);
+  all = λ takes t. omega (arith, is.all takes t, more_answered h.queued [] t, due_counts_apart h.held now (Answer token moment) due t);
+  quiet = λ off. none_held_none_due now h.held (is.quiet off);
 }
 
 -- so it is sent where anything is

@@ -27,12 +27,8 @@ use Rattle.coap_serve.specs.declared.server.AnnounceFault.{AnnounceFault}
 use Rattle.coap_serve.specs.declared.server.AnnounceFault.TheVariants as announcing
 use Rattle.coap_serve.specs.world.Events.{Event, Opened, Took, Wrote, Ticked, Stored, Removed, Ended, Released, Announced, Dropped, takes}
 use Rattle.coap_serve.specs.world.Shows.{Shows, ShowsRefused}
+use Rattle.coap_store.proofs.RefusalLemmas.{passed}
 use Rattle.coap_serve.proofs.world.ShowLaws.{shows_new, shows_opened, shows_written, shows_ticked, shows_put, shows_removed, shows_ended, shows_released, shows_announced, shows_dropped, shows_taken, takes_shown, shows_refused_take}
-
--- where nothing is refused, a check does not hold, and nothing behind it is refused
-passed : {F : Type 0} (holds : Bool) (fault : F) (rest : Option F) → (if holds then Some fault else rest) ≡ None → (holds ≡ false) × (rest ≡ None)
-passed true fault rest none = absurd cc
-passed false fault rest none = (refl, none)
 
 -- a server that is the one shown shows the same
 shown_as : (v new : ServerValue) (es : List Event) → new ≡ v → Shows v es → Shows new es
@@ -164,14 +160,14 @@ take_shows (Ok t) v new id piece count there is = λ es shows.
     (shown_as (server_taken v id piece) new (es ++ Took id (take (count_taken v id piece) piece) ∷ []) is (shows_taken_by v es id piece (session_of id v.sessions) refl there shows))
 take_shows (Err e) v new id piece count there is = tt
 
-refused_by : (v : ServerValue) (es : List Event) (id : ℕ) (piece : List ℕ) (n : ℕ) (s : Option SessionValue) → session_of id v.sessions ≡ s → RefusesPieceOn v piece n s → Shows v es → Shows (server_taken v id (take n piece)) (es ++ Took id (take n piece) ∷ [])
-refused_by v es id piece n None at refused shows = absurd refused
-refused_by v es id piece n (Some s) at refused shows = shows_refused_take v es id piece n s shows at refused
+refused_piece_is_shown : (v : ServerValue) (es : List Event) (id : ℕ) (piece : List ℕ) (n : ℕ) (s : Option SessionValue) → session_of id v.sessions ≡ s → RefusesPieceOn v piece n s → Shows v es → Shows (server_taken v id (take n piece)) (es ++ Took id (take n piece) ∷ [])
+refused_piece_is_shown v es id piece n None at refused shows = absurd refused
+refused_piece_is_shown v es id piece n (Some s) at refused shows = shows_refused_take v es id piece n s shows at refused
 
 not_taken : (fault : TakeFault) (v new : ServerValue) (id : ℕ) (piece : List ℕ) → IsNotTaken v id piece fault new → (es : List Event) → Shows v es → ShowsRefused es id piece fault new
 not_taken taken.NoSuch v new id piece not es shows = shown_as v new es not.1 shows
 not_taken (taken.Memory n) v new id piece not es shows =
-    shown_as (server_taken v id (take n piece)) new (es ++ Took id (take n piece) ∷ []) not.1 (refused_by v es id piece n (session_of id v.sessions) refl not.0 shows)
+    shown_as (server_taken v id (take n piece)) new (es ++ Took id (take n piece) ∷ []) not.1 (refused_piece_is_shown v es id piece n (session_of id v.sessions) refl not.0 shows)
 
 pub refused_take_shows : (r : Result Taken TakeFault) (v new : ServerValue) (id : ℕ) (piece : List ℕ) → IfErr r (λ fault. IsNotTaken v id piece fault new)
     → IfErr r (λ fault. (es : List Event) → Shows v es → ShowsRefused es id piece fault new)

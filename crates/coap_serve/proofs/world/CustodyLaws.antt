@@ -155,23 +155,23 @@ custody_waits store now s m =
 -- ---- all else but settling
 
 -- none is queued
-no_custody : (s t : Side) → Queues IsPlain s.history t.history → QueuesCustody s t → ⊥
-no_custody s t queues = custody_gives ⊥ s t (queues_to IsPlain (Gives ⊥) (λ m is. no_pong ⊥ m is.1) s.history t.history queues)
+plain_queues_no_custody : (s t : Side) → Queues IsPlain s.history t.history → QueuesCustody s t → ⊥
+plain_queues_no_custody s t queues = custody_gives ⊥ s t (queues_to IsPlain (Gives ⊥) (λ m is. no_pong ⊥ m is.1) s.history t.history queues)
 
 pub faulted_no_custody : (s : Side) (fault : StreamFault) → QueuesCustody s (side_faulted s fault) → ⊥
-faulted_no_custody s fault = no_custody s (side_faulted s fault) (faulted_between (Queues IsPlain) (queues_none IsPlain) reject_queues s fault)
+faulted_no_custody s fault = plain_queues_no_custody s (side_faulted s fault) (faulted_between (Queues IsPlain) (queues_none IsPlain) reject_queues s fault)
 
 pub ended_no_custody : (s : Side) (cut : Bool) → QueuesCustody s (side_ended s cut) → ⊥
-ended_no_custody s cut = no_custody s (side_ended s cut) (ended_between (Queues IsPlain) (queues_none IsPlain) end_queues s cut)
+ended_no_custody s cut = plain_queues_no_custody s (side_ended s cut) (ended_between (Queues IsPlain) (queues_none IsPlain) end_queues s cut)
 
 pub released_no_custody : (s : Side) → QueuesCustody s (side_released s) → ⊥
-released_no_custody s = no_custody s (side_released s) (released_between (Queues IsPlain) (queues_none IsPlain) release_queues s)
+released_no_custody s = plain_queues_no_custody s (side_released s) (released_between (Queues IsPlain) (queues_none IsPlain) release_queues s)
 
 pub announced_no_custody : (s : Side) (size : ℕ) → QueuesCustody s (side_announced s size) → ⊥
-announced_no_custody s size = no_custody s (side_announced s size) (announced_between (Queues IsPlain) (queues_none IsPlain) (λ h n opened room fit. announcing_queues h n) s size)
+announced_no_custody s size = plain_queues_no_custody s (side_announced s size) (announced_between (Queues IsPlain) (queues_none IsPlain) (λ h n opened room fit. announcing_queues h n) s size)
 
 pub written_no_custody : (s : Side) (n : ℕ) → QueuesCustody s (side_written s n) → ⊥
-written_no_custody s n = no_custody s (side_written s n) (written_between (Queues IsPlain) (queues_none IsPlain) (λ h k within. written_queues IsPlain h k) s n)
+written_no_custody s n = plain_queues_no_custody s (side_written s n) (written_between (Queues IsPlain) (queues_none IsPlain) (λ h k within. written_queues IsPlain h k) s n)
 
 -- ---- settling
 
@@ -262,13 +262,13 @@ stand_asked (m ∷ ms) (b ∷ before) e after (inr later) = or_later (asks_held 
 abbrev pub Stands : History → Type 0
 Stands h = StandFor h.handled h.held
 
-sent_stands : (ms : List Message) (s : Standing) (m less : Message) (r : Reply) → StandFor ms s.held → StandFor ms (send_as s m less r).held
-sent_stands ms s m less Whole stand = stand
-sent_stands ms s m less Bare stand = stand
-sent_stands ms s m less Stopped stand = stand_none ms
+still_stand_for_sent : (ms : List Message) (s : Standing) (m less : Message) (r : Reply) → StandFor ms s.held → StandFor ms (send_as s m less r).held
+still_stand_for_sent ms s m less Whole stand = stand
+still_stand_for_sent ms s m less Bare stand = stand
+still_stand_for_sent ms s m less Stopped stand = stand_none ms
 
 sent_so : (h : History) (m less : Message) → Stands h → Stands (sent h m less)
-sent_so h m less stand = sent_stands h.handled (standing_now h) m less (fit (limit_now h) m less) stand
+sent_so h m less stand = still_stand_for_sent h.handled (standing_now h) m less (fit (limit_now h) m less) stand
 
 reply_stands : Replies (λ h k. Stands h → Stands k)
 reply_stands h token observe r does room = let m : Message = response_with_observe token observe r in sent_so h m (bare_response m)

@@ -9,7 +9,7 @@ use Rattle.coap_serve.specs.world.Sides.{is_cut}
 use Rattle.coap_serve.specs.world.World.{Step, new_world, after_steps}
 use Rattle.coap_serve.specs.world.World as step
 use Rattle.coap_serve.specs.world.Events.{Event, Opened, Took, Wrote, Ticked, Stored, Removed, Ended, Released, Announced, Dropped, taken_in, taken_on, size_by, size_on, sizes_on, stream_on, spelled_on, new_fault, beyond, steps_by, steps_behind, steps_of, world_after}
-use Rattle.coap_serve.proofs.world.StepLaws.{taken_then, behind_more, size_then, sizes_then, stream_more, spelled_by, spelled_then}
+use Rattle.coap_serve.proofs.world.StepLaws.{taken_then, steps_behind_more, size_then, sizes_then, stream_more, spelled_by, spelled_then}
 
 -- ---- only what was spelled matters
 
@@ -134,12 +134,12 @@ pub cut_steps : (M : ℕ) (es fs : List Event) (id : ℕ) (xs ys : List ℕ) →
 unfolding steps_of steps_behind
 cut_steps M es fs id xs ys =
     let half : List Event = es ++ Took id xs ∷ [] in
-    behind_more M [] es (Took id (xs ++ ys) ∷ fs)
+    steps_behind_more M [] es (Took id (xs ++ ys) ∷ fs)
     ∙ ap (λ (ss : List Step). steps_behind M [] es ++ ss) (
     ap (λ (ss : List Step). ss ++ steps_behind M (es ++ Took id (xs ++ ys) ∷ []) fs) (by_parts M es id xs ys)
     ∙ ap (λ (ss : List Step). (steps_by M es (Took id xs) ++ steps_by M half (Took id ys)) ++ ss) (behind_alike M _ _ fs (spelled_twice M es id xs ys))
     ∙ append_assoc (steps_by M es (Took id xs)) (steps_by M half (Took id ys)) (steps_behind M (half ++ Took id ys ∷ []) fs))
-    ∙ sym (behind_more M [] es (Took id xs ∷ Took id ys ∷ fs))
+    ∙ sym (steps_behind_more M [] es (Took id xs ∷ Took id ys ∷ fs))
 
 pub cut_worlds : (c : ConfigValues) (es fs : List Event) (id : ℕ) (xs ys : List ℕ) → world_after c (es ++ Took id (xs ++ ys) ∷ fs) ≡ world_after c (es ++ Took id xs ∷ Took id ys ∷ fs)
 unfolding world_after

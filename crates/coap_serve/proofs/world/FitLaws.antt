@@ -34,42 +34,42 @@ use Rattle.coap_wire.proofs.NumberLaws.{none_or_some}
 
 -- ---- a message that announces a size queues nothing
 
-announces_of : (m : Message) (bad : Option ℕ) (n : ℕ) → bad_csm_option m ≡ bad → size_unless bad m ≡ Some n → bad_csm_option m ≡ None
-announces_of m None n is e = is
-announces_of m (Some number) n is e = absurd cc
+no_bad_option_by_size : (m : Message) (bad : Option ℕ) (n : ℕ) → bad_csm_option m ≡ bad → size_unless bad m ≡ Some n → bad_csm_option m ≡ None
+no_bad_option_by_size m None n is e = is
+no_bad_option_by_size m (Some number) n is e = absurd cc
 
 announces_by : (m : Message) (is_csm : Bool) (n : ℕ) → (m.code == code.csm) ≡ is_csm → cond is_csm (csm_size m) None ≡ Some n → (m.code ≡ code.csm) × (bad_csm_option m ≡ None)
-announces_by m true n is e = (eqb-true m.code code.csm is, announces_of m (bad_csm_option m) n refl e)
+announces_by m true n is e = (eqb-true m.code code.csm is, no_bad_option_by_size m (bad_csm_option m) n refl e)
 announces_by m false n is e = absurd cc
 
 -- it is Capabilities and Settings whose options may all be there
 announces : (m : Message) (n : ℕ) → announcement m ≡ Some n → (m.code ≡ code.csm) × (bad_csm_option m ≡ None)
 announces m n e = announces_by m (m.code == code.csm) n refl e
 
-abbrev IsQuiet : Message → Reaction → Type 0
-IsQuiet m r = (n : ℕ) → announcement m ≡ Some n → r.effect.queued ≡ []
+abbrev AnnouncesQuietly : Message → Reaction → Type 0
+AnnouncesQuietly m r = (n : ℕ) → announcement m ≡ Some n → r.effect.queued ≡ []
 
 -- a message with another code announces nothing
-quiet_by_code : (m : Message) (r : Reaction) (test : ℕ → Bool) → test m.code ≡ true → test code.csm ≡ false → IsQuiet m r
+quiet_by_code : (m : Message) (r : Reaction) (test : ℕ → Bool) → test m.code ≡ true → test code.csm ≡ false → AnnouncesQuietly m r
 quiet_by_code m r test here there n e = absurd (both_ways (test code.csm) there (ap test (sym (announces m n e).0) ∙ here))
 
-no_csm : (m : Message) (r : Reaction) → (m.code == code.csm) ≡ false → IsQuiet m r
+no_csm : (m : Message) (r : Reaction) → (m.code == code.csm) ≡ false → AnnouncesQuietly m r
 no_csm m r is n e = absurd (both_ways (m.code == code.csm) is (ap (λ (k : ℕ). k == code.csm) (announces m n e).0))
 
-live_quiet : (s : Standing) (m : Message) → IsQuiet m (live_reaction s m)
+live_quiet : (s : Standing) (m : Message) → AnnouncesQuietly m (live_reaction s m)
 unfolding live_reaction
 live_quiet s m =
-    cond_both (is_reserved m.code) _ _ (IsQuiet m) (λ e. quiet_by_code m (aborts s reason.ReservedCode) is_reserved e refl)
-    (λ e. cond_both (m.code == code.empty) _ _ (IsQuiet m) (λ e n is. refl)
-    (λ e. cond_both (m.code == code.abort) _ _ (IsQuiet m) (λ e. quiet_by_code m (aborts s reason.PeerAbort) (λ k. k == code.abort) e refl)
-    (λ e. cond_both (m.code == code.csm) _ _ (IsQuiet m) (λ e n is. ap (λ (bad : Option ℕ). (csm_reaction s bad).effect.queued) (announces m n is).1)
-    (λ no. cond_both (is_waiting s.phase) _ _ (IsQuiet m) (λ e. no_csm m (aborts s reason.CsmExpected) no) (λ e. no_csm m (open_reaction s m) no)))))
+    cond_both (is_reserved m.code) _ _ (AnnouncesQuietly m) (λ e. quiet_by_code m (aborts s reason.ReservedCode) is_reserved e refl)
+    (λ e. cond_both (m.code == code.empty) _ _ (AnnouncesQuietly m) (λ e n is. refl)
+    (λ e. cond_both (m.code == code.abort) _ _ (AnnouncesQuietly m) (λ e. quiet_by_code m (aborts s reason.PeerAbort) (λ k. k == code.abort) e refl)
+    (λ e. cond_both (m.code == code.csm) _ _ (AnnouncesQuietly m) (λ e n is. ap (λ (bad : Option ℕ). (csm_reaction s bad).effect.queued) (announces m n is).1)
+    (λ no. cond_both (is_waiting s.phase) _ _ (AnnouncesQuietly m) (λ e. no_csm m (aborts s reason.CsmExpected) no) (λ e. no_csm m (open_reaction s m) no)))))
 
-unless_quiet : (s : Standing) (m : Message) (over : Option Reason) → IsQuiet m (reaction_unless s m over)
+unless_quiet : (s : Standing) (m : Message) (over : Option Reason) → AnnouncesQuietly m (reaction_unless s m over)
 unless_quiet s m None = live_quiet s m
 unless_quiet s m (Some why) = λ n e. refl
 
-react_quiet : (s : Standing) (m : Message) → IsQuiet m (react s m)
+react_quiet : (s : Standing) (m : Message) → AnnouncesQuietly m (react s m)
 unfolding react
 react_quiet s m = unless_quiet s m (stop_of s.phase)
 

@@ -90,8 +90,8 @@ written_all s =
     rw (le-leb n n (omega arith)) (take-add s.history.written n B ∙ ap (λ (w : List ℕ). take s.history.written B ++ w) (take-length (drop s.history.written B)))
 
 -- where nothing waits all was written
-pub all_written : (s : Side) → waiting_on s ≡ [] → front_written s ≡ bytes_of s.history.queued
-all_written s none =
+pub none_waits_all_written : (s : Side) → waiting_on s ≡ [] → front_written s ≡ bytes_of s.history.queued
+none_waits_all_written s none =
     let B : List ℕ = bytes_of s.history.queued in
     sym (append-nil (take s.history.written B)) ∙ ap (λ (w : List ℕ). take s.history.written B ++ w) (sym none) ∙ take-append-drop s.history.written B
 

@@ -197,8 +197,8 @@ reply_sent : (h : History) (m : Message) → answers h.phase ≡ true → (after
 reply_sent h m answering = ap (λ (b : Bool). (cond b (with_effect h (send (standing_now h) m (bare_response m))) h).queued) answering
 
 -- behind an effect that queues nothing
-quiet_sent : (h : History) (s : Standing) (m : Message) → s.phase ≡ h.phase → answers h.phase ≡ true → (after (with_effect h (stay s)) (call.Reply m)).queued ≡ h.queued ++ (send (standing_now (with_effect h (stay s))) m (bare_response m)).queued
-quiet_sent h s m stands answering =
+reply_queued_behind_stay : (h : History) (s : Standing) (m : Message) → s.phase ≡ h.phase → answers h.phase ≡ true → (after (with_effect h (stay s)) (call.Reply m)).queued ≡ h.queued ++ (send (standing_now (with_effect h (stay s))) m (bare_response m)).queued
+reply_queued_behind_stay h s m stands answering =
     let k : History = with_effect h (stay s) in
     reply_sent k m (ap answers stands ∙ answering) ∙ ap (λ (ms : List Message). ms ++ (send (standing_now k) m (bare_response m)).queued) (append-nil h.queued)
 
@@ -209,7 +209,7 @@ answer_sent store now s token moment is answering =
     let e : HeldValue = Answer token moment in
     ap (λ (k : History). k.queued) (sent_when_due store now s token moment is)
     ∙ ap (λ (k : History). (after k (call.Reply (held_message token))).queued) (due_is h now (Some e) (held_room now s e is).1)
-    ∙ quiet_sent h (standing_due now (standing_now h)) (held_message token) refl answering
+    ∙ reply_queued_behind_stay h (standing_due now (standing_now h)) (held_message token) refl answering
 
 pub pong_sent : (store : StoreValue) (now : ℕ) (s : Side) (token : List ℕ) → next_held now s ≡ Some (Pong token)
     → (settled_once store now s).history.queued ≡ s.history.queued ++ (send (standing_due now (standing_now s.history)) (pong_with true token) (pong_with false token)).queued

@@ -296,21 +296,21 @@ pub record TellsOn (state : Option Representation) (format : Option ℕ) : Type 
   pub there : state ≡ Some representation
   pub same : representation.format ≡ format
 
-tells_at : (place : Place) (state : Option Representation) (format : Option ℕ) → goes_on (notification_at place state format) ≡ true → TellsOn state format
+tells_on_at : (place : Place) (state : Option Representation) (format : Option ℕ) → goes_on (notification_at place state format) ≡ true → TellsOn state format
 unfolding notification_at
-tells_at place None format e = absurd cc
-tells_at place (Some r) format e =
+tells_on_at place None format e = absurd cc
+tells_on_at place (Some r) format e =
     elim (option_eq nat_eq r.format format) as (λ b. option_eq nat_eq r.format format ≡ b → goes_on (if b then content place r else only code.not_acceptable) ≡ true → TellsOn (Some r) format) [
       | true ↦ λ same on. record { representation = r; there = refl; same = same_format r.format format (ap not same) }
       | false ↦ λ other on. absurd cc
     ] refl e
 
-pub told_on : (store : StoreValue) (now : ℕ) (o : Observer) → goes_on (notification store now o) ≡ true → TellsOn (state_of store now o.path) (format_of o.told)
-told_on store now o e = tells_at (place_of o.path) (state_of store now o.path) (format_of o.told) e
+pub tells_on_to_observer : (store : StoreValue) (now : ℕ) (o : Observer) → goes_on (notification store now o) ≡ true → TellsOn (state_of store now o.path) (format_of o.told)
+tells_on_to_observer store now o e = tells_on_at (place_of o.path) (state_of store now o.path) (format_of o.told) e
 
 pub left_watchable : (store : StoreValue) (now : ℕ) (o : Observer) → IsKnown store o → goes_on (notification store now o) ≡ true → IsWatchable store now o.path
 left_watchable store now o known e =
-    let tells = told_on store now o e in
+    let tells = tells_on_to_observer store now o e in
     record { key = known.key; observable = known_observable (place_of o.path) store o known.state; representation = tells.representation; there = tells.there }
 
 -- the entry that is told anew is known
@@ -319,4 +319,4 @@ left_known store now o small is known e = told_known store now o.token o.path sm
 
 -- and has the format that was told before
 pub left_format : (store : StoreValue) (now : ℕ) (o : Observer) → goes_on (notification store now o) ≡ true → format_of (state_of store now o.path) ≡ format_of o.told
-left_format store now o e = let tells = told_on store now o e in ap format_of tells.there ∙ tells.same
+left_format store now o e = let tells = tells_on_to_observer store now o e in ap format_of tells.there ∙ tells.same

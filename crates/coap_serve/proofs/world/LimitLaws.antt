@@ -36,7 +36,7 @@ use Rattle.coap_serve.specs.world.World.{side_of}
 use Rattle.coap_serve.specs.world.Events.{Event, stream_on, world_after, AreAccepted, size_on}
 use Rattle.coap_serve.specs.world.Shows.{kept_on}
 use Rattle.coap_serve.proofs.world.WalkLaws.{observers_faulted, observers_written, observers_ended, observers_released, observers_announced, release_fits, room_in, heard, sent, without_first}
-use Rattle.coap_serve.proofs.world.AcrossLaws.{KeepsAll, keeping, kept_history}
+use Rattle.coap_serve.proofs.world.AcrossLaws.{KeepsAll, keeping_composes, kept_history}
 use Rattle.coap_serve.proofs.world.GoingOn.{GoesOn, all_go_on, sent_goes_so, message_goes_on, IsSide, side_is, Keeps, kept_after}
 use Rattle.coap_serve.proofs.world.ToldMessages.{abort_one, react_so}
 use Rattle.coap_serve.proofs.world.ReachedLaws.{accepted_is, IsReached}
@@ -157,7 +157,7 @@ taken_few h now few = omega (arith, few, fewer_by now h.held (first_due now h.he
 -- an answer is held where there is room, and a stop gives up what is held
 all_hold_few : KeepsAll (λ h k. HoldsFew h → HoldsFew k)
 all_hold_few = record {
-  composes = keeping HoldsFew;
+  composes = keeping_composes HoldsFew;
   hears = λ h m takes room few. held_few (standing_now h) m few;
   replies = λ h token observe r does room. (let m = response_with_observe token observe r in sent_few h m (bare_response m));
   holds = λ h token moment opened may few. omega (arith, ltb-true (length h.held) h.limits.pending may, length-append h.held (Answer token moment ∷ []));
@@ -214,8 +214,8 @@ limit_within h = min-le_left h.limits.max_sent (announced h.handled)
 pub queued_waits : (h : History) (ms : List Message) → IsHistory h → length (drop h.written (bytes_of (h.queued ++ ms))) ≡ wait h + size ms
 queued_waits h ms is = ap (λ (bs : List ℕ). length bs) (waiting_more h ms is) ∙ length-append (drop h.written (bytes_of h.queued)) (bytes_of ms)
 
-written_waits : (h : History) (n : ℕ) → wait (after h (call.Written n)) ≤ wait h
-written_waits h n = omega (arith, length-drop h.written (bytes_of h.queued), length-drop (h.written + n) (bytes_of h.queued))
+written_frees : (h : History) (n : ℕ) → wait (after h (call.Written n)) ≤ wait h
+written_frees h n = omega (arith, length-drop h.written (bytes_of h.queued), length-drop (h.written + n) (bytes_of h.queued))
 
 -- no more bytes wait than the queue holds
 record Waits (h : History) : Type 0 where
@@ -236,7 +236,7 @@ sent_waits h m less room goes =
 
 all_wait : KeepsAll (λ h k. Waits h → Waits k)
 all_wait = record {
-  composes = keeping Waits;
+  composes = keeping_composes Waits;
   hears = λ h m takes room.
       waits_by h (heard h m) (all_go_on.hears h m takes room) (added_fits h (react (standing_now h) m).effect.queued room (message_one (standing_now h) m) (reaction_fits h m));
   replies = λ h token observe r does room.
@@ -254,7 +254,7 @@ all_wait = record {
       waits_by h _ (all_go_on.releases h opened none) (λ w. omega (arith, w.few, queued_waits h (release ∷ []) w.is, release_bytes_small, (release_fits (link_of h) none).0));
   announces = λ h size opened room fit.
       waits_by h _ (all_go_on.announces h size opened room fit) (added_fits h (own_csm size ∷ []) room (omega arith) (leb-true (length (spelling (own_csm size))) (limit_now h) fit, tt));
-  writes = λ h n within. waits_by h _ (all_go_on.writes h n within) (λ w. omega (arith, w.few, written_waits h n));
+  writes = λ h n within. waits_by h _ (all_go_on.writes h n within) (λ w. omega (arith, w.few, written_frees h n));
 }
 
 new_wait : (limits : LimitValues) → AreInRange limits → length (waiting_on (new_side limits)) ≤ limits.queue

@@ -128,15 +128,15 @@ but id ps = filter (λ p. not (p.id == id)) ps
 gone : (id : ℕ) (p : Place) (ps : List Place) → p.id ≡ id → but id (p ∷ ps) ≡ but id ps
 gone id p ps e = rw (eq-eqb p.id id e) refl
 
-stays : (id : ℕ) (p : Place) (ps : List Place) → p.id ≢ id → but id (p ∷ ps) ≡ p ∷ but id ps
-stays id p ps e = rw (ne_eqb p.id id e) refl
+other_kept : (id : ℕ) (p : Place) (ps : List Place) → p.id ≢ id → but id (p ∷ ps) ≡ p ∷ but id ps
+other_kept id p ps e = rw (ne_eqb p.id id e) refl
 
 pub dropped_here : (id : ℕ) (ps : List Place) → side_of id (but id ps) ≡ None
 dropped_here id [] = nobody id
 dropped_here id (p ∷ ps) =
     elim (cases_eq p.id id) [
       | inl here ↦ ap (side_of id) (gone id p ps here) ∙ dropped_here id ps
-      | inr apart ↦ ap (side_of id) (stays id p ps apart) ∙ later_there id p (but id ps) apart ∙ dropped_here id ps
+      | inr apart ↦ ap (side_of id) (other_kept id p ps apart) ∙ later_there id p (but id ps) apart ∙ dropped_here id ps
     ]
 
 pub dropped_elsewhere : (id other : ℕ) (ps : List Place) → id ≢ other → side_of other (but id ps) ≡ side_of other ps
@@ -144,7 +144,7 @@ dropped_elsewhere id other [] apart = refl
 dropped_elsewhere id other (p ∷ ps) apart =
     elim (cases_eq p.id id) [
       | inl here ↦ ap (side_of other) (gone id p ps here) ∙ dropped_elsewhere id other ps apart ∙ sym (later_there other p ps (λ (e : p.id ≡ other). apart (sym here ∙ e)))
-      | inr away ↦ ap (side_of other) (stays id p ps away) ∙ same_behind other p p ps (but id ps) (p.id == other) refl refl (λ here. refl) (dropped_elsewhere id other ps apart)
+      | inr away ↦ ap (side_of other) (other_kept id p ps away) ∙ same_behind other p p ps (but id ps) (p.id == other) refl refl (λ here. refl) (dropped_elsewhere id other ps apart)
     ]
 
 -- ---- numbers that are distinct
@@ -185,7 +185,7 @@ distinct_but id [] distinct = tt
 distinct_but id (p ∷ ps) distinct =
     elim (cases_eq p.id id) [
       | inl here ↦ subst AreDistinct (sym (gone id p ps here)) (distinct_but id ps distinct.1)
-      | inr apart ↦ subst AreDistinct (sym (stays id p ps apart)) (none_but p.id id ps distinct.0, distinct_but id ps distinct.1)
+      | inr apart ↦ subst AreDistinct (sym (other_kept id p ps apart)) (none_but p.id id ps distinct.0, distinct_but id ps distinct.1)
     ]
 
 -- ---- what holds of each connection
@@ -225,7 +225,7 @@ each_but P id [] each = tt
 each_but P id (p ∷ ps) each =
     elim (cases_eq p.id id) [
       | inl here ↦ subst (AllByRecursion P) (sym (gone id p ps here)) (each_but P id ps each.1)
-      | inr apart ↦ subst (AllByRecursion P) (sym (stays id p ps apart)) (each.0, each_but P id ps each.1)
+      | inr apart ↦ subst (AllByRecursion P) (sym (other_kept id p ps apart)) (each.0, each_but P id ps each.1)
     ]
 
 -- fewer, or as many
@@ -234,5 +234,5 @@ fewer id [] = omega arith
 fewer id (p ∷ ps) =
     elim (cases_eq p.id id) [
       | inl here ↦ omega (arith, ap (λ (qs : List Place). length qs) (gone id p ps here), fewer id ps)
-      | inr apart ↦ omega (arith, ap (λ (qs : List Place). length qs) (stays id p ps apart), fewer id ps)
+      | inr apart ↦ omega (arith, ap (λ (qs : List Place). length qs) (other_kept id p ps apart), fewer id ps)
     ]

@@ -9,7 +9,7 @@ use Rattle.coap_wire.specs.declared.fault.FormatFault.{FormatFault}
 use Rattle.coap_wire.specs.Beginning.{Unfinished, Whole, beginning}
 use Rattle.coap_wire.specs.Stream.{Stream, with_message, split, split_on, StreamFault, gone_on}
 use Rattle.coap_wire.specs.Stream as stream
-use Rattle.coap_wire.proofs.StreamSteps.{unfinished_empty, split_unfinished, split_message, split_more, split_rest}
+use Rattle.coap_wire.proofs.StreamSteps.{unfinished_empty, split_unfinished, split_message, split_rest}
 use Rattle.coap_frame.specs.Framing.{Finding, AFrame, framing, without_last}
 use Rattle.coap_frame.proofs.GivenLaws.{taken_within, frame_taken}
 use Rattle.coap_store.specs.Changes.{IsPut}

@@ -123,28 +123,28 @@ abbrev look_at : ℕ → Option Side → Told
 look_at left None = Absent
 look_at left (Some s) = Stands s.history.phase left (length (waiting_on s)) (length s.history.held) (length s.observers)
 
-abbrev told_by : ConfigValues → List Event → List Event → Call → Told
-told_by c events new (Open id) = Done
-told_by c events new (In id piece) = Taken (length (taken_on id new))
-told_by c events new (Drain id) = Out (waiting_after c events id)
-told_by c events new (Put path format bytes) = Version (world_after c (events ++ new)).store.versions
-told_by c events new (Remove path) = Done
-told_by c events new (Tick now) = Done
-told_by c events new (End id) = Done
-told_by c events new (Release id) = Done
-told_by c events new (Announce id size) = Done
-told_by c events new (Drop id) = Done
-told_by c events new (Look id) = look_at (length (stream_on c.limits.max_message id events).rest) (side_after_events c events id)
+abbrev told_of_call : ConfigValues → List Event → List Event → Call → Told
+told_of_call c events new (Open id) = Done
+told_of_call c events new (In id piece) = Taken (length (taken_on id new))
+told_of_call c events new (Drain id) = Out (waiting_after c events id)
+told_of_call c events new (Put path format bytes) = Version (world_after c (events ++ new)).store.versions
+told_of_call c events new (Remove path) = Done
+told_of_call c events new (Tick now) = Done
+told_of_call c events new (End id) = Done
+told_of_call c events new (Release id) = Done
+told_of_call c events new (Announce id size) = Done
+told_of_call c events new (Drop id) = Done
+told_of_call c events new (Look id) = look_at (length (stream_on c.limits.max_message id events).rest) (side_after_events c events id)
 
 abbrev told_behind : ConfigValues → List Event → List Call → List Told
 told_behind c events [] = []
 told_behind c events (call ∷ calls) =
-    told_by c events (events_by c events call) call ∷ told_behind c (events ++ events_by c events call) calls
+    told_of_call c events (events_by c events call) call ∷ told_behind c (events ++ events_by c events call) calls
 
 -- ---- what is computed with: to unfold one of these is to unfold all that its line names
 
 -- what bytes spell, and how a message is spelled
-bytes_computed : Unit {0}
+unfoldable pub bytes_computed : Unit {0}
 unfolding split sized_split sized_frames frames_within framing beginning declared_of length_at one_byte_at two_bytes_at four_bytes_at message_of head_at option_number_at option_head_at option_at body_at body_within spelling bytes_of_uint
 bytes_computed = tt
 

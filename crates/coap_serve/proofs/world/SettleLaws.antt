@@ -238,14 +238,14 @@ none_come_listed : (now : ℕ) (held : List HeldValue) → AllByRecursion (λ e.
 none_come_listed now [] none = refl
 none_come_listed now (e ∷ held) none = rw none.0 (none_come_listed now held none.1)
 
-pub nothing_first : (now : ℕ) (held : List HeldValue) → HoldsNothingDue now held → first_due now held ≡ None
+pub nothing_due_first : (now : ℕ) (held : List HeldValue) → HoldsNothingDue now held → first_due now held ≡ None
 unfolding first_due due_index
-nothing_first now held none =
+nothing_due_first now held none =
     ap (λ moments. held_at held (else_index (answer_index (reduce min moments) held) (pong_index held))) (none_come_listed now held none.0) ∙ ap (held_at held) none.1
 
 pub hears_sent : (store : StoreValue) (now : ℕ) (s : Side) → HearsAll store now s → next_held now s ≡ None
 hears_sent store now s hears =
     elim (has_room s) as (λ b. has_room s ≡ b → (if b then first_due now s.history.held else None) ≡ None) [
-      | true ↦ λ room. nothing_first now s.history.held (hears.sent room)
+      | true ↦ λ room. nothing_due_first now s.history.held (hears.sent room)
       | false ↦ λ room. refl
     ] refl

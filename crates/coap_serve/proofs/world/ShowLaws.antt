@@ -30,7 +30,7 @@ use Rattle.coap_serve.proofs.world.PlaceLaws.{of_number}
 use Rattle.coap_serve.proofs.world.GoingOn.{side_is}
 use Rattle.coap_serve.proofs.world.WorldLaws.{opens}
 use Rattle.coap_serve.proofs.world.ReachedLaws.{IsReached, accepted_is, takes_there, piece_accepted}
-use Rattle.coap_serve.proofs.world.SideLaws.{host_of, written_shown, ended_shown, released_shown, announced_shown}
+use Rattle.coap_serve.proofs.world.SideLaws.{host_of, written_shown, ended_side_shown, released_shown, announced_shown}
 use Rattle.coap_serve.proofs.world.HearingLaws.{world_hears}
 use Rattle.coap_serve.proofs.world.ShownLemmas.{session_found, dropped_shown, bare_step_server, server_after_one_step, known_there, taking_front, taking_count, put_has_frame, server_takes, but_last_front}
 
@@ -137,7 +137,7 @@ server_did_end c es id t small there =
     let cut : Bool = is_cut (stream_on M id es).rest in
     sym (server_after_one_step c es (Ended id) (world.Ended id cut) id t (λ s. side_ended s cut) session_ended (world_after c es).store small refl refl there
     (λ k apart. stream_same M k es (Ended id) refl)
-    (ap (λ (u : Stream). session_shown u.rest (side_ended t cut)) (stream_same M id es (Ended id) refl) ∙ ended_shown (stream_on M id es).rest t (known_there c es id t small there).is_history))
+    (ap (λ (u : Stream). session_shown u.rest (side_ended t cut)) (stream_same M id es (Ended id) refl) ∙ ended_side_shown (stream_on M id es).rest t (known_there c es id t small there).is_history))
 
 ended_accepted : (c : ConfigValues) (es : List Event) (id : ℕ) (t : Side) → side_of id (world_after c es).sides ≡ Some t → IsAccepted c es (Ended id)
 unfolding IsAccepted

@@ -98,11 +98,11 @@ one_becomes M id es fs f g t ps distinct there same becomes =
     (λ n s at here. subst (BecomesAs M id es fs f g) (same_there t s (sym there ∙ ap (λ (k : ℕ). side_of k ps) (sym here) ∙ at)) becomes))
 
 -- where nothing happens to it, no connection changes
-pub unchanged : (id : ℕ) (ps : List Place) → map (changed_at id (λ s. s)) ps ≡ ps
-unchanged id [] = refl
-unchanged id (p ∷ ps) =
+pub places_unchanged : (id : ℕ) (ps : List Place) → map (changed_at id (λ s. s)) ps ≡ ps
+places_unchanged id [] = refl
+places_unchanged id (p ∷ ps) =
     ap (λ (q : Place). q ∷ map (changed_at id (λ s. s)) ps) (elim (p.id == id) as (λ b. (if b then record p { side = p.side } else p) ≡ p) [ true ↦ refl | false ↦ refl ])
-    ∙ ap (λ (qs : List Place). p ∷ qs) (unchanged id ps)
+    ∙ ap (λ (qs : List Place). p ∷ qs) (places_unchanged id ps)
 
 -- ---- settling
 
@@ -202,7 +202,7 @@ quiet_server c es e id t g small none there same becomes =
     let fs : List Event = es ++ e ∷ [] in
     ap (server_shown c fs) (world_same c es e none)
     ∙ sym (resting_server c es fs small)
-    ∙ ap (λ (ps : List Place). server_settled (server_shown c fs (record w { sides = ps }))) (sym (unchanged id w.sides))
+    ∙ ap (λ (ps : List Place). server_settled (server_shown c fs (record w { sides = ps }))) (sym (places_unchanged id w.sides))
     ∙ ap (λ (os : List (ℕ × SessionValue)). server_settled (record (server_shown c es w) { sessions = os }))
     (one_becomes c.limits.max_message id es fs (λ s. s) g t w.sides (events_distinct c es) there same becomes)
 
@@ -281,27 +281,27 @@ module _ (c : ConfigValues) (es : List Event) (id : ℕ) (piece : List ℕ) (t :
   abbrev pub TakesAs : Taking → Type 0
   TakesAs k = server_taken_so (server_of c es) id k ≡ server_of c (es ++ Took id (take k.count piece) ∷ [])
 
-  elsewhere : (bytes : List ℕ) → OthersSame most id es (es ++ Took id bytes ∷ [])
-  elsewhere bytes k apart = stream_elsewhere most k id es bytes apart
+  take_leaves_others : (bytes : List ℕ) → OthersSame most id es (es ++ Took id bytes ∷ [])
+  take_leaves_others bytes k apart = stream_elsewhere most k id es bytes apart
 
   stopped_takes : TakesAs (record { count = 0; handled = false; session = session_then; change = store_change.Nothing })
   unfolding server_of
   stopped_takes =
-      sym (quiet_server c es (Took id []) id t (λ v. session_then) small (no_bytes_steps most id es) there (elsewhere [])
+      sym (quiet_server c es (Took id []) id t (λ v. session_then) small (no_bytes_steps most id es) there (take_leaves_others [])
       (ap (λ (u : Stream). session_shown u.rest t) (no_bytes_stream most id es)))
 
   module _ (does : handles t ≡ true) where
-    no_fault : (stream_on c.limits.max_message id es).fault ≡ None
-    no_fault = handling_goes_on c es id t is there does
+    no_fault_so_far : (stream_on c.limits.max_message id es).fault ≡ None
+    no_fault_so_far = handling_goes_on c es id t is there does
 
     nothing_takes : framing_then.finding ≡ Nothing → TakesAs (taking_found host_then session_then framing_then Nothing)
     unfolding server_of
     nothing_takes e =
-        let adds = piece_adds_nothing most id es piece no_fault e in
-        let same : framing in_force so_far front_taken_then ≡ framing_then = front_framing in_force so_far piece (rest_unfinished most id es no_fault) in
+        let adds = piece_adds_nothing most id es piece no_fault_so_far e in
+        let same : framing in_force so_far front_taken_then ≡ framing_then = front_framing in_force so_far piece (rest_unfinished most id es no_fault_so_far) in
         let kept : framing_then.kept ≡ so_far ++ front_taken_then =
         ap (λ (f : Framing). f.kept) (sym same) ∙ nothing_kept in_force so_far front_taken_then (ap (λ (f : Framing). f.finding) same ∙ e) in
-        sym (quiet_server c es (Took id front_taken_then) id t (λ v. record session_then { frame = framing_then.kept }) small adds.steps there (elsewhere front_taken_then)
+        sym (quiet_server c es (Took id front_taken_then) id t (λ v. record session_then { frame = framing_then.kept }) small adds.steps there (take_leaves_others front_taken_then)
         (ap (λ (u : Stream). session_shown u.rest t) adds.stream
         ∙ ap (λ (b : Bool). record session_then { frame = if b then so_far ++ front_taken_then else [] }) (handles_parts t does).0
         ∙ ap (λ (k : List ℕ). record session_then { frame = k }) (sym kept)))
@@ -310,7 +310,7 @@ module _ (c : ConfigValues) (es : List Event) (id : ℕ) (piece : List ℕ) (t :
         → TakesAs (record { count = framing_then.taken; handled = false; session = session_rejected session_then (reject_of fault); change = store_change.Nothing })
     unfolding server_of acted
     fault_takes fault rest adds =
-        sym (server_after_one_step c es (Took id front_taken_then) (world.Faulted id fault) id t (λ u. side_faulted u fault) (λ v. session_rejected session_then (reject_of fault)) (world_after c es).store small adds.steps refl there (elsewhere front_taken_then)
+        sym (server_after_one_step c es (Took id front_taken_then) (world.Faulted id fault) id t (λ u. side_faulted u fault) (λ v. session_rejected session_then (reject_of fault)) (world_after c es).store small adds.steps refl there (take_leaves_others front_taken_then)
         (ap (λ (u : Stream). session_shown u.rest (side_faulted t fault)) adds.stream
         ∙ faulted_shown so_far rest t fault (known_there c es id t small there).is_history does))
 
@@ -322,18 +322,20 @@ module _ (c : ConfigValues) (es : List Event) (id : ℕ) (piece : List ℕ) (t :
         let store : StoreValue = changed w.store (change_by host_then session_then.link m) in
         sym (server_after_one_step c es (Took id front_taken_then) (world.Handled id m) id t (λ u. side_after w.store w.now u m) (λ v. session_handled host_then session_then m) store small adds.steps
         (ap (λ (s : StoreValue). record (on_side id (λ u. side_after w.store w.now u m) w) { store = s }) (ap (stored_after w m) there ∙ ap (changed w.store) (change_shown w.store w.now t m does)))
-        there (elsewhere front_taken_then)
+        there (take_leaves_others front_taken_then)
         (ap (λ (u : Stream). session_shown u.rest (side_after w.store w.now t m)) adds.stream
         ∙ handled_shown w.store w.now known.moment known.versioned so_far t m (known_there c es id t small there).is_history does))
 
     frame_takes_as : (frame : List ℕ) (read : Result Message FormatFault) → framing_then.finding ≡ AFrame frame → message_of frame ≡ read → TakesAs (taking_read host_then session_then framing_then.taken read)
-    frame_takes_as frame (Ok m) e reads = message_takes m (piece_adds_message most id es piece no_fault frame m e reads)
-    frame_takes_as frame (Err f) e reads = fault_takes Format frame (piece_adds_bad most id es piece no_fault frame f e reads)
+    frame_takes_as frame (Ok m) e reads =
+        message_takes m (piece_adds_message most id es piece no_fault_so_far frame m e reads)
+    frame_takes_as frame (Err f) e reads = fault_takes Format frame (piece_adds_bad most id es piece no_fault_so_far frame f e reads)
 
     found_takes : (found : Finding) → framing_then.finding ≡ found → TakesAs (taking_found host_then session_then framing_then found)
     found_takes Nothing e = nothing_takes e
     found_takes (AFrame frame) e = frame_takes_as frame (message_of frame) e refl
-    found_takes (AFault fault) e = fault_takes (OfFrame fault) _ (piece_adds_fault most id es piece no_fault fault e)
+    found_takes (AFault fault) e =
+        fault_takes (OfFrame fault) _ (piece_adds_fault most id es piece no_fault_so_far fault e)
 
   -- what is taken of any piece
   pub server_takes : TakesAs (taking host_then session_then piece)

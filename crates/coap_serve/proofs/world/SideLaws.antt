@@ -115,9 +115,9 @@ ended_by rest s false is e =
     stays cut = rw e refl
 
 -- the input ends within a frame where bytes of one are left
-pub ended_shown : (rest : List ℕ) (s : Side) → IsHistory s.history → session_shown rest (side_ended s (is_cut rest)) ≡ session_ended (session_shown rest s)
+pub ended_side_shown : (rest : List ℕ) (s : Side) → IsHistory s.history → session_shown rest (side_ended s (is_cut rest)) ≡ session_ended (session_shown rest s)
 unfolding side_ended
-ended_shown rest s is = ended_by rest s (takes_messages s.history.phase) is refl
+ended_side_shown rest s is = ended_by rest s (takes_messages s.history.phase) is refl
 
 announce_over : (h : History) (size : ℕ) → takes_messages h.phase ≡ false → takes_messages (after h (call.Announce size)).phase ≡ false
 announce_over h size over = if_between (λ g k. takes_messages g.phase ≡ false → takes_messages k.phase ≡ false) (may_announce (link_of h) size) h _ (λ e. e) (λ may e. e) over

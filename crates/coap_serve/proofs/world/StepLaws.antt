@@ -35,17 +35,17 @@ steps_then l w [] ts = refl
 steps_then l w (s ∷ ss) ts = steps_then l (world.step l w s) ss ts
 
 -- the steps of events one after the other
-pub behind_more : (M : ℕ) (a es fs : List Event) → steps_behind M a (es ++ fs) ≡ steps_behind M a es ++ steps_behind M (a ++ es) fs
+pub steps_behind_more : (M : ℕ) (a es fs : List Event) → steps_behind M a (es ++ fs) ≡ steps_behind M a es ++ steps_behind M (a ++ es) fs
 unfolding steps_behind
-behind_more M a [] fs = ap (λ (b : List Event). steps_behind M b fs) (sym (append-nil a))
-behind_more M a (e ∷ es) fs =
-    ap (λ (t : List Step). steps_by M a e ++ t) (behind_more M (a ++ e ∷ []) es fs)
+steps_behind_more M a [] fs = ap (λ (b : List Event). steps_behind M b fs) (sym (append-nil a))
+steps_behind_more M a (e ∷ es) fs =
+    ap (λ (t : List Step). steps_by M a e ++ t) (steps_behind_more M (a ++ e ∷ []) es fs)
     ∙ sym (append_assoc (steps_by M a e) (steps_behind M (a ++ e ∷ []) es) (steps_behind M ((a ++ e ∷ []) ++ es) fs))
     ∙ ap (λ (b : List Event). (steps_by M a e ++ steps_behind M (a ++ e ∷ []) es) ++ steps_behind M b fs) (append_assoc a (e ∷ []) es)
 
 pub steps_of_more : (M : ℕ) (es : List Event) (e : Event) → steps_of M (es ++ e ∷ []) ≡ steps_of M es ++ steps_by M es e
 unfolding steps_of steps_behind
-steps_of_more M es e = behind_more M [] es (e ∷ []) ∙ ap (λ (t : List Step). steps_behind M [] es ++ t) (append-nil (steps_by M es e))
+steps_of_more M es e = steps_behind_more M [] es (e ∷ []) ∙ ap (λ (t : List Step). steps_behind M [] es ++ t) (append-nil (steps_by M es e))
 
 -- the world at first, and after one event more
 pub world_first : (c : ConfigValues) → world_after c [] ≡ new_world c

@@ -50,8 +50,8 @@ record IsTelling (place : Place) (state : Option Representation) (a : Answer) : 
 abbrev TellsWell : Place → Option Representation → Answer → Type 0
 TellsWell place state a = a.watch ≡ watch.Add → IsTelling place state a
 
-unwatched : (place : Place) (state : Option Representation) (a : Answer) → a.watch ≡ watch.Nothing → TellsWell place state a
-unwatched place state a nothing e = absurd cc
+unwatched_tells_well : (place : Place) (state : Option Representation) (a : Answer) → a.watch ≡ watch.Nothing → TellsWell place state a
+unwatched_tells_well place state a nothing e = absurd cc
 
 -- an ETag is among others only where the state is stored
 valid_says : (place : Place) (r : Representation) (etags : List (List ℕ)) → is_among (etag_at place r) etags ≡ true → SaysState place r (valid place r)
@@ -61,7 +61,7 @@ valid_says other r etags e = absurd cc
 telling_at : (s : StoreValue) (t : Target) (m : Message) → TellsWell t.place t.state (answer_at s t m)
 telling_at s t m =
     let P : Answer → Type 0 = TellsWell t.place t.state in
-    let nothing : (a : Answer) → a.watch ≡ watch.Nothing → P a = unwatched t.place t.state in
+    let nothing : (a : Answer) → a.watch ≡ watch.Nothing → P a = unwatched_tells_well t.place t.state in
     answer_cases P s t m (λ c e. nothing _ refl) (record {
       read = λ r is. get_cases P t.place r m (λ c e. nothing _ refl) (record {
         valid = λ among e. record { at_once = refl; representation = r; there = is; says = valid_says t.place r _ among };
@@ -102,18 +102,18 @@ entry_tells store now m e =
 abbrev pub IsContent : Place → Option Representation → Response → Type 0
 IsContent place state a = (r : Representation) × (state ≡ Some r) × (a ≡ content place r)
 
-content_at : (place : Place) (state : Option Representation) (format : Option ℕ) → goes_on (notification_at place state format) ≡ true → IsContent place state (notification_at place state format)
+content_where_goes_on : (place : Place) (state : Option Representation) (format : Option ℕ) → goes_on (notification_at place state format) ≡ true → IsContent place state (notification_at place state format)
 unfolding notification_at
-content_at place None format e = absurd cc
-content_at place (Some r) format e =
+content_where_goes_on place None format e = absurd cc
+content_where_goes_on place (Some r) format e =
     elim (option_eq nat_eq r.format format) as (λ b. goes_on (if b then content place r else only code.not_acceptable) ≡ true → IsContent place (Some r) (if b then content place r else only code.not_acceptable)) [
       | true ↦ λ on. (r, refl, refl)
       | false ↦ λ on. absurd cc
     ] e
 
 -- a notification with Observe tells what the observer is told from then on
-pub notification_tells : (store : StoreValue) (now : ℕ) (o : Observer) → goes_on (notification store now o) ≡ true → TellsState o (state_of store now o.path) (notification_message o.token (notification store now o))
-notification_tells store now o on =
-    let is = content_at (place_of o.path) (state_of store now o.path) _ on in
+pub notification_tells_observer : (store : StoreValue) (now : ℕ) (o : Observer) → goes_on (notification store now o) ≡ true → TellsState o (state_of store now o.path) (notification_message o.token (notification store now o))
+notification_tells_observer store now o on =
+    let is = content_where_goes_on (place_of o.path) (state_of store now o.path) _ on in
     subst (λ b. TellsState o (state_of store now o.path) (response_with_observe o.token b (notification store now o))) (sym on)
     (says_tells o (state_of store now o.path) is.0 (notification store now o) is.1 (inl is.2))

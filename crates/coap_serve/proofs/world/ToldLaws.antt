@@ -38,7 +38,7 @@ use Rattle.coap_serve.proofs.world.GoingOn.{IsSide, Keeps, kept_after}
 use Rattle.coap_serve.proofs.world.ToldMessages.{other_bytes, last_is, last_stays, Queues, queues_none, queues_to, IsNoResponse, IsPlain, message_queues, reject_queues, end_queues, release_queues, holding_queues, due_queues, reply_queues, whole_last, announcing_queues}
 use Rattle.coap_serve.proofs.world.SettleLaws.{next_due_found}
 use Rattle.coap_serve.proofs.world.CustodyLaws.{Stands, stand_asked, stands_keeps}
-use Rattle.coap_serve.proofs.world.ToldAnswers.{tells_responds, entry_tells, notification_tells}
+use Rattle.coap_serve.proofs.world.ToldAnswers.{tells_responds, entry_tells, notification_tells_observer}
 use Rattle.coap_conn.specs.Calls.{may_announce}
 
 -- ---- what is told stays told
@@ -52,8 +52,8 @@ pub record AreTold (h : History) (os : List Observer) : Type 0 where
   pub own : HaveOwnTokens os
   pub told : AllByRecursion (ToldOn h) os
 
-abbrev IsTold : Side → Type 0
-IsTold s = AreTold s.history s.observers
+abbrev AllTold : Side → Type 0
+AllTold s = AreTold s.history s.observers
 
 -- whatever else is queued
 still_told : (o : Observer) (queued more : List Message) → AllByRecursion (λ m. responds o.token m ≡ false) more → WasToldLast queued o → WasToldLast (queued ++ more) o
@@ -153,7 +153,7 @@ without_told token h os are = record { own = own_filter _ os are.own; told = all
 -- ---- answers
 
 -- where the connection is open they stay, else they go
-kept_told : (h : History) (os : List Observer) → (is_open h.phase ≡ true → AreTold h os) → IsTold (side_with h os)
+kept_told : (h : History) (os : List Observer) → (is_open h.phase ≡ true → AreTold h os) → AllTold (side_with h os)
 kept_told h os go = cond_both (is_open h.phase) os [] (λ ps. AreTold h ps) go (λ e. record { own = tt; told = tt })
 
 replied_told : (h : History) (os : List Observer) (m : Message) → HaveOtherTokens m.token os → AreTold h os → AreTold (after h (call.Reply m)) os
@@ -175,8 +175,8 @@ entry_told store now h m true e asked whole opened =
     (told_by_last (entry_for store now m) h.queued response (entry_tells store now m asked))
 entry_told store now h m false e asked whole opened = absurd cc
 
-answered_told : (store : StoreValue) (now : ℕ) (h : History) (os : List Observer) (m : Message) → HaveOtherTokens m.token os → AreTold h os → IsTold (side_answered store now h os m (prompt_answer store now m))
-answered_told store now h os m others are =
+told_with_answer : (store : StoreValue) (now : ℕ) (h : History) (os : List Observer) (m : Message) → HaveOtherTokens m.token os → AreTold h os → AllTold (side_answered store now h os m (prompt_answer store now m))
+told_with_answer store now h os m others are =
     let a : answer.Answer = prompt_answer store now m in
     let observes : Bool = has_place h.limits.observers os a.watch in
     let response : Message = response_with_observe m.token observes a.response in
@@ -189,28 +189,28 @@ answered_told store now h os m others are =
 
 -- ---- messages
 
-if_told : (does : Bool) (s t : Side) → IsTold s → (does ≡ true → IsTold t) → IsTold (cond does t s)
+if_told : (does : Bool) (s t : Side) → AllTold s → (does ≡ true → AllTold t) → AllTold (cond does t s)
 if_told true s t is new = new refl
 if_told false s t is new = is
 
 -- nothing is queued that is a response
-signalled_side : (s : Side) (h : History) → Queues IsNoResponse s.history h → IsTold s → IsTold (with_history s h)
+signalled_side : (s : Side) (h : History) → Queues IsNoResponse s.history h → AllTold s → AllTold (with_history s h)
 signalled_side s h queues are = kept_told h s.observers (λ opened. signalled_told s.history h s.observers queues are)
 
-plain_side : (s : Side) (h : History) → Queues IsPlain s.history h → IsTold s → IsTold (with_history s h)
+plain_side : (s : Side) (h : History) → Queues IsPlain s.history h → AllTold s → AllTold (with_history s h)
 plain_side s h queues are = kept_told h s.observers (λ opened. plain_told s.history h s.observers queues are)
 
 -- an answer is held
-held_told : (h : History) (os : List Observer) (token : List ℕ) (moment : ℕ) → AreTold h os → IsTold (side_with (after h (call.Hold token moment)) os)
+held_told : (h : History) (os : List Observer) (token : List ℕ) (moment : ℕ) → AreTold h os → AllTold (side_with (after h (call.Hold token moment)) os)
 held_told h os token moment are =
     kept_told (after h (call.Hold token moment)) os
     (λ opened. signalled_told h (after h (call.Hold token moment)) os (if_between (Queues IsNoResponse) (is_open h.phase && may_hold h) h _ (queues_none IsNoResponse h) (λ does. holding_queues IsNoResponse h _)) are)
 
-request_told : (store : StoreValue) (now : ℕ) (h : History) (others : List Observer) (m : Message) → HaveOtherTokens m.token others → AreTold h others → IsTold (side_replied store now h others m (held_for h (answer_of store now m).hold))
+request_told : (store : StoreValue) (now : ℕ) (h : History) (others : List Observer) (m : Message) → HaveOtherTokens m.token others → AreTold h others → AllTold (side_replied store now h others m (held_for h (answer_of store now m).hold))
 request_told store now h others m apart are =
-    replied_cases store now h others m (answer_of store now m).hold IsTold (λ seconds e. held_told h others m.token (moment_after now seconds) are) (λ e. answered_told store now h others m apart are)
+    replied_cases store now h others m (answer_of store now m).hold AllTold (λ seconds e. held_told h others m.token (moment_after now seconds) are) (λ e. told_with_answer store now h others m apart are)
 
-handled_told : (limits : LimitValues) (store : StoreValue) (now : ℕ) (s : Side) (m : Message) → IsSide limits s → IsTold s → IsTold (side_handled store now s m)
+handled_told : (limits : LimitValues) (store : StoreValue) (now : ℕ) (s : Side) (m : Message) → IsSide limits s → AllTold s → AllTold (side_handled store now s m)
 handled_told limits store now s m is are =
     let h : History = after s.history (call.Handle m) in
     let queues : Queues IsNoResponse s.history h = message_queues s.history m is.is_server in
@@ -218,7 +218,7 @@ handled_told limits store now s m is are =
     if_told (asks_answer s m) (with_history s h) (side_replied store now h others m (held_for h (answer_of store now m).hold)) (signalled_side s h queues are)
     (λ asks. request_told store now h others m (without_others m.token s.observers) (signalled_told s.history h others queues (without_told m.token s.history s.observers are)))
 
-after_told : (limits : LimitValues) (store : StoreValue) (now : ℕ) (s : Side) (m : Message) → IsSide limits s → IsTold s → IsTold (side_after store now s m)
+after_told : (limits : LimitValues) (store : StoreValue) (now : ℕ) (s : Side) (m : Message) → IsSide limits s → AllTold s → AllTold (side_after store now s m)
 unfolding side_after
 after_told limits store now s m is are = if_told (handles s) s (side_handled store now s m) are (λ does. handled_told limits store now s m is are)
 
@@ -232,9 +232,9 @@ own_left : (store : StoreValue) (now : ℕ) (o : Observer) (stays : Bool) (os : 
 own_left store now o true os others own = (others, own)
 own_left store now o false os others own = own
 
-same_left : (store : StoreValue) (now : ℕ) (o : Observer) (stays : Bool) → AllByRecursion (λ p. p.token ≡ o.token) (left_of store now o stays)
-same_left store now o true = (refl, tt)
-same_left store now o false = tt
+left_with_same_token : (store : StoreValue) (now : ℕ) (o : Observer) (stays : Bool) → AllByRecursion (λ p. p.token ≡ o.token) (left_of store now o stays)
+left_with_same_token store now o true = (refl, tt)
+left_with_same_token store now o false = tt
 
 module _ (store : StoreValue) (now : ℕ) (o : Observer) (stays : Bool) (due : Observer → Bool) where
   own_become : (os : List Observer) → find due os ≡ Some o → HaveOwnTokens os → HaveOwnTokens (first_becomes due (left_of store now o stays) os)
@@ -243,7 +243,7 @@ module _ (store : StoreValue) (now : ℕ) (o : Observer) (stays : Bool) (due : O
   own_become (p ∷ os) e own =
       elim (due p) as (λ b. (if b then Some p else find due os) ≡ Some o → HaveOwnTokens (if b then left_of store now o stays ++ os else p ∷ first_becomes due (left_of store now o stays) os)) [
         | true ↦ λ is. (let same : p ≡ o = cc in own_left store now o stays os (subst (λ q. AllByRecursion (λ other. q.token ≢ other.token) os) same own.0) own.1)
-        | false ↦ λ is. (all_become (λ q. p.token ≢ q.token) due (left_of store now o stays) os own.0 (own_before p o (left_of store now o stays) (found_all (λ q. p.token ≢ q.token) due os o own.0 is) (same_left store now o stays)), own_become os is own.1)
+        | false ↦ λ is. (all_become (λ q. p.token ≢ q.token) due (left_of store now o stays) os own.0 (own_before p o (left_of store now o stays) (found_all (λ q. p.token ≢ q.token) due os o own.0 is) (left_with_same_token store now o stays)), own_become os is own.1)
       ] e
 
   told_become : (h k : History) (os : List Observer) → Queues (HasToken o.token) h k → find due os ≡ Some o → HaveOwnTokens os → AllByRecursion (ToldOn h) os → AllByRecursion (ToldOn k) (left_of store now o stays)
@@ -268,10 +268,10 @@ left_told : (store : StoreValue) (now : ℕ) (h : History) (o : Observer) (stays
 left_told store now h o true on whole opened =
     let m : Message = notification_message o.token (notification store now o) in
     let left : Observer = record o { told = state_of store now o.path } in
-    ((λ none. subst (λ queued. WasToldLast queued left) (sym (whole_last h m (whole refl) opened)) (told_by_last left h.queued m (notification_tells store now o (on refl)))), tt)
+    ((λ none. subst (λ queued. WasToldLast queued left) (sym (whole_last h m (whole refl) opened)) (told_by_last left h.queued m (notification_tells_observer store now o (on refl)))), tt)
 left_told store now h o false on whole opened = tt
 
-notified_told : (store : StoreValue) (now : ℕ) (s : Side) (found : Option Observer) → ((o : Observer) → found ≡ Some o → find (is_due store now) s.observers ≡ Some o) → IsTold s → IsTold (notified store now s found)
+notified_told : (store : StoreValue) (now : ℕ) (s : Side) (found : Option Observer) → ((o : Observer) → found ≡ Some o → find (is_due store now) s.observers ≡ Some o) → AllTold s → AllTold (notified store now s found)
 notified_told store now s None there are = are
 notified_told store now s (Some o) there are =
     let m : Message = notification_message o.token (notification store now o) in
@@ -293,7 +293,7 @@ asked_for_due h now token moment e stand =
     let first = due_answer now h.held token moment e in
     stand_asked h.handled first.before (Answer token moment) first.after (subst (StandFor h.handled) first.there stand)
 
-sent_told : (s : Side) (now : ℕ) (e : HeldValue) → first_due now s.history.held ≡ Some e → Stands s.history → IsTold s → IsTold (with_history s (after_sent s.history now e))
+sent_told : (s : Side) (now : ℕ) (e : HeldValue) → first_due now s.history.held ≡ Some e → Stands s.history → AllTold s → AllTold (with_history s (after_sent s.history now e))
 sent_told s now (Answer token moment) found stand are =
     let h : History = after s.history (call.Due now) in
     let k : History = after h (call.Reply (held_message token)) in
@@ -301,9 +301,10 @@ sent_told s now (Answer token moment) found stand are =
     (λ opened. late_told token h k s.observers (reply_queues h (held_message token)) (asked_for_due s.history now token moment found stand) (signalled_told s.history h s.observers (due_queues s.history now) are))
 sent_told s now (Pong token) found stand are = signalled_side s (after s.history (call.Due now)) (due_queues s.history now) are
 
-once_told : (store : StoreValue) (now : ℕ) (s : Side) → Stands s.history → IsTold s → IsTold (settled_once store now s)
+once_told : (store : StoreValue) (now : ℕ) (s : Side) → Stands s.history → AllTold s
+    → AllTold (settled_once store now s)
 once_told store now s stand are =
-    settled_cases store now s IsTold (λ e is. sent_told s now e (held_room now s e is).1 stand are) (λ is. notified_told store now s (next_due store now s) (next_due_found store now s) are)
+    settled_cases store now s AllTold (λ e is. sent_told s now e (held_room now s e is).1 stand are) (λ is. notified_told store now s (next_due store now s) (next_due_found store now s) are)
 
 -- ---- what each connection keeps
 
@@ -311,7 +312,7 @@ record IsToldSide (s : Side) : Type 0 where
   stand : Stands s.history
   are : AreTold s.history s.observers
 
-faulted_told : (s : Side) (fault : StreamFault) → IsTold s → IsTold (side_faulted s fault)
+faulted_told : (s : Side) (fault : StreamFault) → AllTold s → AllTold (side_faulted s fault)
 unfolding side_faulted
 faulted_told s fault are =
     let h : History = s.history in
@@ -319,22 +320,22 @@ faulted_told s fault are =
     (λ does. plain_side s (after h (call.Reject (reject_of fault))) (if_between (Queues IsPlain) (takes_messages h.phase) h _ (queues_none IsPlain h)
     (λ takes. reject_queues h (reject_of fault) takes (and_parts (takes_messages h.phase) (has_room s) does).1)) are)
 
-written_told : (s : Side) (n : ℕ) → IsTold s → IsTold (side_written s n)
+written_told : (s : Side) (n : ℕ) → AllTold s → AllTold (side_written s n)
 unfolding side_written
 written_told s n are = if_told (nat_le n (length (waiting_on s))) s (record s { history = after s.history (call.Written n) }) are (λ does. record { own = are.own; told = are.told })
 
-ended_told : (s : Side) (cut : Bool) → IsTold s → IsTold (side_ended s cut)
+ended_told : (s : Side) (cut : Bool) → AllTold s → AllTold (side_ended s cut)
 unfolding side_ended
 ended_told s cut are = plain_side s (after s.history (call.End cut)) (ended_between (Queues IsPlain) (queues_none IsPlain) end_queues s cut) are
 
-released_told : (s : Side) → IsTold s → IsTold (side_released s)
+released_told : (s : Side) → AllTold s → AllTold (side_released s)
 unfolding side_released
 released_told s are =
     let h : History = s.history in
     if_told (is_none (release_refusal (link_of h))) s (with_history s (after h call.Release)) are
     (λ does. plain_side s (after h call.Release) (if_between (Queues IsPlain) (is_open h.phase) h _ (queues_none IsPlain h) (λ opened. release_queues h opened does)) are)
 
-announced_told : (s : Side) (size : ℕ) → IsTold s → IsTold (side_announced s size)
+announced_told : (s : Side) (size : ℕ) → AllTold s → AllTold (side_announced s size)
 unfolding side_announced
 announced_told s size are =
     let h : History = s.history in

@@ -47,16 +47,16 @@ unfolding last_response
 last_is token queued m e =
     ap (find (responds token)) (reverse-append queued (m ∷ [])) ∙ cond-true (responds token m) (Some m) (find (responds token) (reverse queued)) e
 
-one_more : (token : List ℕ) (queued : List Message) (m : Message) → responds token m ≡ false → last_response token (queued ++ m ∷ []) ≡ last_response token queued
+last_response_stays : (token : List ℕ) (queued : List Message) (m : Message) → responds token m ≡ false → last_response token (queued ++ m ∷ []) ≡ last_response token queued
 unfolding last_response
-one_more token queued m e =
+last_response_stays token queued m e =
     ap (find (responds token)) (reverse-append queued (m ∷ [])) ∙ cond-false (responds token m) (Some m) (find (responds token) (reverse queued)) e
 
 -- no other message changes it
 pub last_stays : (token : List ℕ) (queued ms : List Message) → AllByRecursion (λ m. responds token m ≡ false) ms → last_response token (queued ++ ms) ≡ last_response token queued
 last_stays token queued [] none = ap (last_response token) (append-nil queued)
 last_stays token queued (m ∷ ms) none =
-    ap (last_response token) (sym (append_assoc queued (m ∷ []) ms)) ∙ last_stays token (queued ++ m ∷ []) ms none.1 ∙ one_more token queued m none.0
+    ap (last_response token) (sym (append_assoc queued (m ∷ []) ms)) ∙ last_stays token (queued ++ m ∷ []) ms none.1 ∙ last_response_stays token queued m none.0
 
 -- ---- what is queued
 
@@ -141,8 +141,8 @@ pub record ReactionCases (s : Standing) (m : Message) (P : Effect → Type 0) : 
   pub keeps : (m.code == code.ping) ≡ true → asks_custody m ≡ true → 1 ≤ length s.held → P (holds s (Pong m.token)).effect
 
 module _ (s : Standing) (m : Message) (P : Effect → Type 0) (cases : ReactionCases s m P) where
-  abbrev Does : Reaction → Type 0
-  Does r = P r.effect
+  abbrev ReactsSo : Reaction → Type 0
+  ReactsSo r = P r.effect
 
   aborts_so : (why : Reason) → message_reason why ≡ 1 → P (abort s why)
   aborts_so why is = cases.stops why (abort_fitted s.limit (abort_of why)) (abort_plain s.limit (abort_text why) why refl) (abort_one s.limit (abort_of why)) is
@@ -152,11 +152,11 @@ module _ (s : Standing) (m : Message) (P : Effect → Type 0) (cases : ReactionC
   sends_so n less Bare whole bare = cases.queues less bare
   sends_so n less Stopped whole bare = cases.stops reason.PeerTooSmall [] tt (omega arith) refl
 
-  csm_so : (bad : Option ℕ) → Does (csm_reaction s bad)
+  csm_so : (bad : Option ℕ) → ReactsSo (csm_reaction s bad)
   csm_so None = cases.stands phase.Open s.outstanding (λ is. refl)
   csm_so (Some number) = aborts_so (reason.BadCsm number) refl
 
-  request_so : (role : Role) → s.role ≡ role → Does (request_reaction s m role)
+  request_so : (role : Role) → s.role ≡ role → ReactsSo (request_reaction s m role)
   request_so Server is = cases.stays
   request_so Client is =
       let answer : Message = not_implemented m in
@@ -165,43 +165,43 @@ module _ (s : Standing) (m : Message) (P : Effect → Type 0) (cases : ReactionC
       no_client : s.role ≡ Server → ⊥
       no_client server = let bad : ◌≡◌ {A = Role} Client Server = sym is ∙ server in cc
 
-  ping_so : (m.code == code.ping) ≡ true → Does (ping_reaction s m)
+  ping_so : (m.code == code.ping) ≡ true → ReactsSo (ping_reaction s m)
   ping_so ping =
       let late : Message = pong_with false m.token in
       let now : Message = pong_of m in
-      cond_both (asks_custody m && nat_lt 0 (length s.held)) _ _ Does
-      (λ e. cond_both (nat_lt (length s.held) s.most) _ _ Does
+      cond_both (asks_custody m && nat_lt 0 (length s.held)) _ _ ReactsSo
+      (λ e. cond_both (nat_lt (length s.held) s.most) _ _ ReactsSo
       (λ f. (let both = and_parts (asks_custody m) (nat_lt 0 (length s.held)) e in cases.keeps ping both.0 (ltb-true 0 (length s.held) both.1)))
       (λ f. sends_so late late (fit s.limit late late) (λ server. refl) (λ server. refl)))
       (λ e. sends_so now (without_options now) (fit s.limit now (without_options now)) (λ server. refl) (λ server. refl))
 
   -- neither a Pong nor a response queues anything
-  pong_so : Does (pong_reaction s m)
-  pong_so = cond_both (list_any (is_pinged m.token) s.outstanding) _ _ Does (λ e. cases.stands s.phase (without_pinged m.token s.outstanding) (λ is. is)) (λ e. cases.stays)
+  pong_so : ReactsSo (pong_reaction s m)
+  pong_so = cond_both (list_any (is_pinged m.token) s.outstanding) _ _ ReactsSo (λ e. cases.stands s.phase (without_pinged m.token s.outstanding) (λ is. is)) (λ e. cases.stays)
 
-  answered_so : (found : Option OutstandingValue) → Does (answered s m found)
+  answered_so : (found : Option OutstandingValue) → ReactsSo (answered s m found)
   answered_so None = cases.stays
-  answered_so (Some e) = cond_both (is_last m e) _ _ Does (λ f. cases.stands s.phase (without_asked m.token s.outstanding) (λ is. is)) (λ f. cases.stays)
+  answered_so (Some e) = cond_both (is_last m e) _ _ ReactsSo (λ f. cases.stands s.phase (without_asked m.token s.outstanding) (λ is. is)) (λ f. cases.stays)
 
-  open_so : Does (open_reaction s m)
+  open_so : ReactsSo (open_reaction s m)
   open_so =
-      cond_both (minds_critical_options m.code && has_critical_option m) _ _ Does (λ e. aborts_so reason.BadSignalOption refl)
-      (λ e. cond_both (m.code == code.ping) _ _ Does (λ ping. ping_so ping)
-      (λ e. cond_both (m.code == code.release) _ _ Does (λ e. cases.stands (phase.Releasing reason.PeerRelease) [] (λ is. refl))
-      (λ e. cond_both (m.code == code.pong) _ _ Does (λ e. pong_so)
-      (λ e. cond_both (is_signal m.code) _ _ Does (λ e. cases.stays)
-      (λ e. cond_both (is_method m.code) _ _ Does (λ e. request_so s.role refl) (λ e. answered_so (find (is_asked m.token) s.outstanding)))))))
+      cond_both (minds_critical_options m.code && has_critical_option m) _ _ ReactsSo (λ e. aborts_so reason.BadSignalOption refl)
+      (λ e. cond_both (m.code == code.ping) _ _ ReactsSo (λ ping. ping_so ping)
+      (λ e. cond_both (m.code == code.release) _ _ ReactsSo (λ e. cases.stands (phase.Releasing reason.PeerRelease) [] (λ is. refl))
+      (λ e. cond_both (m.code == code.pong) _ _ ReactsSo (λ e. pong_so)
+      (λ e. cond_both (is_signal m.code) _ _ ReactsSo (λ e. cases.stays)
+      (λ e. cond_both (is_method m.code) _ _ ReactsSo (λ e. request_so s.role refl) (λ e. answered_so (find (is_asked m.token) s.outstanding)))))))
 
-  live_so : Does (live_reaction s m)
+  live_so : ReactsSo (live_reaction s m)
   unfolding live_reaction
   live_so =
-      cond_both (is_reserved m.code) _ _ Does (λ e. aborts_so reason.ReservedCode refl)
-      (λ e. cond_both (m.code == code.empty) _ _ Does (λ e. cases.stays)
-      (λ e. cond_both (m.code == code.abort) _ _ Does (λ e. aborts_so reason.PeerAbort refl)
-      (λ e. cond_both (m.code == code.csm) _ _ Does (λ e. csm_so (bad_csm_option m))
-      (λ e. cond_both (is_waiting s.phase) _ _ Does (λ e. aborts_so reason.CsmExpected refl) (λ e. open_so)))))
+      cond_both (is_reserved m.code) _ _ ReactsSo (λ e. aborts_so reason.ReservedCode refl)
+      (λ e. cond_both (m.code == code.empty) _ _ ReactsSo (λ e. cases.stays)
+      (λ e. cond_both (m.code == code.abort) _ _ ReactsSo (λ e. aborts_so reason.PeerAbort refl)
+      (λ e. cond_both (m.code == code.csm) _ _ ReactsSo (λ e. csm_so (bad_csm_option m))
+      (λ e. cond_both (is_waiting s.phase) _ _ ReactsSo (λ e. aborts_so reason.CsmExpected refl) (λ e. open_so)))))
 
-  unless_so : (over : Option Reason) → Does (reaction_unless s m over)
+  unless_so : (over : Option Reason) → ReactsSo (reaction_unless s m over)
   unless_so None = live_so
   unless_so (Some why) = cases.stays
 

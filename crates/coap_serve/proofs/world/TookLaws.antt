@@ -84,25 +84,26 @@ no_bytes_steps M id es =
 
 module _ (M : ℕ) (kept piece frame : List ℕ) (u : beginning M kept ≡ Unfinished) (is : (framing M kept piece).finding ≡ AFrame frame) where
   -- the bytes taken of the piece
-  abbrev pub front : List ℕ
-  front = take (front_of M kept piece) piece
+  abbrev pub taken_front : List ℕ
+  taken_front = take (front_of M kept piece) piece
 
   pub frame_itself : beginning M frame ≡ Whole frame []
   frame_itself = let first = frame_first M kept piece frame is in whole_itself M (kept ++ piece) frame first.0 first.1
 
   -- with a frame some byte is taken
-  pub some_taken : 1 ≤ length front
-  some_taken = takes_a_byte M kept front frame u frame_itself (frame_taken M kept piece frame u is)
+  pub some_taken : 1 ≤ length taken_front
+  some_taken = takes_a_byte M kept taken_front frame u frame_itself (frame_taken M kept piece frame u is)
 
-  pub but_last_unfinished : beginning M (kept ++ without_last front) ≡ Unfinished
+  pub but_last_unfinished : beginning M (kept ++ without_last taken_front) ≡ Unfinished
   but_last_unfinished =
-      ap (beginning M) (sym (last_of_second kept front some_taken) ∙ ap without_last (sym (frame_taken M kept piece frame u is)))
+      ap (beginning M) (sym (last_of_second kept taken_front some_taken) ∙ ap without_last (sym (frame_taken M kept piece frame u is)))
       ∙ front_unfinished M frame frame_itself
 
   -- without their last byte nothing is found of them, and all of them are taken and kept
-  pub but_last : framing M kept (without_last front) ≡ framing_at kept (without_last front) Unfinished
+  pub but_last_is_unfinished : framing M kept (without_last taken_front)
+      ≡ framing_at kept (without_last taken_front) Unfinished
   unfolding framing
-  but_last = ap (framing_at kept (without_last front)) but_last_unfinished
+  but_last_is_unfinished = ap (framing_at kept (without_last taken_front)) but_last_unfinished
 
 -- ---- what is taken of a piece on a connection
 
@@ -138,4 +139,4 @@ module _ (M id : ℕ) (es : List Event) (piece : List ℕ) (none : (stream_on M 
 
   -- all bytes but the last are taken
   pub but_last_whole : (frame : List ℕ) → (framing size_before kept_so_far piece).finding ≡ AFrame frame → (framing size_before kept_so_far (without_last piece_front)).taken ≡ length (without_last piece_front)
-  but_last_whole frame e = ap (λ (f : Framing). f.taken) (but_last size_before kept_so_far piece frame (rest_unfinished M id es none) e)
+  but_last_whole frame e = ap (λ (f : Framing). f.taken) (but_last_is_unfinished size_before kept_so_far piece frame (rest_unfinished M id es none) e)

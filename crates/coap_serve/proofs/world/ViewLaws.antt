@@ -196,22 +196,22 @@ changed_so : (id : ℕ) (w : World) (f : Side → Side) → share w.store w.now 
 changed_so id w f = ap (share w.store w.now) (changed_here id f w.sides)
 
 -- a number that is the connection's
-own : (P : ℕ → Type 0) (other id : ℕ) → (other == id) ≡ true → P id → P other
-own P other id same here = subst P (sym (eqb-true other id same)) here
+holds_of_own_number : (P : ℕ → Type 0) (other id : ℕ) → (other == id) ≡ true → P id → P other
+holds_of_own_number P other id same here = subst P (sym (eqb-true other id same)) here
 
 pub own_did : (limits : LimitValues) (id : ℕ) (w : World) (s : Step) → concerns id s ≡ true → DidSo limits id w s
 unfolding concerns acted
-own_did limits id w (world.Opened other) same = own (λ n. DidSo limits id w (world.Opened n)) other id same (opened_so limits id w)
-own_did limits id w (world.Handled other m) same = own (λ n. DidSo limits id w (world.Handled n m)) other id same (handled_so limits id w m)
-own_did limits id w (world.Faulted other fault) same = own (λ n. DidSo limits id w (world.Faulted n fault)) other id same (changed_so id w (λ s. side_faulted s fault))
-own_did limits id w (world.Written other n) same = own (λ k. DidSo limits id w (world.Written k n)) other id same (changed_so id w (λ s. side_written s n))
+own_did limits id w (world.Opened other) same = holds_of_own_number (λ n. DidSo limits id w (world.Opened n)) other id same (opened_so limits id w)
+own_did limits id w (world.Handled other m) same = holds_of_own_number (λ n. DidSo limits id w (world.Handled n m)) other id same (handled_so limits id w m)
+own_did limits id w (world.Faulted other fault) same = holds_of_own_number (λ n. DidSo limits id w (world.Faulted n fault)) other id same (changed_so id w (λ s. side_faulted s fault))
+own_did limits id w (world.Written other n) same = holds_of_own_number (λ k. DidSo limits id w (world.Written k n)) other id same (changed_so id w (λ s. side_written s n))
 own_did limits id w (world.Ticked now) same = share_if id (ticks w.now now) (record w { now = now }) w _ (share_of id w) (λ e. refl) refl
 own_did limits id w (world.Stored path format bytes) same = share_if id (is_none (put_refusal w.store path bytes)) (record w { store = put_in w.store path format bytes }) w _ (share_of id w) (λ e. refl) refl
 own_did limits id w (world.Removed path) same = refl
-own_did limits id w (world.Ended other cut) same = own (λ n. DidSo limits id w (world.Ended n cut)) other id same (changed_so id w (λ s. side_ended s cut))
-own_did limits id w (world.Released other) same = own (λ n. DidSo limits id w (world.Released n)) other id same (changed_so id w side_released)
-own_did limits id w (world.Announced other size) same = own (λ n. DidSo limits id w (world.Announced n size)) other id same (changed_so id w (λ s. side_announced s size))
-own_did limits id w (world.Dropped other) same = own (λ n. DidSo limits id w (world.Dropped n)) other id same (ap (share w.store w.now) (dropped_here id w.sides))
+own_did limits id w (world.Ended other cut) same = holds_of_own_number (λ n. DidSo limits id w (world.Ended n cut)) other id same (changed_so id w (λ s. side_ended s cut))
+own_did limits id w (world.Released other) same = holds_of_own_number (λ n. DidSo limits id w (world.Released n)) other id same (changed_so id w side_released)
+own_did limits id w (world.Announced other size) same = holds_of_own_number (λ n. DidSo limits id w (world.Announced n size)) other id same (changed_so id w (λ s. side_announced s size))
+own_did limits id w (world.Dropped other) same = holds_of_own_number (λ n. DidSo limits id w (world.Dropped n)) other id same (ap (share w.store w.now) (dropped_here id w.sides))
 
 -- ---- a step of another connection
 
@@ -223,9 +223,9 @@ opened_elsewhere limits other id w None is apart =
 opened_elsewhere limits other id w (Some s) is apart = still_there id s w.sides (record { id = other; side = new_side limits } ∷ []) is
 
 -- what another connection's message leaves of the store is what its change does
-stored_elsewhere : (w : World) (m : Message) (there : Option Side) → stored_after w m there ≡ changed w.store (change_on w m there)
-stored_elsewhere w m None = refl
-stored_elsewhere w m (Some s) = refl
+stored_by_change : (w : World) (m : Message) (there : Option Side) → stored_after w m there ≡ changed w.store (change_on w m there)
+stored_by_change w m None = refl
+stored_by_change w m (Some s) = refl
 
 changed_apart : (id other : ℕ) (w : World) (f : Side → Side) → (other == id) ≡ false → share w.store w.now (side_of id (map (changed_at other f) w.sides)) ≡ share_of id w
 changed_apart id other w f apart = ap (share w.store w.now) (changed_elsewhere other id f w.sides (eqb-false other id apart))
@@ -237,7 +237,7 @@ other_did limits id w (world.Opened other) apart =
     share_either id (is_none (side_of other w.sides)) (opened_world limits w other) w (share_of id w)
     (ap (share w.store w.now) (opened_elsewhere limits other id w (side_of id w.sides) refl (eqb-false other id apart))) refl
 other_did limits id w (world.Handled other m) apart =
-    ap (λ (store : StoreValue). share store w.now (side_of id (map (changed_at other (λ s. side_after w.store w.now s m)) w.sides))) (stored_elsewhere w m (side_of other w.sides))
+    ap (λ (store : StoreValue). share store w.now (side_of id (map (changed_at other (λ s. side_after w.store w.now s m)) w.sides))) (stored_by_change w m (side_of other w.sides))
     ∙ ap (share (changed w.store (change_made w other m)) w.now) (changed_elsewhere other id (λ s. side_after w.store w.now s m) w.sides (eqb-false other id apart))
 other_did limits id w (world.Faulted other fault) apart = changed_apart id other w (λ s. side_faulted s fault) apart
 other_did limits id w (world.Written other n) apart = changed_apart id other w (λ s. side_written s n) apart

@@ -115,8 +115,8 @@ no_more : (h k : History) → record k { queued = h.queued ++ [] } ≡ record k 
 no_more h k = ap (λ (ms : List Message). record k { queued = ms }) (append-nil h.queued)
 
 -- what is due first is not held any more, where it is no Pong
-due_answer : (h : History) (now : ℕ) (token : List ℕ) (moment : ℕ) → first_due now h.held ≡ Some (Answer token moment) → after h (call.Due now) ≡ without_first h now
-due_answer h now token moment is = due_is h now (Some (Answer token moment)) is ∙ no_more h (without_first h now)
+answer_goes : (h : History) (now : ℕ) (token : List ℕ) (moment : ℕ) → first_due now h.held ≡ Some (Answer token moment) → after h (call.Due now) ≡ without_first h now
+answer_goes h now token moment is = due_is h now (Some (Answer token moment)) is ∙ no_more h (without_first h now)
 
 -- ---- settling
 
@@ -135,7 +135,7 @@ module _ (R E : History → History → Type 0) (same : (h : History) → R h h)
 
   sent_between : (h : History) (now : ℕ) (e : HeldValue) → first_due now h.held ≡ Some e → room_in h ≡ true → R h (after_sent h now e)
   sent_between h now (Answer token moment) is room =
-      subst (λ (g : History). R h (after g (call.Reply (held_message token)))) (sym (due_answer h now token moment is))
+      subst (λ (g : History). R h (after g (call.Reply (held_message token)))) (sym (answer_goes h now token moment is))
       (reply_between h (without_first h now) token false held_response (lets_go h now) room)
   sent_between h now (Pong token) is room = subst (R h) (sym (due_is h now (Some (Pong token)) is)) (pongs h now token is room)
 
@@ -185,9 +185,9 @@ module _ (R E : History → History → Type 0) (same : (h : History) → R h h)
       (λ does. (let both = and_parts (is_open h.phase) (may_hold h) does in holds h m.token (moment_after now seconds) both.0 both.1))
 
   module _ (store : StoreValue) (now : ℕ) (s : Side) (m : Message) where
-    behind : (takes : Bool) → takes_messages s.history.phase ≡ takes → asks_answer s m ≡ true → room_in s.history ≡ true → room_in (cond takes (heard s.history m) s.history) ≡ true
-    behind true takes asks room = asked_room s.history m asks ∙ room
-    behind false takes asks room = room
+    room_behind_message : (takes : Bool) → takes_messages s.history.phase ≡ takes → asks_answer s m ≡ true → room_in s.history ≡ true → room_in (cond takes (heard s.history m) s.history) ≡ true
+    room_behind_message true takes asks room = asked_room s.history m asks ∙ room
+    room_behind_message false takes asks room = room
 
     message_between : has_room s ≡ true → R s.history (after s.history (call.Handle m))
     message_between room = if_between R (takes_messages s.history.phase) s.history _ (same s.history) (λ takes. hears s.history m takes room)
@@ -196,7 +196,7 @@ module _ (R E : History → History → Type 0) (same : (h : History) → R h h)
         → R s.history (cond asks (side_replied store now (after s.history (call.Handle m)) (without_token m.token s.observers) m (held_for (after s.history (call.Handle m)) (answer_of store now m).hold)) (with_history s (after s.history (call.Handle m)))).history
     handled_between true is room =
         let h : History = after s.history (call.Handle m) in
-        then s.history h _ (message_between room) (replied_between store now h (without_token m.token s.observers) m (held_for h (answer_of store now m).hold) (behind (takes_messages s.history.phase) refl is room))
+        then s.history h _ (message_between room) (replied_between store now h (without_token m.token s.observers) m (held_for h (answer_of store now m).hold) (room_behind_message (takes_messages s.history.phase) refl is room))
     handled_between false is room = message_between room
 
     pub after_between : R s.history (side_after store now s m).history

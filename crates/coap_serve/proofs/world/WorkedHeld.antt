@@ -44,13 +44,13 @@ abbrev refused : String → List ℕ
 refused token = hex "01a3" ++ hex token
 
 -- a connection is open
-abbrev begun : ℕ → List Row
-begun id = opened id ++ In id (hex "00e1") => Taken 2 ∷ []
+abbrev greeted_rows : ℕ → List Row
+greeted_rows id = opened id ++ In id (hex "00e1") => Taken 2 ∷ []
 
 -- ---- what waits for what
 
 -- a Pong with Custody waits for the answer that is held, and both outlive the peer's Release
-pong_waits : Plays usual (begun 1
+pong_waits_for_answer : Plays usual (greeted_rows 1
     ++ In 1 (asked "05" "3") => Taken 11
     ∷ In 1 (ping "06") => Taken 4
     ∷ Look 1 => Stands phase.Open 0 0 2 0
@@ -65,19 +65,19 @@ pong_waits : Plays usual (begun 1
     ∷ Drain 1 => Out []
     ∷ [])
 unfolding told
-pong_waits = refl
+pong_waits_for_answer = refl
 
 -- where nothing is held it is sent at once
-pong_at_once : Plays usual (begun 1
+pong_sent_at_once : Plays usual (greeted_rows 1
     ++ In 1 (ping "06") => Taken 4
     ∷ Drain 1 => Out (pong "06")
     ∷ Look 1 => Stands phase.Open 0 0 0 0
     ∷ [])
 unfolding told
-pong_at_once = refl
+pong_sent_at_once = refl
 
 -- a Ping without Custody does not wait
-bare_ping : Plays usual (begun 1
+bare_ping : Plays usual (greeted_rows 1
     ++ In 1 (asked "05" "3") => Taken 11
     ∷ In 1 (hex "01e206") => Taken 3
     ∷ Drain 1 => Out (bare_pong "06")
@@ -87,7 +87,7 @@ unfolding told
 bare_ping = refl
 
 -- it waits for what came before it alone, and another request is answered meanwhile
-what_comes_later : Plays usual (begun 1
+what_comes_later : Plays usual (greeted_rows 1
     ++ In 1 (asked "05" "1") => Taken 11
     ∷ In 1 (ping "06") => Taken 4
     ∷ In 1 (asked "07" "3") => Taken 11
@@ -103,7 +103,7 @@ unfolding told
 what_comes_later = refl
 
 -- a Pong waits behind another one
-pong_behind_pong : Plays usual (begun 1
+pong_behind_pong : Plays usual (greeted_rows 1
     ++ In 1 (asked "05" "1") => Taken 11
     ∷ In 1 (ping "06") => Taken 4
     ∷ In 1 (ping "07") => Taken 4
@@ -126,7 +126,7 @@ answers_and_pong_held = refl
 -- ---- how much is held
 
 -- One is held: a Ping with Custody gets a Pong without it, and a second request 5.03. Then there is room again.
-one_held : Plays (config_holding 1) (begun 1
+one_held : Plays (config_holding 1) (greeted_rows 1
     ++ In 1 (asked "05" "3") => Taken 11
     ∷ In 1 (ping "06") => Taken 4
     ∷ Drain 1 => Out (bare_pong "06")
@@ -142,7 +142,7 @@ unfolding told
 one_held = refl
 
 -- nothing is held: 5.03, and a Pong with Custody at once
-nothing_may_be_held : Plays (config_holding 0) (begun 1
+nothing_may_be_held : Plays (config_holding 0) (greeted_rows 1
     ++ In 1 (asked "05" "3") => Taken 11
     ∷ In 1 (ping "06") => Taken 4
     ∷ Drain 1 => Out (refused "05" ++ pong "06")
@@ -155,7 +155,7 @@ unfolding told
 nothing_may_be_held = refl
 
 -- each connection holds its own
-each_its_own : Plays (config_holding 1) (begun 1 ++ (begun 2
+each_its_own : Plays (config_holding 1) (greeted_rows 1 ++ (greeted_rows 2
     ++ In 1 (asked "05" "1") => Taken 11
     ∷ In 2 (asked "06" "2") => Taken 11
     ∷ In 2 (asked_plainly "07") => Taken 9
@@ -170,7 +170,7 @@ each_its_own = refl
 -- ---- moments
 
 -- 3,601 seconds are too long, 3,600 are not, and where 0 are asked the answer comes at once
-how_long : Plays usual (begun 1
+how_long : Plays usual (greeted_rows 1
     ++ In 1 (hex "b10101b5" ++ (codes "async" ++ (hex "44" ++ codes "3601"))) => Taken 14
     ∷ Drain 1 => Out (hex "018001")
     ∷ In 1 (asked "02" "0") => Taken 11
@@ -185,7 +185,7 @@ unfolding told
 how_long = refl
 
 -- where the request does not say it is 5 seconds
-five_seconds : Plays usual (begun 1
+five_seconds : Plays usual (greeted_rows 1
     ++ Tick 2 => Done
     ∷ In 1 (asked_plainly "01") => Taken 9
     ∷ Tick 6 => Done
@@ -197,7 +197,7 @@ unfolding told
 five_seconds = refl
 
 -- answers come by their moments, and the Pong behind the last answer that came before its Ping
-by_moments : Plays usual (begun 1
+by_moments : Plays usual (greeted_rows 1
     ++ In 1 (asked "03" "2") => Taken 11
     ∷ In 1 (ping "06") => Taken 4
     ∷ In 1 (asked "04" "1") => Taken 11
@@ -210,7 +210,7 @@ unfolding told
 by_moments = refl
 
 -- also where they are due at once, and of equal moments the earlier one first
-due_at_once : Plays usual (begun 1
+due_at_once : Plays usual (greeted_rows 1
     ++ In 1 (asked "03" "2") => Taken 11
     ∷ In 1 (asked "04" "1") => Taken 11
     ∷ In 1 (asked "02" "1") => Taken 11
@@ -221,7 +221,7 @@ unfolding told
 due_at_once = refl
 
 -- no moment is later than the last one, at which every answer is due
-last_moment : Plays usual (begun 1
+last_moment : Plays usual (greeted_rows 1
     ++ Tick 18446744073709551615 => Done
     ∷ In 1 (asked_plainly "07") => Taken 9
     ∷ Drain 1 => Out (answered "07")
@@ -229,7 +229,7 @@ last_moment : Plays usual (begun 1
 unfolding told
 last_moment = refl
 
-before_the_last_moment : Plays usual (begun 1
+before_the_last_moment : Plays usual (greeted_rows 1
     ++ Tick 18446744073709551614 => Done
     ∷ In 1 (asked_plainly "07") => Taken 9
     ∷ Drain 1 => Out []
@@ -242,7 +242,7 @@ before_the_last_moment = refl
 -- ---- stops
 
 -- what is held is given up where the peer aborts
-aborted : Plays usual (begun 1
+aborted : Plays usual (greeted_rows 1
     ++ In 1 (asked "05" "3") => Taken 11
     ∷ In 1 (ping "06") => Taken 4
     ∷ In 1 (hex "00e5") => Taken 2
@@ -254,7 +254,7 @@ unfolding told
 aborted = refl
 
 -- where the input ends
-input_ends : Plays usual (begun 1
+input_ends : Plays usual (greeted_rows 1
     ++ In 1 (asked "05" "3") => Taken 11
     ∷ End 1 => Done
     ∷ Look 1 => Stands (phase.Stopped reason.Ended) 0 0 0 0
@@ -265,7 +265,7 @@ unfolding told
 input_ends = refl
 
 -- and where the connection is released here
-released_here : Plays usual (begun 1
+released_here : Plays usual (greeted_rows 1
     ++ In 1 (asked "05" "3") => Taken 11
     ∷ Release 1 => Done
     ∷ Look 1 => Stands (phase.Stopped reason.ReleasedHere) 0 2 0 0
@@ -280,7 +280,7 @@ released_here = refl
 -- What is held waits for room as notifications do, and comes before them.
 waits_for_room : Plays (config_with (narrow_limits 65536) 1) (
     Put path_a None (hex "78") => Version 1
-    ∷ begun 1
+    ∷ greeted_rows 1
     ++ In 1 (hex "310101605161") => Taken 6
     ∷ In 1 (asked "05" "1") => Taken 0
     ∷ Drain 1 => Out (hex "514501410120ff78")
@@ -300,7 +300,7 @@ waits_for_room = refl
 -- An answer, a Pong and a notification that wait for room together go out in this order.
 held_before_observers : Plays (config_with (narrow_limits 65536) 1) (
     Put path_a None (hex "78") => Version 1
-    ∷ begun 1
+    ∷ greeted_rows 1
     ++ In 1 (hex "310101605161") => Taken 6
     ∷ Drain 1 => Out (hex "514501410120ff78")
     ∷ In 1 (asked "05" "1") => Taken 11
@@ -321,7 +321,7 @@ held_before_observers = refl
 -- a request whose answer is held takes the place of the observer with its token
 observer_goes : Plays one_resource (
     Put path_a None (hex "78") => Version 1
-    ∷ begun 1
+    ∷ greeted_rows 1
     ++ In 1 (hex "310101605161") => Taken 6
     ∷ In 1 (asked "01" "1") => Taken 11
     ∷ Look 1 => Stands phase.Open 0 8 1 0
@@ -335,7 +335,7 @@ observer_goes = refl
 -- ---- a peer that takes less by then
 
 -- an answer is made bare, as 5.00, where it does not fit the peer any more; where nothing does, the connection stops
-takes_less : Plays usual (begun 1
+takes_less : Plays usual (greeted_rows 1
     ++ In 1 (asked "05" "1") => Taken 11
     ∷ In 1 (hex "20e12103") => Taken 4
     ∷ Tick 1 => Done
@@ -352,7 +352,7 @@ unfolding told
 takes_less = refl
 
 -- and a Pong that does not fit with Custody goes without it
-custody_does_not_fit : Plays usual (begun 1
+custody_does_not_fit : Plays usual (greeted_rows 1
     ++ In 1 (asked "05" "1") => Taken 11
     ∷ In 1 (ping "06") => Taken 4
     ∷ In 1 (hex "20e12103") => Taken 4

@@ -51,7 +51,7 @@ unfolding told narrow_config
 each_by_its_own = refl
 
 -- The size in force is announced again as it is, and then there is no room until that is written.
-again : Plays narrow_config (
+announced_again : Plays narrow_config (
     Open 1 => Done
     ∷ Drain 1 => Out (hex "50e12204804140")
     ∷ In 1 (hex "00e1") => Taken 2
@@ -61,7 +61,7 @@ again : Plays narrow_config (
     ∷ In 1 (hex "0000") => Taken 2
     ∷ [])
 unfolding told narrow_config
-again = refl
+announced_again = refl
 
 -- ---- why it is not announced
 
@@ -80,26 +80,26 @@ opened_events : List Event
 opened_events = greeted_events ++ Took 1 (hex "00e1") ∷ []
 
 -- before the peer's Capabilities and Settings, and on no connection
-not_open : announced_refusal_on 2000 (there greeted_events 1) ≡ Some fault.NotOpen
+not_open_to_announce : announced_refusal_on 2000 (there greeted_events 1) ≡ Some fault.NotOpen
 unfolding told narrow_config greeted_events
-not_open = refl
+not_open_to_announce = refl
 
 no_such : announced_refusal_on 2000 (there greeted_events 2) ≡ Some fault.NoSuch
 unfolding told narrow_config greeted_events
 no_such = refl
 
-too_large : announced_refusal_on 1048577 (there opened_events 1) ≡ Some fault.TooLarge
+too_large_to_announce : announced_refusal_on 1048577 (there opened_events 1) ≡ Some fault.TooLarge
 unfolding told narrow_config greeted_events opened_events
-too_large = refl
+too_large_to_announce = refl
 
-lower : announced_refusal_on 1000 (there opened_events 1) ≡ Some fault.Lower
+lower_not_announced : announced_refusal_on 1000 (there opened_events 1) ≡ Some fault.Lower
 unfolding told narrow_config greeted_events opened_events
-lower = refl
+lower_not_announced = refl
 
 -- before the announcement is written
-no_room : announced_refusal_on 2000 (there (opened_events ++ Announced 1 1152 ∷ []) 1) ≡ Some fault.NoRoom
+no_room_to_announce : announced_refusal_on 2000 (there (opened_events ++ Announced 1 1152 ∷ []) 1) ≡ Some fault.NoRoom
 unfolding told narrow_config greeted_events opened_events
-no_room = refl
+no_room_to_announce = refl
 
 -- a peer that takes 4 bytes does not take the 5 of an announcement
 too_small : announced_refusal_on 2000 (there (greeted_events ++ Took 1 (hex "20e12104") ∷ []) 1) ≡ Some fault.PeerTooSmall

@@ -1,4 +1,4 @@
-use Rattle.coap_client.proofs.LimitLaws.{few_kept, few_wait, few_outstanding, nothing_held}
+use Rattle.coap_client.proofs.LimitLaws.{few_kept, few_wait, few_outstanding, client_holds_nothing}
 use Rattle.coap_client.proofs.laws.limits_are_kept.Goals as goal
 
 pub returns-clause-kept : goal.returns-clause-kept
@@ -11,4 +11,4 @@ pub returns-clause-outstanding : goal.returns-clause-outstanding
 returns-clause-outstanding c limits tokens calls ranges accepted = few_outstanding limits tokens calls
 
 pub returns-clause-held : goal.returns-clause-held
-returns-clause-held c limits tokens calls = nothing_held limits tokens calls
+returns-clause-held c limits tokens calls = client_holds_nothing limits tokens calls

@@ -1,10 +1,10 @@
 use Rattle.std.proofs.Common.{sym, ap, ◌∙◌}
 use Rattle.coap_wire.specs.Views.{coap_options}
 use Rattle.coap_client.specs.RequestViews.{extras_value}
-use Rattle.coap_client.proofs.RequestLemmas.{cancelled}
+use Rattle.coap_client.proofs.RequestLemmas.{cancel_is_made}
 use Rattle.coap_client.proofs.request.cancellation.Goals as goal
 
 pub returns : goal.returns
 returns c =
     let e = extras_value c.args.extras.now in
-    cancelled c.args.target.now e (coap_options c.as_slice.result.now) c.built.result (sym c.has_long_extra.ensures ∙ c.if-has_long_extra.false) (ap coap_options c.as_slice.ensures.value ∙ c.all_options-options.ensures.value) c.built.ensures
+    cancel_is_made c.args.target.now e (coap_options c.as_slice.result.now) c.built.result (sym c.has_long_extra.ensures ∙ c.if-has_long_extra.false) (ap coap_options c.as_slice.ensures.value ∙ c.all_options-options.ensures.value) c.built.ensures

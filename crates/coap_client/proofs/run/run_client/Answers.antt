@@ -1,7 +1,7 @@
 use Rattle.std.proofs.Common.{◌≡◌, refl, inl, inr, ap, subst, ◌∙◌, ◌+◌, ℕ, arith}
 use Rattle.coap_client.specs.RunCourse.{Begins, Turns, turns_in}
 use Rattle.coap_client.specs.ClientRun.{seen, LeadsOn, IsFlushed, most_turns}
-use Rattle.coap_client.proofs.RunLemmas.{neither_first, neither_second, began, turned, few_turns, all_turns, run_of, as_many}
+use Rattle.coap_client.proofs.RunLemmas.{neither_first, neither_second, began, turn_made, few_turns, turns_are, run_of, as_many}
 use Rattle.coap_client.proofs.run.run_client.Goals as goal
 
 pub loop-init : goal.loop-init
@@ -26,7 +26,7 @@ loop-preserved g c =
     let now = seen (g.W.Wire.given c.loop.wire) (g.W.Wire.written c.loop.wire) (g.W.Wire.answers c.loop.wire) (g.C.Clock.moments c.now-in-loop.new.self) (g.O.Outlet.written c.loop.out) (g.E.Outlet.written c.loop.err) in
     let after = seen (g.W.Wire.given c.turn.new.wire) (g.W.Wire.written c.turn.new.wire) (g.W.Wire.answers c.turn.new.wire) (g.C.Clock.moments c.now-in-loop.new.self) (g.O.Outlet.written c.turn.new.out) (g.E.Outlet.written c.turn.new.err) in
     let course = Turns led.course c.now-in-loop.result in
-    let turning = turned c.args.plan.now start before c.loop.run led.course led.stands led.ends (led.holds.between led.ends)
+    let turning = turn_made c.args.plan.now start before c.loop.run led.course led.stands led.ends (led.holds.between led.ends)
     (record c.loop.run { moment = c.max.result }) c.now-in-loop.result (g.C.Clock.moments c.now-in-loop.new.self) refl refl refl refl c.max.ensures refl refl c.now-in-loop.ensures in
     let went = c.in_ok-status.ensures.runs start now course turning led.ends tt in
     record {
@@ -44,7 +44,7 @@ returns-in-Some-clause-run g c =
     let now = seen (g.W.Wire.given c.loop.wire) (g.W.Wire.written c.loop.wire) (g.W.Wire.answers c.loop.wire) (g.C.Clock.moments c.now-in-loop.new.self) (g.O.Outlet.written c.loop.out) (g.E.Outlet.written c.loop.err) in
     let after = seen (g.W.Wire.given c.turn.new.wire) (g.W.Wire.written c.turn.new.wire) (g.W.Wire.answers c.turn.new.wire) (g.C.Clock.moments c.now-in-loop.new.self) (g.O.Outlet.written c.turn.new.out) (g.E.Outlet.written c.turn.new.err) in
     let course = Turns led.course c.now-in-loop.result in
-    let turning = turned c.args.plan.now start before c.loop.run led.course led.stands led.ends (led.holds.between led.ends)
+    let turning = turn_made c.args.plan.now start before c.loop.run led.course led.stands led.ends (led.holds.between led.ends)
     (record c.loop.run { moment = c.max.result }) c.now-in-loop.result (g.C.Clock.moments c.now-in-loop.new.self) refl refl refl refl c.max.ensures refl refl c.now-in-loop.ensures in
     let went = c.in_ok-status.ensures.runs start now course turning led.ends tt in
     run_of c.args.plan.now start after c.turn.new.self went.course went.stands
@@ -56,5 +56,5 @@ returns-clause-run g c =
     let led = c.loop.invariant.runs in
     let start = seen (g.W.Wire.given c.args.wire.now) (g.W.Wire.written c.args.wire.now) (g.W.Wire.answers c.args.wire.now) (g.C.Clock.moments c.args.clock.now) (g.O.Outlet.written c.args.out.now) (g.E.Outlet.written c.args.err.now) in
     let now = seen (g.W.Wire.given c.loop.wire) (g.W.Wire.written c.loop.wire) (g.W.Wire.answers c.loop.wire) (g.C.Clock.moments c.loop.clock) (g.O.Outlet.written c.loop.out) (g.E.Outlet.written c.loop.err) in
-    let all : turns_in led.course ≡ most_turns = all_turns (turns_in led.course) c.loop.counter led.holds.turns (omega arith) (omega arith) in
+    let all : turns_in led.course ≡ most_turns = turns_are (turns_in led.course) c.loop.counter led.holds.turns (omega arith) (omega arith) in
     run_of c.args.plan.now start now c.loop.run led.course led.stands (omega (arith, all)) 4 (inr (led.ends, led.holds.between led.ends, all, refl))

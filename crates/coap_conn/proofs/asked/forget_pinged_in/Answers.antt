@@ -2,11 +2,11 @@ use Rattle.std.proofs.Common.{map, not, ap, ◌∙◌, rules, tests}
 use Rattle.std.proofs.lemmas.Fn.{filter_same}
 use Rattle.coap_conn.specs.Outstanding.{is_pinged}
 use Rattle.coap_conn.specs.OutstandingViews.{outstanding_value}
-use Rattle.coap_conn.proofs.AskedLemmas.{left_of}
+use Rattle.coap_conn.proofs.AskedLemmas.{values_filtered}
 use Rattle.coap_conn.proofs.asked.forget_pinged_in.Goals as goal
 
 pub returns-clause-others : goal.returns-clause-others
 returns-clause-others c =
     ap (map outstanding_value)
     (filter_same _ (λ e. not (is_pinged c.args.token.now (outstanding_value e))) _ (λ x b q k. search (rules, tests)) _ _ c.retain.ensures.filtered)
-    ∙ left_of (λ e. not (is_pinged c.args.token.now e)) c.args.entries.now.items
+    ∙ values_filtered (λ e. not (is_pinged c.args.token.now e)) c.args.entries.now.items

@@ -1,6 +1,6 @@
 use Rattle.std.proofs.Common.{◌≡◌, ℕ, List, ◌≤◌, ◌<◌, ◌++◌, length, take, drop, ◌-◌, ap, ◌∙◌, arith}
 use Rattle.std.proofs.lemmas.List.{take_rest}
-use Rattle.coap_frame.proofs.FillLemmas.{told, filled_bad_token, filled_too_large, filled_unknown, filled_short, filled_whole}
+use Rattle.coap_frame.proofs.FillLemmas.{size_above_filled, filled_bad_token, filled_too_large, filled_unknown, filled_short, filled_whole}
 use Rattle.coap_frame.proofs.filling.fill.Goals as goal
 
 pub returns-then-size-max-clause-filled : goal.returns-then-size-max-clause-filled
@@ -9,7 +9,7 @@ returns-then-size-max-clause-filled c =
 
 pub overflow_sub-missing : goal.overflow_sub-missing
 overflow_sub-missing c =
-    let more = told c.args.max _ _ _ _ _ c.requires.unfinished c.fill_head-taken.ensures.head.taken_to c.in-Size.size c.in-Size.is in
+    let more = size_above_filled c.args.max _ _ _ _ _ c.requires.unfinished c.fill_head-taken.ensures.head.taken_to c.in-Size.size c.in-Size.is in
     omega (arith, more, c.len.ensures)
 
 pub returns-then-rest-missing-clause-filled : goal.returns-then-rest-missing-clause-filled

@@ -3,7 +3,7 @@ use Rattle.coap_serve.specs.world.Observers.{is_whole}
 use Rattle.coap_serve.specs.values.Sessions.{ObserverValue, is_stale}
 use Rattle.coap_serve.specs.views.ObserverViews.{observer_value}
 use Rattle.coap_serve.proofs.values.EntryLemmas.{is_first}
-use Rattle.coap_serve.proofs.values.AnsweringLemmas.{goes_whole, stays_by, told_entries, gone_entries}
+use Rattle.coap_serve.proofs.values.AnsweringLemmas.{goes_whole, observer_stays_by, told_entries, gone_entries}
 use Rattle.coap_serve.proofs.answering.notify.Goals.{else-goes_on-via-then-goes_on+else-is_whole, else-goes_on-via-else-goes_on}
 use Rattle.coap_serve.proofs.answering.notify.Goals as goal
 
@@ -23,7 +23,7 @@ returns-then-is_whole-clause-entries c = λ o at.
     let host = c.args.host.now in
     let link = c.args.link.now in
     let entries = c.args.observers.now.entries in
-    let stays = stays_by host link seen c.notification-plan.result c.code.result c.eq-goes_on.result c.respond-reply.result c.notification-plan.ensures.told c.code.ensures c.eq-goes_on.ensures (rw c.of.ensures at c.respond-reply.ensures.reply) in
+    let stays = observer_stays_by host link seen c.notification-plan.result c.code.result c.eq-goes_on.result c.respond-reply.result c.notification-plan.ensures.told c.code.ensures c.eq-goes_on.ensures (rw c.of.ensures at c.respond-reply.ensures.reply) in
     let both : (c.eq-goes_on.result && is_whole c.respond-reply.result) ≡ true = rw (c.if-goes_on.true, ← c.is_whole.ensures) c.if-is_whole.true in
     c.tell.ensures o at
     ∙ ap (λ (n : ℕ). record c.args.observers.now { entries = slice_set entries c.args.stale.index (record o { mark = n }) }) (c.requires.first.mark o at)
@@ -36,7 +36,7 @@ returns-else-goes_on-clause-entries c = λ o at.
     let host = c.args.host.now in
     let link = c.args.link.now in
     let entries = c.args.observers.now.entries in
-    let stays = stays_by host link seen c.notification-plan.result c.code.result c.eq-goes_on.result c.respond-reply.result c.notification-plan.ensures.told c.code.ensures c.eq-goes_on.ensures (rw c.of.ensures at c.respond-reply.ensures.reply) in
+    let stays = observer_stays_by host link seen c.notification-plan.result c.code.result c.eq-goes_on.result c.respond-reply.result c.notification-plan.ensures.told c.code.ensures c.eq-goes_on.ensures (rw c.of.ensures at c.respond-reply.ensures.reply) in
     let not_both : (c.eq-goes_on.result && is_whole c.respond-reply.result) ≡ false =
     elim c.else-goes_on.branch [
       | else-goes_on-via-then-goes_on+else-is_whole w ↦ rw (w.if-goes_on.true, ← w.is_whole.ensures) w.if-is_whole.false

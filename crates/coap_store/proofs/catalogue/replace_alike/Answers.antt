@@ -2,7 +2,7 @@ use Rattle.std.proofs.Common.{◌≡◌, Some, None, refl, sym, ap, subst, ◌�
 use Rattle.std.proofs.lemmas.Map.Steps.{set_value_same}
 use Rattle.coap_store.specs.Store.{put_at}
 use Rattle.coap_store.specs.ResourceViews.{AreListed, resources_in}
-use Rattle.coap_store.proofs.CatalogueLemmas.{key_test, format_found, denied, affirmed, same_format, written_list, written_are_listed, bytes_of_written}
+use Rattle.coap_store.proofs.CatalogueLemmas.{key_test, format_found, false_by_not, affirmed, same_format, written_list, written_are_listed, bytes_of_written}
 use Rattle.coap_store.proofs.catalogue.replace_alike.Goals as goal
 
 -- what was found, written back
@@ -16,7 +16,7 @@ returns-in_default-clause-alike c = format_found _ _ c.args.format None c.in_def
 
 pub returns-then-ne-clause-alike : goal.returns-then-ne-clause-alike
 returns-then-ne-clause-alike c =
-    denied _ (sym c.ne.ensures ∙ c.if-ne.true) ∙ format_found _ _ c.args.format (Some c.in-Some.resource.now) c.in-Some.ensures.value
+    false_by_not _ (sym c.ne.ensures ∙ c.if-ne.true) ∙ format_found _ _ c.args.format (Some c.in-Some.resource.now) c.in-Some.ensures.value
 
 pub returns-then-ne-clause-all_listed : goal.returns-then-ne-clause-all_listed
 returns-then-ne-clause-all_listed c = subst (λ es. AreListed es) (sym (left c)) c.requires

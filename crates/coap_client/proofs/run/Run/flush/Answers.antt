@@ -2,7 +2,7 @@ use Rattle.std.proofs.Common.{Some}
 use Rattle.coap_serve.proofs.streams.DeviceLemmas.{bytes_none}
 use Rattle.coap_client.specs.RunCourse.{calls_in, turns_in}
 use Rattle.coap_client.specs.ClientRun.{with_wire, IsFlushed, LeadsOn}
-use Rattle.coap_client.proofs.RunLemmas.{answers_so, some_waits, wrote_on, wrote_last}
+use Rattle.coap_client.proofs.RunLemmas.{answers_so, some_waits, write_leads_on, wrote_last}
 use Rattle.coap_client.proofs.run.Run.flush.Goals as goal
 
 pub returns-in-Some-clause-runs : goal.returns-in-Some-clause-runs
@@ -23,7 +23,7 @@ pub returns-in-None-clause-runs : goal.returns-in-None-clause-runs
 returns-in-None-clause-runs g c = λ plan start now course stands ends may rests.
     let write = c.write-got.ensures in
     let got = c.write-got.result in
-    wrote_on plan start (with_wire (g.W.Wire.given c.args.wire.now) (g.W.Wire.written c.args.wire.now) (g.W.Wire.answers c.args.wire.now) (g.E.Outlet.written c.args.err.now) now) c.args.self.now course stands
+    write_leads_on plan start (with_wire (g.W.Wire.given c.args.wire.now) (g.W.Wire.written c.args.wire.now) (g.W.Wire.answers c.args.wire.now) (g.E.Outlet.written c.args.err.now) now) c.args.self.now course stands
     c.write-got.new.self got (g.W.Wire.given c.write-got.new.wire) (g.W.Wire.written c.write-got.new.wire) (g.E.Outlet.written c.args.err.now) (g.W.Wire.answers c.write-got.new.wire)
     (some_waits c.args.self.now.client c.waiting.result c.waiting.ensures c.if-waiting-eq0.false) may rests write.client (write.shows 0 (calls_in course) stands.shows)
     write.kept.0 write.kept.1 write.kept.2 write.kept.3 write.kept.4 write.kept.5 write.wrote write.gave write.answered

@@ -1,7 +1,7 @@
 use Rattle.std.proofs.Common.{refl, ◌∙◌}
 use Rattle.coap_client.specs.RunCourse.{turns_in}
 use Rattle.coap_client.specs.ClientRun.{with_outlets, IsTaken, IsFinished, LeadsOn}
-use Rattle.coap_client.proofs.RunLemmas.{answers_so, asked_next, asked_then, taken_then, as_many, watched_so}
+use Rattle.coap_client.proofs.RunLemmas.{answers_so, asked_next, asked_then, finished_after_taking, as_many, watched_so}
 use Rattle.coap_client.proofs.run.Run.go_on.Goals as goal
 
 pub returns-in-Some-clause-runs : goal.returns-in-Some-clause-runs
@@ -17,7 +17,7 @@ returns-in-Some-2-clause-runs g c = λ start now course stands goes looked.
     let asked = asked_next c.args.plan.now start (with_outlets (g.O.Outlet.written c.args.out.now) (g.E.Outlet.written c.args.err.now) now) c.args.self.now course stands
     c.ask.new.self (g.E.Outlet.written c.ask.new.err) goes ask.kept.0 ask.kept.1 ask.kept.2 ask.kept.3 ask.kept.4 looked ask.after ask.token ask.told c.in_ok-status.field-0 ask.next in
     let on = asked.ends ∙ c.in_default.is in
-    taken_then (turns_in asked.course) (turns_in course) c.in_ok-status-2.field-0 c.in-Some-2.status asked.holds.turns c.in-Some-2.is
+    finished_after_taking (turns_in asked.course) (turns_in course) c.in_ok-status-2.field-0 c.in-Some-2.status asked.holds.turns c.in-Some-2.is
     (c.in_ok-status-2.ensures.runs start now asked.course asked.stands on (record { looked = asked.holds.looked; asked = asked.holds.asked on }))
 
 pub returns-clause-runs : goal.returns-clause-runs

@@ -1,7 +1,7 @@
 use Rattle.std.proofs.Common.{Some, None, refl, sym, ap, ◌∙◌, length, List, ℕ, arith}
 use Rattle.coap_client.specs.RunCourse.{turns_in}
 use Rattle.coap_client.specs.ClientRun.{with_outlets}
-use Rattle.coap_client.proofs.RunLemmas.{neither_first, took_ends, took_asked, ended_taken, all_taken, all_gone, takes_one, fewer_left}
+use Rattle.coap_client.proofs.RunLemmas.{neither_first, took_ends, took_asked, ended_taken, all_that_may_is_taken, all_gone, takes_one, fewer_left}
 use Rattle.coap_client.proofs.run.Run.take_all.Goals as goal
 
 pub loop-init : goal.loop-init
@@ -13,7 +13,7 @@ loop-init g c = record {
 
 pub returns-then-not-may_take-clause-runs : goal.returns-then-not-may_take-clause-runs
 returns-then-not-may_take-clause-runs g c = λ start now course stands goes ready.
-    all_taken c.args.plan.now start (with_outlets (g.O.Outlet.written c.loop.out) (g.E.Outlet.written c.loop.err) now) c.loop.self (turns_in course) (c.loop.invariant.runs start now course stands goes ready).0
+    all_that_may_is_taken c.args.plan.now start (with_outlets (g.O.Outlet.written c.loop.out) (g.E.Outlet.written c.loop.err) now) c.loop.self (turns_in course) (c.loop.invariant.runs start now course stands goes ready).0
     (sym c.may_take.ensures ∙ c.if-not-may_take.true)
 
 pub returns-clause-runs : goal.returns-clause-runs

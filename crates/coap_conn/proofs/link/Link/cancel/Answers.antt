@@ -7,7 +7,7 @@ use Rattle.coap_conn.specs.LinkValue.{LinkValue, asking_in}
 use Rattle.coap_conn.specs.LinkViews.{link_value}
 use Rattle.coap_conn.specs.Calls as call
 use Rattle.coap_conn.proofs.LinkLemmas.{shows}
-use Rattle.coap_conn.proofs.AskedLemmas.{cancel_size, cancel_after}
+use Rattle.coap_conn.proofs.AskedLemmas.{size_decides_cancel, cancel_after}
 use Rattle.coap_conn.proofs.link.Link.cancel.Goals as goal
 
 pub returns-in_err-queue_asked-clause-answer : goal.returns-in_err-queue_asked-clause-answer
@@ -16,13 +16,13 @@ returns-in_err-queue_asked-clause-answer c =
     let opened : is_open c.args.self.now.phase ≡ true = search (rules, tests) in
     let there : has_observation (asking_in c.args.self.now) c.args.token.now.items ≡ true = search (rules, tests) in
     rw (p.1, p.2)
-    (cancel_size (asking_in c.args.self.now) c.args.token.now.items _ c.with_token.result _ opened there c.with_token.ensures c.in_err-queue_asked.ensures.answer)
+    (size_decides_cancel (asking_in c.args.self.now) c.args.token.now.items _ c.with_token.result _ opened there c.with_token.ensures c.in_err-queue_asked.ensures.answer)
 
 pub returns-clause-answer : goal.returns-clause-answer
 returns-clause-answer c =
     let opened : is_open c.args.self.now.phase ≡ true = search (rules, tests) in
     let there : has_observation (asking_in c.args.self.now) c.args.token.now.items ≡ true = search (rules, tests) in
-    cancel_size (asking_in c.args.self.now) c.args.token.now.items _ c.with_token.result _ opened there c.with_token.ensures c.in_ok-queue_asked.ensures.answer
+    size_decides_cancel (asking_in c.args.self.now) c.args.token.now.items _ c.with_token.result _ opened there c.with_token.ensures c.in_ok-queue_asked.ensures.answer
 
 pub returns-clause-after : goal.returns-clause-after
 returns-clause-after c =
