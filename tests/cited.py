@@ -12,9 +12,9 @@ uncited   lemmas and definitions of specs/ and proofs/ that nothing which counts
           by its name.
 doubled   names of lemmas that stand in more than one file of proofs/ (answers to goals aside): in the line of a
           crate in its files, in the last line in those of any crates
-long      lines of more than 120 columns; those of ghost imports (`use` of .antt files, `ghost use` of .rt files)
-          are counted apart
-imports   lines of ghost imports
+long      lines of more than 120 columns; those of ghost imports (`use` and `pub use` of .antt files, `ghost use` of
+          .rt files) are counted apart
+imports   lines of ghost imports, and those of them that stand in the code
 """
 
 import glob
@@ -28,7 +28,7 @@ from rooms import ROOT, crates
 WIDTH = 120
 ANSWERS = ("Answers", "Invariants", "Proof")
 WORD = re.compile(r"[^\s()\[\]{},;\"λ|]+")
-IMPORT = re.compile(r"(?:ghost )?use ([\w.«»]+?)(?:\.\{(.*)\}| as (\w+))?;?$")
+IMPORT = re.compile(r"(?:ghost |pub )?use ([\w.«»]+?)(?:\.\{(.*)\}| as (\w+))?;?$")
 MODULE = re.compile(r"(pub )?mod ")
 HEAD = re.compile(r"((?:(?:abbrev|unfoldable|pub|record|data|ruleset) )*)([^\s:)\]}][^\s:]*)(?= [:({=]| where|$)")
 
@@ -55,7 +55,7 @@ class Scope:
     """What names stand for in a file: those that it defines or imports, and the modules that it names."""
 
     def __init__(self, module=""):
-        self.module, self.names, self.modules, self.imports = module, defaultdict(set), {}, 0
+        self.module, self.names, self.modules, self.imports, self.passed = module, defaultdict(set), {}, 0, {}
 
     def add_import(self, line):
         path, items, alias = IMPORT.match(line).groups()
@@ -65,6 +65,8 @@ class Scope:
         for item in (items or "").split(", "):
             name, _, alias = item.partition(" as ")
             self.names[alias or name].add(f"{path}.{name}")
+            if line.startswith("pub "):
+                self.passed[f"{self.module}.{alias or name}"] = f"{path}.{name}"
 
     def cited(self, words):
         """The full names that words may stand for."""
@@ -90,7 +92,7 @@ def module_of(path):
 def read_antt(path, crate):
     """The definitions of a file, and its scope."""
     module = module_of(path)
-    scope, found, blocks = Scope(), [], []
+    scope, found, blocks = Scope(module), [], []
     with open(path, encoding="utf-8") as lines:
         for number, line in enumerate(lines, 1):
             line = line.partition("-- ")[0].rstrip()
@@ -100,7 +102,7 @@ def read_antt(path, crate):
             indent = len(line) - len(text)
             while blocks and indent <= blocks[-1][0]:
                 blocks.pop()
-            if text.startswith("use "):
+            if text.startswith(("use ", "pub use ")):
                 scope.add_import(text)
             elif text.startswith("module "):
                 blocks.append((indent, WORD.findall(text)))
@@ -152,11 +154,13 @@ def files(crate, ending):
     return sorted(it for folder in folders for it in glob.glob(f"{folder}/**/*.{ending}", recursive=True))
 
 
-def reached(definitions, cites, roots):
-    """The full names that the roots cite, and what these cite in turn."""
+def reached(definitions, cites, passed, roots):
+    """The full names that the roots cite, and what these cite in turn, under the names of their own modules."""
     seen, left = set(), list(roots)
     while left:
         name = left.pop()
+        while name in passed:
+            name = passed[name]
         if name in definitions and name not in seen:
             seen.add(name)
             left += cites[name]
@@ -170,7 +174,7 @@ def long_lines(crate):
         with open(path, encoding="utf-8") as lines:
             for number, line in enumerate(lines, 1):
                 if len(line.rstrip("\n")) > WIDTH:
-                    found[not re.match(r" *(ghost )?use ", line)].append(f"{path.removeprefix(ROOT + '/')}:{number}")
+                    found[not IMPORT.match(line.strip())].append(f"{path.removeprefix(ROOT + '/')}:{number}")
     return found
 
 
@@ -184,10 +188,12 @@ def doubled(definitions, among):
 
 
 class Sources:
-    """All definitions by their full names, what each cites, what counts by itself, and the imports of each crate."""
+    """All definitions by their full names, what each cites, what counts by itself, the names that modules pass on, and
+    the imports of each crate."""
 
     def __init__(self):
-        self.definitions, self.cites, self.roots, self.imports = {}, {}, set(), defaultdict(int)
+        self.definitions, self.cites, self.roots, self.passed = {}, {}, set(), {}
+        self.imports, self.in_code = defaultdict(int), defaultdict(int)
         for crate in crates():
             for path in files(crate, "antt"):
                 self.add_antt(path, crate)
@@ -195,10 +201,12 @@ class Sources:
                 cited, count = read_rust(path, crate)
                 self.roots |= cited
                 self.imports[crate] += count
+                self.in_code[crate] += count
 
     def add_antt(self, path, crate):
         found, scope = read_antt(path, crate)
         self.imports[crate] += scope.imports
+        self.passed |= scope.passed
         for it in found:
             name = f"{it.module}.{it.name}"
             self.definitions[name], self.cites[name] = it, set(scope.cited(it.text))
@@ -210,7 +218,7 @@ class Sources:
 
     def uncited(self):
         """The definitions that nothing which counts cites."""
-        seen = reached(self.definitions, self.cites, self.roots)
+        seen = reached(self.definitions, self.cites, self.passed, self.roots)
         return {name: it for name, it in self.definitions.items() if it and name not in seen}
 
 
@@ -218,7 +226,7 @@ def main(words):
     wanted = [it for it in words if it != "--list"] or list(crates())
     sources = Sources()
     uncited, definitions = sources.uncited(), {name: it for name, it in sources.definitions.items() if it}
-    sums = [0] * 5
+    sums = [0] * 6
     for crate in wanted:
         by_import, by_text = long_lines(crate)
         lists = {
@@ -227,7 +235,7 @@ def main(words):
             "long": by_text,
             "long imports": by_import,
         }
-        counts = [*map(len, lists.values()), sources.imports[crate]]
+        counts = [*map(len, lists.values()), sources.imports[crate], sources.in_code[crate]]
         sums = [a + b for a, b in zip(sums, counts)]
         tell(crate, counts)
         for what, items in lists.items() if "--list" in words else ():
@@ -239,7 +247,7 @@ def main(words):
 
 
 def tell(crate, counts):
-    form = "{:18} uncited {:3}  doubled {:3}  long {:4}, imports {:4}  imports {:5}"
+    form = "{:18} uncited {:3}  doubled {:3}  long {:4}, imports {:4}  imports {:5}, in code {:4}"
     print(form.format(crate, *counts), flush=True)
 
 

@@ -703,7 +703,7 @@ BROKEN = [
     (check_file, "mode tcp", "mode http"),
     (check_file, "timeout connect 2s\n", "timeout conect 2s\n"),
     (check_libcoap, " ssl crt ", " crt "),
-    (check_libcoap, "60e1230100004140", "40e123020000"),
+    (check_libcoap, "60e1230100004140", "60e1230200004140"),
     (check_libcoap, "    tcp-request content accept if { req.len ge 2 }\n", ""),
     (check_tls, "    tcp-request content reject unless { ssl_fc_alpn coap }\n", ""),
     (check_tls, " alpn coap ssl-min-ver", " ssl-min-ver"),

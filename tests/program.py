@@ -87,7 +87,7 @@ SCRIPTS = [
     ("", ""),
     ("\n# open\n\n", ""),
     ("open\ndrain 1\n", f"open 1\nout 1 {CSM}\n"),
-    ("open\n# é\n\nopen\ndrain 2 3\nstatus 1\nin 3 00\n", "open 1\nopen 2\nout 2 40e123\nstatus 1 waiting kept 0 waiting 6 pending 0 observers 0\nin 3 fault 1\n"),
+    ("open\n# é\n\nopen\ndrain 2 3\nstatus 1\nin 3 00\n", "open 1\nopen 2\nout 2 60e123\nstatus 1 waiting kept 0 waiting 8 pending 0 observers 0\nin 3 fault 1\n"),
     # the program's settings: 16 connections, no dynamic resource, counts that begin at 0
     ("open\n" * 17, "".join(f"open {it}\n" for it in range(1, 17)) + "open fault 1\n"),
     ("put /a - 00\nremove /a\ntick 0\n", "put fault 3\nremove fault 1\ntick 0\n"),

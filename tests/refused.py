@@ -181,7 +181,7 @@ def wrong_at_the_greatest_script(server):
     put = b"put /a - " + b"78" * 65_000 + b"\n"
     script = b"open\n" + put + b"status 1\n" * ((MEBIBYTE - len(put) - 5) // 9)
     script += b"#" * (MEBIBYTE - len(script) - 1) + b"\n"
-    status = b"status 1 waiting kept 0 waiting 6 pending 0 observers 0\n"
+    status = b"status 1 waiting kept 0 waiting 8 pending 0 observers 0\n"
     ran = over_streams(server, "--script", "-", "-d", "1", stream=script)(dict(os.environ))
     wanted = b"open 1\nput 1\n" + status * script.count(b"status")
     return "" if (len(script), ran.status, ran.written) == (MEBIBYTE, 0, wanted) else f"status {ran.status}: {ran.said[-200:]}"
@@ -194,7 +194,7 @@ def wrong_at_the_greatest_door(server):
     command = [server, "-A", SERVER_HOST, "-p", str(port), "-d", "1000", "--connections", "256", *limits]
     greatest = encoded(3, b"\1", [(11, b"a")], b"x" * 1_048_566)
     puts = [encoded(3, bytes([2 + number]), [(11, b"a")], b"x" * 65_000) for number in range(12)]
-    wanted = bytes.fromhex("40e123100000" "418d01d22ffde8" "014102") + b"".join(bytes([1, 0x44, 3 + number]) for number in range(11))
+    wanted = bytes.fromhex("60e1231000004140" "418d01d22ffde8" "014102") + b"".join(bytes([1, 0x44, 3 + number]) for number in range(11))
     with subprocess.Popen(command, stdin=subprocess.DEVNULL, stderr=subprocess.PIPE) as process:
         line_of(process.stderr)
         with contextlib.ExitStack() as stack:

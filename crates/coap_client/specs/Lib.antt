@@ -15,3 +15,4 @@ pub mod RunTexts
 pub mod RunSteps
 pub mod RunCourse
 pub mod ClientRun
+pub mod Prelude

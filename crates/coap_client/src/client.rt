@@ -1,18 +1,11 @@
 //! A client of one connection.
 
-ghost use Rattle.std.specs.Prelude.{◌≡◌, ◌≤◌, Ok, length, take, option_map};
-ghost use Rattle.coap_wire.specs.Reading.{message_of};
-ghost use Rattle.coap_wire.specs.Recognition.{first_critical};
-ghost use Rattle.coap_frame.specs.Framing.{IsFramer, framing_of, framer_after, frame_back};
-ghost use Rattle.coap_conn.specs.Phases.{IsLive};
-ghost use Rattle.coap_conn.specs.Reaction.{react};
-ghost use Rattle.coap_conn.specs.Rejects.{reject_reason};
-ghost use Rattle.coap_conn.specs.LinkValue.{IsReady, standing_in};
-ghost use Rattle.coap_conn.specs.Calls.{link_after};
+ghost use Rattle.std.specs.Prelude.{◌≡◌, ◌≤◌, Ok, length, take, option_map, ◌++◌, ◌∷◌, ⊤, ℕ, List, [], IfOk, OnOk, OnErr};
+ghost use Rattle.coap_client.specs.Prelude.{message_of, first_critical, IsFramer, framing_of, framer_after, frame_back, IsLive, react, reject_reason, standing_in, link_after, answer_told, event_told, event_value, answer_read, pong_read, heard_value, taken_event, taking_framed, sem, follows_so, none, RefusedBy, next_token, IsNextPart, extras_value, ClientValue, taking, client_takes, new_client, client_written, client_ended, client_sent, client_cancelled, client_pinged, send_refusal, cancelling_refusal, ping_refusal, ClientCall, ClientShows, Took, Sent, Cancelled, Pinged, Wrote, Ended, takes, event_of};
+ghost use Rattle.coap_conn.specs.LinkValue.{IsReady};
 ghost use Rattle.coap_conn.specs.Calls as call;
-ghost use Rattle.coap_client.specs.ClientValues.{answer_told, event_told};
-ghost use Rattle.coap_client.specs.EventViews.{event_value, answer_read, pong_read, heard_value, taken_event, taking_framed};
 ghost use Rattle.coap_client.specs.declared.client.Heard.TheVariants as heard;
+ghost use Rattle.coap_client.specs.contracts.client.Client.{the_row};
 
 use crate::request::{Extras, Method, cancellation, formats_of, request};
 use crate::target::Target;
@@ -108,18 +101,6 @@ impl Model for Client {
 }
 
 impl Client {
-    ghost use Rattle.std.specs.Prelude.{◌≡◌, ◌≤◌, ◌++◌, ◌∷◌, ⊤, ℕ, List, [], length, take, option_map, IfOk, OnOk, OnErr};
-    ghost use Rattle.std.specs.Borrow.{sem, follows_so};
-    ghost use mathlib.Core.Option.{none};
-    ghost use Rattle.coap_wire.specs.Refusal.{RefusedBy};
-    ghost use Rattle.coap_conn.specs.Asking.{next_token};
-    ghost use Rattle.coap_conn.specs.QueueValue.{IsNextPart};
-    ghost use Rattle.coap_client.specs.RequestViews.{extras_value};
-    ghost use Rattle.coap_client.specs.ClientValues.{ClientValue, taking, client_takes, new_client, client_written, client_ended, client_sent, client_cancelled, client_pinged, send_refusal, cancelling_refusal, ping_refusal};
-    ghost use Rattle.coap_client.specs.ClientWorld.{ClientCall, ClientShows, Took, Sent, Cancelled, Pinged, Wrote, Ended, takes, event_of};
-    ghost use Rattle.coap_client.specs.EventViews.{taken_event};
-    ghost use Rattle.coap_client.specs.contracts.client.Client.{the_row};
-
     /// A new client with these limits, on which our Capabilities and Settings wait. All its room is reserved here. The
     /// first token that it gives is that of the number behind `tokens_from`.
     ///

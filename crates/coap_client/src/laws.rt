@@ -1,15 +1,8 @@
 //! What holds of every client, each as the contract of a function that does nothing.
 
 ghost use Rattle.std.specs.Prelude.{◌≡◌, ℕ, ◌≤◌, ◌<◌, List, [], ◌∷◌, ◌++◌, length, None, Some};
-ghost use Rattle.coap_conn.specs.Fit.{AllFit};
-ghost use Rattle.coap_conn.specs.History.{History, limit_now, waiting_of};
-ghost use Rattle.coap_conn.specs.Limits.{LimitValues, AreInRange};
-ghost use Rattle.coap_conn.specs.Rejects.{reject_of, reject_reason};
+ghost use Rattle.coap_client.specs.Prelude.{AllFit, History, limit_now, waiting_of, LimitValues, AreInRange, reject_of, reject_reason, Message, StreamFault, ClientCall, ClientStep, AreAccepted, Took, client_after, client_of, steps_by, steps_of, step, stream_in, AreDifferent, tokens_given};
 ghost use Rattle.coap_conn.specs.declared.phase.Phase.TheVariants.{Stopped};
-ghost use Rattle.coap_wire.specs.Message.{Message};
-ghost use Rattle.coap_wire.specs.Stream.{StreamFault};
-ghost use Rattle.coap_client.specs.ClientWorld.{ClientCall, ClientStep, AreAccepted, Took, client_after, client_of, steps_by, steps_of, step, stream_in};
-ghost use Rattle.coap_client.specs.ClientLaws.{AreDifferent, tokens_given};
 
 /// After all calls that a client accepts, no limit is passed: kept input, waiting bytes, and what is outstanding; and
 /// nothing is held.

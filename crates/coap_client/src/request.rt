@@ -1,12 +1,8 @@
 //! The message of a request for a target.
 
 ghost use Rattle.std.specs.Prelude.{◌≡◌, ◌≤◌, ◌<◌, ◌+◌, ◌++◌, false, [], ◌∷◌, Some, None, length, option_map, option_copied, IfSome, if◌then◌else◌};
-ghost use Rattle.std.specs.List.{AllByRecursion};
-ghost use Rattle.coap_wire.specs.Message.{last_number};
-ghost use Rattle.coap_wire.specs.Views.{coap_options, with_option};
+ghost use Rattle.coap_client.specs.Prelude.{AllByRecursion, last_number, coap_options, with_option, AreFormatsOf, IsRow, extras_value, given_option, IsShort, byte_lists};
 ghost use Rattle.coap_client.specs.Requests as spec;
-ghost use Rattle.coap_client.specs.RequestViews.{AreFormatsOf, IsRow, extras_value, given_option};
-ghost use Rattle.coap_client.specs.TargetViews.{IsShort, byte_lists};
 
 use crate::target::Target;
 use arrayvec::ArrayVec;

@@ -1,18 +1,11 @@
 //! Runs a client over one wire, as a command line asks.
 
 ghost use Rattle.std.specs.Prelude.{◌≡◌, ◌≤◌, ◌||◌, ◌++◌, ◌∷◌, ℕ, List, false, is_err, None, Some, Err, [], length, drop, option_map, IfOk, IfSome, OnOk, if◌then◌else◌};
-ghost use Rattle.coap_serve.specs.streams.Telling.{TellsMore};
-ghost use Rattle.coap_serve.specs.streams.Wires.{bytes_passed, count_passed};
-ghost use Rattle.coap_serve.specs.streams.Device.{AddsBytes};
-ghost use Rattle.coap_client.specs.EventViews.{event_value};
-ghost use Rattle.coap_client.specs.RequestViews.{extras_value};
-ghost use Rattle.coap_client.specs.RunFaults.{is_output_fault, IfMemory, IsStatus, EndsWithStatus};
+ghost use Rattle.coap_client.specs.Prelude.{TellsMore, bytes_passed, count_passed, AddsBytes, event_value, extras_value, is_output_fault, IfMemory, IsStatus, EndsWithStatus, ClientCall, ClientShows, own_limits, IsFresh, IsClientRun, IsUnbegun, seen, with_outlets, with_wire, with_all, HasLooked, IsReady, IsHeard, IsTaken, IsFinished, IsFlushed, Leads, LeadsAll, Flushes};
 ghost use Rattle.coap_client.specs.ClientValues as value;
-ghost use Rattle.coap_client.specs.ClientWorld.{ClientCall, ClientShows};
-ghost use Rattle.coap_client.specs.RunCourse.{own_limits, IsFresh};
-ghost use Rattle.coap_client.specs.ClientRun.{IsClientRun, IsUnbegun, seen, with_outlets, with_wire, with_all, HasLooked, IsReady, IsHeard, IsTaken, IsFinished, IsFlushed, Leads, LeadsAll, Flushes};
 ghost use Rattle.coap_client.specs.RunSteps as spec;
 ghost use Rattle.coap_client.specs.RunTexts as text;
+ghost use Rattle.coap_client.specs.declared.run.ClientFault.TheVariants as fault;
 
 use crate::client::{Client, Event};
 use crate::plan::ClientPlan;
@@ -36,9 +29,6 @@ pub enum ClientFault {
 }
 
 impl From<WriteFailed> for ClientFault {
-    ghost use Rattle.std.specs.Prelude.{◌≡◌};
-    ghost use Rattle.coap_client.specs.declared.run.ClientFault.TheVariants as fault;
-
     ghost from_gives = { λ failed given. given ≡ fault.Output };
 
     fn from(_failed: WriteFailed) -> ClientFault {

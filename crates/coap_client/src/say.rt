@@ -1,7 +1,7 @@
 //! The lines that a run of the client writes.
 
 ghost use Rattle.std.specs.Prelude.{◌≡◌, false, is_err, OnOk};
-ghost use Rattle.coap_serve.specs.streams.Device.{AddsBytes};
+ghost use Rattle.coap_client.specs.Prelude.{AddsBytes};
 ghost use Rattle.coap_client.specs.RunTexts as text;
 
 use coap_conn::{Reason, RequestFault};

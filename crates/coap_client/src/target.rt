@@ -1,13 +1,10 @@
 //! What a URI of the scheme coap+tcp names.
 
 ghost use Rattle.std.specs.Prelude.{◌≡◌, ◌<◌, ◌+◌, ◌==◌, true, [], ◌∷◌, length, option_copied, IfOk, IfSome, MatchOption};
-ghost use Rattle.std.specs.List.{list_any, slice_split};
+ghost use Rattle.coap_client.specs.Prelude.{list_any, slice_split, borrowed_host, host_text, parse_url, has_host, host_or_empty, byte_lists, named_value, GivesUnlessMemory, target_of, IsTarget};
 ghost use Rattle.percent_encoding.specs.Percent as percent;
-ghost use Rattle.url.specs.Host.{borrowed_host, host_text};
-ghost use Rattle.url.specs.Parser.{parse_url};
-ghost use Rattle.url.specs.Parts.{has_host, host_or_empty};
 ghost use Rattle.coap_client.specs.Targets as spec;
-ghost use Rattle.coap_client.specs.TargetViews.{byte_lists, named_value};
+ghost use Rattle.coap_client.specs.declared.target.TargetFault.TheVariants.{Memory};
 
 use percent_encoding::percent_decode;
 use std::alloc::{AllocError, Global};
@@ -59,9 +56,6 @@ pub enum TargetFault {
 }
 
 impl From<AllocError> for TargetFault {
-    ghost use Rattle.std.specs.Prelude.{◌≡◌};
-    ghost use Rattle.coap_client.specs.declared.target.TargetFault.TheVariants.{Memory};
-
     ghost from_gives = { λ _ why. why ≡ Memory };
 
     fn from(_: AllocError) -> TargetFault {
@@ -104,10 +98,6 @@ impl Model for Target {
 }
 
 impl Target {
-    ghost use Rattle.std.specs.Prelude.{◌≡◌};
-    ghost use Rattle.coap_client.specs.Targets.{GivesUnlessMemory, target_of};
-    ghost use Rattle.coap_client.specs.TargetViews.{IsTarget, byte_lists};
-
     /// The target that a text names. The text is an absolute URL as the crate `url` reads it: the scheme is `coap+tcp`,
     /// the port is 5683 where there is none, an empty path and `/` have no segment, each argument stands between two
     /// `&`, and a lone `?` has one empty argument (RFC 7252 section 6.4). Escapes are decoded, and a cut one stays as

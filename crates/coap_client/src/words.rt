@@ -1,7 +1,7 @@
 //! The command lines of the programs.
 
-ghost use Rattle.std.specs.Prelude.{map};
-ghost use Rattle.coap_client.specs.PlanViews.{IsClientPlan, IsServerPlan};
+ghost use Rattle.std.specs.Prelude.{map, ◌≡◌};
+ghost use Rattle.coap_client.specs.Prelude.{IsClientPlan, IsServerPlan, is_help_or_version, words_fault_number};
 
 mod client;
 mod commands;
@@ -43,9 +43,6 @@ pub enum WordsFault {
 }
 
 impl WordsFault {
-    ghost use Rattle.std.specs.Prelude.{◌≡◌};
-    ghost use Rattle.coap_client.specs.PlanViews.{is_help_or_version, words_fault_number};
-
     /// Its number, 1 to 5.
     pub const fn number(&self) -> u8
         ensures { result ≡ words_fault_number self.now }

@@ -1,5 +1,5 @@
 -- What our end announces as the greatest message that it takes.
-use Rattle.std.proofs.Common.{◌≡◌, ℕ, Bool, true, false, ◌&&◌, cond, List, [], ◌∷◌, ◌++◌, refl, ap}
+use Rattle.std.proofs.Common.{◌≡◌, ℕ, Bool, true, false, ◌&&◌, cond, [], ◌∷◌, ◌++◌, refl, ap}
 use Rattle.std.proofs.lemmas.Bool.{leb-true}
 use Rattle.coap_conn.specs.Phases.{is_open}
 use Rattle.coap_conn.specs.Fit.{AllFit, fits}

@@ -5,7 +5,7 @@ use Rattle.std.proofs.lemmas.Bool.{cases_lt}
 use Rattle.coap_wire.specs.Message.{CoapOption, Message}
 use Rattle.coap_wire.specs.Recognition.{is_critical}
 use Rattle.coap_wire.specs.Uint.{uint_of}
-use Rattle.coap_conn.specs.Announced.{is_size, is_bad, is_long, first_size}
+use Rattle.coap_conn.specs.Announced.{is_size, is_bad, first_size}
 
 bad_step : (x o : CoapOption) (r s : Option CoapOption) (critical size : Bool) → cond size (Some x) r ≡ Some o → cond (critical || (size && true)) (Some x) s ≡ None → (r ≡ Some o → s ≡ None → ⊥) → ⊥
 bad_step x o r s true size e f go = let bad : ◌≡◌ {A = Option CoapOption} (Some x) None = f in cc

@@ -20,7 +20,7 @@ use Rattle.coap_conn.specs.Held.{HeldValue}
 use Rattle.coap_conn.specs.Outstanding.{OutstandingValue, is_asked, is_last, is_pinged}
 use Rattle.coap_conn.specs.Verdicts as verdict
 use Rattle.coap_conn.specs.Reaction.{Standing, Effect, Reaction, react, reaction_unless, live_reaction, open_reaction, csm_reaction, request_reaction, told_of, becomes, is_reserved, is_signal, is_method, minds_critical_options, asks_custody, pong_with, pong_of, late_pong, ping_reaction, not_implemented, answered, pong_reaction}
-use Rattle.coap_conn.specs.LinkValue.{bytes_of, LinkValue, standing_in, link_with, link_handled, link_heard}
+use Rattle.coap_conn.specs.LinkValue.{bytes_of, LinkValue, standing_in, link_handled, link_heard}
 use Rattle.coap_conn.specs.Calls.{link_after}
 use Rattle.coap_conn.specs.Calls as call
 

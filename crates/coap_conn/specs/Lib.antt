@@ -21,3 +21,4 @@ pub mod LinkViews
 pub mod QueueValue
 pub mod QueueViews
 pub mod Release
+pub mod Prelude

@@ -1,10 +1,7 @@
 //! What a connection asked and has no answer to yet.
 
-ghost use Rattle.std.specs.Prelude.{◌≡◌, ◌≤◌, length, map, find, option_map};
-ghost use Rattle.std.specs.List.{list_any};
-ghost use Rattle.std.specs.Vec.{vec_capacity};
-ghost use Rattle.coap_conn.specs.Outstanding.{is_asked as asks, is_pinged as pings, may_cancel as cancellable, is_last as is_last_of, is_notification as notifies, has_observe as observe_in, without_asked, without_pinged, with_cancelled};
-ghost use Rattle.coap_conn.specs.OutstandingViews.{outstanding_value};
+ghost use Rattle.std.specs.Prelude.{◌≡◌, ◌≤◌, length, map, find, option_map, vec_capacity, ◌<◌, ◌++◌, ◌∷◌, [], not, nat_lt, IfOk};
+ghost use Rattle.coap_conn.specs.Prelude.{list_any, is_asked as asks, is_pinged as pings, may_cancel as cancellable, is_last as is_last_of, is_notification as notifies, has_observe as observe_in, without_asked, without_pinged, with_cancelled, outstanding_value, cancelled_by};
 
 use coap_wire::option_numbers::OBSERVE;
 use coap_wire::{MessageRef, Token, TokenRef};
@@ -28,10 +25,6 @@ pub(crate) enum Outstanding {
 }
 
 impl Outstanding {
-    ghost use Rattle.std.specs.Prelude.{◌≡◌};
-    ghost use Rattle.coap_conn.specs.Outstanding.{is_asked as asks, is_pinged as pings, may_cancel as cancellable, cancelled_by, is_last as is_last_of};
-    ghost use Rattle.coap_conn.specs.OutstandingViews.{outstanding_value};
-
     /// Whether a response with this token answers it.
     fn is_asked(&self, token: &TokenRef) -> bool
         ensures { result ≡ asks token.now (outstanding_value self.now) }
@@ -119,10 +112,7 @@ impl Model for Asked {
 }
 
 impl Asked {
-    ghost use Rattle.std.specs.Prelude.{◌≡◌, ◌≤◌, ◌<◌, ◌++◌, ◌∷◌, [], length, not, nat_lt, find, option_map, IfOk};
-    ghost use Rattle.std.specs.List.{list_any};
-    ghost use Rattle.coap_conn.specs.Outstanding.{is_asked as asks, is_last as is_last_of, is_pinged, may_cancel as cancellable, without_asked, without_pinged, with_cancelled};
-    ghost use Rattle.coap_conn.specs.OutstandingViews.{outstanding_value};
+    ghost use Rattle.coap_conn.specs.Prelude.{is_pinged};
 
     /// Nothing outstanding, and room for so many, at most 256.
     ///

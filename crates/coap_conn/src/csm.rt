@@ -1,10 +1,7 @@
 //! The options of Signalling Messages (RFC 8323 section 5).
 
 ghost use Rattle.std.specs.Prelude.{◌≡◌, Some, None, option_map, find, IfOk, IfErr, OnOk};
-ghost use Rattle.coap_wire.specs.Uint.{uint_of};
-ghost use Rattle.coap_wire.specs.Views.{coap_option};
-ghost use Rattle.coap_conn.specs.Announced.{is_bad, first_size as first_size_in, has_critical_option as critical_option_in, bad_csm_option as bad_option_in, first_token_length as first_token_length_in, token_length as told_length, token_told};
-ghost use Rattle.coap_conn.specs.Reaction.{asks_custody as custody_asked};
+ghost use Rattle.coap_conn.specs.Prelude.{uint_of, coap_option, is_bad, first_size as first_size_in, has_critical_option as critical_option_in, bad_csm_option as bad_option_in, first_token_length as first_token_length_in, token_length as told_length, token_told, asks_custody as custody_asked};
 
 use coap_wire::{MessageRef, OptionRef, uint_value};
 

@@ -1,28 +1,11 @@
 //! What holds of every connection, each as the contract of a function that does nothing.
 
 ghost use Rattle.std.specs.Prelude.{◌≡◌, ℕ, ◌+◌, ◌<◌, ◌≤◌, ◌&&◌, List, [], ◌∷◌, ◌++◌, length, Bool, true, false, Option, Some, None};
-ghost use Rattle.std.specs.List.{AllByRecursion, list_any};
-ghost use Rattle.coap_wire.specs.Message.{Message};
-ghost use Rattle.coap_conn.specs.LinkValue.{own_csm};
-ghost use Rattle.coap_conn.specs.Announced.{bad_csm_option, has_critical_option, announcement, announced, token_announcement, announced_token};
-ghost use Rattle.coap_conn.specs.Fit.{AllFit};
-ghost use Rattle.coap_conn.specs.Limits.{LimitValues, AreInRange};
-ghost use Rattle.coap_conn.specs.History.{History, AnnouncedFirst, link_of, new_history, limit_now, standing_now, after, after_send, asking_now, after_asking};
-ghost use Rattle.coap_conn.specs.Calls.{Call, release, may_announce};
-ghost use Rattle.coap_conn.specs.CallKinds.{needs_live, gives_token, announces};
+ghost use Rattle.coap_conn.specs.Prelude.{AllByRecursion, list_any, Message, own_csm, bad_csm_option, has_critical_option, announcement, announced, token_announcement, announced_token, AllFit, LimitValues, AreInRange, History, AnnouncedFirst, link_of, new_history, limit_now, standing_now, after, after_send, asking_now, after_asking, Call, release, may_announce, needs_live, gives_token, announces, asking_refusal, cancel_refusal, next_token, OutstandingValue, is_asked, is_pinged, is_notification, is_request_entry, without_asked, without_pinged, stop_of, HeldValue, Answer, Pong, HoldsNothingDue, IsDueFirst, come, first_due, without_due, Standing, react, send, abort, stay, due_effect, is_custody_pong, asks_custody, is_reserved, is_signal, is_method, Request, Reject, Role, Reason};
 ghost use Rattle.coap_conn.specs.Calls as call;
-ghost use Rattle.coap_conn.specs.Asking.{asking_refusal, cancel_refusal, next_token};
-ghost use Rattle.coap_conn.specs.Outstanding.{OutstandingValue, is_asked, is_pinged, is_notification, is_request_entry, without_asked, without_pinged};
-ghost use Rattle.coap_conn.specs.Phases.{stop_of};
-ghost use Rattle.coap_conn.specs.Held.{HeldValue, Answer, Pong, HoldsNothingDue, IsDueFirst, come, first_due, without_due};
-ghost use Rattle.coap_conn.specs.Reaction.{Standing, react, send, abort, stay, due_effect, is_custody_pong, asks_custody, is_reserved, is_signal, is_method};
 ghost use Rattle.coap_wire.specs.Codes as code;
-ghost use Rattle.coap_conn.specs.Verdicts.{Request};
 ghost use Rattle.coap_conn.specs.Verdicts as verdict;
 ghost use Rattle.coap_conn.specs.declared.phase.Phase.TheVariants.{Waiting, Open, Releasing, Stopped};
-ghost use Rattle.coap_conn.specs.declared.phase.Reject.{Reject};
-ghost use Rattle.coap_conn.specs.declared.phase.Role.{Role};
-ghost use Rattle.coap_conn.specs.declared.reason.Reason.{Reason};
 
 /// The greatest message that the peer takes is the one that it announced last, and 1,152 bytes where it announced none
 /// (RFC 8323 section 5.3.1). The longest token is the one that it told last, and 8 bytes where it told none (RFC 8974

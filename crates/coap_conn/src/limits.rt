@@ -1,7 +1,7 @@
 //! The limits of a connection.
 
 ghost use Rattle.std.specs.Prelude.{◌≡◌, ◌≤◌, IfOk};
-ghost use Rattle.coap_wire.specs.Refusal.{RefusedBy};
+ghost use Rattle.coap_conn.specs.Prelude.{RefusedBy, limits_of, limit_refusal, AreInRange};
 
 use std::marker::Model;
 use thiserror::Error;
@@ -55,8 +55,6 @@ impl Model for Limits {
 }
 
 impl Limits {
-    ghost use Rattle.coap_conn.specs.Limits.{limits_of, limit_refusal, AreInRange};
-
     /// The limits with these values: bytes of the greatest message taken and of the greatest one sent, bytes of the
     /// output queue, held answers, observers, outstanding requests.
     ///

@@ -48,13 +48,7 @@ impl Model for Link {
 
 impl Link {
     ghost use Rattle.std.specs.Prelude.{◌≡◌, ◌≤◌, ◌↔◌, ⊤, length, IsTrue, IfOk};
-    ghost use Rattle.std.specs.Borrow.{sem, follows_so};
-    ghost use mathlib.Core.Option.{none};
-    ghost use Rattle.coap_conn.specs.Held.{next_moment as moment_next};
-    ghost use Rattle.coap_conn.specs.History.{History, new_history, after, LinkShows};
-    ghost use Rattle.coap_conn.specs.LinkValue.{IsLink, IsReady, free_in, limit_in, is_finished, new_link};
-    ghost use Rattle.coap_conn.specs.QueueValue.{IsNextPart};
-    ghost use Rattle.coap_conn.specs.Calls.{link_after};
+    ghost use Rattle.coap_conn.specs.Prelude.{sem, follows_so, none, next_moment as moment_next, History, new_history, after, LinkShows, IsLink, IsReady, free_in, limit_in, is_finished, new_link, IsNextPart, link_after};
     ghost use Rattle.coap_conn.specs.Calls as call;
     ghost use Rattle.coap_conn.specs.contracts.link.Link.{the_row};
 

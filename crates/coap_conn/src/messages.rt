@@ -1,14 +1,7 @@
 //! The messages that a connection sends of itself.
 
 ghost use Rattle.std.specs.Prelude.{◌≡◌, ◌≤◌, ◌∷◌, ◌++◌, [], length, option_copied};
-ghost use Rattle.coap_conn.specs.Reasons.{abort_text as text_for, abort_with as abort_message, number_told, told_options};
-ghost use Rattle.coap_conn.specs.Asking.{ping_with};
-ghost use Rattle.coap_conn.specs.Reaction.{pong_with};
-ghost use Rattle.coap_conn.specs.Fit.{bare_response};
-ghost use Rattle.coap_wire.specs.Spelling.{spelling};
-ghost use Rattle.coap_conn.specs.LinkValue.{bytes_of, csm_with as csm_of, own_csm, first_csm_with as first_csm_of, first_csm};
-ghost use Rattle.coap_conn.specs.Calls.{release};
-ghost use Rattle.coap_conn.specs.QueueValue.{free_of};
+ghost use Rattle.coap_conn.specs.Prelude.{abort_text as text_for, abort_with as abort_message, number_told, told_options, ping_with, pong_with, bare_response, spelling, bytes_of, csm_with as csm_of, own_csm, first_csm_with as first_csm_of, first_csm, release, free_of};
 
 use crate::csm::{CUSTODY, EXTENDED_TOKEN_LENGTH, MAX_MESSAGE_SIZE};
 use crate::queue::OutQueue;
@@ -61,7 +54,8 @@ pub(crate) fn announcement_size(max_message: usize) -> u64
 /// RFC 8974 section 2.2.1).
 pub(crate) fn announce_first(queue: &mut OutQueue, max_message: usize)
     requires { 32 ≤ free_of queue.old }
-    ensures csm { queue.new ≡ record queue.old { waiting = queue.old.waiting ++ bytes_of (first_csm max_message ∷ []) } }
+    ensures csm { queue.new
+        ≡ record queue.old { waiting = queue.old.waiting ++ bytes_of (first_csm max_message ∷ []) } }
     ensures small { length (bytes_of (first_csm max_message ∷ [])) ≤ 32 }
 {
     let size = uint_bytes(max_message as u64);

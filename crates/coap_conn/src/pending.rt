@@ -1,9 +1,7 @@
 //! What a connection holds: answers that are sent later, and Pongs that wait for them (RFC 8323 section 5.4.1).
 
-ghost use Rattle.std.specs.Prelude.{◌≡◌, ℕ, List, map, option_map};
-ghost use Rattle.std.specs.List.{filter_map, reduce, position};
-ghost use Rattle.coap_conn.specs.Held.{come as moment_come, is_answer_at as is_answer_due_at, least_come as least_moment, answer_index as index_of_answer, due_index as index_due, next_moment as moment_next, pong_index, to_come as moment_to_come};
-ghost use Rattle.coap_conn.specs.HeldViews.{held_value};
+ghost use Rattle.std.specs.Prelude.{◌≡◌, ℕ, List, map, option_map, filter_map, position, ◌≤◌, ◌<◌, ◌++◌, ◌∷◌, [], length, not, nat_lt, IfOk, IfSome, Some, slice_get, ◌==◌, remove};
+ghost use Rattle.coap_conn.specs.Prelude.{reduce, come as moment_come, is_answer_at as is_answer_due_at, least_come as least_moment, answer_index as index_of_answer, due_index as index_due, next_moment as moment_next, pong_index, to_come as moment_to_come, held_value};
 
 use coap_wire::Token;
 use std::alloc::{AllocError, Global};
@@ -24,10 +22,6 @@ pub(crate) enum Held {
 }
 
 impl Held {
-    ghost use Rattle.std.specs.Prelude.{◌≡◌};
-    ghost use Rattle.coap_conn.specs.Held.{come as moment_come, is_answer_at as is_answer_due_at, to_come as moment_to_come};
-    ghost use Rattle.coap_conn.specs.HeldViews.{held_value};
-
     /// The moment of an answer, where it has come.
     fn come(&self, now: u64) -> Option<u64>
         ensures { result ≡ moment_come now (held_value self.now) }
@@ -80,11 +74,6 @@ impl Model for Pending {
 }
 
 impl Pending {
-    ghost use Rattle.std.specs.Prelude.{◌≡◌, ◌≤◌, ◌<◌, ◌++◌, ◌∷◌, [], length, not, nat_lt, IfOk, IfSome, Some, slice_get, ◌==◌};
-    ghost use Rattle.std.specs.List.{remove};
-    ghost use Rattle.coap_conn.specs.Held.{due_index as index_due, next_moment as moment_next};
-    ghost use Rattle.coap_conn.specs.HeldViews.{held_value};
-
     /// Nothing held, and room for so many, at most 256.
     ///
     /// # Errors

@@ -1,7 +1,7 @@
 //! How a connection stands, and what its calls answer.
 
 ghost use Rattle.std.specs.Prelude.{◌≡◌};
-ghost use Rattle.coap_conn.specs.Phases.{stop_of};
+ghost use Rattle.coap_conn.specs.Prelude.{stop_of, reject_of_frame, reject_reason};
 
 use crate::reason::Reason;
 use coap_wire::{FrameFault, Token, TokenRef};
@@ -112,8 +112,6 @@ pub enum Reject {
 }
 
 impl From<FrameFault> for Reject {
-    ghost use Rattle.coap_conn.specs.Rejects.{reject_of_frame};
-
     ghost from_gives = { λ fault reject. reject ≡ reject_of_frame fault };
 
     fn from(fault: FrameFault) -> Reject {
@@ -125,8 +123,6 @@ impl From<FrameFault> for Reject {
 }
 
 impl From<Reject> for Reason {
-    ghost use Rattle.coap_conn.specs.Rejects.{reject_reason};
-
     ghost from_gives = { λ fault reason. reason ≡ reject_reason fault };
 
     fn from(fault: Reject) -> Reason {

@@ -1,6 +1,8 @@
 //! The bytes that wait to be written.
 
-ghost use Rattle.std.specs.Prelude.{◌≡◌, ◌≤◌};
+ghost use Rattle.std.specs.Prelude.{◌≡◌, ◌≤◌, ◌++◌, IfOk, [], ⊤, length, drop};
+ghost use Rattle.coap_conn.specs.Prelude.{sem, follows_so, none, spelling, IsQueue, IsNextPart, free_of};
+ghost use Rattle.coap_conn.specs.contracts.queue.OutQueue.{the_row};
 
 use coap_wire::{MessageBuilder, Sink};
 use std::alloc::{AllocError, Global};
@@ -30,13 +32,6 @@ impl Model for OutQueue {
 }
 
 impl OutQueue {
-    ghost use Rattle.std.specs.Prelude.{◌≡◌, ◌≤◌, ◌++◌, IfOk, [], ⊤, length, drop};
-    ghost use Rattle.std.specs.Borrow.{sem, follows_so};
-    ghost use mathlib.Core.Option.{none};
-    ghost use Rattle.coap_wire.specs.Spelling.{spelling};
-    ghost use Rattle.coap_conn.specs.QueueValue.{IsQueue, IsNextPart, free_of};
-    ghost use Rattle.coap_conn.specs.contracts.queue.OutQueue.{the_row};
-
     /// A queue of so many bytes, 1,152 to 4,194,304, with none waiting.
     ///
     /// # Errors
@@ -113,8 +108,6 @@ impl OutQueue {
 }
 
 impl Sink for OutQueue {
-    ghost use Rattle.coap_conn.specs.QueueValue.{free_of};
-
     ghost contents = { λ q. q.waiting };
 
     ghost space = { free_of };

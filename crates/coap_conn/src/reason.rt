@@ -1,7 +1,7 @@
 //! Why a connection stops.
 
 ghost use Rattle.std.specs.Prelude.{◌≡◌};
-ghost use Rattle.coap_conn.specs.Reasons.{reason_number};
+ghost use Rattle.coap_conn.specs.Prelude.{reason_number};
 
 /// Why a connection stopped, or why its peer released it.
 #[derive(Clone, Copy, Debug, PartialEq, Eq)]

@@ -121,11 +121,11 @@ unfolding framing beginning declared_of length_at option_number_at one_byte_at t
 large_with_token = refl
 
 -- and a token of 65 bytes is told before it
-long_token : framing_of fresh (0xed ∷ 0x03 ∷ 0x6e ∷ 0x01 ∷ 0x34 ∷ []) ≡ record { taken = 5; finding = AFault TokenLength; kept = []; spent = [] }
+framed_long_token : framing_of fresh (0xed ∷ 0x03 ∷ 0x6e ∷ 0x01 ∷ 0x34 ∷ []) ≡ record { taken = 5; finding = AFault TokenLength; kept = []; spent = [] }
 unfolding framing beginning declared_of length_at option_number_at one_byte_at two_bytes_at
-long_token = refl
+framed_long_token = refl
 
 -- nibble 15 at once
-no_token_length : framing_of fresh (0x0f ∷ 0x00 ∷ []) ≡ record { taken = 1; finding = AFault TokenLength; kept = []; spent = [] }
+framed_no_token_length : framing_of fresh (0x0f ∷ 0x00 ∷ []) ≡ record { taken = 1; finding = AFault TokenLength; kept = []; spent = [] }
 unfolding framing beginning declared_of
-no_token_length = refl
+framed_no_token_length = refl

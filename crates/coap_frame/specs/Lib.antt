@@ -6,3 +6,4 @@ pub mod BufferViews
 pub mod Given
 pub mod Copying
 pub mod Raising
+pub mod Prelude

@@ -1,5 +1,5 @@
 -- When a framer takes greater frames from then on (RFC 8323 section 5.3.1).
-use Rattle.std.specs.Prelude.{◌≡◌, ℕ, ◌<◌, List, [], Option, Some, None, Result, Ok, Err, nat_lt, if◌then◌else◌, is_none}
+use Rattle.std.specs.Prelude.{◌≡◌, ℕ, ◌<◌, [], Option, Some, None, Result, Ok, Err, nat_lt, if◌then◌else◌, is_none}
 use Rattle.coap_frame.specs.Framing.{FramerValue}
 use Rattle.coap_frame.specs.declared.fault.RaiseFault.{RaiseFault}
 use Rattle.coap_frame.specs.declared.fault.RaiseFault.TheVariants.{Lower, TooLarge, Memory}

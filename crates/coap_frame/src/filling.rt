@@ -1,10 +1,7 @@
 //! Finds a frame in a piece, and fills a buffer with the bytes of a split one.
 
-ghost use Rattle.std.specs.Prelude.{◌≡◌, ◌+◌, ◌≤◌, ◌<◌, ◌++◌, [], length, take};
-ghost use Rattle.std.specs.Vec.{vec_len, vec_capacity};
-ghost use Rattle.coap_wire.specs.Beginning.{Unfinished, beginning, token_bytes, size_bytes as size_bytes_of};
-ghost use Rattle.coap_wire.specs.Forms.{extension_of};
-ghost use Rattle.coap_frame.specs.Filling.{IsHead, IsFilled};
+ghost use Rattle.std.specs.Prelude.{◌≡◌, ◌+◌, ◌≤◌, ◌<◌, ◌++◌, [], length, take, vec_len, vec_capacity};
+ghost use Rattle.coap_frame.specs.Prelude.{Unfinished, beginning, token_bytes, size_bytes as size_bytes_of, extension_of, IsHead, IsFilled};
 
 use coap_wire::{Declared, FrameFault, declared};
 
@@ -38,8 +35,8 @@ pub(crate) fn stand(piece: &[u8], max: usize) -> (usize, Standing)
     }
 }
 
-/// How many bytes a frame has up to the one at which its size is known: the last that extends its length or, where bytes
-/// extend the token's length, the last of these (RFC 8323 section 3.2, RFC 8974 section 2.1).
+/// How many bytes a frame has up to the one at which its size is known: the last that extends its length or, where
+/// bytes extend the token's length, the last of these (RFC 8323 section 3.2, RFC 8974 section 2.1).
 fn size_bytes(frame: &[u8]) -> usize
     ensures { result ≡ size_bytes_of frame.now }
 {
@@ -86,8 +83,8 @@ pub(crate) fn append(buffer: &mut Vec<u8>, bytes: &[u8])
     };
 }
 
-/// Takes bytes until the buffer declares its size, or a token length that is not taken, or the piece is used up. At most
-/// 8 bytes are taken one by one.
+/// Takes bytes until the buffer declares its size, or a token length that is not taken, or the piece is used up. At
+/// most 8 bytes are taken one by one.
 fn fill_head(buffer: &mut Vec<u8>, piece: &[u8]) -> (usize, Declared)
     requires { 8 ≤ vec_capacity buffer.old }
     ensures head { IsHead buffer.old.items piece.now buffer.new.items result.0 result.1 }

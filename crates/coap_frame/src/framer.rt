@@ -1,11 +1,9 @@
 //! A framer: gives the frames of a stream that comes in pieces cut anywhere.
 
-ghost use Rattle.std.specs.Prelude.{◌≡◌, ◌≤◌, ◌<◌, [], OnOk, OnErr, length, take};
-ghost use Rattle.std.specs.Vec.{vec_capacity};
-ghost use Rattle.coap_wire.specs.Beginning.{Unfinished, beginning};
-ghost use Rattle.coap_frame.specs.Framing.{framing, framing_of, framer_after};
-ghost use Rattle.coap_frame.specs.BufferViews.{framer_of, kept_in, frame_in, finding_in};
+ghost use Rattle.std.specs.Prelude.{◌≡◌, ◌≤◌, ◌<◌, [], OnOk, OnErr, length, take, vec_capacity, IfOk, ⊤};
+ghost use Rattle.coap_frame.specs.Prelude.{Unfinished, beginning, framing, framing_of, framer_after, framer_of, kept_in, frame_in, finding_in, finding_of, finding_read, sem, follows_so, none, IsFramer, MayUnread, with_frame_back, IsFramed, raised, IsRaiseAnswer};
 ghost use Rattle.coap_frame.specs.declared.framer.Held.TheVariants as held_as;
+ghost use Rattle.coap_frame.specs.contracts.framer.Framer.{the_row};
 
 use crate::fault::RaiseFault;
 use crate::filling::{Standing, append, fill, stand};
@@ -30,9 +28,6 @@ pub enum Found<'a, 'p> {
 }
 
 impl<'a> Found<'a, 'a> {
-    ghost use Rattle.std.specs.Prelude.{◌≡◌};
-    ghost use Rattle.coap_frame.specs.FramedViews.{finding_of, finding_read};
-
     /// The frame, wherever it lies; none where there is no whole one.
     ///
     /// # Errors
@@ -93,14 +88,6 @@ impl Model for Framer {
 }
 
 impl Framer {
-    ghost use Rattle.std.specs.Prelude.{◌≡◌, ◌≤◌, ◌<◌, IfOk, [], ⊤, length};
-    ghost use Rattle.std.specs.Borrow.{sem, follows_so};
-    ghost use mathlib.Core.Option.{none};
-    ghost use Rattle.coap_frame.specs.Framing.{IsFramer, MayUnread, framing_of, framer_after, with_frame_back};
-    ghost use Rattle.coap_frame.specs.FramedViews.{IsFramed};
-    ghost use Rattle.coap_frame.specs.Raising.{raised, IsRaiseAnswer};
-    ghost use Rattle.coap_frame.specs.contracts.framer.Framer.{the_row};
-
     /// A framer for frames of at most `max` bytes, with nothing kept.
     ///
     /// # Errors
@@ -153,8 +140,9 @@ impl Framer {
         self.held = Held::Beginning;
     }
 
-    /// Takes frames of at most `new` bytes from now on. A frame that has begun is judged by it, where the last byte that
-    /// states its size is yet to come. What is kept stays, with the count of the bytes copied, and nothing is spent then.
+    /// Takes frames of at most `new` bytes from now on. A frame that has begun is judged by it, where the last byte
+    /// that states its size is yet to come. What is kept stays, with the count of the bytes copied, and nothing is
+    /// spent then.
     ///
     /// # Errors
     ///

@@ -1,11 +1,7 @@
 //! What holds of framers, each as the contract of a function that does nothing.
 
 ghost use Rattle.std.specs.Prelude.{◌≡◌, ℕ, ◌≤◌, List, ◌++◌, length, take};
-ghost use Rattle.coap_wire.specs.Beginning.{Unfinished, Faulty, beginning, fault_bytes};
-ghost use Rattle.coap_wire.specs.declared.fault.FrameFault.{FrameFault};
-ghost use Rattle.coap_frame.specs.Framing.{FramerValue, IsFramer, Nothing, AFrame, AFault, MayUnread, framing, framing_of, framer_after, without_last};
-ghost use Rattle.coap_frame.specs.Copying.{FramerCall, AreCounted};
-ghost use Rattle.coap_frame.specs.Given.{Handed, IsGiven, given_by, taken_of, unread_after, last_byte};
+ghost use Rattle.coap_frame.specs.Prelude.{Unfinished, Faulty, beginning, fault_bytes, FrameFault, FramerValue, IsFramer, Nothing, AFrame, AFault, MayUnread, framing, framing_of, framer_after, without_last, FramerCall, AreCounted, Handed, IsGiven, given_by, taken_of, unread_after, last_byte};
 
 /// Where each piece is given to one call, up to the first fault, and the greatest frame is raised between pieces, the
 /// frames, the fault and the bytes kept are those of the stream that the kept bytes and the taken bytes form. A frame's

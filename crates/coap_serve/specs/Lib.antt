@@ -4,3 +4,4 @@ pub mod views
 pub mod values
 pub mod world
 pub mod script
+pub mod Prelude

@@ -1,22 +1,8 @@
 //! Answers requests and notifies observers.
 
 ghost use Rattle.std.specs.Prelude.{◌≡◌, ◌<◌, ◌≤◌, ◌++◌, ◌∷◌, [], true, Some, None, is_some, length, slice_get, if◌then◌else◌, IfOk, OnOk, OnErr};
-ghost use Rattle.coap_conn.specs.Phases.{IsAnswering, is_open};
-ghost use Rattle.coap_conn.specs.Held.{HeldValue, first_due};
-ghost use Rattle.coap_conn.specs.LinkValue.{IsReady, can_hold};
-ghost use Rattle.coap_conn.specs.Calls.{link_after};
+ghost use Rattle.coap_serve.specs.Prelude.{IsAnswering, is_open, HeldValue, first_due, IsReady, can_hold, link_after, changed, unheld, response_message, change_value, path_of, IsPut, TakesChange, change_hash, MayWatch, asks_entry as asks, is_whole as is_sent_whole, ObserverValue, answer_on, hold_on, held_in, host_changed, link_sent, new_entry, notification_on, without_entry, IsFirstStale, link_replied, entries_replied, entries_notified, observer_value};
 ghost use Rattle.coap_conn.specs.Calls as call;
-ghost use Rattle.coap_store.specs.Answer.{changed, unheld};
-ghost use Rattle.coap_store.specs.Messages.{response_message};
-ghost use Rattle.coap_store.specs.PlanViews.{change_value};
-ghost use Rattle.coap_store.specs.Requests.{path_of};
-ghost use Rattle.coap_store.specs.Changes.{IsPut, TakesChange};
-ghost use Rattle.coap_serve.specs.values.Causes.{change_hash};
-ghost use Rattle.coap_store.specs.Watching.{MayWatch};
-ghost use Rattle.coap_serve.specs.world.Observers.{asks_entry as asks, is_whole as is_sent_whole};
-ghost use Rattle.coap_serve.specs.values.Sessions.{ObserverValue, answer_on, hold_on, held_in, host_changed, link_sent, new_entry, notification_on, without_entry};
-ghost use Rattle.coap_serve.specs.values.Entries.{IsFirstStale, link_replied, entries_replied, entries_notified};
-ghost use Rattle.coap_serve.specs.views.ObserverViews.{observer_value};
 
 use crate::host::{Host, mark_at};
 use crate::observers::{Observer, Observers, Stale};

@@ -1,7 +1,7 @@
 //! The configuration of a server.
 
 ghost use Rattle.std.specs.Prelude.{◌≡◌, ◌≤◌, IfOk};
-ghost use Rattle.coap_wire.specs.Refusal.{RefusedBy};
+ghost use Rattle.coap_serve.specs.Prelude.{RefusedBy, config_of, config_refusal, start_values};
 
 use coap_conn::Limits;
 use std::marker::Model;
@@ -61,9 +61,6 @@ impl Model for Config {
 }
 
 impl Config {
-    ghost use Rattle.coap_serve.specs.Configs.{config_of, config_refusal};
-    ghost use Rattle.coap_serve.specs.views.ConfigViews.{start_values};
-
     /// The configuration with these values: the limits of each connection, connections, dynamic resources, bytes of a
     /// representation, turns of a run, and where the counts begin.
     ///

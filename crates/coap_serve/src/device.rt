@@ -1,7 +1,7 @@
 //! Where bytes come from and go to.
 
-ghost use Rattle.std.specs.Prelude.{◌≡◌, ◌≤◌, ℕ, Bool, List, [], ◌∷◌, length, take, Option, None, is_none, IfSome, IfNone, ◌||◌};
-ghost use Rattle.coap_serve.specs.streams.Device.{Told, HasGiven, pieces_read, AddsBytes, is_failed_write};
+ghost use Rattle.std.specs.Prelude.{◌≡◌, ◌≤◌, ℕ, Bool, List, [], ◌∷◌, length, take, Option, None, is_none, IfSome, IfNone, ◌||◌, false};
+ghost use Rattle.coap_serve.specs.Prelude.{Told, HasGiven, pieces_read, AddsBytes, is_failed_write};
 
 use std::io::{Read, Write};
 
@@ -55,8 +55,6 @@ pub struct ReadSource<R> {
 }
 
 impl<R: Read> ReadSource<R> {
-    ghost use Rattle.std.specs.Prelude.{◌≡◌, false};
-
     /// The reader as a source that has not failed.
     pub fn new(reader: R) -> ReadSource<R>
         ensures works { ⟦<ReadSource<R> as Source>⟧.is_failed result ≡ false }
@@ -98,8 +96,6 @@ pub struct WriteOutlet<W> {
 }
 
 impl<W: Write> WriteOutlet<W> {
-    ghost use Rattle.std.specs.Prelude.{◌≡◌, false};
-
     /// The writer as an outlet that has not failed.
     pub fn new(writer: W) -> WriteOutlet<W>
         ensures works { ⟦<WriteOutlet<W> as Outlet>⟧.is_failed result ≡ false }

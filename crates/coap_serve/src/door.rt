@@ -1,8 +1,6 @@
 //! Serves connections over the wires that a door hands out.
 
-ghost use Rattle.coap_serve.specs.streams.DoorRun.{IsDoorRun, waited_behind};
-ghost use Rattle.coap_serve.specs.streams.Telling.{TellsMore};
-ghost use Rattle.coap_serve.specs.streams.Wires.{IsMemoryOrTurns};
+ghost use Rattle.coap_serve.specs.Prelude.{IsDoorRun, waited_behind, TellsMore, IsMemoryOrTurns};
 
 mod agenda;
 mod peer;

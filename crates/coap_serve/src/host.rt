@@ -1,7 +1,7 @@
 //! What requests are answered from.
 
-ghost use Rattle.std.specs.Prelude.{◌≡◌};
-ghost use Rattle.coap_serve.specs.values.Sessions.{mark_at as mark_in};
+ghost use Rattle.std.specs.Prelude.{◌≡◌, ◌<◌, ◌^◌, IfOk};
+ghost use Rattle.coap_serve.specs.Prelude.{mark_at as mark_in, new_host, untold_mark};
 
 use crate::config::Config;
 use coap_store::{PathKey, Present, State, Store};
@@ -17,10 +17,6 @@ pub(crate) struct Host {
 }
 
 impl Host {
-    ghost use Rattle.std.specs.Prelude.{◌≡◌, ◌<◌, ◌^◌, IfOk};
-    ghost use Rattle.coap_serve.specs.values.Servers.{new_host};
-    ghost use Rattle.coap_serve.specs.values.Sessions.{untold_mark};
-
     /// The host of a new server: nothing is stored, and its counts begin where the configuration says.
     ///
     /// # Errors

@@ -1,49 +1,13 @@
 //! What holds of every server, each as the contract of a function that does nothing.
 
 ghost use Rattle.std.specs.Prelude.{◌≡◌, ◌⊎◌, ℕ, Bool, ◌+◌, ◌<◌, ◌^◌, ◌≤◌, List, [], ◌∷◌, ◌++◌, length, map, true, false, Some, None};
-ghost use Rattle.std.specs.List.{AllByRecursion, concat};
-ghost use Rattle.coap_wire.specs.Message.{Message};
-ghost use Rattle.coap_wire.specs.Stream.{StreamFault};
+ghost use Rattle.coap_serve.specs.Prelude.{AllByRecursion, concat, Message, StreamFault, LimitValues, AreInRange, AllFit, bare_response, reject_of, reject_reason, HeldValue, Answer, Pong, without_due, answers, takes_messages, send, pong_with, is_custody_pong, limit_now, standing_now, after, standing_due, StoreValue, answer_of, IsStore, ConfigValues, IsNotTaken, ServerValue, AreSettled, LiesAt, server_opened, server_ticked, server_dropped, ComesToNothing, IsServedOnce, can_go_on, is_over_in, wants_of, IsNoEarlier, KeepsNotes, WhilePassedOver, Course, Stamp, WrittenFault, ReleaseFault, WaitsForWhatIsDue, outlook_of, stamp_of, Side, waiting_on, HearsAll, handles, asks_answer, held_for, moment_after, held_message, next_held, side_after, side_faulted, side_written, side_ended, side_released, side_announced, settled_once, StandFor, QueuesCustody, IsFirstHeld, KeepsHeld, KeepsHeldOver, World, Step, new_world, side_of, step, after_steps, Event, Took, size_on, stream_on, steps_of, world_after, AreAccepted, Shows, kept_on, server_of, heard_step, steps_heard, kept_at, FollowsAnswers, IsRefusedStored, StoresNothing, view_of, after_view, AreSeen, first_number, view_events, EventValue, fed, replayed, DifferInCuts, AreInTime, lines_of, other_lines, WasToldLast, HaveOwnTokens, asked_late};
 ghost use Rattle.coap_conn.specs.declared.phase.Phase.TheVariants.{Stopped};
-ghost use Rattle.coap_conn.specs.Limits.{LimitValues, AreInRange};
-ghost use Rattle.coap_conn.specs.Fit.{AllFit, bare_response};
-ghost use Rattle.coap_conn.specs.Rejects.{reject_of, reject_reason};
-ghost use Rattle.coap_conn.specs.Held.{HeldValue, Answer, Pong, without_due};
-ghost use Rattle.coap_conn.specs.Phases.{answers, takes_messages};
-ghost use Rattle.coap_conn.specs.Reaction.{send, pong_with, is_custody_pong};
-ghost use Rattle.coap_conn.specs.History.{limit_now, standing_now, after};
-ghost use Rattle.coap_conn.specs.Calls.{standing_due};
 ghost use Rattle.coap_conn.specs.Calls as call;
-ghost use Rattle.coap_store.specs.Store.{StoreValue};
-ghost use Rattle.coap_store.specs.Answer.{answer_of};
-ghost use Rattle.coap_store.specs.Invariant.{IsStore};
-ghost use Rattle.coap_serve.specs.Configs.{ConfigValues};
-ghost use Rattle.coap_serve.specs.values.ServerAnswers.{IsNotTaken};
-ghost use Rattle.coap_serve.specs.values.Servers.{ServerValue, AreSettled, LiesAt, server_opened, server_ticked, server_dropped};
-ghost use Rattle.coap_serve.specs.streams.Turns.{ComesToNothing, IsServedOnce, can_go_on, is_over_in, wants_of};
-ghost use Rattle.coap_serve.specs.streams.Notes.{IsNoEarlier, KeepsNotes, WhilePassedOver};
-ghost use Rattle.coap_serve.specs.declared.door.peer.Course.{Course};
-ghost use Rattle.coap_serve.specs.declared.server.Stamp.{Stamp};
 ghost use Rattle.coap_serve.specs.declared.server.TakeFault.TheVariants.{Memory};
-ghost use Rattle.coap_serve.specs.declared.server.WrittenFault.{WrittenFault};
 ghost use Rattle.coap_serve.specs.declared.server.WrittenFault.TheVariants as writing;
-ghost use Rattle.coap_serve.specs.declared.server.ReleaseFault.{ReleaseFault};
 ghost use Rattle.coap_serve.specs.declared.server.ReleaseFault.TheVariants as releasing;
-ghost use Rattle.coap_serve.specs.values.Dues.{WaitsForWhatIsDue, outlook_of, stamp_of};
-ghost use Rattle.coap_serve.specs.world.Sides.{Side, waiting_on, HearsAll, handles, asks_answer, held_for, moment_after, held_message, next_held, side_after, side_faulted, side_written, side_ended, side_released, side_announced, settled_once};
-ghost use Rattle.coap_serve.specs.world.Custody.{StandFor, QueuesCustody, IsFirstHeld, KeepsHeld, KeepsHeldOver};
-ghost use Rattle.coap_serve.specs.world.World.{World, Step, Opened, Ended, new_world, side_of, step, after_steps};
-ghost use Rattle.coap_serve.specs.world.Events.{Event, Took, size_on, stream_on, steps_of, world_after, AreAccepted};
-ghost use Rattle.coap_serve.specs.world.Shows.{Shows, kept_on, server_of};
-ghost use Rattle.coap_serve.specs.world.Heard.{heard_step, steps_heard, kept_at};
-ghost use Rattle.coap_serve.specs.world.Answered.{FollowsAnswers};
-ghost use Rattle.coap_serve.specs.world.Memory.{IsRefusedStored, StoresNothing};
-ghost use Rattle.coap_serve.specs.world.View.{view_of, after_view, AreSeen};
-ghost use Rattle.coap_serve.specs.world.ViewEvents.{first_number, view_events};
-ghost use Rattle.coap_serve.specs.script.Events.{EventValue};
-ghost use Rattle.coap_serve.specs.script.Replay.{fed, replayed};
-ghost use Rattle.coap_serve.specs.script.Cuts.{DifferInCuts, AreInTime, lines_of, other_lines};
-ghost use Rattle.coap_serve.specs.world.Told.{WasToldLast, HaveOwnTokens, asked_late};
+ghost use Rattle.coap_serve.specs.world.World.{Opened, Ended};
 
 /// No change is lost: after every call, on each connection less than the greatest message sent is free in the queue, or
 /// every observer was told the state that its path has now, every held answer whose moment has come was sent, and no

@@ -1,12 +1,7 @@
 //! The observers of a connection (RFC 7641).
 
-ghost use Rattle.std.specs.Prelude.{◌≡◌, ◌<◌, ◌≤◌, None, false, length, map, IfNone, IfSome};
-ghost use Rattle.std.specs.List.{list_any};
-ghost use Rattle.std.specs.Vec.{vec_capacity};
-ghost use Rattle.coap_serve.specs.values.Dues.{tells_time as observes_time};
-ghost use Rattle.coap_serve.specs.values.Entries.{IsFirstStale, first_index};
-ghost use Rattle.coap_serve.specs.values.Sessions.{is_stale as stale, without_entry};
-ghost use Rattle.coap_serve.specs.views.ObserverViews.{observer_value};
+ghost use Rattle.std.specs.Prelude.{◌≡◌, ◌<◌, ◌≤◌, None, false, length, map, IfNone, IfSome, vec_capacity, ◌++◌, ◌∷◌, [], not, nat_lt, IfOk, Some, slice_get, slice_set, remove};
+ghost use Rattle.coap_serve.specs.Prelude.{list_any, tells_time as observes_time, IsFirstStale, first_index, is_stale as stale, without_entry, observer_value, untold_mark, ObservesNone, ObserverValue};
 
 use crate::host::Host;
 use crate::path_set::{PathSet, paths_of};
@@ -29,11 +24,6 @@ pub(crate) struct Observer {
 }
 
 impl Observer {
-    ghost use Rattle.std.specs.Prelude.{◌≡◌};
-    ghost use Rattle.coap_serve.specs.values.Dues.{tells_time as observes_time};
-    ghost use Rattle.coap_serve.specs.values.Sessions.{untold_mark};
-    ghost use Rattle.coap_serve.specs.views.ObserverViews.{observer_value};
-
     /// Whether it observes something built in, which is the moment: no other one of these can be observed.
     fn tells_time(&self) -> bool
         ensures { result ≡ observes_time (observer_value self.now) }
@@ -80,13 +70,7 @@ impl Model for Observers {
 }
 
 impl Observers {
-    ghost use Rattle.std.specs.Prelude.{◌≡◌, ◌≤◌, ◌<◌, ◌++◌, ◌∷◌, [], false, length, not, nat_lt, IfOk, IfNone, IfSome, None, Some, slice_get, slice_set};
-    ghost use Rattle.std.specs.List.{remove, list_any};
-    ghost use Rattle.coap_serve.specs.values.Causes.{ObservesNone};
-    ghost use Rattle.coap_serve.specs.values.Dues.{tells_time as observes_time};
-    ghost use Rattle.coap_serve.specs.values.Sessions.{ObserverValue, without_entry, is_stale};
-    ghost use Rattle.coap_serve.specs.values.Entries.{IsFirstStale, first_index};
-    ghost use Rattle.coap_serve.specs.views.ObserverViews.{observer_value};
+    ghost use Rattle.coap_serve.specs.Prelude.{is_stale};
 
     /// No observer, and room for so many, at most 256.
     ///

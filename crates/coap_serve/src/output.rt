@@ -1,10 +1,7 @@
 //! Writes what waits to an outlet.
 
 ghost use Rattle.std.specs.Prelude.{◌≡◌, false, IfOk, OnOk, OnErr, is_err};
-ghost use Rattle.coap_serve.specs.streams.Device.{AddsBytes, WritesPart};
-ghost use Rattle.coap_serve.specs.values.Flushes.{IsFlushed, IsPartFlushed};
-ghost use Rattle.coap_serve.specs.values.Servers.{session_of};
-ghost use Rattle.coap_serve.specs.values.ServerAnswers.{stop_on};
+ghost use Rattle.coap_serve.specs.Prelude.{AddsBytes, WritesPart, IsFlushed, IsPartFlushed, session_of, stop_on};
 
 use crate::device::Outlet;
 use crate::server::{ConnId, Server};

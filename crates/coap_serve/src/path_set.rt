@@ -1,10 +1,7 @@
 //! Which paths may be observed on a connection.
 
-ghost use Rattle.std.specs.Prelude.{◌≡◌, ◌+◌, ◌*◌, ◌%◌, false, true, map};
-ghost use Rattle.std.specs.List.{AllByRecursion};
-ghost use Rattle.coap_serve.specs.values.Causes.{hash_behind, path_hash};
-ghost use Rattle.coap_serve.specs.views.PathSetViews.{Covers};
-ghost use Rattle.coap_serve.specs.views.ObserverViews.{observer_value};
+ghost use Rattle.std.specs.Prelude.{◌≡◌, ◌+◌, ◌*◌, ◌%◌, false, true, map, get_or};
+ghost use Rattle.coap_serve.specs.Prelude.{AllByRecursion, hash_behind, path_hash, Covers, observer_value, Path};
 
 use crate::observers::Observer;
 use coap_store::PathKey;
@@ -20,10 +17,6 @@ pub(crate) struct PathSet {
 }
 
 impl PathSet {
-    ghost use Rattle.std.specs.Prelude.{◌≡◌, false, true, get_or};
-    ghost use Rattle.coap_store.specs.Paths.{Path};
-    ghost use Rattle.coap_serve.specs.views.PathSetViews.{Covers};
-
     /// The empty set.
     pub(crate) fn new() -> PathSet {
         PathSet {

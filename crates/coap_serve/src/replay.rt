@@ -1,9 +1,11 @@
 //! Runs the events of a script on a server, and writes what comes of each.
 
-ghost use Rattle.std.specs.Prelude.{◌≡◌, option_map};
-ghost use Rattle.coap_store.specs.Refusals.{refusal_in};
+ghost use Rattle.std.specs.Prelude.{◌≡◌, option_map, true, false, List, map, IfOk, OnErr};
+ghost use Rattle.coap_serve.specs.Prelude.{refusal_in, open_refusal_in, replay_number, line_bytes, event_value, event_ran, stop_number, drained, IsReplayed, fails_write, events_made, ShowsMore, ShowsRun, IsShownReplay, AddsBytes, session_of, is_there, IsRun, IsDrainable, Shows};
 ghost use Rattle.coap_serve.specs.script.Replay as spec;
-ghost use Rattle.coap_serve.specs.values.ServerAnswers.{open_refusal_in};
+ghost use Rattle.coap_serve.specs.script.Events as event;
+ghost use Rattle.coap_serve.specs.script.Lines as lines;
+ghost use Rattle.coap_serve.specs.world.Events as world;
 
 use crate::device::Outlet;
 use crate::event::Event;
@@ -29,8 +31,6 @@ pub enum ReplayFault {
 }
 
 impl ReplayFault {
-    ghost use Rattle.coap_serve.specs.script.Replayed.{replay_number};
-
     /// Its number, 1 or 2.
     pub const fn number(self) -> u8
         ensures { result ≡ replay_number self }
@@ -52,8 +52,6 @@ enum Line {
 }
 
 impl Line {
-    ghost use Rattle.coap_serve.specs.views.LineViews.{line_bytes};
-
     /// Its bytes.
     fn as_slice(&self) -> &[u8]
         ensures { result.now ≡ line_bytes self.now }
@@ -112,19 +110,6 @@ fn store_number(fault: StoreFault) -> u8
 }
 
 impl Server {
-    ghost use Rattle.std.specs.Prelude.{◌≡◌, true, false, List, map, IfOk, OnErr};
-    ghost use Rattle.coap_serve.specs.script.EventViews.{event_value};
-    ghost use Rattle.coap_serve.specs.script.Events as event;
-    ghost use Rattle.coap_serve.specs.script.Lines as lines;
-    ghost use Rattle.coap_serve.specs.script.Replay.{event_ran, stop_number, drained};
-    ghost use Rattle.coap_serve.specs.script.Replayed.{IsReplayed, fails_write};
-    ghost use Rattle.coap_serve.specs.script.Shown.{events_made, ShowsMore, ShowsRun, IsShownReplay};
-    ghost use Rattle.coap_serve.specs.streams.Device.{AddsBytes};
-    ghost use Rattle.coap_serve.specs.values.Servers.{session_of, is_there};
-    ghost use Rattle.coap_serve.specs.views.LineViews.{line_bytes, IsRun, IsDrainable};
-    ghost use Rattle.coap_serve.specs.world.Events as world;
-    ghost use Rattle.coap_serve.specs.world.Shows.{Shows};
-
     /// Runs events, one after the other, and writes what comes of each before the next one is run.
     ///
     /// # Errors

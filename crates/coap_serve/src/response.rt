@@ -1,18 +1,9 @@
 //! Sends the answers to requests.
 
 ghost use Rattle.std.specs.Prelude.{◌≡◌, ◌≤◌, ◌<◌, ◌+◌, ◌++◌, true, [], length, option_map, unwrap_or, IfSome};
-ghost use Rattle.std.specs.Int.{w64, to_be_bytes};
-ghost use Rattle.coap_wire.specs.Message.{last_number};
-ghost use Rattle.coap_wire.specs.Views.{with_option};
+ghost use Rattle.coap_serve.specs.Prelude.{w64, to_be_bytes, last_number, with_option, IsAnswering, IsReady, limit_in, link_after, fit, bare_response, is_path, path_or_root, response_with_observe, option_at, empty_at, number_at, each_at};
 ghost use Rattle.coap_wire.specs.OptionNumbers as numbers;
-ghost use Rattle.coap_conn.specs.Phases.{IsAnswering};
-ghost use Rattle.coap_conn.specs.LinkValue.{IsReady, limit_in};
-ghost use Rattle.coap_conn.specs.Calls.{link_after};
 ghost use Rattle.coap_conn.specs.Calls as call;
-ghost use Rattle.coap_conn.specs.Fit.{fit, bare_response};
-ghost use Rattle.coap_store.specs.Paths.{is_path};
-ghost use Rattle.coap_store.specs.PlanViews.{path_or_root};
-ghost use Rattle.coap_store.specs.Messages.{response_with_observe, option_at, empty_at, number_at, each_at};
 
 use coap_conn::{Link, Reply};
 use coap_store::{Plan, UriPath};

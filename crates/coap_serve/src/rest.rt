@@ -1,6 +1,7 @@
 //! Bytes read from a wire that no connection has taken yet.
 
-ghost use Rattle.std.specs.Prelude.{◌≡◌, ◌≤◌, length};
+ghost use Rattle.std.specs.Prelude.{◌≡◌, ◌≤◌, length, ◌==◌, ◌-◌, [], ◌∷◌, drop, IfOk};
+ghost use Rattle.coap_serve.specs.Prelude.{AddsBytes, TellsMore, count_passed};
 
 use crate::wire::{Got, Wire};
 use std::alloc::{AllocError, Global};
@@ -30,11 +31,6 @@ impl Model for Rest {
 }
 
 impl Rest {
-    ghost use Rattle.std.specs.Prelude.{◌≡◌, ◌==◌, ◌≤◌, ◌-◌, [], ◌∷◌, length, drop, IfOk};
-    ghost use Rattle.coap_serve.specs.streams.Device.{AddsBytes};
-    ghost use Rattle.coap_serve.specs.streams.Telling.{TellsMore};
-    ghost use Rattle.coap_serve.specs.streams.Wires.{count_passed};
-
     /// Nothing was read. The room of 16,384 bytes is reserved once.
     ///
     /// # Errors

@@ -1,6 +1,7 @@
 //! Scripts: texts whose lines name events.
 
-ghost use Rattle.coap_serve.specs.script.EventViews.{IsScript};
+ghost use Rattle.std.specs.Prelude.{◌≡◌};
+ghost use Rattle.coap_serve.specs.Prelude.{IsScript, fault_number};
 
 mod events;
 mod laws;
@@ -27,9 +28,6 @@ pub enum ScriptFault {
 }
 
 impl ScriptFault {
-    ghost use Rattle.std.specs.Prelude.{◌≡◌};
-    ghost use Rattle.coap_serve.specs.script.EventViews.{fault_number};
-
     /// Its number, 1 or 2.
     pub const fn number(self) -> u8
         ensures { result ≡ fault_number self }

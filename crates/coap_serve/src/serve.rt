@@ -1,19 +1,8 @@
 //! Serves one connection over one input and one output.
 
 ghost use Rattle.std.specs.Prelude.{◌≡◌, ◌+◌, ◌<◌, ◌≤◌, ◌^◌, ℕ, false, List, [], ◌++◌, length, Some, IfOk};
-ghost use Rattle.std.specs.List.{AllByRecursion};
-ghost use Rattle.coap_conn.specs.Calls.{end_reason};
-ghost use Rattle.coap_conn.specs.Limits.{AreInRange};
-ghost use Rattle.coap_serve.specs.Configs.{ConfigValues};
-ghost use Rattle.coap_serve.specs.values.Servers.{session_of};
-ghost use Rattle.coap_serve.specs.values.ServerAnswers.{stop_on};
-ghost use Rattle.coap_serve.specs.world.Handling.{count_of};
-ghost use Rattle.coap_serve.specs.world.Sides.{is_cut};
-ghost use Rattle.coap_serve.specs.streams.Device.{HasGiven, AddsBytes};
-ghost use Rattle.coap_serve.specs.streams.Output.{only_id, stream_of, stdio_output};
-ghost use Rattle.coap_serve.specs.streams.Standing.{Stands, IsGoing, IsServed, IsTurn};
-ghost use Rattle.coap_serve.specs.streams.StdioRun.{IsStdioRun};
-ghost use Rattle.coap_serve.specs.streams.Faults.{is_read_fault, is_write_fault};
+ghost use Rattle.coap_serve.specs.Prelude.{AllByRecursion, end_reason, AreInRange, ConfigValues, session_of, stop_on, count_of, is_cut, HasGiven, AddsBytes, only_id, stream_of, stdio_output, Stands, IsGoing, IsTurn, IsStdioRun, is_read_fault, is_write_fault};
+ghost use Rattle.coap_serve.specs.streams.Standing.{IsServed};
 
 use crate::config::Config;
 use crate::device::{Outlet, Source};

@@ -1,5 +1,8 @@
 //! A server over several connections.
 
+ghost use Rattle.std.specs.Prelude.{◌≡◌, [], IfOk};
+ghost use Rattle.coap_serve.specs.Prelude.{release_fault, new_server, Shows};
+
 mod bytes;
 mod changes;
 mod connections;
@@ -105,9 +108,6 @@ pub enum ReleaseFault {
 }
 
 impl From<SendFault> for ReleaseFault {
-    ghost use Rattle.std.specs.Prelude.{◌≡◌};
-    ghost use Rattle.coap_serve.specs.values.ServerAnswers.{release_fault};
-
     ghost from_gives = { λ fault release. release ≡ release_fault fault };
 
     fn from(fault: SendFault) -> ReleaseFault {
@@ -229,10 +229,6 @@ impl Model for Server {
 }
 
 impl Server {
-    ghost use Rattle.std.specs.Prelude.{◌≡◌, [], IfOk};
-    ghost use Rattle.coap_serve.specs.values.Servers.{new_server};
-    ghost use Rattle.coap_serve.specs.world.Shows.{Shows};
-
     /// A server with no connection, that stores nothing, whose counts begin where the configuration says.
     ///
     /// # Errors

@@ -1,13 +1,8 @@
 //! A connection of a server.
 
-ghost use Rattle.std.specs.Prelude.{◌≡◌, ℕ, List, [], IfOk, OnOk, OnErr};
-ghost use Rattle.coap_conn.specs.Phases.{IsLive};
-ghost use Rattle.coap_conn.specs.LinkValue.{IsReady};
-ghost use Rattle.coap_store.specs.Changes.{IsPut};
-ghost use Rattle.coap_serve.specs.values.Causes.{change_hash};
-ghost use Rattle.coap_serve.specs.values.Sessions.{change_by, host_changed, observers_on, session_handled, session_with, sizes_of};
-ghost use Rattle.coap_serve.specs.values.Dues.{sooner as lesser};
-ghost use Rattle.coap_serve.specs.values.Entries.{framer_on};
+ghost use Rattle.std.specs.Prelude.{◌≡◌, ℕ, List, [], IfOk, OnOk, OnErr, false, None, ◌≤◌, ◌+◌, ◌||◌, ⊤, Some, length, take, is_some, IfErr};
+ghost use Rattle.coap_serve.specs.Prelude.{IsLive, IsReady, IsPut, change_hash, change_by, host_changed, observers_on, session_handled, session_with, sizes_of, sooner as lesser, framer_on, sem, follows_so, none, RefusedBy, AreInRange, is_finished, IsNextPart, release_refusal, IsUntouched, new_session, session_takes, next_held_in, next_stale, session_notified, session_settled_once, taking, session_written, session_ended, session_released, session_announced, session_settled, IsSettled, RefusesPiece, IsAnnounced, due_on, IsBefore, next_told as next_told_of, settled_held};
+ghost use Rattle.coap_serve.specs.contracts.session.Session.{the_row};
 
 use crate::answering::{answer, notify, send_due};
 use crate::cause::Cause;
@@ -32,8 +27,6 @@ pub(crate) struct Taking {
 }
 
 impl Taking {
-    ghost use Rattle.std.specs.Prelude.{◌≡◌, false, None};
-
     /// So many bytes without a message.
     fn without_message(count: usize) -> Taking
         ensures { result ≡ record { count = count; handled = false; changed = None } }
@@ -67,21 +60,6 @@ impl Model for Session {
 }
 
 impl Session {
-    ghost use Rattle.std.specs.Prelude.{◌≡◌, ◌≤◌, ◌+◌, ◌||◌, ⊤, ℕ, Some, None, false, length, take, is_some, IfOk, IfErr, OnOk, OnErr};
-    ghost use Rattle.std.specs.Borrow.{sem, follows_so};
-    ghost use mathlib.Core.Option.{none};
-    ghost use Rattle.coap_wire.specs.Refusal.{RefusedBy};
-    ghost use Rattle.coap_conn.specs.Limits.{AreInRange};
-    ghost use Rattle.coap_conn.specs.LinkValue.{is_finished};
-    ghost use Rattle.coap_conn.specs.QueueValue.{IsNextPart};
-    ghost use Rattle.coap_conn.specs.Release.{release_refusal};
-    ghost use Rattle.coap_serve.specs.values.Causes.{change_hash, IsUntouched};
-    ghost use Rattle.coap_serve.specs.values.Sessions.{new_session, session_takes, next_held_in, next_stale, session_notified, session_settled_once, taking, host_changed, session_written, session_ended, session_released, session_announced, session_settled, IsSettled, RefusesPiece};
-    ghost use Rattle.coap_serve.specs.values.ServerAnswers.{IsAnnounced};
-    ghost use Rattle.coap_serve.specs.values.Dues.{due_on, IsBefore, next_told as next_told_of};
-    ghost use Rattle.coap_serve.specs.values.Entries.{settled_held};
-    ghost use Rattle.coap_serve.specs.contracts.session.Session.{the_row};
-
     /// A new connection with these limits, on which our Capabilities and Settings wait. All its room is reserved here.
     ///
     /// # Errors

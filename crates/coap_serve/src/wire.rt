@@ -1,10 +1,7 @@
 //! What connections and moments come from: wires, the door that hands them out, and the clock.
 
 ghost use Rattle.std.specs.Prelude.{ℕ, Bool, List, [], ◌∷◌, length, Option, None, is_some};
-ghost use Rattle.coap_serve.specs.streams.Device.{AddsBytes};
-ghost use Rattle.coap_serve.specs.streams.Telling.{TellsMore, DoorCall, Asked, Waited};
-ghost use Rattle.coap_serve.specs.streams.Wires.{IsWithin, IsTold, bytes_passed};
-ghost use Rattle.coap_serve.specs.declared.wire.Got.{Got};
+ghost use Rattle.coap_serve.specs.Prelude.{AddsBytes, TellsMore, DoorCall, Asked, Waited, IsWithin, IsTold, bytes_passed, Got};
 
 /// What a read or a write of a wire came to.
 #[derive(Clone, Copy, PartialEq, Eq)]

@@ -6,6 +6,7 @@ ghost use Rattle.std.specs.Duration.{as_nanos};
 ghost use Rattle.coap_serve.specs.declared.wire.Wait.TheVariants as asked;
 ghost use Rattle.coap_sockets.specs.Moments.{second};
 ghost use Rattle.coap_sockets.specs.declared.answers.Refused.TheVariants as refusal;
+ghost use Rattle.coap_sockets.specs.declared.door.ListenFault.TheVariants as fault;
 
 use crate::answers::{Refused, accept_fault};
 use crate::clock::monotonic;
@@ -35,9 +36,6 @@ pub enum ListenFault {
 }
 
 impl From<io::Error> for ListenFault {
-    ghost use Rattle.std.specs.Prelude.{◌≡◌};
-    ghost use Rattle.coap_sockets.specs.declared.door.ListenFault.TheVariants as fault;
-
     ghost from_gives = { λ error given. given ≡ fault.Socket };
 
     fn from(_error: io::Error) -> ListenFault {
@@ -46,9 +44,6 @@ impl From<io::Error> for ListenFault {
 }
 
 impl From<AllocError> for ListenFault {
-    ghost use Rattle.std.specs.Prelude.{◌≡◌};
-    ghost use Rattle.coap_sockets.specs.declared.door.ListenFault.TheVariants as fault;
-
     ghost from_gives = { λ error given. given ≡ fault.Memory };
 
     fn from(_error: AllocError) -> ListenFault {
@@ -99,8 +94,6 @@ fn give_up<S: Read>(stream: &mut S) {
 }
 
 impl Wire for SocketWire {
-    ghost use Rattle.std.specs.Prelude.{None};
-
     // A socket tells nothing of what it passed on.
     ghost given = { λ _. None };
 
@@ -122,8 +115,6 @@ impl Wire for SocketWire {
 }
 
 impl Ready for SocketWire {
-    ghost use Rattle.std.specs.Prelude.{None};
-
     // What is known of a socket stands in what the wire and the door share.
     ghost readable = { λ _. None };
 

@@ -1,12 +1,15 @@
 //! A client's wire over TCP, which waits.
 
-ghost use Rattle.std.specs.Prelude.{◌≡◌, ◌≢◌, length};
+ghost use Rattle.std.specs.Prelude.{◌≡◌, ◌≢◌, length, None, [], ◌∷◌};
 ghost use Rattle.std.specs.IoError.{error_kind};
 ghost use Rattle.std.specs.declared.io.ErrorKind.TheVariants as kind;
-ghost use Rattle.coap_serve.specs.streams.Wires.{IsWithin};
-ghost use Rattle.coap_sockets.specs.Ready.{is_blocked_by};
+ghost use Rattle.coap_serve.specs.streams.Wires.{IsWithin, bytes_passed};
+ghost use Rattle.coap_sockets.specs.Ready.{is_blocked_by, is_later};
 ghost use Rattle.coap_sockets.specs.declared.answers.Hindrance.TheVariants as hindrance;
 ghost use Rattle.coap_sockets.specs.declared.line.ConnectFault.TheVariants as fault;
+ghost use Rattle.coap_sockets.specs.Answers.{hindrance_of};
+ghost use Rattle.coap_serve.specs.streams.Device.{AddsBytes};
+ghost use Rattle.coap_serve.specs.streams.Telling.{TellsMore};
 
 use crate::answers::{Hindrance, hindrance_of, read_got, write_got};
 use crate::clock::RunClock;
@@ -33,11 +36,6 @@ pub enum ConnectFault {
 }
 
 impl From<io::Error> for ConnectFault {
-    ghost use Rattle.std.specs.Prelude.{◌≡◌};
-    ghost use Rattle.std.specs.IoError.{error_kind};
-    ghost use Rattle.coap_sockets.specs.Answers.{hindrance_of};
-    ghost use Rattle.coap_sockets.specs.declared.line.ConnectFault.TheVariants as fault;
-
     ghost from_gives = { λ error given. given ≡ fault.Socket (hindrance_of (error_kind error)) };
 
     fn from(error: io::Error) -> ConnectFault {
@@ -46,9 +44,6 @@ impl From<io::Error> for ConnectFault {
 }
 
 impl From<AllocError> for ConnectFault {
-    ghost use Rattle.std.specs.Prelude.{◌≡◌};
-    ghost use Rattle.coap_sockets.specs.declared.line.ConnectFault.TheVariants as fault;
-
     ghost from_gives = { λ error given. given ≡ fault.Memory };
 
     fn from(_error: AllocError) -> ConnectFault {
@@ -241,12 +236,6 @@ fn is_blocked_by(offered: usize, got: Got) -> bool
 }
 
 impl<'a, R: Net + time::Clock> Wire for Line<'a, R> {
-    ghost use Rattle.std.specs.Prelude.{◌≡◌, None, [], ◌∷◌, length};
-    ghost use Rattle.coap_serve.specs.streams.Device.{AddsBytes};
-    ghost use Rattle.coap_serve.specs.streams.Wires.{IsWithin, bytes_passed};
-    ghost use Rattle.coap_serve.specs.streams.Telling.{TellsMore};
-    ghost use Rattle.coap_sockets.specs.Ready.{is_blocked_by, is_later};
-
     // A socket tells nothing of what it passed on.
     ghost given = { λ _. None };
 

@@ -25,3 +25,4 @@ pub mod StoreViews
 pub mod Noting
 pub mod AskedViews
 pub mod Watching
+pub mod Prelude

@@ -1,13 +1,9 @@
 //! The answers to requests.
 
-ghost use Rattle.std.specs.Prelude.{◌≡◌, ◌≢◌, true, [], Option, option_map, is_none};
-ghost use Rattle.coap_wire.specs.Message.{Message};
+ghost use Rattle.std.specs.Prelude.{◌≡◌, ◌≢◌, true, [], Option, option_map, is_none, ◌≤◌, ℕ, length};
+ghost use Rattle.coap_store.specs.Prelude.{Message, is_path, Representation, path_of as path_asked, values_of, is_method as is_known_method, preconditions_hold as hold, get_answer, read_answer, etag_at, max_age_at, is_accepted as accepts, is_among as is_one_of, watch_of, removes_watch as asks_removal, stored as stored_there, delete_answer, found_value, target_value, found_in, place_of, target_of, state_at, answer_of, answer_at, resource_answer, store_answer, needs_resource as needs, TakesChange, changes, IsStore};
 ghost use Rattle.coap_wire.specs.OptionNumbers as numbers;
-ghost use Rattle.coap_store.specs.Paths.{is_path};
-ghost use Rattle.coap_store.specs.Store.{Representation};
-ghost use Rattle.coap_store.specs.Requests.{path_of as path_asked, values_of, is_method as is_known_method, preconditions_hold as hold};
-ghost use Rattle.coap_store.specs.Answer.{get_answer, read_answer, etag_at, max_age_at, is_accepted as accepts, is_among as is_one_of, watch_of, removes_watch as asks_removal, stored as stored_there, delete_answer};
-ghost use Rattle.coap_store.specs.TargetViews.{found_value, target_value};
+ghost use Rattle.coap_store.specs.declared.place.Place.TheVariants.{Dynamic};
 
 use crate::path::PathKey;
 use crate::place::Place;
@@ -19,17 +15,7 @@ use arrayvec::ArrayVec;
 use coap_wire::{Code, MessageRef, uint_bytes};
 
 impl Store {
-    ghost use Rattle.std.specs.Prelude.{◌≡◌, ◌≤◌, ℕ, true, [], length, option_map};
-    ghost use Rattle.coap_wire.specs.Message.{Message};
-    ghost use Rattle.coap_store.specs.Requests.{path_of};
-    ghost use Rattle.coap_store.specs.Paths.{is_path};
-    ghost use Rattle.coap_store.specs.Store.{found_in};
-    ghost use Rattle.coap_store.specs.State.{place_of, target_of, state_at};
-    ghost use Rattle.coap_store.specs.declared.place.Place.TheVariants.{Dynamic};
-    ghost use Rattle.coap_store.specs.Answer.{answer_of, answer_at, resource_answer, store_answer, needs_resource as needs};
-    ghost use Rattle.coap_store.specs.Changes.{TakesChange, changes};
-    ghost use Rattle.coap_store.specs.Invariant.{IsStore};
-    ghost use Rattle.coap_store.specs.TargetViews.{found_value, target_value};
+    ghost use Rattle.coap_store.specs.Prelude.{path_of};
 
     /// The answer to a request at a moment in seconds. It allocates nothing, and changes nothing: `apply` makes the
     /// change. A GET of the resource that answers late is held for as many seconds as it asks: the plan tells how many.

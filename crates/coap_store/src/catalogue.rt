@@ -1,10 +1,7 @@
 //! The dynamic resources of a store, with the listing of them.
 
-ghost use Rattle.std.specs.Prelude.{◌≡◌, OnOk, OnErr, IfNone, IfSome, true, false};
-ghost use Rattle.std.specs.Option.{is_some, is_none};
-ghost use Rattle.coap_store.specs.Store.{found_in, put_at};
-ghost use Rattle.coap_store.specs.Listing.{listing as listing_of};
-ghost use Rattle.coap_store.specs.ResourceViews.{resources_in, has_format, AreListed, IsListed, representation};
+ghost use Rattle.std.specs.Prelude.{◌≡◌, OnOk, OnErr, IfNone, IfSome, true, false, is_some, is_none, [], IfOk, length, option_map};
+ghost use Rattle.coap_store.specs.Prelude.{found_in, put_at, listing as listing_of, resources_in, has_format, AreListed, IsListed, representation, removed_at};
 
 use crate::path::PathKey;
 use crate::resource::{BUILT_IN_TEXT, Resource, Resources, entry_text, write_listing};
@@ -35,11 +32,6 @@ impl Model for Catalogue {
 }
 
 impl Catalogue {
-    ghost use Rattle.std.specs.Prelude.{◌≡◌, [], IfOk, OnOk, OnErr, length, option_map};
-    ghost use Rattle.coap_store.specs.Listing.{listing as listing_of};
-    ghost use Rattle.coap_store.specs.Store.{found_in, put_at, removed_at};
-    ghost use Rattle.coap_store.specs.ResourceViews.{representation};
-
     /// No resource but those that are built in.
     pub(crate) fn new(alloc: Global) -> Result<Catalogue, AllocError>
         ensures { IfOk result (λ c. c ≡ []) }

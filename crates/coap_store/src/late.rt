@@ -1,7 +1,7 @@
 //! What an answer that was held says in the end.
 
 ghost use Rattle.std.specs.Prelude.{◌≡◌};
-ghost use Rattle.coap_store.specs.Answer.{says, held_response as response_held};
+ghost use Rattle.coap_store.specs.Prelude.{says, held_response as response_held};
 
 use crate::plan::{Bytes, Plan, Watch};
 use crate::target::{Found, TEXT_PLAIN};

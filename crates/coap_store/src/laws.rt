@@ -1,20 +1,8 @@
 //! What holds of every store and every answer, each as the contract of a function that does nothing.
 
 ghost use Rattle.std.specs.Prelude.{◌≡◌, ◌≢◌, ◌↔◌, ℕ, ◌+◌, ◌<◌, ◌≤◌, ◌^◌, List, [], Option, Some, None, IsTrue, IsFalse, IfSome};
-ghost use Rattle.coap_wire.specs.Message.{Message};
+ghost use Rattle.coap_store.specs.Prelude.{Message, Path, is_path, Representation, StoreValue, found_in, put_in, removed_in, place_of, state_of, is_get, path_of, etag_of, Change, Nothing, Put, Delete, only, held_response, asks_late, answer_of, prompt_answer, changed, says_change, TakesChange, HasSmallFormat, changed_by, TakesChanges, AreDistinct, IsStore, put_refusal, WasStored, notification_of, MayWatch, plain_get, IsStoredCode, TellsState, TellsEtag, IsElsewhere, content_of, put_by};
 ghost use Rattle.coap_wire.specs.Codes as code;
-ghost use Rattle.coap_store.specs.Paths.{Path, is_path};
-ghost use Rattle.coap_store.specs.Store.{Representation, StoreValue, found_in, put_in, removed_in};
-ghost use Rattle.coap_store.specs.State.{place_of, state_of};
-ghost use Rattle.coap_store.specs.Requests.{is_get, path_of, etag_of};
-ghost use Rattle.coap_store.specs.Answer.{Change, Nothing, Put, Delete, only, held_response, asks_late, answer_of, prompt_answer, changed};
-ghost use Rattle.coap_store.specs.Changes.{says_change, TakesChange, HasSmallFormat, changed_by, TakesChanges};
-ghost use Rattle.coap_store.specs.Invariant.{AreDistinct, IsStore};
-ghost use Rattle.coap_store.specs.Refusals.{put_refusal};
-ghost use Rattle.coap_store.specs.Remembering.{WasStored};
-ghost use Rattle.coap_store.specs.Notifications.{notification_of};
-ghost use Rattle.coap_store.specs.Watching.{MayWatch};
-ghost use Rattle.coap_store.specs.Serving.{plain_get, IsStoredCode, TellsState, TellsEtag, IsElsewhere, content_of, put_by};
 ghost use Rattle.coap_store.specs.declared.place.Place.TheVariants.{Listing, Dynamic};
 ghost use Rattle.coap_store.specs.declared.plan.Watch.TheVariants.{Add};
 

@@ -1,7 +1,7 @@
 //! What the recognised options of a request say, noted in one pass.
 
 ghost use Rattle.std.specs.Prelude.{◌≡◌, true, option_copied};
-ghost use Rattle.coap_store.specs.Noting.{first_given};
+ghost use Rattle.coap_store.specs.Prelude.{first_given, coap_option, nothing, noted, notes_value};
 
 use crate::trail::Trail;
 use coap_wire::OptionRef;
@@ -36,10 +36,6 @@ fn keep_first<'r>(first: &mut Option<&'r [u8]>, value: &'r [u8])
 }
 
 impl<'r> Notes<'r> {
-    ghost use Rattle.std.specs.Prelude.{◌≡◌};
-    ghost use Rattle.coap_wire.specs.Views.{coap_option};
-    ghost use Rattle.coap_store.specs.Noting.{nothing, noted, notes_value};
-
     /// Nothing is noted yet.
     pub(crate) fn nothing() -> Notes<'r>
         ensures { notes_value result ≡ nothing }

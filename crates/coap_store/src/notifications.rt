@@ -9,9 +9,7 @@ use coap_wire::Code;
 
 impl Store {
     ghost use Rattle.std.specs.Prelude.{◌≡◌, ◌≤◌, length};
-    ghost use Rattle.coap_store.specs.Answer.{says};
-    ghost use Rattle.coap_store.specs.Invariant.{IsStore};
-    ghost use Rattle.coap_store.specs.Notifications.{notification_of};
+    ghost use Rattle.coap_store.specs.Prelude.{says, IsStore, notification_of};
 
     /// What an observer of a path that was told representations of this Content-Format, or of none, is told of it at a
     /// moment in seconds (RFC 7641 section 4.2): 4.04 where the path is absent, 4.06 where the representation has

@@ -1,9 +1,7 @@
 //! Paths of resources.
 
 ghost use Rattle.std.specs.Prelude.{◌≡◌, ◌≤◌, true, Some, None, nat_le, if◌then◌else◌};
-ghost use Rattle.std.specs.List.{list_any};
-ghost use Rattle.coap_store.specs.Paths.{is_dots, is_one_empty, is_path, written_length};
-ghost use Rattle.coap_store.specs.PathViews.{segment_list, written};
+ghost use Rattle.coap_store.specs.Prelude.{list_any, is_dots, is_one_empty, is_path, written_length, segment_list, written, YieldsFirstBy, item_count};
 
 use arrayvec::ArrayVec;
 use std::marker::Model;
@@ -168,8 +166,6 @@ impl<'a> Model for Segments<'a> {
 }
 
 impl<'a> Iterator for Segments<'a> {
-    ghost use Rattle.std.specs.Iterator.{YieldsFirstBy, item_count};
-
     type Item = &'a [u8];
 
     ghost next_gives = { YieldsFirstBy (λ segment. segment.now) (λ segments. segments) };

@@ -1,7 +1,7 @@
 //! Which resource a path names.
 
 ghost use Rattle.std.specs.Prelude.{◌≡◌};
-ghost use Rattle.coap_store.specs.State.{place_of as place_named};
+ghost use Rattle.coap_store.specs.Prelude.{place_of as place_named, is_dynamic as is_dynamic_place, is_async as is_async_place, is_observable as is_observable_place};
 
 use crate::path::PathKey;
 
@@ -21,9 +21,6 @@ pub enum Place {
 }
 
 impl Place {
-    ghost use Rattle.std.specs.Prelude.{◌≡◌};
-    ghost use Rattle.coap_store.specs.State.{is_dynamic as is_dynamic_place, is_async as is_async_place, is_observable as is_observable_place};
-
     /// Whether no resource is built in there.
     pub fn is_dynamic(self) -> bool
         ensures { result ≡ is_dynamic_place self }
@@ -65,9 +62,6 @@ impl Place {
 }
 
 impl PathKey {
-    ghost use Rattle.std.specs.Prelude.{◌≡◌};
-    ghost use Rattle.coap_store.specs.State.{place_of as place_named};
-
     /// Which resource the path names.
     pub fn place(&self) -> Place
         ensures { result ≡ place_named self.now }

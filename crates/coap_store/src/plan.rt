@@ -1,5 +1,9 @@
 //! What is answered to a request.
 
+ghost use Rattle.std.specs.Prelude.{◌≡◌, ◌≢◌, ◌≤◌, true, [], Some, IfSome, length, option_map};
+ghost use Rattle.coap_store.specs.Prelude.{bytes_in, change_value, says, only, unheld, changes as is_change, is_path, effect_value, IsAtPath, IsToldNamed, path_or_root, location_in};
+ghost use Rattle.coap_wire.specs.Codes as code;
+
 use crate::path::PathKey;
 use crate::request::path_in;
 use crate::target::Found;
@@ -18,9 +22,6 @@ pub enum Bytes<'s> {
 }
 
 impl<'s> Bytes<'s> {
-    ghost use Rattle.std.specs.Prelude.{◌≡◌};
-    ghost use Rattle.coap_store.specs.PlanViews.{bytes_in};
-
     /// The bytes.
     pub(crate) fn as_slice(&self) -> &[u8]
         ensures { result.now ≡ bytes_in self.now }
@@ -51,9 +52,6 @@ pub enum Change<'r> {
 }
 
 impl<'r> Change<'r> {
-    ghost use Rattle.std.specs.Prelude.{◌≡◌};
-    ghost use Rattle.coap_store.specs.PlanViews.{change_value};
-
     /// The same change. It allocates nothing.
     pub fn duplicate(&self) -> Change<'r>
         ensures { change_value result ≡ change_value self.now }
@@ -139,13 +137,6 @@ impl<'s, 'r> Model for Plan<'s, 'r> {
 }
 
 impl<'s, 'r> Plan<'s, 'r> {
-    ghost use Rattle.std.specs.Prelude.{◌≡◌, ◌≢◌, ◌≤◌, true, [], Some, IfSome, length, option_map};
-    ghost use Rattle.coap_wire.specs.Codes as code;
-    ghost use Rattle.coap_store.specs.Answer.{says, only, unheld};
-    ghost use Rattle.coap_store.specs.Changes.{changes as is_change};
-    ghost use Rattle.coap_store.specs.Paths.{is_path};
-    ghost use Rattle.coap_store.specs.PlanViews.{bytes_in, change_value, effect_value, IsAtPath, IsToldNamed, path_or_root, location_in};
-
     /// A response with this code and nothing else, which changes nothing.
     pub(crate) fn only(code: Code) -> Plan<'s, 'r>
         ensures { result ≡ says (only code) }

@@ -1,14 +1,9 @@
 //! What a request asks for, by its recognised options (RFC 7252 sections 5.4, 5.10).
 
-ghost use Rattle.std.specs.Prelude.{◌≡◌, ◌≤◌, ◌<◌, true, Option, length, is_some, IfNone, IfSome};
-ghost use Rattle.coap_wire.specs.Uint.{uint_of};
-ghost use Rattle.coap_wire.specs.Recognition.{known_options};
+ghost use Rattle.std.specs.Prelude.{◌≡◌, ◌≤◌, ◌<◌, true, Option, length, is_some, IfNone, IfSome, ◌||◌, option_map};
+ghost use Rattle.coap_store.specs.Prelude.{uint_of, known_options, is_path, segment_list, digits_mean, path_of as path_asked, key_for as key_named, nothing, all_noted, notes_value, first_critical, list_any, same_bytes, Representation, place_of};
 ghost use Rattle.coap_store.specs.Requests as spec;
-ghost use Rattle.coap_store.specs.Paths.{is_path};
-ghost use Rattle.coap_store.specs.PathViews.{segment_list};
-ghost use Rattle.coap_store.specs.Requests.{digits_mean, path_of as path_asked};
-ghost use Rattle.coap_store.specs.State.{key_for as key_named};
-ghost use Rattle.coap_store.specs.Noting.{nothing, all_noted, notes_value};
+ghost use Rattle.coap_wire.specs.OptionNumbers as numbers;
 
 use crate::notes::Notes;
 use crate::path::{MAX_SEGMENTS, PathKey};
@@ -97,14 +92,7 @@ fn small_value(bytes: &[u8]) -> u16
 }
 
 impl<'q, 'r> Asked<'q, 'r> {
-    ghost use Rattle.std.specs.Prelude.{◌≡◌, ◌||◌, true, Option, option_map, is_some};
-    ghost use Rattle.coap_wire.specs.Recognition.{first_critical};
-    ghost use Rattle.std.specs.List.{list_any};
-    ghost use Rattle.coap_wire.specs.OptionNumbers as numbers;
-    ghost use Rattle.coap_store.specs.Paths.{same_bytes};
-    ghost use Rattle.coap_store.specs.Store.{Representation};
-    ghost use Rattle.coap_store.specs.State.{key_for, place_of};
-    ghost use Rattle.coap_store.specs.Requests as spec;
+    ghost use Rattle.coap_store.specs.Prelude.{key_for};
 
     /// Reads the recognised options of a request.
     pub(crate) fn by(request: &'q MessageRef<'r>) -> Asked<'q, 'r>

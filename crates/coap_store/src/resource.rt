@@ -1,11 +1,7 @@
 //! A dynamic resource, and the listing of all of them.
 
-ghost use Rattle.std.specs.Prelude.{◌≡◌, ◌≤◌, ◌∷◌, ◌++◌, length, IfOk, OnOk};
-ghost use Rattle.std.specs.List.{flat_map};
-ghost use Rattle.std.specs.Vec.{vec_capacity};
-ghost use Rattle.std.specs.String.{string_bytes};
-ghost use Rattle.coap_store.specs.Listing.{listing as listing_of, entry_bytes, slash, encoded_byte, path_bytes, format_bytes};
-ghost use Rattle.coap_store.specs.ResourceViews.{resources_in, AreListed};
+ghost use Rattle.std.specs.Prelude.{◌≡◌, ◌≤◌, ◌∷◌, ◌++◌, length, IfOk, OnOk, flat_map, vec_capacity, string_bytes};
+ghost use Rattle.coap_store.specs.Prelude.{listing as listing_of, entry_bytes, slash, encoded_byte, path_bytes, format_bytes, resources_in, AreListed};
 
 use crate::path::PathKey;
 use indexmap::IndexMap;

@@ -1,5 +1,8 @@
 //! What is at a path.
 
+ghost use Rattle.std.specs.Prelude.{◌≡◌};
+ghost use Rattle.coap_store.specs.Prelude.{state_of, state_value};
+
 use crate::path::PathKey;
 use crate::place::place_of;
 use crate::store::Store;
@@ -32,8 +35,6 @@ impl<'s> Model for Present<'s> {
 }
 
 impl<'s> Present<'s> {
-    ghost use Rattle.std.specs.Prelude.{◌≡◌};
-
     /// Its version: the number of the representation among all that were stored, 0 where the resource is built in.
     pub fn version(&self) -> u64
         ensures { result ≡ self.now.version }
@@ -57,10 +58,6 @@ impl<'s> Present<'s> {
 }
 
 impl Store {
-    ghost use Rattle.std.specs.Prelude.{◌≡◌};
-    ghost use Rattle.coap_store.specs.State.{state_of};
-    ghost use Rattle.coap_store.specs.StateViews.{state_value};
-
     /// The state of a path at a moment in seconds, which is that of a built-in resource too. It allocates nothing.
     pub fn state(&self, path: &PathKey, now: u64) -> State<'_>
         ensures { state_value result ≡ state_of self.now now path.now }

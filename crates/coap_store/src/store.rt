@@ -1,6 +1,7 @@
 //! The store of a server's resources.
 
-ghost use Rattle.std.specs.Prelude.{◌≡◌, ◌<◌, IfSome};
+ghost use Rattle.std.specs.Prelude.{◌≡◌, ◌<◌, IfSome, ◌≤◌, [], IfOk, OnOk, OnErr, length, not, nat_le, ◌==◌, option_map};
+ghost use Rattle.coap_store.specs.Prelude.{changed, greatest_version, found_in, put_in, removed_in, listing as listing_of, representation, TakesChange, TakesPut, IsPut, IsStore, change_value};
 
 use crate::catalogue::Catalogue;
 use crate::path::PathKey;
@@ -33,15 +34,6 @@ impl Model for Store {
 }
 
 impl Store {
-    ghost use Rattle.std.specs.Prelude.{◌≡◌, ◌≤◌, ◌<◌, [], IfOk, IfSome, OnOk, OnErr, length, not, nat_le, ◌==◌, option_map};
-    ghost use Rattle.coap_store.specs.Answer.{changed, greatest_version};
-    ghost use Rattle.coap_store.specs.Store.{found_in, put_in, removed_in};
-    ghost use Rattle.coap_store.specs.Listing.{listing as listing_of};
-    ghost use Rattle.coap_store.specs.ResourceViews.{representation};
-    ghost use Rattle.coap_store.specs.Changes.{TakesChange, TakesPut, IsPut};
-    ghost use Rattle.coap_store.specs.Invariant.{IsStore};
-    ghost use Rattle.coap_store.specs.PlanViews.{change_value};
-
     /// An empty store for at most `dynamic_max` resources (0 to 1,000) of at most `rep_max` bytes each (0 to
     /// 1,048,576), whose first representation has the version `versions_from + 1`.
     ///

@@ -1,10 +1,7 @@
 //! What a request is about.
 
-ghost use Rattle.std.specs.Prelude.{◌≡◌, option_map};
-ghost use Rattle.std.specs.Fmt.{decimal};
-ghost use Rattle.coap_store.specs.Paths.{Path};
-ghost use Rattle.coap_store.specs.Requests.{path_of as path_asked};
-ghost use Rattle.coap_store.specs.State.{key_for, place_of as place_named};
+ghost use Rattle.std.specs.Prelude.{◌≡◌, option_map, decimal, Some};
+ghost use Rattle.coap_store.specs.Prelude.{Path, path_of as path_asked, key_for, place_of as place_named, bytes_in, built as built_in, found_value};
 
 use crate::path::PathKey;
 use crate::place::{Place, place_of};
@@ -43,11 +40,6 @@ pub(crate) struct Target<'s> {
 }
 
 impl<'s> Found<'s> {
-    ghost use Rattle.std.specs.Prelude.{◌≡◌, Some};
-    ghost use Rattle.coap_store.specs.PlanViews.{bytes_in};
-    ghost use Rattle.coap_store.specs.State.{built as built_in};
-    ghost use Rattle.coap_store.specs.TargetViews.{found_value};
-
     /// The representation of a built-in resource.
     pub(crate) fn built(format: u16, bytes: Bytes<'s>) -> Found<'s>
         ensures { Some (found_value result) ≡ built_in format (bytes_in bytes.entry) }

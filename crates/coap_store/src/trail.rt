@@ -1,7 +1,7 @@
 //! Where the segments of a path lead.
 
 ghost use Rattle.std.specs.Prelude.{◌≡◌};
-ghost use Rattle.coap_store.specs.Trails.{first_trail};
+ghost use Rattle.coap_store.specs.Prelude.{first_trail, trail_with, place_at};
 
 use crate::place::Place;
 
@@ -39,9 +39,6 @@ fn first(segment: &[u8]) -> Trail
 }
 
 impl Trail {
-    ghost use Rattle.std.specs.Prelude.{◌≡◌};
-    ghost use Rattle.coap_store.specs.Trails.{trail_with, place_at};
-
     /// Where one segment more leads.
     pub(crate) fn with(self, segment: &[u8]) -> Trail
         ensures { result ≡ trail_with self segment.now }

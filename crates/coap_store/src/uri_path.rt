@@ -1,5 +1,8 @@
 //! The path that a request asks for, segment by segment.
 
+ghost use Rattle.std.specs.Prelude.{◌≡◌};
+ghost use Rattle.coap_store.specs.Prelude.{path_of, YieldsFirstBy, item_count};
+
 use coap_wire::option_numbers::URI_PATH;
 use coap_wire::{Known, MessageRef};
 use std::marker::Model;
@@ -22,9 +25,6 @@ impl<'r> Model for UriPath<'r> {
 }
 
 impl<'r> UriPath<'r> {
-    ghost use Rattle.std.specs.Prelude.{◌≡◌};
-    ghost use Rattle.coap_store.specs.Requests.{path_of};
-
     /// All segments of a request's path.
     #[tactic(auto, unfolding(crate::specs::Requests::values_of))]
     pub(crate) fn of(request: &MessageRef<'r>) -> UriPath<'r>
@@ -37,8 +37,6 @@ impl<'r> UriPath<'r> {
 }
 
 impl<'r> Iterator for UriPath<'r> {
-    ghost use Rattle.std.specs.Iterator.{YieldsFirstBy, item_count};
-
     type Item = &'r [u8];
 
     ghost next_gives = { YieldsFirstBy (λ segment. segment.now) (λ segments. segments) };

@@ -353,27 +353,27 @@ fn play_all(rt: &(impl Abort + AllocGlobal), text: &str) -> Result<(), Fail> {
 /// A request behind the Capabilities and Settings. Then the first of two wires fails at its first read; then writes
 /// take one byte each, or come late, or fail.
 const SERVES_EACH_WIRE: &str = "= turns 10; 0; all 00e1010101 later
-+1 1<5 1>19 +- 1<later +- 1<later +- 1<later +- 1<later +- 1<later +- 1<later +- 1<later +- 1<later +- 1<later
++1 1<5 1>21 +- 1<later +- 1<later +- 1<later +- 1<later +- 1<later +- 1<later +- 1<later +- 1<later +- 1<later
 1 60e1230100004140a14501c0ff'coap+tcp'
 = turns 1; 0; all 00e1010101
-+1 1<5 1>19
++1 1<5 1>21
 1 60e1230100004140a14501c0ff'coap+tcp'
 = turns 10; 0; all failed | all 00e1010101
-+1 1<failed +2 2<5 2>19 +- 2<later +- 2<later +- 2<later +- 2<later +- 2<later +- 2<later +- 2<later +- 2<later
++1 1<failed +2 2<5 2>21 +- 2<later +- 2<later +- 2<later +- 2<later +- 2<later +- 2<later +- 2<later +- 2<later
 1 -
 2 60e1230100004140a14501c0ff'coap+tcp'
 = turns 3; 0; one 00e1010101
-+1 1<5 1>19:1 +- 1<later 1>18:1 +- 1<later 1>17:1
-1 40e123
++1 1<5 1>21:1 +- 1<later 1>20:1 +- 1<later 1>19:1
+1 60e123
 = turns 3; 0; late 00e1010101
-+1 1<5 1>later +- 1<later 1>19 +- 1<later
++1 1<5 1>later +- 1<later 1>21 +- 1<later
 1 60e1230100004140a14501c0ff'coap+tcp'
 = turns 3; 0; failed 00e1010101 | all 00e1
-+1 1<5 1>failed +2 2<2 2>6 +- 2<later
++1 1<5 1>failed +2 2<2 2>8 +- 2<later
 1 -
 2 60e1230100004140
 = turns 3; 0; end 00e1010101 | all later 00e1
-+1 1<5 1>end +2 2<later 2>6 +- 2<2
++1 1<5 1>end +2 2<later 2>8 +- 2<2
 1 -
 2 60e1230100004140";
 
@@ -385,32 +385,32 @@ fn serves_each_wire(rt: HostRuntime) -> Result<(), Fail> {
 /// A wire that gives a byte at a time fails, or comes to its end, at each of its reads in turn, and one that takes a
 /// byte at a time at each of its writes; the other one is served.
 const FAILS_AT_EACH_CALL: &str = "= turns 4; 0; all failed | all 00e1010101
-+1 1<failed +2 2<5 2>19 +- 2<later +- 2<later
++1 1<failed +2 2<5 2>21 +- 2<later +- 2<later
 1 -
 2 60e1230100004140a14501c0ff'coap+tcp'
 = turns 4; 0; all 00 failed | all 00e1010101
-+1 1<1 1>6 +2 1<failed 2<5 2>19 +- 2<later +- 2<later
++1 1<1 1>8 +2 1<failed 2<5 2>21 +- 2<later +- 2<later
 1 60e1230100004140
 2 60e1230100004140a14501c0ff'coap+tcp'
 = turns 4; 0; all 00 e1 failed | all 00e1010101
-+1 1<1 1>6 +2 1<1 2<5 2>19 +- 1<failed 2<later +- 2<later
++1 1<1 1>8 +2 1<1 2<5 2>21 +- 1<failed 2<later +- 2<later
 1 60e1230100004140
 2 60e1230100004140a14501c0ff'coap+tcp'
 = turns 5; 0; all 00 e1 01 end | all 00e1010101
-+1 1<1 1>6 +2 1<1 2<5 2>19 +- 1<1 2<later +- 1<end 2<later +- 2<later
++1 1<1 1>8 +2 1<1 2<5 2>21 +- 1<1 2<later +- 1<end 2<later +- 2<later
 1 60e1230100004140
 2 60e1230100004140a14501c0ff'coap+tcp'
 = turns 7; 0; all 00 e1 01 01 01 failed | all 00e1010101
-+1 1<1 1>6 +2 1<1 2<5 2>19 +- 1<1 2<later +- 1<1 2<later +- 1<1 1>13 2<later +- 1<failed 2<later +- 2<later
++1 1<1 1>8 +2 1<1 2<5 2>21 +- 1<1 2<later +- 1<1 2<later +- 1<1 1>13 2<later +- 1<failed 2<later +- 2<later
 1 60e1230100004140a14501c0ff'coap+tcp'
 2 60e1230100004140a14501c0ff'coap+tcp'
 = turns 3; 0; one,failed 00e1010101 | all 00e1010101
-+1 1<5 1>19:1 +2 1<later 1>failed 2<5 2>19 +- 2<later
-1 40
++1 1<5 1>21:1 +2 1<later 1>failed 2<5 2>21 +- 2<later
+1 60
 2 60e1230100004140a14501c0ff'coap+tcp'
 = turns 4; 0; one,one,end 00e1010101 | all 00e1010101
-+1 1<5 1>19:1 +2 1<later 1>18:1 2<5 2>19 +- 1<later 1>end 2<later +- 2<later
-1 40e1
++1 1<5 1>21:1 +2 1<later 1>20:1 2<5 2>21 +- 1<later 1>end 2<later +- 2<later
+1 60e1
 2 60e1230100004140a14501c0ff'coap+tcp'";
 
 #[test]
@@ -421,25 +421,25 @@ fn fails_at_each_call(rt: HostRuntime) -> Result<(), Fail> {
 /// The end comes within a message, behind a request, and at once; the peer releases, with nothing pending and with an
 /// answer held for 1 s; a message stops the connection, and the one behind it is not looked at. Nothing is read then.
 const DROPS_WHAT_IS_FINISHED: &str = "= turns 4; 0; all 00e13101 end 00
-+1 1<4 1>6 +- 1<end +- +-
++1 1<4 1>8 +- 1<end +- +-
 1 60e1230100004140
 = turns 3; 0; all 00e1010101 end
-+1 1<5 1>19 +- 1<end +-
++1 1<5 1>21 +- 1<end +-
 1 60e1230100004140a14501c0ff'coap+tcp'
 = turns 2; 0; all end
-+1 1<end 1>6 +-
++1 1<end 1>8 +-
 1 60e1230100004140
 = turns 3; 0; one 00e1 end
-+1 1<2 1>6:1 +- 1<end 1>5:1 +- 1>4:1
-1 40e123
++1 1<2 1>8:1 +- 1<end 1>7:1 +- 1>6:1
+1 60e123
 = turns 3; 0; all 00e100e4010101 failed
-+1 1<7 1>6 +- +-
++1 1<7 1>8 +- +-
 1 60e1230100004140
 = turns 5; 0 0 0 1; all 00e1810105b5'async'413100e4 failed
-+1 1<15 1>6 +- +- +- 1>9 +-
++1 1<15 1>8 +- +- +- 1>9 +-
 1 60e1230100004140614505c0ff'done'
 = turns 3; 0; late 01010100e1 failed
-+1 1<5 1>later +- 1>22 +-
++1 1<5 1>later +- 1>24 +-
 1 60e1230100004140d000e5ff'CSM expected'";
 
 #[test]
@@ -451,16 +451,16 @@ fn drops_what_is_finished(rt: HostRuntime) -> Result<(), Fail> {
 /// number left it is not asked at all.
 const ASKS_THE_DOOR_WHERE_THERE_IS_ROOM: &str =
     "= turns 5 connections 1; 0; all 00e1010101 later end | all 00e1010102
-+1 1<5 1>19 1<later 1<end +2 2<5 2>19 2<later
++1 1<5 1>21 1<later 1<end +2 2<5 2>21 2<later
 1 60e1230100004140a14501c0ff'coap+tcp'
 2 60e1230100004140a14502c0ff'coap+tcp'
 = turns 3 ids 18446744073709551615; 0; all 00e1
 
 = turns 4 ids 18446744073709551614; 0; all 00e1 end | all 00e1
-+1 1<2 1>6 1<end
++1 1<2 1>8 1<end
 1 60e1230100004140
 = turns 4; 0; all 00e1 010101 | all 00e1 010102 failed
-+1 1<2 1>6 +2 1<3 1>13 2<2 2>6 +- 1<later 2<3 2>13 +- 1<later 2<failed
++1 1<2 1>8 +2 1<3 1>13 2<2 2>8 +- 1<later 2<3 2>13 +- 1<later 2<failed
 1 60e1230100004140a14501c0ff'coap+tcp'
 2 60e1230100004140a14502c0ff'coap+tcp'";
 
@@ -471,13 +471,13 @@ fn asks_the_door_where_there_is_room(rt: HostRuntime) -> Result<(), Fail> {
 
 /// An answer is held for 1 s, until the clock moves on. A moment that goes back changes nothing.
 const TELLS_THE_TIME: &str = "= turns 4; 0 0 0 1; all 00e1810105b5'async'4131
-+1 1<13 1>6 +- 1<later +- 1<later +- 1<later 1>9
++1 1<13 1>8 +- 1<later +- 1<later +- 1<later 1>9
 1 60e1230100004140614505c0ff'done'
 = turns 4; 5 0 5 6; all 00e1810105b5'async'4131
-+1 1<13 1>6 +- 1<later +- 1<later +- 1<later 1>9
++1 1<13 1>8 +- 1<later +- 1<later +- 1<later 1>9
 1 60e1230100004140614505c0ff'done'
 = turns 2; 5 3; all 00e1 510107b4'time'
-+1 1<2 1>6 +- 1<8 1>8
++1 1<2 1>8 +- 1<8 1>8
 1 60e1230100004140514507c02101ff35";
 
 #[test]
@@ -488,13 +488,13 @@ fn tells_the_time(rt: HostRuntime) -> Result<(), Fail> {
 /// A queue with room for one greatest message takes one request a turn, and what was read before is used up before the
 /// next read.
 const TAKES_THE_REST_FIRST: &str = "= turns 5 sent 1152 queue 1152; 0; all 00e1010101010102 010103
-+1 1>6 +- 1<8 1>13 +- 1>13 +- 1<3 1>13 +- 1<later
++1 1>8 +- 1<8 1>13 +- 1>13 +- 1<3 1>13 +- 1<later
 1 60e1230100004140a14501c0ff'coap+tcp'a14502c0ff'coap+tcp'a14503c0ff'coap+tcp'
 = turns 3 sent 1152 queue 1152; 0; all 00e1010101010102 end
-+1 1>6 +- 1<8 1>13 +- 1>13
++1 1>8 +- 1<8 1>13 +- 1>13
 1 60e1230100004140a14501c0ff'coap+tcp'a14502c0ff'coap+tcp'
 = turns 3; 0; all zeros later 00e1
-+1 1<16384 1>6 +- 1<later +- 1<2
++1 1<16384 1>8 +- 1<later +- 1<2
 1 60e1230100004140";
 
 #[test]
@@ -507,20 +507,20 @@ fn takes_the_rest_first(rt: HostRuntime) -> Result<(), Fail> {
 const WAITS_WHERE_NOTHING_IS_TO_BE_DONE: &str = "= waits turns 3; 0
 +- ~ever +- ~ever +-
 = waits turns 6; 0; all 00e1 | all 00e1
-+1 1<2 1>6 ~ever +2 2<2 2>6 ~ever +- ~ever +- ~ever +- ~ever +-
++1 1<2 1>8 ~ever +2 2<2 2>8 ~ever +- ~ever +- ~ever +- ~ever +-
 1 60e1230100004140
 2 60e1230100004140
 = waits turns 3 connections 1; 0; all 00e1
-+1 1<2 1>6 |ever |ever
++1 1<2 1>8 |ever |ever
 1 60e1230100004140
 = waits turns 4 connections 1; 0; all 00e1 end
-+1 1<2 1>6 |no 1<end ~ever +- ~ever +-
++1 1<2 1>8 |no 1<end ~ever +- ~ever +-
 1 60e1230100004140
 = waits turns 4; 0 5 4 5; all 00e1 @2 010101
-+1 1<2 1>6 ~ever +- ~ever +- 1<3 1>13 ~ever +-
++1 1<2 1>8 ~ever +- ~ever +- 1<3 1>13 ~ever +-
 1 60e1230100004140a14501c0ff'coap+tcp'
 = waits turns 1; 0; all 00e1
-+1 1<2 1>6
++1 1<2 1>8
 1 60e1230100004140";
 
 #[test]
@@ -532,13 +532,13 @@ fn waits_where_nothing_is_to_be_done(rt: HostRuntime) -> Result<(), Fail> {
 /// the door waits for the lesser moment. An observer of the moment is told each one, and the last moment of all has
 /// none behind it.
 const WAITS_FOR_A_MOMENT: &str = "= waits turns 5; 0 0 0 1; all 00e1810105b5'async'4131
-+1 1<13 1>6 ~1 +- ~1 +- ~1 +- 1>9 ~ever +-
++1 1<13 1>8 ~1 +- ~1 +- ~1 +- 1>9 ~ever +-
 1 60e1230100004140614505c0ff'done'
 = waits turns 4; 0 1; all,@9 00e1810105b5'async'4131
-+1 1<13 1>6 ~1 +- ~ever +- ~ever +-
++1 1<13 1>8 ~1 +- ~ever +- ~ever +-
 1 60e1230100004140
 = waits turns 5; 0 0 0 5 9; all 00e1810105b5'async'4139 | all 00e1810106b5'async'4135
-+1 1<13 1>6 ~9 +2 2<13 2>6 ~5 +- ~5 +- 2>9 ~9 +- 1>9
++1 1<13 1>8 ~9 +2 2<13 2>8 ~5 +- ~5 +- 2>9 ~9 +- 1>9
 1 60e1230100004140614505c0ff'done'
 2 60e1230100004140614506c0ff'done'
 = waits turns 5; 5 5 6 6 8; all 00e16101076054'time'
@@ -557,21 +557,21 @@ fn waits_for_a_moment(rt: HostRuntime) -> Result<(), Fail> {
 /// keeps nobody awake, although its wire may be read: neither before the first byte is taken nor with a rest that waits
 /// for room.
 const WAITS_FOR_WIRES: &str = "= waits turns 5 sent 1152 queue 1152; 0; all 00e1010101010102
-+1 1>6 ~no +- 1<8 1>13 ~no +- 1>13 ~ever +- ~ever +-
++1 1>8 ~no +- 1<8 1>13 ~no +- 1>13 ~ever +- ~ever +-
 1 60e1230100004140a14501c0ff'coap+tcp'a14502c0ff'coap+tcp'
 = waits turns 3 sent 1152 queue 1152; 0; @9 00e1010101
 +1 ~ever +- ~ever +-
 = waits turns 5 sent 1152 queue 1152; 0; late,@2,all 00e1010101
-+1 1>later ~ever +- ~ever +- 1>6 ~no +- 1<5 1>13 ~ever +-
++1 1>later ~ever +- ~ever +- 1>8 ~no +- 1<5 1>13 ~ever +-
 1 60e1230100004140a14501c0ff'coap+tcp'
 = waits turns 4 sent 1152 queue 1152; 0; all,@9 00e1010101010102 010103
-+1 1>6 ~no +- 1<8 ~ever +- ~ever +-
++1 1>8 ~no +- 1<8 ~ever +- ~ever +-
 1 60e1230100004140
 = waits turns 5; 0; one,one,@3,all 00e1010101 later
-+1 1<5 1>19:1 ~no +- 1<later 1>18:1 ~ever +- ~ever +- 1>17 ~ever +-
++1 1<5 1>21:1 ~no +- 1<later 1>20:1 ~ever +- ~ever +- 1>19 ~ever +-
 1 60e1230100004140a14501c0ff'coap+tcp'
 = waits turns 3; 0; all failed | all @2 00e1
-+1 1<failed ~ever +2 2>6 ~ever +- 2<2
++1 1<failed ~ever +2 2>8 ~ever +- 2<2
 1 -
 2 60e1230100004140";
 
@@ -584,15 +584,15 @@ fn waits_for_wires(rt: HostRuntime) -> Result<(), Fail> {
 /// next turn, with no wait in between, and on one behind it in the same turn. So does a DELETE.
 const PASSES_OVER_NO_NEWS: &str =
     "= waits turns 7 dynamic 1; 0; all 00e1410302b1'a'ff'x'3101076051'a' | all @3 00e1410302b1'a'ff'y'
-+1 1<15 1>17 ~ever +2 2>6 ~ever +- ~ever +- 2<9 2>3 ~no +- 1>8 ~ever +- ~ever +-
++1 1<15 1>19 ~ever +2 2>8 ~ever +- ~ever +- 2<9 2>3 ~no +- 1>8 ~ever +- ~ever +-
 1 60e1230100004140014102514507410120ff'x'514507410220ff'y'
 2 60e1230100004140014402
 = waits turns 6 dynamic 1; 0; all 00e1410302b1'a'ff'x' @4 410302b1'a'ff'y' | all 00e13101076051'a'
-+1 1<9 1>9 ~ever +2 2<8 2>14 ~ever +- ~ever +- ~ever +- 1<7 1>3 2>8 ~ever +-
++1 1<9 1>11 ~ever +2 2<8 2>16 ~ever +- ~ever +- ~ever +- 1<7 1>3 2>8 ~ever +-
 1 60e1230100004140014102014402
 2 60e1230100004140514507410120ff'x'514507410220ff'y'
 = waits turns 6 dynamic 1; 0; all 00e1410302b1'a'ff'x'3101076051'a' | all @3 00e1210402b1'a'
-+1 1<15 1>17 ~ever +2 2>6 ~ever +- ~ever +- 2<7 2>3 ~no +- 1>3 ~ever +-
++1 1<15 1>19 ~ever +2 2>8 ~ever +- ~ever +- 2<7 2>3 ~no +- 1>3 ~ever +-
 1 60e1230100004140014102514507410120ff'x'018407
 2 60e1230100004140014202";
 

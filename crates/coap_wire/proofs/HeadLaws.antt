@@ -1,5 +1,5 @@
 -- A frame's head that is read is spelled so, and what is spelled so is read; the size that the first bytes declare.
-use Rattle.std.proofs.Common.{◌≡◌, ◌≢◌, ℕ, ◌+◌, ◌-◌, ◌*◌, ◌/◌, ◌%◌, ◌<◌, ◌≤◌, List, [], ◌∷◌, ◌++◌, length, take, drop, Option, Some, None, Ok, Err, ◌⊎◌, inl, inr, refl, sym, ap, subst, ◌∙◌, append_assoc, arith}
+use Rattle.std.proofs.Common.{◌≡◌, ◌≢◌, ℕ, ◌+◌, ◌-◌, ◌*◌, ◌/◌, ◌%◌, ◌<◌, ◌≤◌, List, [], ◌∷◌, ◌++◌, length, take, drop, Some, None, Ok, Err, ◌⊎◌, inl, inr, refl, sym, ap, subst, ◌∙◌, append_assoc, arith}
 use Rattle.std.proofs.lemmas.Bool.{eq-eqb, ne_eqb, lt-ltb, le-ltb, cases_lt, cases_eq}
 use Rattle.std.proofs.lemmas.List.{length-take, length-drop, length-append, take-append-drop, take_at, drop_at}
 use Rattle.coap_wire.specs.Message.{AreBytes}
@@ -121,8 +121,8 @@ token_again x t code (e ∷ es) more form = record { behind = more; is = option_
 abbrev first_of : {head : List ℕ} {t n : ℕ} → StatesLengths head t n → ℕ
 first_of h = 16 * h.length_nibble + h.token_nibble
 
-abbrev behind_first : {head : List ℕ} {t n : ℕ} → StatesLengths head t n → List ℕ → List ℕ
-behind_first h more = (h.extension ++ code_and_extension h.code h.token_extension) ++ more
+abbrev behind_stated : {head : List ℕ} {t n : ℕ} → StatesLengths head t n → List ℕ → List ℕ
+behind_stated h more = (h.extension ++ code_and_extension h.code h.token_extension) ++ more
 
 -- lengths that are stated at the front are read
 pub record ReadsStated (head more : List ℕ) (t n : ℕ) (h : StatesLengths head t n) : Type 0 where
@@ -146,11 +146,11 @@ stated_read head more t n h =
     let k = nibbles x y (omega (arith, small)) in
     let at_code = code_and_extension h.code h.token_extension ++ more in
     let token = token_again y t h.code h.token_extension more h.token_form in
-    let body : length_at x (behind_first h more) ≡ Some (n, at_code) =
+    let body : length_at x (behind_stated h more) ≡ Some (n, at_code) =
     ap (length_at x) (append_assoc h.extension (code_and_extension h.code h.token_extension) more) ∙ length_again x h.extension n at_code h.length_form in
     record {
       first = first_of h;
-      behind = behind_first h more;
+      behind = behind_stated h more;
       bytes = ap (λ (l : List ℕ). l ++ more) h.head;
       read = record {
         at_code = at_code;

@@ -135,8 +135,8 @@ reads_bytes b s t n r =
     ]
 
 -- where a byte of the lengths is missing, fewer stand there
-cut_bytes : (b : ℕ) (s : List ℕ) → IsCutHead b s → length (b ∷ s) < size_bytes (b ∷ s)
-cut_bytes b s c =
+cut_head_bytes : (b : ℕ) (s : List ℕ) → IsCutHead b s → length (b ∷ s) < size_bytes (b ∷ s)
+cut_head_bytes b s c =
     let is = size_bytes_by b s c.nibble in
     elim (c.cut) [
       | inl none ↦ omega (arith, is, length_at_missing (b / 16) s none)
@@ -158,7 +158,7 @@ unknown_at b s e =
       ]
       | inr others ↦ elim others [
         | inl none ↦ absurd (bad_not_unknown (sym (declared_no_length b s none) ∙ e))
-        | inr cut ↦ cut_bytes b s cut
+        | inr cut ↦ cut_head_bytes b s cut
       ]
     ]
 
@@ -184,19 +184,19 @@ size_has_bytes (b ∷ s) n e =
 
 -- ---- what is declared stays declared, whatever comes behind it
 
-token_more : (x : ℕ) (s more : List ℕ) (y : ℕ × List ℕ) → option_number_at x (drop 1 s) ≡ Some y → (behind : List ℕ) × (option_number_at x (drop 1 (s ++ more)) ≡ Some (y.0, behind))
-token_more x [] more y e =
+token_length_more : (x : ℕ) (s more : List ℕ) (y : ℕ × List ℕ) → option_number_at x (drop 1 s) ≡ Some y → (behind : List ℕ) × (option_number_at x (drop 1 (s ++ more)) ≡ Some (y.0, behind))
+token_length_more x [] more y e =
     elim (cases_lt x 13) [
       | inl lt ↦
           let same : x ≡ y.0 = ap (λ (z : ℕ × List ℕ). z.0) (some_is (x, []) y (sym (option_number_none x [] lt) ∙ e)) in
           (drop 1 more, option_number_none x (drop 1 more) lt ∙ ap (λ (n : ℕ). Some (n, drop 1 more)) same)
       | inr ge ↦ absurd (omega (arith, option_extension_some x ge, option_number_length x [] y e))
     ]
-token_more x (c ∷ s) more y e = (y.1 ++ more, option_number_more x s more y e)
+token_length_more x (c ∷ s) more y e = (y.1 ++ more, option_number_more x s more y e)
 
 pub reads_more : (b : ℕ) (s more : List ℕ) (t n : ℕ) → ReadsLengths b s t n → ReadsLengths b (s ++ more) t n
 reads_more b s more t n r =
-    let token = token_more (b % 16) r.at_code more (t, r.at_token) r.token in
+    let token = token_length_more (b % 16) r.at_code more (t, r.at_token) r.token in
     record {
       at_code = r.at_code ++ more;
       at_token = token.0;

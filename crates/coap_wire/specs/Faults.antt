@@ -1,5 +1,5 @@
 -- Why a frame spells no message: the first fault, in the order in which faults are looked for.
-use Rattle.std.specs.Prelude.{◌≡◌, ◌≢◌, ℕ, ◌+◌, ◌/◌, ◌%◌, ◌<◌, ◌≤◌, List, [], ◌∷◌, length, ◌⊎◌, if◌then◌else◌, nat_lt, ◌==◌}
+use Rattle.std.specs.Prelude.{◌≡◌, ◌≢◌, ℕ, ◌+◌, ◌/◌, ◌%◌, ◌<◌, ◌≤◌, List, [], ◌∷◌, length, ◌⊎◌}
 use Rattle.coap_wire.specs.Message.{CoapOption, last_number}
 use Rattle.coap_wire.specs.Forms.{option_extension}
 use Rattle.coap_wire.specs.Spelling.{IsOptionHead, IsOptionBytes, IsHeadAndBody}

@@ -14,3 +14,4 @@ pub mod Stream
 pub mod Codes
 pub mod OptionNumbers
 pub mod Recognition
+pub mod Prelude

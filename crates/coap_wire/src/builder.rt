@@ -1,8 +1,7 @@
 //! Builds a message and writes its one spelling.
 
-ghost use Rattle.std.specs.Prelude.{◌≡◌};
-ghost use Rattle.coap_wire.specs.Message.{last_number as number_of_last};
-ghost use Rattle.coap_wire.specs.Views.{coap_options};
+ghost use Rattle.std.specs.Prelude.{◌≡◌, ◌+◌, ◌≤◌, ◌++◌, [], length, OnOk, OnErr};
+ghost use Rattle.coap_wire.specs.Prelude.{last_number as number_of_last, coap_options, Spells, spelling, body_spelling, HasSpelling, RefusedBy, CanBeBuilt, option_refusal, payload_refusal, with_option};
 
 use crate::code::Code;
 use crate::fault::BuildFault;
@@ -26,9 +25,9 @@ const MAX_PAYLOAD: usize = 1_048_576;
 /// A message that is being built, of at most 40 options.
 pub type Builder<'a> = MessageBuilder<'a, MAX_OPTIONS>;
 
-/// A message that is being built, of at most `N` options, or 40 where that is less. It borrows the token, the
-/// options' values and the payload. Each new one clears the room of its options, so that a message of few options costs less where `N` is
-/// small. Contracts see the `Message`.
+/// A message that is being built, of at most `N` options, or 40 where that is less. It borrows the token, the options'
+/// values and the payload. Each new one clears the room of its options, so that a message of few options costs less
+/// where `N` is small. Contracts see the `Message`.
 #[derive(Drop)]
 pub struct MessageBuilder<'a, const N: usize> {
     token: TokenRef<'a>,
@@ -53,11 +52,6 @@ impl<'a, const N: usize> Model for MessageBuilder<'a, N> {
 }
 
 impl<'a, const N: usize> MessageBuilder<'a, N> {
-    ghost use Rattle.std.specs.Prelude.{◌≡◌, ◌+◌, ◌≤◌, ◌++◌, [], length, OnOk, OnErr};
-    ghost use Rattle.coap_wire.specs.Spelling.{Spells, spelling, body_spelling, HasSpelling};
-    ghost use Rattle.coap_wire.specs.Refusal.{RefusedBy};
-    ghost use Rattle.coap_wire.specs.Views.{CanBeBuilt, option_refusal, payload_refusal, with_option};
-
     /// A message with this code and this token, with no options and no payload.
     pub fn new(code: Code, token: &'a Token) -> MessageBuilder<'a, N>
         ensures { result ≡ record { code = code; token = token.now.items; options = []; payload = [] } }

@@ -5,12 +5,12 @@ use thiserror::Error;
 /// What is wrong with a stream, before its frame is whole. The discriminants are the faults' numbers.
 #[derive(Clone, Copy, Debug, PartialEq, Eq, Error)]
 pub enum FrameFault {
-    /// A token of more than 64 bytes, known at the last byte of its length's extension, or a token length of nibble 15,
-    /// known at the frame's first byte (RFC 8974 section 2.1).
+    /// A token of more than 64 bytes, known at the last byte of its length's extension, or a token length of nibble
+    /// 15, known at the frame's first byte (RFC 8974 section 2.1).
     #[error("token length above 64")]
     TokenLength = 1,
-    /// A frame of more bytes than are taken, known at the last byte that states its size: that of the length's extension
-    /// or, where the token's length has one, of that (RFC 8323 section 5.3.1, RFC 8974 section 2.1).
+    /// A frame of more bytes than are taken, known at the last byte that states its size: that of the length's
+    /// extension or, where the token's length has one, of that (RFC 8323 section 5.3.1, RFC 8974 section 2.1).
     #[error("frame too large")]
     TooLarge = 2,
 }

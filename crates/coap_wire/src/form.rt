@@ -1,7 +1,7 @@
 //! The forms of numbers: a nibble and the bytes that extend it.
 
 ghost use Rattle.std.specs.Prelude.{◌≡◌, ◌≤◌, length};
-ghost use Rattle.coap_wire.specs.Forms.{length_form, option_form, greatest_length, greatest_option_form};
+ghost use Rattle.coap_wire.specs.Prelude.{length_form, option_form, greatest_length, greatest_option_form};
 
 use arrayvec::ArrayVec;
 

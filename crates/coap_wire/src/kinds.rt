@@ -1,7 +1,7 @@
 //! What is known of options by their numbers.
 
 ghost use Rattle.std.specs.Prelude.{◌≡◌};
-ghost use Rattle.coap_wire.specs.Recognition.{kind_of, once, repeated};
+ghost use Rattle.coap_wire.specs.Prelude.{kind_of, once, repeated};
 
 use crate::option_numbers;
 

@@ -1,20 +1,7 @@
 //! What holds of spellings, streams and options, each as the contract of a function that does nothing.
 
 ghost use Rattle.std.specs.Prelude.{◌≡◌, ◌≢◌, ◌↔◌, ℕ, ◌^◌, ◌<◌, ◌≤◌, List, [], ◌∷◌, ◌++◌, length, None, IsTrue};
-ghost use Rattle.coap_wire.specs.Message.{Message, CoapOption, AreBytes, AreOrdered};
-ghost use Rattle.coap_wire.specs.Forms.{IsLengthForm, length_form, greatest_length, IsOptionForm, option_form, greatest_option_form, IsTokenForm, token_form, greatest_token};
-ghost use Rattle.coap_wire.specs.Spelling.{Spells, spelling, HasSpelling};
-ghost use Rattle.coap_wire.specs.Size.{IsDeclaredSize, IsFrame, Declares};
-ghost use Rattle.coap_wire.specs.Reading.{declared_of};
-ghost use Rattle.coap_wire.specs.Faults.{IsFirstFault};
-ghost use Rattle.coap_wire.specs.Beginning.{IsFrameFault, IsUnfinished, Unfinished, Whole, Faulty, beginning, fault_bytes};
-ghost use Rattle.coap_wire.specs.Frames.{Frames, Sizes, FramedAs, always, size_for, sizes_behind, sizes_of_rest, sized_frames, frames_on};
-ghost use Rattle.coap_wire.specs.Stream.{Stream, SplitsAs, sized_split, split, stream_then, sized_split_on, split_on};
-ghost use Rattle.coap_wire.specs.Uint.{uint_of, bytes_of_uint};
-ghost use Rattle.coap_wire.specs.Recognition.{IsFirstWithNumber, IsRecognised, is_recognised};
-ghost use Rattle.coap_wire.specs.declared.frame.Declared.{Declared};
-ghost use Rattle.coap_wire.specs.declared.fault.FormatFault.{FormatFault};
-ghost use Rattle.coap_wire.specs.declared.fault.FrameFault.{FrameFault};
+ghost use Rattle.coap_wire.specs.Prelude.{Message, CoapOption, AreBytes, AreOrdered, IsLengthForm, length_form, greatest_length, IsOptionForm, option_form, greatest_option_form, IsTokenForm, token_form, greatest_token, Spells, spelling, HasSpelling, IsDeclaredSize, IsFrame, Declares, declared_of, IsFirstFault, IsFrameFault, IsUnfinished, Unfinished, Whole, Faulty, beginning, fault_bytes, Frames, Sizes, FramedAs, always, size_for, sizes_behind, sizes_of_rest, sized_frames, frames_on, Stream, SplitsAs, sized_split, split, stream_then, sized_split_on, split_on, uint_of, bytes_of_uint, IsFirstWithNumber, IsRecognised, is_recognised, Declared, FormatFault, FrameFault};
 
 /// Each length up to 4,295,033,100 has exactly one form (RFC 8323 section 3.2).
 pub fn length_has_one_form()
@@ -72,8 +59,8 @@ pub fn first_fault_is_one()
 {}
 
 /// Bytes split in one way into messages, a rest and a fault, where messages of at most the sizes in force are taken:
-/// each is judged by the size at the time of the last byte that states its own. `sized_split` computes it, and `split` where
-/// one size is in force for all time (RFC 8323 sections 3.2, 5.3.1).
+/// each is judged by the size at the time of the last byte that states its own. `sized_split` computes it, and `split`
+/// where one size is in force for all time (RFC 8323 sections 3.2, 5.3.1).
 pub fn stream_is_split_once()
     ensures has { (sizes : Sizes) (s : List ℕ) → AreBytes s → SplitsAs sizes s (sized_split sizes s) }
     ensures no_other { (sizes : Sizes) (s : List ℕ) (other : Stream) → AreBytes s → SplitsAs sizes s other

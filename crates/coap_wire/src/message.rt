@@ -1,10 +1,7 @@
 //! A message within the bytes that spell it.
 
 ghost use Rattle.std.specs.Prelude.{◌≡◌, Ok, IfOk, IfErr};
-ghost use Rattle.coap_wire.specs.Message.{Message};
-ghost use Rattle.coap_wire.specs.Spelling.{Spells};
-ghost use Rattle.coap_wire.specs.Faults.{IsFirstFault};
-ghost use Rattle.coap_wire.specs.Reading.{message_of};
+ghost use Rattle.coap_wire.specs.Prelude.{Message, Spells, IsFirstFault, message_of, AreOrdered, known_options, first_critical};
 
 use crate::code::Code;
 use crate::fault::FormatFault;
@@ -37,10 +34,6 @@ impl<'a> Model for MessageRef<'a> {
 }
 
 impl<'a> MessageRef<'a> {
-    ghost use Rattle.std.specs.Prelude.{◌≡◌};
-    ghost use Rattle.coap_wire.specs.Message.{AreOrdered};
-    ghost use Rattle.coap_wire.specs.Recognition.{known_options, first_critical};
-
     /// The code.
     pub fn code(&self) -> Code
         ensures { result ≡ self.now.code }

@@ -1,5 +1,8 @@
 //! Options, and the iterator over those of a message.
 
+ghost use Rattle.std.specs.Prelude.{◌≡◌, IsOk};
+ghost use Rattle.coap_wire.specs.Prelude.{body_at, options_in, YieldsFirstBy, item_count, coap_option};
+
 use crate::reading::option_after;
 use std::marker::Model;
 
@@ -35,9 +38,6 @@ impl<'a> Model for Options<'a> {
 }
 
 impl<'a> Options<'a> {
-    ghost use Rattle.std.specs.Prelude.{◌≡◌, IsOk};
-    ghost use Rattle.coap_wire.specs.Reading.{body_at, options_in};
-
     /// The options of a body of which each can be read.
     pub(crate) fn of_body(body: &'a [u8]) -> Options<'a>
         requires { IsOk (body_at 0 body.now) }
@@ -51,9 +51,6 @@ impl<'a> Options<'a> {
 }
 
 impl<'a> Iterator for Options<'a> {
-    ghost use Rattle.std.specs.Iterator.{YieldsFirstBy, item_count};
-    ghost use Rattle.coap_wire.specs.Views.{coap_option};
-
     type Item = OptionRef<'a>;
 
     ghost next_gives = { YieldsFirstBy coap_option (λ os. os) };

@@ -1,9 +1,7 @@
 //! The recognised options of a message (RFC 7252 section 5.4).
 
 ghost use Rattle.std.specs.Prelude.{◌≡◌};
-ghost use Rattle.coap_wire.specs.Message.{AreOrdered};
-ghost use Rattle.coap_wire.specs.Recognition.{is_recognised, option_before, first_critical};
-ghost use Rattle.coap_wire.specs.Views.{coap_option};
+ghost use Rattle.coap_wire.specs.Prelude.{AreOrdered, is_recognised, option_before, first_critical, coap_option, known_options, YieldsFirstBy, item_count};
 
 use crate::kinds::kind;
 use crate::options::{OptionRef, Options};
@@ -59,10 +57,6 @@ impl<'a> Model for Known<'a> {
 }
 
 impl<'a> Known<'a> {
-    ghost use Rattle.std.specs.Prelude.{◌≡◌};
-    ghost use Rattle.coap_wire.specs.Message.{AreOrdered};
-    ghost use Rattle.coap_wire.specs.Recognition.{known_options};
-
     /// The recognised ones of all options of a message.
     pub(crate) fn of_options(options: Options<'a>) -> Known<'a>
         requires { AreOrdered 0 options }
@@ -76,9 +70,6 @@ impl<'a> Known<'a> {
 }
 
 impl<'a> Iterator for Known<'a> {
-    ghost use Rattle.std.specs.Iterator.{YieldsFirstBy, item_count};
-    ghost use Rattle.coap_wire.specs.Views.{coap_option};
-
     type Item = OptionRef<'a>;
 
     ghost next_gives = { YieldsFirstBy coap_option (λ os. os) };

@@ -1,8 +1,7 @@
 //! The size that the first bytes of a frame declare.
 
 ghost use Rattle.std.specs.Prelude.{◌≡◌};
-ghost use Rattle.coap_wire.specs.Size.{Declares};
-ghost use Rattle.coap_wire.specs.Reading.{declared_of};
+ghost use Rattle.coap_wire.specs.Prelude.{Declares, declared_of};
 
 use crate::frame::Declared;
 use crate::reading::{NO_TOKEN_LENGTH, length_after, token_length_after};
@@ -10,8 +9,8 @@ use crate::token::MAX_TOKEN;
 
 /// What the first bytes of a frame declare of its size.
 ///
-/// `Size(n)` where the first byte and all bytes that extend its length and the token's are there; only the first 8 bytes
-/// are looked at.
+/// `Size(n)` where the first byte and all bytes that extend its length and the token's are there; only the first 8
+/// bytes are looked at.
 pub fn declared(head: &[u8]) -> Declared
     ensures declared { Declares head.now result }
     // The same as a function of the bytes.

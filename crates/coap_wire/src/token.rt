@@ -1,7 +1,7 @@
 //! The token of a message.
 
-ghost use Rattle.std.specs.Prelude.{◌≡◌, ◌≤◌, length};
-ghost use Rattle.coap_wire.specs.Forms.{greatest_token};
+ghost use Rattle.std.specs.Prelude.{◌≡◌, ◌≤◌, length, [], nat_eq};
+ghost use Rattle.coap_wire.specs.Prelude.{greatest_token, pointwise};
 
 use arrayvec::ArrayVec;
 use std::fmt;
@@ -49,10 +49,6 @@ impl<'a> Model for TokenRef<'a> {
 }
 
 impl<'a> TokenRef<'a> {
-    ghost use Rattle.std.specs.Prelude.{◌≡◌, ◌≤◌, [], length, nat_eq};
-    ghost use Rattle.std.specs.Cmp.Lexicographic.{pointwise};
-    ghost use Rattle.coap_wire.specs.Forms.{greatest_token};
-
     /// A token of no bytes.
     pub fn empty() -> TokenRef<'a>
         ensures { result ≡ [] }

@@ -1,7 +1,7 @@
 //! Option values of format uint (RFC 7252 section 3.2).
 
 ghost use Rattle.std.specs.Prelude.{◌≡◌, ◌≤◌, ◌<◌, length, Some, None};
-ghost use Rattle.coap_wire.specs.Uint.{uint_of, bytes_of_uint, without_leading_zeros};
+ghost use Rattle.coap_wire.specs.Prelude.{uint_of, bytes_of_uint, without_leading_zeros};
 
 use arrayvec::ArrayVec;
 

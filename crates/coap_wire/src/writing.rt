@@ -1,11 +1,7 @@
 //! Writes the parts of a frame from left to right.
 
 ghost use Rattle.std.specs.Prelude.{◌≡◌, ◌+◌, ◌-◌, ◌≤◌, ◌<◌, ◌++◌, length};
-ghost use Rattle.std.specs.List.{AllByRecursion};
-ghost use Rattle.coap_wire.specs.Message.{AreOrdered};
-ghost use Rattle.coap_wire.specs.Forms.{option_form, greatest_token, greatest_length, greatest_option_form};
-ghost use Rattle.coap_wire.specs.Spelling.{HasOptionForm, option_spelling, options_spelling, payload_bytes, head_spelling};
-ghost use Rattle.coap_wire.specs.Views.{coap_option, coap_options, most_options};
+ghost use Rattle.coap_wire.specs.Prelude.{AllByRecursion, AreOrdered, option_form, greatest_token, greatest_length, greatest_option_form, HasOptionForm, option_spelling, options_spelling, payload_bytes, head_spelling, coap_option, coap_options, most_options};
 
 use crate::code::Code;
 use crate::form::{form_of_length, form_of_option};

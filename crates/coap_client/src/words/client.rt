@@ -1,12 +1,8 @@
 //! The words of `coap-client`.
 
 ghost use Rattle.std.specs.Prelude.{◌≡◌, IfOk, MatchOption, None, Some, codes, false, option_map, string_bytes, true};
-ghost use Rattle.std.specs.List.{after_first, before_first, list_any};
-ghost use Rattle.clap.specs.Words.{first_of, found_of, rows_of};
+ghost use Rattle.coap_client.specs.Prelude.{after_first, before_first, list_any, first_of, found_of, rows_of, named, number_within, option_value, TellsClientPlan, client_value, extra_named, extra_value, GivesUnlessMemory, target_of};
 ghost use Rattle.coap_client.specs.ClientWords as spec;
-ghost use Rattle.coap_client.specs.CommandLines.{named, number_within, option_value};
-ghost use Rattle.coap_client.specs.PlanViews.{TellsClientPlan, client_value, extra_named, extra_value};
-ghost use Rattle.coap_client.specs.Targets.{GivesUnlessMemory, target_of};
 ghost use Rattle.coap_client.specs.declared.request.Method.TheVariants.{Get};
 
 use crate::plan::ClientPlan;

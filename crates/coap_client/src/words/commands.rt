@@ -1,12 +1,9 @@
 //! The command lines as `clap` is given them.
 
 ghost use Rattle.std.specs.Prelude.{◌≡◌, IfErr, IfOk, Some, [], map, true};
-ghost use Rattle.clap.specs.Words.{app_of, fault_of, found_of, is_simple, is_simple_and_free, matches_of, new_rule, rows_of, with_rule};
+ghost use Rattle.coap_client.specs.Prelude.{app_of, fault_of, found_of, is_simple, is_simple_and_free, matches_of, new_rule, rows_of, with_rule, client_app, uri_rule, IsTurnedDown, server_app};
 ghost use Rattle.clap.specs.declared.builder.action.ArgAction.TheVariants.{SetTrue};
 ghost use Rattle.coap_client.specs.CommandLines as spec;
-ghost use Rattle.coap_client.specs.ClientWords.{client_app, uri_rule};
-ghost use Rattle.coap_client.specs.PlanViews.{IsTurnedDown};
-ghost use Rattle.coap_client.specs.ServerWords.{server_app};
 
 use crate::words::{WordsFault, help};
 use clap::error::ErrorKind;

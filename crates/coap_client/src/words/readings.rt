@@ -1,7 +1,7 @@
 //! What the texts of options mean, whatever the program.
 
 ghost use Rattle.std.specs.Prelude.{◌≡◌, ◌≤◌, IfOk, IfSome, option_map};
-ghost use Rattle.clap.specs.Words.{first_of, found_of, rows_of};
+ghost use Rattle.coap_client.specs.Prelude.{first_of, found_of, rows_of};
 ghost use Rattle.coap_client.specs.CommandLines as spec;
 
 use clap::ArgMatches;

@@ -1,9 +1,7 @@
 //! The words of `coap-server`.
 
 ghost use Rattle.std.specs.Prelude.{◌≡◌, IfOk, Some, codes, option_map};
-ghost use Rattle.clap.specs.Words.{found_of, rows_of};
-ghost use Rattle.coap_client.specs.CommandLines.{named, option_value};
-ghost use Rattle.coap_client.specs.PlanViews.{TellsServerPlan, mode_value};
+ghost use Rattle.coap_client.specs.Prelude.{found_of, rows_of, named, option_value, TellsServerPlan, mode_value};
 ghost use Rattle.coap_client.specs.ServerWords as spec;
 
 use crate::plan::{Mode, ServerPlan};

@@ -1,14 +1,7 @@
 //! What a link asks.
 
-ghost use Rattle.coap_wire.specs.Uint.{bytes_of_uint};
 ghost use Rattle.std.specs.Prelude.{◌≡◌, ◌<◌, ◌+◌, ◌++◌, ◌∷◌, [], length, IfOk, OnOk, OnErr};
-ghost use Rattle.coap_wire.specs.Spelling.{spelling};
-ghost use Rattle.coap_wire.specs.Refusal.{RefusedBy};
-ghost use Rattle.coap_conn.specs.History.{History, after, LinkShows};
-ghost use Rattle.coap_conn.specs.LinkValue.{bytes_of, asking_in};
-ghost use Rattle.coap_conn.specs.Asking.{asking_refusal, cancel_refusal, observation_refusal, new_refusal, size_refusal, next_token, with_token, ping_with};
-ghost use Rattle.coap_conn.specs.OutstandingViews.{outstanding_value};
-ghost use Rattle.coap_conn.specs.Calls.{link_after};
+ghost use Rattle.coap_conn.specs.Prelude.{bytes_of_uint, spelling, RefusedBy, History, after, LinkShows, bytes_of, asking_in, asking_refusal, cancel_refusal, observation_refusal, new_refusal, size_refusal, next_token, with_token, ping_with, outstanding_value, link_after};
 ghost use Rattle.coap_conn.specs.Calls as call;
 
 use super::Link;

@@ -1,17 +1,11 @@
 //! What a link hears: messages, bytes that have a fault, and the end of input.
 
 ghost use Rattle.std.specs.Prelude.{◌≡◌, if◌then◌else◌};
-ghost use Rattle.coap_conn.specs.Announced.{bad_csm_option};
-ghost use Rattle.coap_conn.specs.Phases.{IsLive, IsAnswering, is_waiting as waits};
-ghost use Rattle.coap_conn.specs.Reaction.{is_reserved as reserved, minds_critical_options as minds_critical, react, csm_reaction, live_reaction, open_reaction, ping_reaction, request_reaction, release_reaction, response_reaction, pong_reaction};
+ghost use Rattle.coap_conn.specs.Prelude.{bad_csm_option, IsLive, IsAnswering, is_waiting as waits, is_reserved as reserved, minds_critical_options as minds_critical, react, csm_reaction, live_reaction, open_reaction, ping_reaction, request_reaction, release_reaction, response_reaction, pong_reaction, History, after, LinkShows, IsReady, standing_in, link_with, link_handled, link_after_csm, link_after, verdict_value};
 ghost use Rattle.coap_conn.specs.Verdicts as verdict;
 ghost use Rattle.coap_conn.specs.declared.phase.Phase.TheVariants as phase;
 ghost use Rattle.coap_conn.specs.declared.phase.Role.TheVariants as role;
-ghost use Rattle.coap_conn.specs.History.{History, after, LinkShows};
-ghost use Rattle.coap_conn.specs.LinkValue.{IsReady, standing_in, link_with, link_handled, link_after_csm};
-ghost use Rattle.coap_conn.specs.Calls.{link_after};
 ghost use Rattle.coap_conn.specs.Calls as call;
-ghost use Rattle.coap_conn.specs.LinkViews.{verdict_value};
 
 use super::Link;
 use crate::csm::{announced_size, announced_token, asks_custody, has_critical_option};

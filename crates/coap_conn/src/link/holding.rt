@@ -1,12 +1,7 @@
 //! What a link holds, and takes out as it is due.
 
 ghost use Rattle.std.specs.Prelude.{◌≡◌, ℕ, List, true, IsTrue, IsFalse, OnOk, OnErr};
-ghost use Rattle.coap_conn.specs.Phases.{IsAnswering, is_open};
-ghost use Rattle.coap_conn.specs.Held.{AnAnswer, due_told, first_due};
-ghost use Rattle.coap_conn.specs.HeldViews.{due_value};
-ghost use Rattle.coap_conn.specs.History.{History, after, LinkShows};
-ghost use Rattle.coap_conn.specs.LinkValue.{IsReady, can_hold};
-ghost use Rattle.coap_conn.specs.Calls.{link_after};
+ghost use Rattle.coap_conn.specs.Prelude.{IsAnswering, is_open, AnAnswer, due_told, first_due, due_value, History, after, LinkShows, IsReady, can_hold, link_after};
 ghost use Rattle.coap_conn.specs.Calls as call;
 
 use super::Link;

@@ -1,18 +1,10 @@
 //! What a link sends, as it fits the peer, and how it stops.
 
 ghost use Rattle.std.specs.Prelude.{◌≡◌, ◌++◌, false, true, [], OnOk, OnErr};
-ghost use Rattle.coap_wire.specs.Refusal.{RefusedBy};
-ghost use Rattle.coap_conn.specs.Fit.{fit, fits, fitted, bare_response};
-ghost use Rattle.coap_conn.specs.Phases.{IsAnswering};
+ghost use Rattle.coap_conn.specs.Prelude.{RefusedBy, fit, fits, fitted, bare_response, IsAnswering, stop, abort, send, told_of, pong_with, sends, History, after, LinkShows, bytes_of, own_csm, IsReady, limit_in, standing_in, link_with, link_after, verdict_value, release_refusal};
 ghost use Rattle.coap_conn.specs.declared.phase.Phase.TheVariants.{Open};
-ghost use Rattle.coap_conn.specs.Reaction.{stop, abort, send, told_of, pong_with, sends};
 ghost use Rattle.coap_conn.specs.Verdicts as verdict;
-ghost use Rattle.coap_conn.specs.History.{History, after, LinkShows};
-ghost use Rattle.coap_conn.specs.LinkValue.{bytes_of, own_csm, IsReady, limit_in, standing_in, link_with};
-ghost use Rattle.coap_conn.specs.Calls.{link_after};
 ghost use Rattle.coap_conn.specs.Calls as call;
-ghost use Rattle.coap_conn.specs.LinkViews.{verdict_value};
-ghost use Rattle.coap_conn.specs.Release.{release_refusal};
 
 use super::Link;
 use crate::messages::{

@@ -145,7 +145,7 @@ stays_settled host later v store settled more fits before =
       | true ↦ λ sent fresh. (
         not_due_later host.now later v.link.held sent held,
         none_stale host later v.observers store
-        (none_tells_time_before host.now later v.observers more fits told) fresh,
+            (none_tells_time_before host.now later v.observers more fits told) fresh,
       )
       | false ↦ λ sent fresh. (refl, refl)
     ] settled.0 settled.1

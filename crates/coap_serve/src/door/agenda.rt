@@ -1,9 +1,7 @@
 //! What the connections that were looked at in a turn leave to be done.
 
-ghost use Rattle.std.specs.Prelude.{◌≡◌, ◌≤◌, ◌&&◌, drop, length, map, nat_lt, not, slice_get, take, IfSome};
-ghost use Rattle.std.specs.List.{AllByRecursion};
-ghost use Rattle.coap_serve.specs.streams.Turns.{end_of, agenda_past, IsAtRest, IsInTurn};
-ghost use Rattle.coap_serve.specs.values.Dues.{same_stamp};
+ghost use Rattle.std.specs.Prelude.{◌≡◌, ◌≤◌, ◌&&◌, drop, length, map, nat_lt, not, slice_get, take, IfSome, false, None};
+ghost use Rattle.coap_serve.specs.Prelude.{AllByRecursion, end_of, agenda_past, IsAtRest, IsInTurn, same_stamp, agenda_with, wait_of};
 
 use super::peer::Peers;
 use crate::server::Stamp;
@@ -20,9 +18,6 @@ pub(super) struct Agenda {
 }
 
 impl Agenda {
-    ghost use Rattle.std.specs.Prelude.{◌≡◌};
-    ghost use Rattle.coap_serve.specs.streams.Turns.{agenda_with, wait_of};
-
     /// With one connection more, on which something can be done at once or not, and on which time alone may queue
     /// something at a moment, if ever.
     pub(super) fn with(self, is_ready: bool, due: Option<u64>) -> Agenda
@@ -58,8 +53,6 @@ pub(super) struct Seen {
 }
 
 impl Seen {
-    ghost use Rattle.std.specs.Prelude.{◌≡◌, false, None};
-
     /// None, at the beginning of a turn.
     pub(super) fn none() -> Seen
         ensures { result ≡ record { at = 0; agenda = record { at_once = false; due = None } } }

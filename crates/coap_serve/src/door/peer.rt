@@ -1,17 +1,9 @@
 //! The far end of a connection, and its part of a turn.
 
 ghost use Rattle.std.specs.Prelude.{◌≡◌, ◌≢◌, false, true, [], ◌∷◌, length, is_some, OnOk, OnErr, IfOk, IfErr};
+ghost use Rattle.coap_serve.specs.Prelude.{IsPartlyFed, fed, AddsBytes, HasServed, TellsMore, IsServedOnce, IsLaidOut, is_heard, server_heard, server_wrote, waiting_once, rest_left, is_over_in, has_failed, course_of, wants_of, IsWithin, IsMemory, IsOneWrite, bytes_passed, stop_on, session_of, IsAsked, CanGoOn, IsRestAnswer, end_of};
 ghost use Rattle.coap_serve.specs.declared.door.peer.Course.TheVariants.{Open};
 ghost use Rattle.coap_serve.specs.declared.wire.Got.TheVariants.{Later, End};
-ghost use Rattle.coap_serve.specs.script.PartlyFed.{IsPartlyFed};
-ghost use Rattle.coap_serve.specs.script.Replay.{fed};
-ghost use Rattle.coap_serve.specs.streams.Device.{AddsBytes};
-ghost use Rattle.coap_serve.specs.streams.Serving.{HasServed};
-ghost use Rattle.coap_serve.specs.streams.Telling.{TellsMore};
-ghost use Rattle.coap_serve.specs.streams.Turns.{IsServedOnce, IsLaidOut, is_heard, server_heard, server_wrote, waiting_once, rest_left, is_over_in, has_failed, course_of, wants_of};
-ghost use Rattle.coap_serve.specs.streams.Wires.{IsWithin, IsMemory, IsOneWrite, bytes_passed};
-ghost use Rattle.coap_serve.specs.values.ServerAnswers.{stop_on};
-ghost use Rattle.coap_serve.specs.values.Servers.{session_of};
 
 use super::wants::{Wants, wants_by};
 use crate::rest::Rest;
@@ -32,8 +24,6 @@ pub(super) struct Peer<W> {
 }
 
 impl<W: Ready> Peer<W> {
-    ghost use Rattle.coap_serve.specs.streams.Turns.{IsAsked, CanGoOn, IsRestAnswer, end_of};
-
     /// Whether its wire is to be read, and may be. (The wire is asked first: of most connections it may not be read.)
     pub(super) fn can_read(&self) -> bool
         ensures { IsAsked self.now.wants.read (W.readable self.now.wire) result }

@@ -1,7 +1,6 @@
 //! A server at a door, turn by turn, for a program that embeds it.
 
-ghost use Rattle.std.specs.Prelude.{◌≡◌, false};
-ghost use Rattle.std.specs.List.{All};
+ghost use Rattle.std.specs.Prelude.{◌≡◌, false, All};
 ghost use Rattle.coap_serve.specs.streams.Notes.{IsNoted};
 
 use super::peer::Peers;
@@ -26,20 +25,8 @@ pub struct Service<W> {
 
 impl<W: Wire + Ready + Drop> Service<W> {
     ghost use Rattle.std.specs.Prelude.{◌+◌, ◌++◌, ◌∷◌, true, List, [], is_none, is_ok, map, nat_le, IfErr, IfOk, OnErr, OnOk, Err};
-    ghost use Rattle.coap_wire.specs.Refusal.{RefusedBy};
-    ghost use Rattle.coap_store.specs.Refusals.{RefusedOrMemory, put_refusal, remove_refusal};
+    ghost use Rattle.coap_serve.specs.Prelude.{RefusedBy, RefusedOrMemory, put_refusal, remove_refusal, true_end, HasTurned, IsAskedOnce, IsTurnOf, moved_to, TellsMore, MayWait, IsMemory, stamp_of, open_refusal, new_server, server_put, server_removed, server_ticked, Event, Ticked, Stored, Removed, Shows};
     ghost use Rattle.coap_serve.specs.declared.serve.IoFault.TheVariants as fault;
-    ghost use Rattle.coap_serve.specs.streams.Notes.{true_end};
-    ghost use Rattle.coap_serve.specs.streams.Serving.{HasTurned, IsAskedOnce, IsTurnOf};
-    ghost use Rattle.coap_serve.specs.streams.DoorRun.{moved_to};
-    ghost use Rattle.coap_serve.specs.streams.Telling.{TellsMore};
-    ghost use Rattle.coap_serve.specs.streams.Turns.{MayWait};
-    ghost use Rattle.coap_serve.specs.streams.Wires.{IsMemory};
-    ghost use Rattle.coap_serve.specs.values.Dues.{stamp_of};
-    ghost use Rattle.coap_serve.specs.values.ServerAnswers.{open_refusal};
-    ghost use Rattle.coap_serve.specs.values.Servers.{new_server, server_put, server_removed, server_ticked};
-    ghost use Rattle.coap_serve.specs.world.Events.{Event, Ticked, Stored, Removed};
-    ghost use Rattle.coap_serve.specs.world.Shows.{Shows};
 
     /// A server with no connection, that stores nothing, whose counts begin where the configuration says.
     ///

@@ -1,16 +1,8 @@
 //! A turn of a door.
 
 ghost use Rattle.std.specs.Prelude.{◌≡◌, ◌<◌, ◌≤◌, ◌+◌, ◌-◌, ◌^◌, false, true, Ok, length, is_none, map, remove, slice_get, take, IfSome, IfOk, IfErr, OnOk};
-ghost use Rattle.std.specs.Map.{keys_of};
+ghost use Rattle.coap_serve.specs.Prelude.{keys_of, AreNoted, true_end, HasServed, HasTurned, HasGoneOn, AreServed, AreOpened, IsAskedOnce, IsTurnOf, asked_by, is_handed_out, TellsMore, IsServed, IsAgendaOf, MayWait, end_of, wait_of, wants_of, IsMemory, stamp_of, open_refusal, AreSettled, server_dropped};
 ghost use Rattle.coap_serve.specs.declared.door.peer.Course.TheVariants.{Open};
-ghost use Rattle.coap_serve.specs.streams.Notes.{AreNoted, true_end};
-ghost use Rattle.coap_serve.specs.streams.Serving.{HasServed, HasTurned, HasGoneOn, AreServed, AreOpened, IsAskedOnce, IsTurnOf, asked_by, is_handed_out};
-ghost use Rattle.coap_serve.specs.streams.Telling.{TellsMore};
-ghost use Rattle.coap_serve.specs.streams.Turns.{IsServed, IsAgendaOf, MayWait, end_of, wait_of, wants_of};
-ghost use Rattle.coap_serve.specs.streams.Wires.{IsMemory};
-ghost use Rattle.coap_serve.specs.values.Dues.{stamp_of};
-ghost use Rattle.coap_serve.specs.values.ServerAnswers.{open_refusal};
-ghost use Rattle.coap_serve.specs.values.Servers.{AreSettled, server_dropped};
 
 use super::agenda::{Agenda, Seen, concerns_others, pass_over};
 use super::peer::{Course, Peer, Peers, serve_peer};

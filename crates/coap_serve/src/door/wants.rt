@@ -1,7 +1,7 @@
 //! What a connection of a door is to be served for.
 
 ghost use Rattle.std.specs.Prelude.{◌≡◌};
-ghost use Rattle.coap_serve.specs.streams.Turns.{wants_in, wants_of};
+ghost use Rattle.coap_serve.specs.Prelude.{wants_in, wants_of};
 
 use crate::rest::Rest;
 use crate::server::{ConnId, Outlook, Server, Stamp};

@@ -1,9 +1,9 @@
 //! The events that a script's lines name.
 
 ghost use Rattle.std.specs.Prelude.{◌≡◌, IfOk, map, option_map};
+ghost use Rattle.coap_serve.specs.Prelude.{event_value, TakesLine};
 ghost use Rattle.coap_serve.specs.script.Events as spec;
 ghost use Rattle.coap_serve.specs.script.Script as lines;
-ghost use Rattle.coap_serve.specs.script.EventViews.{event_value, TakesLine};
 
 use crate::event::Event;
 use crate::scripts::words::{bytes_in, format_in, number_in, path_in, payload_in, words_in};

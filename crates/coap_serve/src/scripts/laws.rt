@@ -1,8 +1,7 @@
 //! What holds of every script, as the contract of a function that does nothing.
 
 ghost use Rattle.std.specs.Prelude.{◌≡◌, ◌==◌, ℕ, ◌+◌, List, [], ◌∷◌, ◌++◌, count_by};
-ghost use Rattle.coap_serve.specs.script.Words.{newline};
-ghost use Rattle.coap_serve.specs.script.Script.{script_of, said_on};
+ghost use Rattle.coap_serve.specs.Prelude.{newline, script_of, said_on};
 
 /// Lines are read one by one: what whole lines say does not depend on what stands behind them, and what stands there is
 /// read as a script of its own.

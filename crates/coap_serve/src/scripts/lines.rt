@@ -2,7 +2,7 @@
 //! where memory is refused for the line.
 
 ghost use Rattle.std.specs.Prelude.{◌≡◌, ◌≤◌, ◌+◌, ◌++◌, IfOk, OnOk, codes, decimal, length, string_bytes};
-ghost use Rattle.arrayvec.specs.ArrayVec.{array_vec_len};
+ghost use Rattle.coap_serve.specs.Prelude.{array_vec_len};
 ghost use Rattle.coap_serve.specs.script.Lines as spec;
 
 use crate::server::Status;

@@ -1,7 +1,7 @@
 //! The words of a script's lines, and the values that they mean.
 
 ghost use Rattle.std.specs.Prelude.{◌≡◌, ◌+◌, ◌<◌, [], ◌∷◌, length, map, IfSome, IfNone, MatchOption, IfOk, option_map};
-ghost use Rattle.std.specs.Cow.{cow_slice_items};
+ghost use Rattle.coap_serve.specs.Prelude.{cow_slice_items};
 ghost use Rattle.coap_serve.specs.script.Words as spec;
 
 use arrayvec::ArrayVec;

@@ -7,25 +7,10 @@ use crate::output::WriteFailed;
 use std::alloc::AllocError;
 
 impl Server {
-    ghost use Rattle.std.specs.Prelude.{◌≡◌, ◌+◌, ◌≤◌, ◌++◌, ◌∷◌, ⊤, List, [], length, take, true, false, is_err, is_some, IfOk, IfErr, IfSome, OnOk, OnErr};
-    ghost use Rattle.std.specs.Borrow.{sem, follows_so};
-    ghost use Rattle.std.specs.Option.{option_copied};
-    ghost use mathlib.Core.Option.{none};
-    ghost use Rattle.coap_wire.specs.Refusal.{RefusedBy};
-    ghost use Rattle.coap_conn.specs.QueueValue.{IsNextPart};
+    ghost use Rattle.std.specs.Prelude.{◌≡◌, ◌+◌, ◌≤◌, ◌++◌, ◌∷◌, ⊤, List, [], length, take, true, false, is_err, is_some, IfOk, IfErr, IfSome, OnOk, OnErr, option_copied};
+    ghost use Rattle.coap_serve.specs.Prelude.{sem, follows_so, none, RefusedBy, IsNextPart, IsPartlyFed, fed, took, ShowsMore, ShowsPart, AddsBytes, WritesPart, waiting_at, more_at, IsFlushedOnce, session_of, is_there, count_taken, server_taken, server_written, can_take_on, handled_by, IsNotTaken, written_refusal, front_of, stop_on, Event, Took, Wrote, takes, handled_in, Shows, ShowsRefused, IsRefusedFor};
     ghost use Rattle.coap_serve.specs.contracts.server.Server.{the_row};
     ghost use Rattle.coap_serve.specs.script.Events as event;
-    ghost use Rattle.coap_serve.specs.script.PartlyFed.{IsPartlyFed};
-    ghost use Rattle.coap_serve.specs.script.Replay.{fed};
-    ghost use Rattle.coap_serve.specs.script.Shown.{took, ShowsMore, ShowsPart};
-    ghost use Rattle.coap_serve.specs.streams.Device.{AddsBytes, WritesPart};
-    ghost use Rattle.coap_serve.specs.values.Flushes.{waiting_at, more_at, IsFlushedOnce};
-    ghost use Rattle.coap_serve.specs.values.Servers.{session_of, is_there, count_taken, server_taken, server_written};
-    ghost use Rattle.coap_serve.specs.values.ServerAnswers.{can_take_on, handled_by, IsNotTaken, written_refusal, front_of, stop_on};
-    ghost use Rattle.coap_serve.specs.world.Events.{Event, Took, Wrote, takes};
-    ghost use Rattle.coap_serve.specs.world.Handling.{handled_in};
-    ghost use Rattle.coap_serve.specs.world.Shows.{Shows, ShowsRefused};
-    ghost use Rattle.coap_serve.specs.world.Memory.{IsRefusedFor};
 
     /// Whether a connection takes bytes: it is there, has neither stopped nor been released, and has room in its queue
     /// for the greatest message sent.

@@ -8,13 +8,7 @@ use coap_store::{PathKey, StoreFault};
 
 impl Server {
     ghost use Rattle.std.specs.Prelude.{◌≡◌, ◌+◌, ◌++◌, ◌∷◌, List, [], is_ok, is_none, nat_le, IfOk, OnOk, OnErr};
-    ghost use Rattle.coap_wire.specs.Refusal.{RefusedBy};
-    ghost use Rattle.coap_store.specs.Invariant.{IsStore};
-    ghost use Rattle.coap_store.specs.Refusals.{RefusedOrMemory, put_refusal, remove_refusal};
-    ghost use Rattle.coap_serve.specs.values.Dues.{stamp_of};
-    ghost use Rattle.coap_serve.specs.values.Servers.{AreSettled, server_ticked, server_put, server_removed};
-    ghost use Rattle.coap_serve.specs.world.Events.{Event, Ticked, Stored, Removed};
-    ghost use Rattle.coap_serve.specs.world.Shows.{Shows};
+    ghost use Rattle.coap_serve.specs.Prelude.{RefusedBy, IsStore, RefusedOrMemory, put_refusal, remove_refusal, stamp_of, AreSettled, server_ticked, server_put, server_removed, Event, Ticked, Stored, Removed, Shows};
 
     /// The moment is now this one, in seconds.
     ///

@@ -6,13 +6,7 @@ use crate::session::Session;
 
 impl Server {
     ghost use Rattle.std.specs.Prelude.{◌≡◌, ◌+◌, ◌++◌, ◌∷◌, List, [], is_ok, is_none, IfOk, OnOk, OnErr};
-    ghost use Rattle.coap_wire.specs.Refusal.{RefusedBy};
-    ghost use Rattle.coap_conn.specs.Limits.{AreInRange};
-    ghost use Rattle.coap_serve.specs.values.Servers.{AreSettled, session_of, is_there, server_opened, server_ended, server_released, server_announced, server_dropped};
-    ghost use Rattle.coap_serve.specs.values.ServerAnswers.{OpenedOrMemory, open_refusal, released_refusal, IsAnnounced, status_of};
-    ghost use Rattle.coap_serve.specs.values.Dues.{outlook_of};
-    ghost use Rattle.coap_serve.specs.world.Events.{Event, Opened, Ended, Released, Announced, Dropped};
-    ghost use Rattle.coap_serve.specs.world.Shows.{Shows};
+    ghost use Rattle.coap_serve.specs.Prelude.{RefusedBy, AreInRange, AreSettled, session_of, is_there, server_opened, server_ended, server_released, server_announced, server_dropped, OpenedOrMemory, open_refusal, released_refusal, IsAnnounced, status_of, outlook_of, Event, Opened, Ended, Released, Announced, Dropped, Shows};
 
     /// Whether `open` would be refused for want of memory alone.
     pub(crate) fn can_open(&self) -> bool

@@ -1,15 +1,7 @@
 //! What is done to the connections that a server holds, each by its index.
 
 ghost use Rattle.std.specs.Prelude.{◌≡◌, ◌<◌, ◌≤◌, false, None, Some, length, map, slice_get, if◌then◌else◌, is_err, is_some, IfNone, IfSome, IfOk, OnOk, OnErr};
-ghost use Rattle.indexmap.specs.IndexMap.{values};
-ghost use Rattle.coap_wire.specs.Refusal.{RefusedBy};
-ghost use Rattle.coap_serve.specs.streams.Device.{AddsBytes, WritesPart};
-ghost use Rattle.coap_serve.specs.values.Flushes.{IsFlushedAt};
-ghost use Rattle.coap_serve.specs.values.Sessions.{SessionValue, session_written, session_ended, session_released, session_announced, session_settled};
-ghost use Rattle.coap_serve.specs.values.Servers.{LiesAt, session_of, changed_at, settled_entry, AreSettled};
-ghost use Rattle.coap_serve.specs.values.Causes.{AreSettledUntouched, AreOthersSettled};
-ghost use Rattle.coap_serve.specs.values.Entries.{settled_held};
-ghost use Rattle.coap_serve.specs.values.ServerAnswers.{released_refusal_on, IsAnnounced, handled_so};
+ghost use Rattle.coap_serve.specs.Prelude.{values, RefusedBy, AddsBytes, WritesPart, IsFlushedAt, SessionValue, session_written, session_ended, session_released, session_announced, session_settled, LiesAt, session_of, changed_at, settled_entry, AreSettled, AreSettledUntouched, AreOthersSettled, settled_held, released_refusal_on, IsAnnounced, handled_so};
 
 use super::{AnnounceFault, ConnId, Handled, ReleaseFault, Sessions};
 use crate::cause::Cause;
