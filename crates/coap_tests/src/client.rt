@@ -129,9 +129,11 @@ fn runs_a_client_over_devices_that_tell_all(rt: HostRuntime) {
     let result = run_told(rt.alloc(), &mut wire, &mut clock, &mut out, &mut err, &plan);
     assert!(&rt; result == Ok(0));
     assert!(&rt; wire.given.as_slice() == b"\x00\xe1\x31\x45\x01\xffhi".as_slice());
-    assert!(&rt; wire.written.as_slice() == b"\x40\xe1\x23\x01\x00\x00\x01\x01\x01".as_slice());
+    assert!(&rt;
+        wire.written.as_slice() == b"\x60\xe1\x23\x01\x00\x00\x41\x40\x01\x01\x01".as_slice()
+    );
     let two = Got::Bytes(2);
-    assert!(&rt; wire.answers.as_slice() == [two, Got::Bytes(9), two, two, two].as_slice());
+    assert!(&rt; wire.answers.as_slice() == [two, Got::Bytes(11), two, two, two].as_slice());
     assert!(&rt; clock.moments.as_slice() == [7, 8, 9, 10, 11].as_slice());
     assert!(&rt; out.bytes.as_slice() == b"hi".as_slice());
     assert!(&rt; err.bytes.is_empty());

@@ -48,7 +48,11 @@ fn writes(
 
 #[test]
 fn serves_over_devices_that_tell_all(rt: HostRuntime) {
-    let result = writes(&rt, None, b"\x40\xe1\x23\x01\x00\x00\x02\xe3\x01\x02");
+    let result = writes(
+        &rt,
+        None,
+        b"\x60\xe1\x23\x01\x00\x00\x41\x40\x02\xe3\x01\x02",
+    );
     assert!(&rt;
         matches!(
             result,
@@ -81,11 +85,13 @@ fn serves_over_slices_and_vectors(rt: HostRuntime) {
             })
         )
     );
-    assert!(&rt; written.as_slice() == b"\x40\xe1\x23\x01\x00\x00\x02\xe3\x01\x02".as_slice());
+    assert!(&rt;
+        written.as_slice() == b"\x60\xe1\x23\x01\x00\x00\x41\x40\x02\xe3\x01\x02".as_slice()
+    );
 }
 
 #[test]
 fn tells_what_was_written_before_a_fault(rt: HostRuntime) {
-    let result = writes(&rt, Some(1), b"\x40\xe1\x23\x01");
+    let result = writes(&rt, Some(1), b"\x60\xe1\x23\x01");
     assert!(&rt; result == Err(IoFault::Write));
 }

@@ -16,7 +16,7 @@ use std::test::Fail;
 const READ: &[u8] = b"\x00\xe1\x01\x01\x01\x41\x03\x02\xb1a\xffx";
 
 /// What is written for it.
-const WRITTEN: &[u8] = b"\x30\xe1\x22\x04\x80\xa1\x45\x01\xc0\xffcoap+tcp\x01\x41\x02";
+const WRITTEN: &[u8] = b"\x50\xe1\x22\x04\x80\x41\x40\xa1\x45\x01\xc0\xffcoap+tcp\x01\x41\x02";
 
 /// A wire that gives bytes, and whose writes take one byte each.
 #[derive(Drop)]
