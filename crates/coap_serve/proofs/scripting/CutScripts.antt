@@ -46,9 +46,6 @@ open_shown_by v shown false false is_full is_spent none =
     let fits : v.ids + 1 ≤ 18446744073709551615 = omega (arith, eqb-false v.ids 18446744073709551615 is_spent, ids) in
     record { events = _; shows = shows_opened v shown.events shown.shows fits (omega (arith, room)); ids = omega (arith, fits) }
 
-open_shown : (v : ServerValue) → IsShown v → open_refusal v ≡ None → IsShown (server_opened v)
-open_shown v shown none = open_shown_by v shown (nat_le v.config.connections (length v.sessions)) (v.ids == 18446744073709551615) refl refl none
-
 -- `in`
 ids_on : (v : ServerValue) (id : ℕ) (piece : List ℕ) (found : Option SessionValue) → (server_taken_on v id piece found).ids ≡ v.ids
 ids_on v id piece None = refl
@@ -91,7 +88,7 @@ event_shown : (v : ServerValue) (e : EventValue) → IsInTime e → IsShown v �
 unfolding event_ran
 event_shown v Open in_time shown =
     unless_shown v (codes "open") None (comes_to (server_opened v) (open_line (v.ids + 1))) (option_map open_number (open_refusal v)) shown
-    (λ none. open_shown v shown (none_made open_number (open_refusal v) none))
+    (λ none. open_shown_by v shown (nat_le v.config.connections (length v.sessions)) (v.ids == 18446744073709551615) refl refl (none_made open_number (open_refusal v) none))
 event_shown v (In id bytes) in_time shown =
     connection_shown v (codes "in") id (λ s. in_ran id (fed v id bytes)) (session_of id v.sessions) shown (λ s at. turns_shown v id bytes (length bytes) shown)
 event_shown v (Drain id most) in_time shown =

@@ -3,7 +3,7 @@ use Rattle.std.proofs.Common.{◌≡◌, ◌⊎◌, ℕ, zero, suc, ◌+◌, ◌
 use Rattle.std.proofs.lemmas.Bool.{le-ltb, ltb-true, ltb-false, and_parts, ne_eqb}
 use Rattle.std.proofs.lemmas.List.{append-nil, length-append, length-drop, length-take-le, drop-append-le, drop-drop, take-append-le, take_all}
 use Rattle.std.proofs.Math.Seq.{drop-length, drop-append-add, take-append-add}
-use Rattle.coap_wire.specs.Stream.{Stream, split}
+use Rattle.coap_wire.specs.Stream.{Stream}
 use Rattle.coap_wire.specs.Beginning.{Beginning, Unfinished, Whole, Faulty, beginning, fault_bytes}
 use Rattle.coap_wire.specs.declared.fault.FrameFault.{FrameFault}
 use Rattle.coap_wire.proofs.StreamSteps.{whole_more, faulty_more, fault_bytes_more}
@@ -16,11 +16,11 @@ use Rattle.coap_serve.specs.values.Sessions.{SessionValue}
 use Rattle.coap_serve.specs.values.Servers.{ServerValue, session_of, server_taken_on, server_taken, count_on, count_taken}
 use Rattle.coap_serve.specs.world.Sides.{Side, handles}
 use Rattle.coap_serve.specs.world.World.{World, side_of}
-use Rattle.coap_serve.specs.world.Events.{Event, Took, taken_in, taken_on, stream_on, world_after, front_of, takes, size_on}
+use Rattle.coap_serve.specs.world.Events.{Event, Took, stream_on, world_after, front_of, takes, size_on}
 use Rattle.coap_serve.specs.world.Shows.{session_shown, server_shown, server_of, Shows}
 use Rattle.coap_serve.proofs.world.StepLaws.{world_same, size_then, rest_unfinished, spelled_same}
 use Rattle.coap_serve.proofs.world.CutLaws.{cut_worlds, SpellAlike, stream_alike, spelled_twice}
-use Rattle.coap_serve.proofs.world.TookLaws.{Adds, adds_nothing, no_bytes_steps}
+use Rattle.coap_serve.proofs.world.TookLaws.{no_bytes_steps, Adds, adds_nothing}
 use Rattle.coap_serve.proofs.world.ReachedLaws.{accepted_is, handling_goes_on, takes_there}
 use Rattle.coap_serve.proofs.world.ShowLaws.{session_there, side_there, takes_shown, shows_taken}
 use Rattle.coap_serve.proofs.streams.TakeLemmas.{config_stays}
@@ -58,11 +58,8 @@ pub absent_stuck : (v : ServerValue) (id : ℕ) → session_of id v.sessions ≡
 unfolding count_taken server_taken
 absent_stuck v id none = record { none = λ bytes. ap (count_on v bytes) none; stays = λ bytes. ap (server_taken_on v id bytes) none }
 
-no_bytes_in : (id k : ℕ) → taken_in k (Took id []) ≡ []
-no_bytes_in id k = elim (id == k) as (λ b. ◌≡◌ {A = List ℕ} (if b then [] else []) []) [ true ↦ refl | false ↦ refl ]
-
 no_bytes_alike : (M : ℕ) (es : List Event) (id : ℕ) → SpellAlike M (es ++ Took id [] ∷ []) es
-no_bytes_alike M es id k = spelled_same M k es (Took id []) (no_bytes_in id k) (λ N. refl)
+no_bytes_alike M es id k = spelled_same M k es (Took id []) (elim (id == k) as (λ b. ◌≡◌ {A = List ℕ} (if b then [] else []) []) [ true ↦ refl | false ↦ refl ]) (λ N. refl)
 
 module _ (v : ServerValue) (es : List Event) (id : ℕ) (shows : Shows v es) (s : SessionValue) (at : session_of id v.sessions ≡ Some s) (t : Side) (there : side_of id (world_after v.config es).sides ≡ Some t) where
   abbrev greatest_message : ℕ
@@ -121,9 +118,6 @@ stuck_or_there v es id shows None at = inl (absent_stuck v id at)
 stuck_or_there v es id shows (Some s) at =
     let found = session_there v es id s shows at in
     stuck_or_handles v es id shows s at found.side found.there (handles found.side) refl
-
-stuck_or_goes : (v : ServerValue) (es : List Event) (id : ℕ) → Shows v es → IsStuck v id ⊎ Goes v es id
-stuck_or_goes v es id shows = stuck_or_there v es id shows (session_of id v.sessions) refl
 
 -- ---- how many bytes of a longer piece are taken
 
@@ -230,16 +224,13 @@ once_shifted id bytes n f within =
       | false ↦ refl
     ]
 
-first_turn : (v : ServerValue) (id : ℕ) (bytes : List ℕ) (k : ℕ) → 0 < length bytes → count_taken v id bytes ≡ suc k → fed_once id bytes (unfed v) ≡ shifted (suc k) (unfed (server_taken v id bytes))
-first_turn v id bytes k some counted =
-    ap (λ (b : Bool). if b && true then fed_more id bytes (unfed v) else unfed v) (lt-ltb 0 (length bytes) some)
+turns_shifted : (v : ServerValue) (id : ℕ) (bytes : List ℕ) (k turns : ℕ) → count_taken v id bytes ≡ suc k → suc k ≤ length bytes → fed_turns (suc turns) v id bytes ≡ shifted (suc k) (fed_turns turns (server_taken v id bytes) id (drop (suc k) bytes))
+unfolding fed_turns
+turns_shifted v id bytes k zero counted within =
+    ap (λ (b : Bool). if b && true then fed_more id bytes (unfed v) else unfed v) (lt-ltb 0 (length bytes) (omega (arith, within)))
     ∙ ap (λ (n : ℕ). record { server = server_taken v id bytes; count = 0 + n; done = n == 0 }) counted
     ∙ ap (λ (b : Bool). record { server = server_taken v id bytes; count = 0 + suc k; done = b }) (ne_eqb (suc k) 0 (λ none. omega (arith, none)))
     ∙ ap (λ (n : ℕ). record { server = server_taken v id bytes; count = n; done = false }) (let same : 0 + suc k ≡ suc k + 0 = omega arith in same)
-
-turns_shifted : (v : ServerValue) (id : ℕ) (bytes : List ℕ) (k turns : ℕ) → count_taken v id bytes ≡ suc k → suc k ≤ length bytes → fed_turns (suc turns) v id bytes ≡ shifted (suc k) (fed_turns turns (server_taken v id bytes) id (drop (suc k) bytes))
-unfolding fed_turns
-turns_shifted v id bytes k zero counted within = first_turn v id bytes k (omega (arith, within)) counted
 turns_shifted v id bytes k (suc turns) counted within =
     ap (fed_once id bytes) (turns_shifted v id bytes k turns counted within)
     ∙ once_shifted id bytes (suc k) (fed_turns turns (server_taken v id bytes) id (drop (suc k) bytes)) within
@@ -462,7 +453,7 @@ parts_within : (few : ℕ) (v : ServerValue) (es : List Event) (id : ℕ) (xs ys
 parts_within few v es id [] ys shows within = no_first_part v id ys
 parts_within zero v es id (x ∷ xs) ys shows within = absurd (omega (arith, within))
 parts_within (suc few) v es id (x ∷ xs) ys shows within =
-    elim (stuck_or_goes v es id shows) [
+    elim (stuck_or_there v es id shows (session_of id v.sessions) refl) [
       | inl stuck ↦ stuck_parts v id (x ∷ xs) ys stuck
       | inr goes ↦
           going_parts v es id (x ∷ xs) ys shows goes (omega arith)

@@ -19,19 +19,20 @@ use Rattle.coap_serve.specs.script.Lines.{fault_line}
 use Rattle.coap_serve.specs.script.Replay.{Ran, comes_to, unless_refused, on_connection, Fed, fed_more, goes_on, fed_once, fed_turns, fed, event_ran, behind, replayed}
 use Rattle.coap_serve.specs.script.PartlyFed.{IsPartlyFed}
 use Rattle.coap_serve.specs.script.Replayed.{IsUnrun, IsRefusedAt, IsCutAt}
-use Rattle.coap_serve.specs.script.Shown.{where_there, took_more, took_once, took_turns, took, events_ran, ShowsMore, ShowsPart}
+use Rattle.coap_serve.specs.script.Shown.{where_there, took_more, took_once, took_turns, took, events_ran, ShowsMore, ShowsPart, events_made, IsPartlyMade, ShowsRefusedAt}
 use Rattle.coap_serve.specs.streams.Device.{AddsBytes, WritesPart}
 use Rattle.coap_serve.specs.values.Sessions.{SessionValue}
 use Rattle.coap_serve.specs.values.Servers.{ServerValue, server_taken, server_taken_on, count_taken, count_on, is_there, session_of}
 use Rattle.coap_serve.specs.values.ServerAnswers.{IsNotTaken}
 use Rattle.coap_serve.specs.views.LineViews.{IsRun, IsDrainable}
 use Rattle.coap_serve.specs.world.Events.{Took}
-use Rattle.coap_serve.specs.world.Events as world
-use Rattle.coap_serve.specs.declared.server.TakeFault.TheVariants as taking
 use Rattle.coap_serve.specs.declared.replay.Drained.{Drained}
 use Rattle.coap_serve.specs.declared.replay.Line.{Line}
 use Rattle.coap_serve.proofs.streams.DeviceLemmas.{bytes_none, bytes_then}
-use Rattle.coap_serve.proofs.scripting.ShownLemmas.{shows_same, shows_then, shows_as, made_there, unmade_there}
+use Rattle.coap_serve.proofs.scripting.ShownLemmas.{shows_then, shows_as, made_there, events_ran_more}
+use Rattle.coap_serve.specs.world.Shows.{Shows}
+use Rattle.coap_serve.specs.world.Events as world
+use Rattle.coap_serve.specs.declared.server.TakeFault.TheVariants as taking
 
 -- ---- one event
 
@@ -121,10 +122,6 @@ pub record Feeds (v : ServerValue) (id : ℕ) (bytes : List ℕ) (now : ServerVa
   pub so_far : fed_turns turns v id bytes ≡ record { server = now; count = taken; done = false }
   pub shows : ShowsMore v now (took_turns turns v id bytes)
 
-pub nothing_fed : (v : ServerValue) (id : ℕ) (bytes : List ℕ) → Feeds v id bytes v 0
-unfolding fed_turns took_turns
-nothing_fed v id bytes = record { turns = 0; few = omega arith; within = omega arith; so_far = refl; shows = shows_same v v refl }
-
 over : (id : ℕ) (bytes : List ℕ) (f : Fed) → goes_on bytes f ≡ false → fed_once id bytes f ≡ f
 over id bytes f is = ap (λ (b : Bool). if b then fed_more id (drop f.count bytes) f else f) is
 
@@ -186,9 +183,6 @@ take_shown now id left after k there counted more =
     shows_as now after (Took id (take k left) ∷ []) _
     (ap (λ (n : ℕ). Took id (take n left) ∷ []) counted ∙ made_there (session_of id now.sessions) (Took id (take (count_taken now id left) left)) there)
     more
-
-pub no_take_shown : (now : ServerValue) (id : ℕ) (left : List ℕ) (after : ServerValue) → IsNotTaken now id left taking.NoSuch after → ShowsTake now id left after
-no_take_shown now id left after none = shows_as now after [] _ (unmade_there (session_of id now.sessions) _ (ap is_there none.0)) (shows_same now after none.1)
 
 going_on : (bytes : List ℕ) (now : ServerValue) (taken : ℕ) → taken < length bytes → goes_on bytes (record { server = now; count = taken; done = false }) ≡ true
 going_on bytes now taken left = ap (λ (b : Bool). b && true) (lt-ltb taken (length bytes) left)
@@ -300,12 +294,9 @@ replayed_on v (e ∷ es) fs =
     ap (behind (event_ran v e).text) (replayed_on (event_ran v e).server es fs)
     ∙ texts_behind (event_ran v e).text (replayed (event_ran v e).server es).text (replayed (replayed (event_ran v e).server es).server fs)
 
-replayed_one : (v : ServerValue) (e : EventValue) → replayed v (e ∷ []) ≡ event_ran v e
-unfolding replayed
-replayed_one v e = ap (comes_to (event_ran v e).server) (append-nil (event_ran v e).text)
-
 replayed_more : (v : ServerValue) (es : List EventValue) (e : EventValue) → replayed v (es ++ e ∷ []) ≡ behind (replayed v es).text (event_ran (replayed v es).server e)
-replayed_more v es e = replayed_on v es (e ∷ []) ∙ ap (behind (replayed v es).text) (replayed_one (replayed v es).server e)
+unfolding replayed
+replayed_more v es e = replayed_on v es (e ∷ []) ∙ ap (behind (replayed v es).text) (ap (comes_to (event_ran (replayed v es).server e).server) (append-nil (event_ran (replayed v es).server e).text))
 
 -- the first events were run, and their lines written
 pub record Replays (v : ServerValue) (all : List EventValue) (index : ℕ) (now : ServerValue) (x y : Option (List ℕ)) : Type 0 where
@@ -388,3 +379,41 @@ pub all_replayed : (v : ServerValue) (all : List EventValue) (index : ℕ) (now 
 all_replayed v all index now x y so_far none =
     let whole = take_all index all none in
     (so_far.server_is ∙ ap (λ (es : List EventValue). (replayed v es).server) whole, subst (λ (es : List EventValue). AddsBytes x y (replayed v es).text) whole so_far.written)
+
+-- ---- Which world a server shows after the first events of a replay.
+
+-- after the first events the server shows theirs
+abbrev pub ShowsFirst : ServerValue → List EventValue → ℕ → ServerValue → Type 0
+ShowsFirst v all index now = ShowsMore v now (events_ran v (take index all))
+
+module _ (v : ServerValue) (all : List EventValue) (index : ℕ) (now : ServerValue) (x y : Option (List ℕ)) (so_far : Replays v all index now x y) (shown : ShowsFirst v all index now) (e : EventValue) (stands : StandsAt all index e) where
+  next_ran : events_ran v (take index all) ++ events_made now e ≡ events_ran v (take (index + 1) all)
+  next_ran =
+      ap (λ (w : ServerValue). events_ran v (take index all) ++ events_made w e) so_far.server_is
+      ∙ sym (events_ran_more v (take index all) e)
+      ∙ ap (events_ran v) (sym stands.more)
+
+  -- the event was run
+  pub one_shown : (after : ServerValue) → ShowsMore now after (events_made now e) → ShowsFirst v all (index + 1) after
+  one_shown after more = shows_as v after _ _ next_ran (shows_then v now after (events_ran v (take index all)) (events_made now e) shown more)
+
+  -- it was run, and its line not written whole
+  pub cut_shown : (after : ServerValue) → ShowsMore now after (events_made now e) → ShowsMore v after (events_ran v (take index all ++ e ∷ []))
+  cut_shown after more = shows_as v after _ _ (ap (events_ran v) stands.more) (one_shown after more)
+
+  -- memory was refused for it
+  pub refused_shown : (before : List world.Event) → Shows v before → (number : ℕ) (after : ServerValue) → number ≡ index + 1 → ShowsPart now e after → ShowsRefusedAt before v all number after
+  refused_shown before shows number after counted refused = record {
+    ran = take index all;
+    event = e;
+    others = drop (index + 1) all;
+    all = stands.all_is;
+    counted = counted ∙ ap (λ (n : ℕ). n + 1) (sym (length-take-le index all (let within = stands.within in omega (arith, within))));
+    more = refused.more;
+    part = subst (λ (w : ServerValue). IsPartlyMade w e after refused.more) so_far.server_is refused.part;
+    shows = refused.shows (before ++ events_ran v (take index all)) (shown before shows);
+  }
+
+-- all events were run
+pub all_shown : (v : ServerValue) (all : List EventValue) (index : ℕ) (now : ServerValue) → ShowsFirst v all index now → length all ≤ index → ShowsMore v now (events_ran v all)
+all_shown v all index now shown none = shows_as v now _ _ (ap (events_ran v) (take_all index all none)) shown

@@ -68,12 +68,9 @@ events_ran_on v (e ∷ es) fs =
     ap (λ (more : List Event). events_made v e ++ more) (events_ran_on (event_ran v e).server es fs)
     ∙ sym (append_assoc (events_made v e) (events_ran (event_ran v e).server es) (events_ran (replayed (event_ran v e).server es).server fs))
 
-events_ran_one : (v : ServerValue) (e : EventValue) → events_ran v (e ∷ []) ≡ events_made v e
-unfolding events_ran
-events_ran_one v e = append-nil (events_made v e)
-
 pub events_ran_more : (v : ServerValue) (es : List EventValue) (e : EventValue) → events_ran v (es ++ e ∷ []) ≡ events_ran v es ++ events_made (replayed v es).server e
-events_ran_more v es e = events_ran_on v es (e ∷ []) ∙ ap (λ (more : List Event). events_ran v es ++ more) (events_ran_one (replayed v es).server e)
+unfolding events_ran
+events_ran_more v es e = events_ran_on v es (e ∷ []) ∙ ap (λ (more : List Event). events_ran v es ++ more) (append-nil (events_made (replayed v es).server e))
 
 -- memory was refused for an event that then makes none
 pub nothing_made : (v : ServerValue) (e : EventValue) (after : ServerValue) → after ≡ v → IsPartlyMade v e after [] → ShowsPart v e after

@@ -1,5 +1,5 @@
 -- The words of a script's lines, and what they mean.
-use Rattle.std.proofs.Common.{◌≡◌, ℕ, ◌+◌, ◌-◌, ◌^◌, ◌<◌, ◌≤◌, Bool, true, false, ◌&&◌, cond, ◌==◌, ltb, List, [], ◌∷◌, length, take, drop, map, Option, Some, None, Result, Ok, Err, refl, sym, ap, subst, ◌∙◌, ◌⊎◌, inl, inr, arith, length-drop, nat_le, MatchResult, IsUtf8, IsAscii, OkIff}
+use Rattle.std.proofs.Common.{◌≡◌, ℕ, ◌+◌, ◌-◌, ◌^◌, ◌<◌, ◌≤◌, Bool, true, false, ◌&&◌, cond, ◌==◌, ltb, List, [], ◌∷◌, length, take, drop, map, Option, Some, None, Result, Ok, Err, refl, sym, ap, subst, ◌∙◌, arith, length-drop, nat_le, MatchResult, IsUtf8, IsAscii, OkIff}
 use Rattle.std.proofs.lemmas.Bool.{and_parts, leb-true, le-leb, ne_eqb}
 use Rattle.std.proofs.lemmas.List.{take_all}
 use Rattle.std.proofs.lemmas.List.Elements.{All-from_get_or}
@@ -15,8 +15,6 @@ use Rattle.std.specs.Result.{result_ok}
 use Rattle.std.specs.Str.{all_ascii_digits}
 use Rattle.std.specs.Str.Parse.{ParsesUnsigned, digits_value}
 use Rattle.hex.specs.Hex.{decode_of}
-use Rattle.hex.specs.declared.error.FromHexError.{FromHexError}
-use Rattle.hex.specs.declared.error.FromHexError.TheVariants.{OutOfMemory}
 use Rattle.coap_serve.specs.script.Words.{parts, decimal_value, hex_value, format_value, is_hyphen, slash, segments_of, path_value}
 use Rattle.percent_encoding.specs.Percent.{percent_decode}
 use Rattle.coap_store.specs.Paths.{Path, is_path}
@@ -28,16 +26,13 @@ use Rattle.coap_store.specs.State.{key_for}
 abbrev pub first_place : (ℕ → Bool) → List ℕ → Option ℕ
 first_place p xs = cond (ltb (position_or_len p xs) (length xs)) (Some (position_or_len p xs)) None
 
-none_or_place : (n m : ℕ) → cond (ltb n m) (Some n) None ≡ None → m ≤ n
-none_or_place n m e = grind (arith)
-
 some_place : (n m at : ℕ) → cond (ltb n m) (Some n) None ≡ Some at → (n ≡ at) × (n < m)
 some_place n m at e = (grind (arith), grind (arith))
 
 pub one_part : (separator : ℕ) (bytes : List ℕ) → first_place (λ b. b == separator) bytes ≡ None → parts separator bytes ≡ bytes ∷ []
 one_part separator bytes e =
     let p : ℕ → Bool = λ b. b == separator in
-    let far = none_or_place (position_or_len p bytes) (length bytes) e in
+    let far : length bytes ≤ position_or_len p bytes = grind (arith) in
     slice_split_none p bytes (All-from_get_or (λ x. p x ≡ false) bytes 0 (λ k within. fails_before_first p bytes k 0 (omega arith)))
 
 pub first_part : (separator : ℕ) (bytes : List ℕ) (at : ℕ) → first_place (λ b. b == separator) bytes ≡ Some at → (at < length bytes) × (parts separator bytes ≡ take at bytes ∷ parts separator (take (length bytes - (at + 1)) (drop (at + 1) bytes)))
@@ -123,10 +118,6 @@ number_read word text r few all same parsed =
 
 -- ---- formats, bytes
 
-pub no_format : (word : List ℕ) → is_hyphen word ≡ false → decimal_value word ≡ None → None ≡ format_value word
-unfolding format_value
-no_format word other none = rw (other, none) refl
-
 pub great_format : {E : Type 0} (word : List ℕ) (n : ℕ) (r : Result ℕ E) → is_hyphen word ≡ false → decimal_value word ≡ Some n → OkIff r (n < 65536) n → result_ok r ≡ None → None ≡ format_value word
 unfolding format_value
 great_format word n (Ok m) other is fits none = cc none
@@ -144,16 +135,13 @@ unfolding hex_value
 no_digits [] e = refl
 no_digits (c ∷ cs) e = absurd (omega arith)
 
-hex_of_some : (word : List ℕ) → (length word ≡ 0 → ⊥) → hex_value word ≡ result_ok (decode_of word)
+pub hex_of_some : (word : List ℕ) → (length word ≡ 0 → ⊥) → hex_value word ≡ result_ok (decode_of word)
 unfolding hex_value
 hex_of_some [] some = absurd (some refl)
 hex_of_some (c ∷ cs) some = refl
 
 pub decoded : (word bytes : List ℕ) → (length word ≡ 0 → ⊥) → decode_of word ≡ Ok bytes → Some bytes ≡ hex_value word
 decoded word bytes some is = sym (hex_of_some word some ∙ ap result_ok is)
-
-pub hex_refused : (word : List ℕ) (fault : FromHexError) → (length word ≡ 0 → ⊥) → (fault ≡ OutOfMemory) ⊎ (decode_of word ≡ Err fault) → (fault ≡ OutOfMemory → ⊥) → None ≡ hex_value word
-hex_refused word fault some why other = elim why [ inl memory ↦ absurd (other memory) | inr is ↦ sym (hex_of_some word some ∙ ap result_ok is) ]
 
 -- ---- paths
 

@@ -16,11 +16,11 @@ use Rattle.coap_serve.specs.world.World as world
 use Rattle.coap_serve.specs.streams.Output.{waiting_of, more_of, written_once, written_times, flushed}
 use Rattle.coap_serve.proofs.world.GrowLaws.{settled_handled, written_handled}
 use Rattle.coap_serve.proofs.world.EntryLemmas.{count_due, count_within}
-use Rattle.coap_serve.proofs.world.SettleLaws.{IsAtRest, left_on, once_less, at_rest, settled_rests}
+use Rattle.coap_serve.proofs.world.SideLaws.{IsAtRest, left_on, once_less, at_rest, settled_rests}
 use Rattle.coap_serve.proofs.world.PlaceLaws.{all_there, changed_here}
 use Rattle.coap_serve.proofs.world.HearingLaws.{AllHear, step_hears}
-use Rattle.coap_serve.proofs.world.ShownLemmas.{places_unchanged, side_at_rest_stays}
-use Rattle.coap_serve.proofs.world.HeldLaws.{written_same}
+use Rattle.coap_serve.proofs.world.ShowLaws.{places_unchanged, side_at_rest_stays}
+use Rattle.coap_serve.proofs.world.CustodyLaws.{written_same}
 
 -- ---- one write
 
@@ -226,13 +226,10 @@ quiet_flush limits id w s hear there none = quiet_times limits id (suc (more_of 
 
 -- ---- a flush that ends early
 
-pub once_hears : (limits : LimitValues) (id : ℕ) (w : World) → AllHear (written_once limits id w)
-once_hears limits id w = step_hears limits w _
-
 times_hear : (limits : LimitValues) (id turns : ℕ) (w : World) → AllHear w → AllHear (written_times limits id turns w)
 unfolding written_times
 times_hear limits id zero w hear = hear
-times_hear limits id (suc turns) w hear = once_hears limits id (written_times limits id turns w)
+times_hear limits id (suc turns) w hear = step_hears limits (written_times limits id turns w) _
 
 -- from where nothing waits, further turns change nothing
 times_further : (limits : LimitValues) (id turns most : ℕ) (w : World) (t : Side) → AllHear w → side_of id (written_times limits id turns w).sides ≡ Some t → waiting_on t ≡ [] → turns ≤ most → written_times limits id turns w ≡ written_times limits id most w
@@ -275,25 +272,18 @@ flushed_there limits id w s there =
 
 -- ---- a flush where nothing is held and nobody observes
 
-settled_alone : (store : StoreValue) (now : ℕ) (s : Side) → more_of (Some s) ≡ 0 → settled store now s ≡ s
-unfolding settled settled_within
-settled_alone store now s none = ap (λ (turns : ℕ). settled_within turns store now s) none
-
 written_phase_by : (does : Bool) (s : Side) (h : History) → h.phase ≡ s.history.phase → (cond does (record s { history = h }) s).history.phase ≡ s.history.phase
 written_phase_by true s h same = same
 written_phase_by false s h same = refl
-
-written_phase : (s : Side) (n : ℕ) → (side_written s n).history.phase ≡ s.history.phase
-unfolding side_written
-written_phase s n = written_phase_by _ s _ refl
 
 written_more : (s : Side) (n : ℕ) → more_of (Some (side_written s n)) ≡ more_of (Some s)
 written_more s n = omega (arith, ap (λ (held : List HeldValue). length held) (written_same s n), ap (λ (os : List Observer). length os) (written_observers s n))
 
 once_alone : (store : StoreValue) (now : ℕ) (s : Side) → more_of (Some s) ≡ 0 → (side_once store now s).history.phase ≡ s.history.phase
+unfolding settled settled_within side_written
 once_alone store now s none =
     let n : ℕ = length (waiting_on s) in
-    ap (λ (t : Side). t.history.phase) (settled_alone store now (side_written s n) (written_more s n ∙ none)) ∙ written_phase s n
+    ap (λ (t : Side). t.history.phase) (ap (λ (turns : ℕ). settled_within turns store now (side_written s n)) (written_more s n ∙ none)) ∙ (written_phase_by _ s _ refl)
 
 -- it leaves how the connection stands
 pub flushed_alone : (limits : LimitValues) (id : ℕ) (w : World) (s : Side) → more_of (Some s) ≡ 0 → side_of id w.sides ≡ Some s → (t : Side) × (side_of id (flushed limits id w).sides ≡ Some t) × (t.history.phase ≡ s.history.phase)

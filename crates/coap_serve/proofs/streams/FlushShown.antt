@@ -7,11 +7,11 @@ use Rattle.coap_serve.specs.values.Flushes.{Flush, waiting_in, waiting_at, more_
 use Rattle.coap_serve.specs.world.Sides.{Side, waiting_on, side_written, settled}
 use Rattle.coap_serve.specs.world.World.{World, side_of}
 use Rattle.coap_serve.specs.world.World as world
-use Rattle.coap_serve.specs.world.Events.{Event, Wrote, taken_on, stream_on, steps_by, world_after, spelled_on}
+use Rattle.coap_serve.specs.world.Events.{Event, Wrote, stream_on, steps_by, world_after, spelled_on}
 use Rattle.coap_serve.specs.world.Shows.{Shows, session_shown}
 use Rattle.coap_serve.specs.streams.Output.{waiting_of, more_of, written_once, written_times, flushed}
 use Rattle.coap_serve.proofs.values.FlushLemmas.{no_flush_turns, turn_more}
-use Rattle.coap_serve.proofs.world.StepLaws.{taken_then, world_step, spelled_same}
+use Rattle.coap_serve.proofs.world.StepLaws.{world_step, spelled_same}
 use Rattle.coap_serve.proofs.world.HearingLaws.{world_hears}
 use Rattle.coap_serve.proofs.streams.FlushLaws.{flushed_so, flushed_early}
 use Rattle.coap_serve.proofs.world.ShowLaws.{side_there, shows_written}

@@ -12,9 +12,6 @@ use Rattle.coap_serve.specs.declared.server.WrittenFault.{WrittenFault}
 use Rattle.coap_serve.specs.declared.wire.Got.{Got}
 use Rattle.coap_serve.specs.declared.wire.Got.TheVariants.{Bytes, Later, End, Failed}
 
-part_small : (waiting part : List ℕ) → IsNextPart waiting part → length part ≤ length waiting
-part_small waiting part is = omega (arith, ap length is.front, length-take (length part) waiting)
-
 part_passed : (waiting part : List ℕ) (got : Got) → IsNextPart waiting part → IsWithin (length part) got → bytes_passed part got ≡ bytes_passed waiting got
 part_passed waiting part (Bytes n) is within = ap (λ (xs : List ℕ). take n xs) is.front ∙ take-take n (length part) waiting within.1
 part_passed waiting part Later is within = refl
@@ -27,7 +24,7 @@ part_written waiting part got before after is within added =
     subst (λ (xs : List ℕ). AddsBytes before after xs) (part_passed waiting part got is within) added
 
 pub few_written : (waiting part : List ℕ) (count : ℕ) → IsNextPart waiting part → count ≤ length part → count ≤ length waiting
-few_written waiting part count is few = le_trans few (part_small waiting part is)
+few_written waiting part count is few = le_trans few (omega (arith, ap length is.front, length-take (length part) waiting))
 
 none_refused_on : (o : Option SessionValue) (part : List ℕ) (count : ℕ) (fault : WrittenFault) → is_there o ≡ true → IsNextPart (waiting_in o) part → count ≤ length part
     → written_refusal_on count o ≡ Some fault → ⊥

@@ -1,32 +1,178 @@
 -- The world of one connection whose bytes are taken with a flush behind each step: it goes on with more bytes, what is written only
 -- grows, and a connection that has stopped stays as it is.
-use Rattle.std.proofs.Common.{◌≡◌, ℕ, zero, suc, false, List, [], ◌∷◌, ◌++◌, length, map, drop, Option, Some, None, refl, sym, ap, subst, ◌∙◌, is_none}
+use Rattle.std.proofs.Common.{◌≡◌, ℕ, Bool, true, false, cond, List, [], ◌∷◌, map, Option, Some, refl, sym, ap, subst, ◌∙◌, ◌&&◌, ◌==◌, zero, suc, ◌++◌, append_assoc, length, drop, None, is_none}
 use Rattle.std.specs.List.{AllByRecursion}
-use Rattle.std.proofs.lemmas.List.{append-nil}
+use Rattle.std.proofs.lemmas.Bool.{eqb-true}
 use Rattle.coap_wire.specs.Message.{Message}
-use Rattle.coap_wire.specs.Stream.{StreamFault, Stream, split, split_on}
+use Rattle.coap_wire.specs.Stream.{StreamFault, Stream, split_on}
+use Rattle.coap_conn.specs.Phases.{takes_messages, stop_of}
+use Rattle.coap_conn.specs.Rejects.{reject_of, reject_reason}
+use Rattle.coap_conn.specs.History.{after, History, standing_now}
+use Rattle.coap_store.specs.Store.{StoreValue}
+use Rattle.coap_store.specs.Answer.{Change, Nothing, prompt_answer, changed}
+use Rattle.coap_serve.specs.Configs.{ConfigValues}
+use Rattle.coap_serve.specs.world.Sides.{Side, has_room, handles, with_history, asks_answer, side_handled, side_after, change_after, side_faulted, side_written, settled, new_side, waiting_on, settled_within}
+use Rattle.coap_serve.specs.world.World.{Place, World, side_of, changed_at, stored_after, acted, step, Step, new_world}
+use Rattle.coap_serve.proofs.world.PlaceLaws.{AreDistinct, of_each, first_there}
+use Rattle.coap_serve.proofs.world.HearingLaws.{AllHear, step_hears}
+use Rattle.coap_serve.proofs.streams.FlushLaws.{idle_step, flushed_there, flushed_alone, flushed_empties, quiet_flush}
+use Rattle.coap_serve.proofs.values.OptionLemmas.{same_there}
+use Rattle.std.proofs.lemmas.List.{append-nil}
+use Rattle.coap_conn.specs.Limits.{LimitValues}
+use Rattle.coap_conn.specs.Fit.{bare_response}
+use Rattle.coap_conn.specs.Reaction.{abort, send, react, pong_with}
+use Rattle.coap_conn.specs.LinkValue.{own_csm, bytes_of}
+use Rattle.coap_conn.specs.Calls.{release}
+use Rattle.coap_store.specs.Messages.{response_with_observe}
+use Rattle.coap_serve.specs.streams.Output.{written_times, flushed, flushed_after, only_id, stream_of, steps_for, world_for, side_for, outcome_on, outcome, stdio_output}
+use Rattle.coap_serve.proofs.world.WalkLaws.{without_first, Between, written_between, settled_between}
+use Rattle.coap_serve.proofs.world.AcrossLaws.{KeepsAll, after_all, faulted_all, handled_there, faulted_there, written_there, opened_world}
 use Rattle.coap_wire.proofs.StreamSteps.{unfinished_empty, split_unfinished, split_goes_on}
 use Rattle.coap_conn.specs.declared.reason.Reason.{Reason}
-use Rattle.coap_conn.specs.Limits.{LimitValues}
-use Rattle.coap_conn.specs.Phases.{stop_of, takes_messages}
-use Rattle.coap_conn.specs.LinkValue.{bytes_of}
 use Rattle.coap_conn.proofs.LinkLemmas.{bytes_more}
-use Rattle.coap_serve.specs.Configs.{ConfigValues}
-use Rattle.coap_serve.specs.world.Sides.{Side, new_side, waiting_on, settled, settled_within}
-use Rattle.coap_serve.specs.world.World.{World, Step, new_world, side_of, acted, step}
-use Rattle.coap_serve.specs.world.World as world
-use Rattle.coap_serve.specs.world.Events.{Event, Opened, Took, taken_in, taken_on, stream_on, new_fault, beyond, steps_by, steps_behind, steps_of, size_on}
-use Rattle.coap_serve.specs.streams.Output.{written_times, flushed, flushed_after, only_id, stream_of, steps_for, world_for, side_for, outcome_on, outcome, stdio_output}
+use Rattle.coap_serve.specs.world.Events.{Event, Opened, Took, stream_on, new_fault, beyond, steps_by, steps_behind, steps_of, size_on}
 use Rattle.coap_serve.proofs.world.EntryLemmas.{all_append}
-use Rattle.coap_serve.proofs.world.PlaceLaws.{AreDistinct, first_there}
-use Rattle.coap_serve.proofs.world.AcrossLaws.{opened_world}
-use Rattle.coap_serve.proofs.world.WorldLaws.{step_distinct}
-use Rattle.coap_serve.proofs.world.HearingLaws.{AllHear, step_hears}
-use Rattle.coap_serve.proofs.world.StepLaws.{taken_here, steps_of_more, stream_more, stream_same, first_spelled}
+use Rattle.coap_serve.proofs.world.ReachedLaws.{step_distinct}
+use Rattle.coap_serve.proofs.world.StepLaws.{steps_of_more, stream_more, stream_same, first_spelled}
 use Rattle.coap_serve.proofs.world.CutLaws.{cut_steps}
-use Rattle.coap_serve.proofs.streams.FlushLaws.{flushed_there, flushed_alone, flushed_empties, quiet_flush}
-use Rattle.coap_serve.proofs.streams.QueueLaws.{HasGrown, grown_self, grown_then, handled_grows, faulted_grows, flushed_grows}
-use Rattle.coap_serve.proofs.streams.StoppedLaws.{stopped_step, stopped_fault}
+use Rattle.coap_conn.specs.Calls as call
+use Rattle.coap_serve.specs.world.World as world
+
+-- ---- a connection that has stopped
+
+place_stays : (id : ℕ) (f : Side → Side) (p : Place) → (p.id ≡ id → f p.side ≡ p.side) → changed_at id f p ≡ p
+place_stays id f p stays =
+    elim (p.id == id) as (λ b. (p.id == id) ≡ b → (cond b (record p { side = f p.side }) p) ≡ p) [
+      | true ↦ λ here. ap (λ (s : Side). record p { side = s }) (stays (eqb-true p.id id here))
+      | false ↦ λ apart. refl
+    ] refl
+
+places_stay : (id : ℕ) (f : Side → Side) (ps : List Place) → AllByRecursion (λ p. p.id ≡ id → f p.side ≡ p.side) ps → map (changed_at id f) ps ≡ ps
+places_stay id f [] each = refl
+places_stay id f (p ∷ ps) each =
+    ap (λ (q : Place). q ∷ map (changed_at id f) ps) (place_stays id f p each.0) ∙ ap (λ (qs : List Place). p ∷ qs) (places_stay id f ps each.1)
+
+-- numbers are distinct, so that it is enough that the one connection stays
+one_stays : (id : ℕ) (f : Side → Side) (s : Side) (ps : List Place) → AreDistinct ps → side_of id ps ≡ Some s → f s ≡ s → map (changed_at id f) ps ≡ ps
+one_stays id f s ps distinct there stays =
+    places_stay id f ps
+    (of_each (λ n t. n ≡ id → f t ≡ t) ps distinct
+    (λ n t at here. subst (λ (u : Side). f u ≡ u) (same_there s t (sym there ∙ ap (λ (k : ℕ). side_of k ps) (sym here) ∙ at)) stays))
+
+over_handles : (s : Side) → takes_messages s.history.phase ≡ false → handles s ≡ false
+over_handles s over = ap (λ (b : Bool). b && has_room s) over
+
+after_stays : (store : StoreValue) (now : ℕ) (s : Side) (m : Message) → takes_messages s.history.phase ≡ false → side_after store now s m ≡ s
+unfolding side_after
+after_stays store now s m over = ap (λ (b : Bool). cond b (side_handled store now s m) s) (over_handles s over)
+
+change_stays : (store : StoreValue) (now : ℕ) (s : Side) (m : Message) → takes_messages s.history.phase ≡ false → change_after store now s m ≡ Nothing
+unfolding change_after
+change_stays store now s m over = ap (λ (b : Bool). cond (b && asks_answer s m) (prompt_answer store now m).change Nothing) (over_handles s over)
+
+faulted_stays : (s : Side) (fault : StreamFault) → takes_messages s.history.phase ≡ false → side_faulted s fault ≡ s
+unfolding side_faulted
+faulted_stays s fault over = ap (λ (b : Bool). cond b (with_history s (after s.history (call.Reject (reject_of fault)))) s) (over_handles s over)
+
+module _ (c : ConfigValues) (w : World) (id : ℕ) (s : Side) (distinct : AreDistinct w.sides) (hear : AllHear w) (there : side_of id w.sides ≡ Some s) (over : takes_messages s.history.phase ≡ false) where
+  handled_idle : (m : Message) → acted c.limits w (world.Handled id m) ≡ w
+  unfolding acted
+  handled_idle m =
+      ap (λ (ps : List Place). record w { sides = ps; store = stored_after w m (side_of id w.sides) })
+      (one_stays id (λ t. side_after w.store w.now t m) s w.sides distinct there (after_stays w.store w.now s m over))
+      ∙ ap (λ (o : Option Side). record w { store = stored_after w m o }) there
+      ∙ ap (λ (change : Change). record w { store = changed w.store change }) (change_stays w.store w.now s m over)
+
+  faulted_idle : (fault : StreamFault) → acted c.limits w (world.Faulted id fault) ≡ w
+  unfolding acted
+  faulted_idle fault = ap (λ (ps : List Place). record w { sides = ps }) (one_stays id (λ t. side_faulted t fault) s w.sides distinct there (faulted_stays s fault over))
+
+  -- A message on a connection that takes none leaves the world.
+  pub stopped_step : (m : Message) → step c.limits w (world.Handled id m) ≡ w
+  stopped_step m = idle_step c.limits w (world.Handled id m) hear (handled_idle m)
+
+  -- And so does a fault.
+  pub stopped_fault : (fault : StreamFault) → step c.limits w (world.Faulted id fault) ≡ w
+  stopped_fault fault = idle_step c.limits w (world.Faulted id fault) hear (faulted_idle fault)
+
+-- ---- histories
+
+-- more was queued, or nothing
+abbrev pub QueuesMore : History → History → Type 0
+QueuesMore h k = (more : List Message) × (k.queued ≡ h.queued ++ more)
+
+queues_self : (h : History) → QueuesMore h h
+queues_self h = ([], sym (append-nil h.queued))
+
+pub queues_more_then : (h k g : History) → QueuesMore h k → QueuesMore k g → QueuesMore h g
+queues_more_then h k g one two = (one.0 ++ two.0, two.1 ∙ ap (λ (ms : List Message). ms ++ two.0) one.1 ∙ append_assoc h.queued one.0 two.0)
+
+all_queue : KeepsAll QueuesMore
+all_queue = record {
+  composes = record { same = queues_self; then = queues_more_then };
+  hears = λ h m takes room. ((react (standing_now h) m).effect.queued, refl);
+  replies = λ h token observe r does room. (let m = response_with_observe token observe r in ((send (standing_now h) m (bare_response m)).queued, refl));
+  holds = λ h token moment opened may. queues_self h;
+  lets_go = λ h now. queues_self h;
+  pongs = λ h now token due room. ((send (standing_now (without_first h now)) (pong_with true token) (pong_with false token)).queued, refl);
+  rejects = λ h fault takes room. ((abort (standing_now h) (reject_reason fault)).queued, refl);
+  ends = λ h cut takes. ([], refl);
+  releases = λ h opened none. (release ∷ [], refl);
+  announces = λ h size opened room fit. (own_csm size ∷ [], refl);
+  writes = λ h n within. queues_self h;
+}
+
+abbrev pub SideQueues : Side → Side → Type 0
+SideQueues = Between QueuesMore
+
+settled_queues : (store : StoreValue) (now : ℕ) (s : Side) → SideQueues s (settled store now s)
+settled_queues = settled_between QueuesMore all_queue.composes all_queue.replies all_queue.lets_go all_queue.pongs
+
+-- ---- worlds
+
+-- a connection that was so is there, and more was queued on it
+pub record HasGrown (id : ℕ) (s : Side) (w : World) : Type 0 where
+  pub side : Side
+  pub there : side_of id w.sides ≡ Some side
+  pub more : SideQueues s side
+
+pub grown_self : (id : ℕ) (s : Side) (w : World) → side_of id w.sides ≡ Some s → HasGrown id s w
+grown_self id s w there = record { side = s; there = there; more = queues_self s.history }
+
+pub grown_then : (id : ℕ) (s : Side) (w v : World) (one : HasGrown id s w) → HasGrown id one.side v → HasGrown id s v
+grown_then id s w v one two = record { side = two.side; there = two.there; more = queues_more_then s.history one.side.history two.side.history one.more two.more }
+
+-- a connection that changes, and then settles
+settles_grown : (id : ℕ) (s t : Side) (w : World) (store : StoreValue) (now : ℕ) → SideQueues s t → side_of id w.sides ≡ Some (settled store now t) → HasGrown id s w
+settles_grown id s t w store now more there =
+    record { side = settled store now t; there = there; more = queues_more_then s.history t.history (settled store now t).history more (settled_queues store now t) }
+
+pub handled_grows : (limits : LimitValues) (w : World) (id : ℕ) (m : Message) (s : Side) → side_of id w.sides ≡ Some s → HasGrown id s (step limits w (world.Handled id m))
+handled_grows limits w id m s there =
+    let then = handled_there limits w id m s there in settles_grown id s (side_after w.store w.now s m) _ then.0 w.now (after_all QueuesMore all_queue w.store w.now s m) then.1
+
+pub faulted_grows : (limits : LimitValues) (w : World) (id : ℕ) (fault : StreamFault) (s : Side) → side_of id w.sides ≡ Some s → HasGrown id s (step limits w (world.Faulted id fault))
+faulted_grows limits w id fault s there =
+    settles_grown id s (side_faulted s fault) _ w.store w.now (faulted_all QueuesMore all_queue s fault) (faulted_there limits w id fault s there)
+
+written_grows : (limits : LimitValues) (w : World) (id n : ℕ) (s : Side) → side_of id w.sides ≡ Some s → HasGrown id s (step limits w (world.Written id n))
+written_grows limits w id n s there =
+    settles_grown id s (side_written s n) _ w.store w.now (written_between QueuesMore queues_self all_queue.writes s n) (written_there limits w id n s there)
+
+-- ---- flushes
+
+times_grow : (limits : LimitValues) (id turns : ℕ) (w : World) (s : Side) → side_of id w.sides ≡ Some s → HasGrown id s (written_times limits id turns w)
+unfolding written_times
+times_grow limits id zero w s there = grown_self id s w there
+times_grow limits id (suc turns) w s there =
+    let v : World = written_times limits id turns w in
+    let one : HasGrown id s v = times_grow limits id turns w s there in
+    grown_then id s v _ one (written_grows limits v id _ one.side one.there)
+
+-- so does a flush
+pub flushed_grows : (limits : LimitValues) (id : ℕ) (w : World) (s : Side) → side_of id w.sides ≡ Some s → HasGrown id s (flushed limits id w)
+unfolding flushed
+flushed_grows limits id w s there = times_grow limits id _ w s there
 
 -- ---- the steps of one connection
 

@@ -4,7 +4,6 @@ use Rattle.std.specs.Map.{values_of}
 use Rattle.std.proofs.lemmas.Bool.{or_parts, eqb-true, ne_eqb, ltb-false}
 use Rattle.std.proofs.lemmas.List.{nil_from_length}
 use Rattle.coap_conn.specs.Phases.{stop_of, is_over}
-use Rattle.coap_conn.specs.declared.phase.Phase.{Phase}
 use Rattle.coap_conn.specs.declared.reason.Reason.{Reason}
 use Rattle.coap_serve.specs.declared.door.peer.Course.TheVariants.{Open, Over}
 use Rattle.coap_serve.specs.declared.door.peer.Course.{Course}
@@ -19,7 +18,7 @@ use Rattle.coap_serve.proofs.values.ServerLemmas.{changed_one, all_settled_stay,
 use Rattle.coap_serve.specs.values.Dues.{session_outlook, outlook_of}
 use Rattle.coap_serve.specs.values.Flushes.{waiting_in}
 use Rattle.coap_serve.proofs.streams.AgendaLemmas.{cannot_take}
-use Rattle.coap_serve.proofs.world.ShownLemmas.{taking_stopped}
+use Rattle.coap_serve.proofs.world.ShowLaws.{taking_stopped}
 
 -- ---- it takes nothing
 
@@ -36,16 +35,12 @@ untouched v id i s piece lies here settled closed =
     ∙ ap (λ (es : Entries). record v { sessions = map (settled_entry v.host) es }) (sym (changed_one id (λ _. s) v.sessions i lies.distinct lies.index lies.within) ∙ shown_the_same v.sessions i s (sym lies.found ∙ here))
     ∙ ap (λ (es : Entries). record v { sessions = es }) (all_settled_stay v.host v.sessions settled)
 
-closed_takes_none : (v : ServerValue) (id : ℕ) (s : SessionValue) (piece : List ℕ) → session_of id v.sessions ≡ Some s → session_takes s ≡ false → count_taken v id piece ≡ 0
-unfolding count_taken
-closed_takes_none v id s piece here closed = ap (count_on v piece) here ∙ ap (λ t. t.count) (taking_stopped v.host s piece closed)
-
 record IsUntouched (v : ServerValue) (f : Fed) : Type 0 where
   server : f.server ≡ v
   count : f.count ≡ 0
 
 untouched_where_stopped : (v : ServerValue) (id i : ℕ) (s : SessionValue) (bytes : List ℕ) (turns : ℕ) → LiesAt id i v.sessions → session_of id v.sessions ≡ Some s → AreSettled v.host v.sessions → session_takes s ≡ false → IsUntouched v (fed_turns turns v id bytes)
-unfolding fed_turns
+unfolding fed_turns count_taken
 untouched_where_stopped v id i s bytes zero lies here settled closed = record { server = refl; count = refl }
 untouched_where_stopped v id i s bytes (suc turns) lies here settled closed =
     let f : Fed = fed_turns turns v id bytes in
@@ -55,7 +50,7 @@ untouched_where_stopped v id i s bytes (suc turns) lies here settled closed =
         server = ap (λ w. server_taken w id (drop f.count bytes)) so_far.server ∙ untouched v id i s (drop f.count bytes) lies here settled closed;
         count =
             let moved = ap (λ w. count_taken w id (drop f.count bytes)) so_far.server in
-            let none = closed_takes_none v id s (drop f.count bytes) here closed in
+            let none = ap (count_on v (drop f.count bytes)) here ∙ ap (λ t. t.count) (taking_stopped v.host s (drop f.count bytes) closed) in
             omega (arith, so_far.count, moved, none);
       }
       | false ↦ so_far
@@ -72,9 +67,6 @@ still_fed v id i s (b ∷ rest) lies here settled idle =
     let closed : session_takes s ≡ false = (or_parts (session_takes s) (is_over s.link.phase) (not_taken_now b rest (session_takes s || is_over s.link.phase) (rw here at idle))).0 in
     untouched_where_stopped v id i s (b ∷ rest) (length (b ∷ rest)) lies here settled closed
 
-none_given_up : (phase : Phase) (bytes : List ℕ) → is_over phase ≡ false → left_behind (stop_of phase) bytes ≡ bytes
-none_given_up phase bytes on = elim (stop_of phase) as (λ (why : Option Reason). is_some why ≡ false → left_behind why bytes ≡ bytes) [ None ↦ λ e. refl | Some why ↦ λ e. absurd cc ] on
-
 nothing_left_behind : (why : Option Reason) → left_behind why [] ≡ []
 nothing_left_behind None = refl
 nothing_left_behind (Some why) = refl
@@ -83,7 +75,7 @@ left_as_it_is : (v : ServerValue) (id : ℕ) (s : SessionValue) (rest : List ℕ
 left_as_it_is v id s [] here idle = nothing_left_behind (stop_on (session_of id v.sessions))
 left_as_it_is v id s (b ∷ rest) here idle =
     let on : is_over s.link.phase ≡ false = (or_parts (session_takes s) (is_over s.link.phase) (not_taken_now b rest (session_takes s || is_over s.link.phase) (rw here at idle))).1 in
-    ap (λ o. left_behind (stop_on o) (b ∷ rest)) here ∙ none_given_up s.link.phase (b ∷ rest) on
+    ap (λ o. left_behind (stop_on o) (b ∷ rest)) here ∙ (elim (stop_of s.link.phase) as (λ (why : Option Reason). is_some why ≡ false → left_behind why (b ∷ rest) ≡ (b ∷ rest)) [ None ↦ λ e. refl | Some why ↦ λ e. absurd cc ] on)
 
 rest_stays : (v : ServerValue) (id : ℕ) (s : SessionValue) (rest : List ℕ) → session_of id v.sessions ≡ Some s → (wants_of v id rest).take ≡ false → IsUntouched v (fed v id rest) → rest_left v id rest ≡ rest
 rest_stays v id s rest here idle same =
@@ -102,16 +94,13 @@ middle true true c e = refl
 middle true false c e = absurd cc
 middle false b c e = absurd cc
 
-laid_again : (may_read : Bool) (v : ServerValue) (id : ℕ) (rest : List ℕ) → IsLaidOut (is_heard may_read v id rest) rest Later rest
-laid_again may_read v id rest = laid_by (is_heard may_read v id rest) rest (λ e. eqb-true (length rest) 0 (middle may_read (length rest == 0) (can_take_on (session_of id v.sessions)) e))
-
 passed_on_untouched : (v : ServerValue) (id i : ℕ) (s : SessionValue) (rest : List ℕ) (may_read may_write : Bool) → LiesAt id i v.sessions → session_of id v.sessions ≡ Some s → AreSettled v.host v.sessions → (wants_of v id rest).take ≡ false → is_over_in (outlook_of v id) ≡ false → IsServedOnce may_read may_write v id rest v rest Open
 passed_on_untouched v id i s rest may_read may_write lies here settled idle on =
     let same = still_fed v id i s rest lies here settled idle in
     record {
       heard = Later;
       bytes = rest;
-      laid = laid_again may_read v id rest;
+      laid = laid_by (is_heard may_read v id rest) rest (λ e. eqb-true (length rest) 0 (middle may_read (length rest == 0) (can_take_on (session_of id v.sessions)) e));
       carried = record {
         wrote = Later;
         within = tt;

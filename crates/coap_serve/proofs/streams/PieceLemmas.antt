@@ -1,6 +1,6 @@
 -- A piece of a run, one take and one flush after the other.
-use Rattle.std.proofs.Common.{◌≡◌, ℕ, ◌+◌, ◌<◌, List, [], ◌∷◌, ◌++◌, length, take, drop, Option, Some, None, is_some, true, false, refl, sym, ap, subst, ◌∙◌, append_assoc, arith, ◌==◌}
-use Rattle.std.proofs.lemmas.Bool.{ne_eqb, eqb-true}
+use Rattle.std.proofs.Common.{◌≡◌, ℕ, ◌+◌, ◌<◌, List, [], ◌∷◌, ◌++◌, length, take, drop, Option, Some, None, true, false, refl, sym, ap, subst, ◌∙◌, append_assoc, arith, ◌==◌}
+use Rattle.std.proofs.lemmas.Bool.{eqb-true}
 use Rattle.std.proofs.lemmas.List.{append-nil, take-append-drop, nil_from_length}
 use Rattle.coap_conn.specs.declared.reason.Reason.{Reason}
 use Rattle.coap_serve.specs.Configs.{ConfigValues}
@@ -14,7 +14,7 @@ use Rattle.coap_serve.specs.streams.Standing.{IsGoing, Says, IsWhole, IsCut, IsR
 use Rattle.coap_serve.specs.streams.StdioRun.{IsLastByte}
 use Rattle.coap_serve.proofs.streams.DeviceLemmas.{bytes_none, bytes_then}
 use Rattle.coap_serve.proofs.streams.OutputLaws.{output_grows, stopped_output, stopped_outcome}
-use Rattle.coap_serve.proofs.streams.TakeLemmas.{FrontServed, front_of_nothing, is_not_missing, front_refused}
+use Rattle.coap_serve.proofs.streams.TakeLemmas.{front_of_nothing, FrontServed, is_not_missing, front_refused}
 
 -- Of a piece behind some bytes a front was taken and this rest is left; x and y are what the outlet told before the piece and
 -- tells now.
@@ -27,16 +27,13 @@ pub record Serves (c : ConfigValues) (id : ℕ) (bytes piece : List ℕ) (v : Se
   pub written : AddsBytes x y text
   pub counted : (outcome c (bytes ++ taken)).messages ≡ (outcome c bytes).messages + messages
 
-says_none : (c : ConfigValues) (bytes : List ℕ) → Says c bytes [] []
-says_none c bytes = ap (stdio_output c) (append-nil bytes) ∙ sym (append-nil (stdio_output c bytes))
-
 pub serves_none : (c : ConfigValues) (v : ServerValue) (id : ℕ) (bytes piece : List ℕ) (x : Option (List ℕ)) → IsGoing c v id bytes → Serves c id bytes piece v piece x x 0
 serves_none c v id bytes piece x goes = record {
   taken = [];
   all = refl;
   goes = subst (IsGoing c v id) (sym (append-nil bytes)) goes;
   text = [];
-  says = says_none c bytes;
+  says = ap (stdio_output c) (append-nil bytes) ∙ sym (append-nil (stdio_output c bytes));
   written = bytes_none x;
   counted = omega (arith, ap (λ (b : List ℕ). (outcome c b).messages) (append-nil bytes));
 }

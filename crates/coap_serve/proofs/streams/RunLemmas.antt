@@ -1,23 +1,80 @@
 -- A run, one turn after the other.
-use Rattle.std.proofs.Common.{◌≡◌, ◌≢◌, ◌⊎◌, ℕ, ◌+◌, ◌<◌, ◌≤◌, List, [], ◌∷◌, ◌++◌, length, Option, Some, None, Result, Ok, Err, refl, sym, ap, subst, ◌∙◌, append_assoc, arith, inl, inr}
-use Rattle.std.specs.List.{concat, AllByRecursion}
-use Rattle.std.proofs.lemmas.List.{append-nil, length-append}
-use Rattle.coap_conn.specs.declared.reason.Reason.{Reason}
-use Rattle.coap_conn.specs.Calls.{end_reason}
+use Rattle.std.proofs.Common.{◌≡◌, ◌≢◌, ℕ, ◌≤◌, List, [], ◌∷◌, ◌++◌, length, take, Ok, Err, refl, sym, ap, subst, ◌∙◌, arith, inr, ◌⊎◌, ◌+◌, ◌<◌, Option, Some, None, Result, append_assoc, inl, suc, Bool, true, false, cond}
+use Rattle.std.proofs.lemmas.List.{length-take-le, append-nil, length-append}
 use Rattle.coap_serve.specs.Configs.{ConfigValues}
-use Rattle.coap_serve.specs.declared.serve.Report.{Report}
 use Rattle.coap_serve.specs.declared.serve.IoFault.{IoFault}
 use Rattle.coap_serve.specs.declared.serve.IoFault.TheVariants.{Read, Write, Memory, Turns}
 use Rattle.coap_serve.specs.declared.serve.Turn.{Turn}
-use Rattle.coap_serve.specs.values.Servers.{ServerValue}
-use Rattle.coap_serve.specs.world.Sides.{is_cut}
-use Rattle.coap_serve.specs.streams.Device.{Told, HasGiven, AddsBytes}
-use Rattle.coap_serve.specs.streams.Output.{stream_of, outcome, stdio_output}
+use Rattle.coap_serve.specs.values.Servers.{ServerValue, session_of, new_server, server_opened, is_there}
+use Rattle.coap_serve.specs.values.ServerAnswers.{stop_on}
+use Rattle.coap_serve.specs.streams.Device.{Told, HasGiven, pieces_read, AddsBytes, WritesPart}
+use Rattle.coap_serve.specs.streams.Output.{only_id, outcome, stream_of, stdio_output, flushed, world_for}
+use Rattle.coap_serve.specs.streams.Standing.{Stands, IsGoing, IsServed, IsWhole, HasRead, IsTurn, IsCut, IsRefused, IsEnd, IsPiece}
+use Rattle.coap_serve.specs.world.World.{World, side_of, new_world, step}
+use Rattle.coap_serve.proofs.world.ShowLaws.{side_there}
+use Rattle.coap_serve.proofs.streams.OutputLaws.{world_for_written, stop_there, none_handled, opened_there, world_for_none, none_stops, no_bytes_spell}
+use Rattle.std.specs.List.{concat, AllByRecursion}
+use Rattle.coap_conn.specs.declared.reason.Reason.{Reason}
+use Rattle.coap_conn.specs.Calls.{end_reason}
+use Rattle.coap_serve.specs.declared.serve.Report.{Report}
+use Rattle.coap_serve.specs.world.Sides.{is_cut, new_side, Side, side_ended, settled}
 use Rattle.coap_serve.specs.streams.StdioRun.{AreNotEmpty, GoesOn, EndsRun, IsStdioRun}
-use Rattle.coap_serve.specs.streams.Standing.{IsGoing, IsCut, IsRefused, HasRead, IsEnd, IsPiece, IsTurn}
 use Rattle.coap_serve.proofs.world.EntryLemmas.{all_append}
 use Rattle.coap_serve.proofs.streams.DeviceLemmas.{bytes_none, bytes_then, given_none, given_then}
-use Rattle.coap_serve.proofs.streams.OutputLaws.{none_handled}
+use Rattle.coap_conn.specs.Limits.{AreInRange}
+use Rattle.coap_serve.specs.values.Flushes.{waiting_at, more_at, flush_turns, IsFlushed, IsPartFlushed}
+use Rattle.coap_serve.specs.world.Events.{Event, Opened, steps_by, world_after, spelled_on, Ended, stream_on}
+use Rattle.coap_serve.specs.world.Shows.{Shows}
+use Rattle.coap_wire.specs.Stream.{Stream}
+use Rattle.coap_serve.proofs.world.StepLaws.{world_first, world_step, spelled_same, first_spelled}
+use Rattle.coap_serve.proofs.streams.FlushShown.{FlushShown}
+use Rattle.coap_serve.proofs.streams.TakeLemmas.{all_said, stands_behind, front_of_nothing, text_grows, takes_where_going, is_not_missing}
+use Rattle.coap_conn.specs.Phases.{stop_of, takes_messages}
+use Rattle.coap_conn.specs.History.{History, with_effect, standing_now}
+use Rattle.coap_conn.specs.Reaction.{stop}
+use Rattle.coap_serve.specs.values.Sessions.{SessionValue}
+use Rattle.coap_serve.proofs.world.AcrossLaws.{ended_there}
+use Rattle.coap_serve.proofs.world.HandledLaws.{HasStopped, settled_still}
+use Rattle.coap_serve.specs.world.World as world
+use Rattle.coap_serve.proofs.streams.FlushShown as shown
+
+-- a read into a buffer that has room gave one piece
+read_one : (buffer : List ℕ) (n : ℕ) → length buffer ≡ 4096 → pieces_read buffer n ≡ take n buffer ∷ []
+read_one buffer n room = rw room refl
+
+pub has_read : (a b : Told) (buffer : List ℕ) (n : ℕ) → length buffer ≡ 4096 → n ≤ length buffer → n ≢ 0 → HasGiven a b (pieces_read buffer n) → HasRead (HasGiven a b) (take n buffer)
+has_read a b buffer n room within some gave = record {
+  given = subst (HasGiven a b) (read_one buffer n room) gave;
+  some = λ none. some (sym (length-take-le n buffer within) ∙ ap (λ (bytes : List ℕ). length bytes) none);
+  few = omega (arith, length-take-le n buffer within, within, room);
+}
+
+pub turn_fault : (c : ConfigValues) (bytes piece : List ℕ) (after : ServerValue) (gave : List (List ℕ) → Type 0) (wrote : List ℕ → Type 0) (e : IoFault) → HasRead gave piece → IsServed c bytes piece after wrote (Err e) → IsTurn c bytes after gave wrote (Err e)
+turn_fault c bytes piece after gave wrote Read has did = absurd did
+turn_fault c bytes piece after gave wrote Write has did = (piece, has, did)
+turn_fault c bytes piece after gave wrote Memory has did = (piece, has, did)
+turn_fault c bytes piece after gave wrote Turns has did = absurd did
+
+-- what a server tells of its connection is why the bytes stop it
+stop_told : (v : ServerValue) (bytes : List ℕ) → Stands v.config v bytes → stop_on (session_of (only_id v.config) v.sessions) ≡ (outcome v.config bytes).stop
+stop_told v bytes stands =
+    let all = world_for_written v.config bytes in
+    ap stop_on (side_there v stands.events (only_id v.config) all.0 stands.shows (ap (λ (w : World). side_of (only_id v.config) w.sides) stands.world ∙ all.1))
+    ∙ sym (stop_there v.config bytes all.0 all.1)
+
+stop_told_on : (c : ConfigValues) (v : ServerValue) (bytes : List ℕ) → Stands c v bytes → stop_on (session_of (only_id c) v.sessions) ≡ (outcome c bytes).stop
+stop_told_on c v bytes stands = subst (λ (k : ConfigValues). Stands k v bytes → stop_on (session_of (only_id k) v.sessions) ≡ (outcome k bytes).stop) stands.config (stop_told v bytes) stands
+
+pub turn_piece : (c : ConfigValues) (v : ServerValue) (id : ℕ) (bytes piece : List ℕ) (after : ServerValue) (gave : List (List ℕ) → Type 0) (wrote : List ℕ → Type 0) (t : Turn) → IsGoing c v id bytes → HasRead gave piece → IsWhole c bytes piece after wrote t.messages → t.read ≡ length piece → t.stop ≡ stop_on (session_of id after.sessions)
+    → IsTurn c bytes after gave wrote (Ok t)
+turn_piece c v id bytes piece after gave wrote t goes has did read_is stop_is =
+    inr (record {
+      piece = piece;
+      has = has;
+      served = did;
+      read = read_is;
+      reason = stop_is ∙ ap (λ (n : ℕ). stop_on (session_of n after.sessions)) goes.number ∙ stop_told_on c after (bytes ++ piece) did.stands;
+    })
 
 -- ---- pieces
 
@@ -242,3 +299,181 @@ module _ (c : ConfigValues) (id turns read messages : ℕ) (v after : ServerValu
   faulted Write lt t = failed_write t.0 lt t.1 t.2
   faulted Memory lt t = piece_refused_memory t.0 lt t.1 t.2
   faulted Turns lt t = absurd t
+
+-- ---- The beginning of a run: a connection is opened, and its own Capabilities and Settings are written.
+
+opened_one : (M id : ℕ) → steps_by M [] (Opened id) ≡ world.Opened id ∷ []
+unfolding steps_by
+opened_one M id = refl
+
+nothing_yet : (c : ConfigValues) → spelled_on c.limits.max_message (only_id c) (Opened (only_id c) ∷ []) ≡ (stream_of c [], c.limits.max_message)
+nothing_yet c =
+    let M : ℕ = c.limits.max_message in
+    spelled_same M (only_id c) [] (Opened (only_id c)) refl (λ N. refl) ∙ first_spelled M (only_id c) ∙ ap (λ (s : Stream). (s, M)) (sym (no_bytes_spell c))
+
+module _ (c : ConfigValues) (v : ServerValue) (ranges : AreInRange c.limits) (config : v.config ≡ c) (shows : Shows v (Opened (only_id c) ∷ [])) where
+  abbrev opened_id : ℕ
+  opened_id = only_id c
+
+  abbrev events_of_opening : List Event
+  events_of_opening = Opened opened_id ∷ []
+
+  world_opened : world_after c events_of_opening ≡ step c.limits (new_world c) (world.Opened opened_id)
+  world_opened = world_step c [] (Opened opened_id) (world.Opened opened_id) (opened_one c.limits.max_message opened_id) ∙ ap (λ (w : World). step c.limits w (world.Opened opened_id)) (world_first c)
+
+  opened_is_there : side_of opened_id (world_after c events_of_opening).sides ≡ Some (new_side c.limits)
+  opened_is_there = ap (λ (w : World). side_of opened_id w.sides) world_opened ∙ opened_there c
+
+  abbrev first_flush : (turns : ℕ) → FlushShown c events_of_opening opened_id (new_side c.limits) turns (flush_turns turns opened_id v).server (flush_turns turns opened_id v).text
+  first_flush turns = shown.flushing c v events_of_opening opened_id (new_side c.limits) config shows opened_is_there turns
+
+  first_flush_ends : (turns : ℕ) → turns ≤ suc (more_at opened_id v) → (waiting_at opened_id (flush_turns turns opened_id v).server ≡ []) ⊎ (turns ≡ suc (more_at opened_id v)) → world_after c (first_flush turns).events ≡ world_for c []
+  first_flush_ends turns within done =
+      shown.flush_ends c v events_of_opening opened_id (new_side c.limits) config shows opened_is_there turns within done ∙ ap (flushed c.limits opened_id) world_opened ∙ sym (world_for_none c)
+
+  module _ (turns : ℕ) (ends : world_after c (first_flush turns).events ≡ world_for c []) where
+    abbrev flush_of_opened : FlushShown c events_of_opening opened_id (new_side c.limits) turns (flush_turns turns opened_id v).server (flush_turns turns opened_id v).text
+    flush_of_opened = first_flush turns
+
+    first_text_is : stdio_output c [] ≡ (flush_turns turns opened_id v).text
+    first_text_is = all_said c events_of_opening (new_side c.limits) turns _ _ [] flush_of_opened ends
+
+    first_flush_stands : Stands c (flush_turns turns opened_id v).server []
+    first_flush_stands = stands_behind c events_of_opening (new_side c.limits) turns _ _ [] flush_of_opened ends (nothing_yet c)
+
+  -- what a run begins from
+  pub goes_first : (after : ServerValue) (wrote : List ℕ → Type 0) → IsFlushed opened_id v after wrote → IsGoing c after opened_id []
+  goes_first after wrote did =
+      let ends = first_flush_ends did.turns did.within (subst (λ (u : ServerValue). (waiting_at opened_id u ≡ []) ⊎ (did.turns ≡ suc (more_at opened_id v))) did.server did.done) in
+      record { number = refl; ranges = ranges; stands = subst (λ (u : ServerValue). Stands c u []) (sym did.server) (first_flush_stands did.turns ends); going = none_stops c }
+
+  pub text_first : (after : ServerValue) (wrote : List ℕ → Type 0) → IsFlushed opened_id v after wrote → wrote (stdio_output c [])
+  text_first after wrote did =
+      let ends = first_flush_ends did.turns did.within (subst (λ (u : ServerValue). (waiting_at opened_id u ≡ []) ⊎ (did.turns ≡ suc (more_at opened_id v))) did.server did.done) in
+      subst wrote (sym (first_text_is did.turns ends)) did.written
+
+  -- what waits on a new connection was not written whole
+  pub not_greeted : (a : Told) (x z : Option (List ℕ)) → IsPartFlushed opened_id v (WritesPart x z) → (pieces : List (List ℕ)) × (output : List ℕ) × HasGiven a a pieces × AllByRecursion (λ p. length p ≤ 4096) pieces × AddsBytes x z output × IsStdioRun c pieces output (Err Write)
+  not_greeted a x z did =
+      let all : ℕ = suc (more_at opened_id v) in
+      let ends = first_flush_ends all (omega arith) (inr refl) in
+      let more = text_grows opened_id v did.turns all did.within in (
+        [],
+        did.part.0,
+        given_none a,
+        tt,
+        did.part.4,
+        (
+          omega arith,
+          inl refl,
+          record {
+            missing = did.part.1 ++ more.0;
+            some = λ none. did.part.2 (front_of_nothing did.part.1 more.0 none);
+            written = sym (first_text_is all ends ∙ more.1 ∙ ap (λ (b : List ℕ). b ++ more.0) did.part.3 ∙ append_assoc did.part.0 did.part.1 more.0);
+          },
+        ),
+      )
+
+-- a run behind our Capabilities and Settings
+pub greeted : (c : ConfigValues) (a d : Told) (x y z : Option (List ℕ)) (result : Result Report IoFault) → AddsBytes x y (stdio_output c []) → Ran c a d y z result → (pieces : List (List ℕ)) × (output : List ℕ) × HasGiven a d pieces × AllByRecursion (λ p. length p ≤ 4096) pieces × AddsBytes x z output × IsStdioRun c pieces output result
+greeted c a d x y z result wrote ran = (ran.0, stdio_output c [] ++ ran.1, ran.2, ran.3, bytes_then x y z (stdio_output c []) ran.1 wrote ran.4, ran.5)
+
+-- what a run that did not begin did
+pub not_begun : (c : ConfigValues) (a : Told) (x : Option (List ℕ)) → (pieces : List (List ℕ)) × (output : List ℕ) × HasGiven a a pieces × AllByRecursion (λ p. length p ≤ 4096) pieces × AddsBytes x x output × IsStdioRun c pieces output (Err Memory)
+not_begun c a x = ([], [], given_none a, tt, bytes_none x, inl (refl, refl))
+
+-- ---- a server with its first connection
+
+pub record Opens (c : ConfigValues) (v : ServerValue) (id : ℕ) : Type 0 where
+  pub number : id ≡ only_id c
+  pub ranges : AreInRange c.limits
+  pub config : v.config ≡ c
+  pub shows : Shows v (Opened (only_id c) ∷ [])
+
+-- what the contracts of `new` and `open` say
+pub opens_so : (c : ConfigValues) (new v : ServerValue) (id : ℕ) → new ≡ new_server c → id ≡ new.ids + 1 → v ≡ server_opened new → AreInRange new.config.limits → Shows new [] → ((events : List Event) → Shows new events → Shows v (events ++ Opened id ∷ [])) → Opens c v id
+opens_so c new v id new_is id_is v_is ranges begins shows =
+    let number : id ≡ only_id c = id_is ∙ ap (λ (u : ServerValue). u.ids + 1) new_is in
+    record {
+      number = number;
+      ranges = subst (λ (u : ServerValue). AreInRange u.config.limits) new_is ranges;
+      config = ap (λ (u : ServerValue). u.config) v_is ∙ ap (λ (u : ServerValue). u.config) new_is;
+      shows = subst (λ (n : ℕ). Shows v (Opened n ∷ [])) number (shows [] begins);
+    }
+
+module _ (c : ConfigValues) (v : ServerValue) (id : ℕ) (opens : Opens c v id) where
+  pub goes_at_first : (after : ServerValue) (wrote : List ℕ → Type 0) → IsFlushed id v after wrote → IsGoing c after id []
+  goes_at_first after wrote did =
+      subst (λ (n : ℕ). IsGoing c after n []) (sym opens.number) (goes_first c v opens.ranges opens.config opens.shows after wrote (subst (λ (n : ℕ). IsFlushed n v after wrote) opens.number did))
+
+  pub text_at_first : (after : ServerValue) (wrote : List ℕ → Type 0) → IsFlushed id v after wrote → wrote (stdio_output c [])
+  text_at_first after wrote did = text_first c v opens.ranges opens.config opens.shows after wrote (subst (λ (n : ℕ). IsFlushed n v after wrote) opens.number did)
+
+  pub cut_at_first : (a : Told) (x z : Option (List ℕ)) → IsPartFlushed id v (WritesPart x z) → (pieces : List (List ℕ)) × (output : List ℕ) × HasGiven a a pieces × AllByRecursion (λ p. length p ≤ 4096) pieces × AddsBytes x z output × IsStdioRun c pieces output (Err Write)
+  cut_at_first a x z did = not_greeted c v opens.ranges opens.config opens.shows a x z (subst (λ (n : ℕ). IsPartFlushed n v (WritesPart x z)) opens.number did)
+
+-- ---- the end of input
+
+history_ended_by : (h : History) (cut takes : Bool) → takes ≡ true → HasStopped (cond takes (with_effect h (stop (standing_now h) (end_reason cut) [])) h) (end_reason cut)
+history_ended_by h cut true is = (refl, refl)
+history_ended_by h cut false is = absurd cc
+
+-- a connection that takes messages stops at the end of input, and gives up what it holds
+ended_side : (s : Side) (cut : Bool) → takes_messages s.history.phase ≡ true → HasStopped (side_ended s cut).history (end_reason cut)
+unfolding side_ended
+ended_side s cut takes = history_ended_by s.history cut (takes_messages s.history.phase) takes
+
+ended_one : (M : ℕ) (es : List Event) (id : ℕ) → steps_by M es (Ended id) ≡ world.Ended id (is_cut (stream_on M id es).rest) ∷ []
+unfolding steps_by
+ended_one M es id = refl
+
+module _ (c : ConfigValues) (v v1 : ServerValue) (bytes : List ℕ) (stands : Stands c v bytes) (going : (outcome c bytes).stop ≡ None) (config : v1.config ≡ c) (shows : (events : List Event) → Shows v events → Shows v1 (events ++ Ended (only_id c) ∷ [])) where
+  abbrev ended_id : ℕ
+  ended_id = only_id c
+
+  abbrev events_before_end : List Event
+  events_before_end = stands.events
+
+  abbrev world_before_end : World
+  world_before_end = world_after c events_before_end
+
+  side_there_still : (s : Side) × (side_of ended_id world_before_end.sides ≡ Some s) × (takes_messages s.history.phase ≡ true)
+  side_there_still =
+      let all = world_for_written c bytes in
+      let is : side_of ended_id world_before_end.sides ≡ Some all.0 = ap (λ (u : World). side_of ended_id u.sides) stands.world ∙ all.1 in
+      (all.0, is, takes_where_going (stop_of all.0.history.phase) (sym (stop_there c bytes all.0 all.1) ∙ going))
+
+  abbrev is_cut_off : Bool
+  is_cut_off = is_cut (stream_on c.limits.max_message ended_id events_before_end).rest
+
+  abbrev t : Side
+  t = settled world_before_end.store world_before_end.now (side_ended side_there_still.0 is_cut_off)
+
+  then : side_of ended_id (world_after c (events_before_end ++ Ended ended_id ∷ [])).sides ≡ Some t
+  then =
+      ap (λ (u : World). side_of ended_id u.sides) (world_step c events_before_end (Ended ended_id) (world.Ended ended_id is_cut_off) (ended_one c.limits.max_message events_before_end ended_id))
+      ∙ ended_there c.limits world_before_end ended_id is_cut_off side_there_still.0 side_there_still.1
+
+  stopped_by_end : stop_of t.history.phase ≡ Some (end_reason (is_cut (stream_of c bytes).rest))
+  stopped_by_end =
+      ap stop_of ((settled_still world_before_end.store world_before_end.now (side_ended side_there_still.0 is_cut_off)).stopped (end_reason is_cut_off) (ended_side side_there_still.0 is_cut_off side_there_still.2)).0
+      ∙ ap (λ (s : Stream × ℕ). Some (end_reason (is_cut s.0.rest))) (stands.spelled going)
+
+  pub ended_stop : stop_on (session_of ended_id v1.sessions) ≡ Some (end_reason (is_cut (stream_of c bytes).rest))
+  ended_stop =
+      ap stop_on (side_there v1 (events_before_end ++ Ended ended_id ∷ []) ended_id t (shows events_before_end stands.shows) (ap (λ (k : ConfigValues). side_of ended_id (world_after k (events_before_end ++ Ended ended_id ∷ [])).sides) config ∙ then))
+      ∙ stopped_by_end
+
+-- the same where the number has a name
+pub end_stops : (c : ConfigValues) (v v1 : ServerValue) (id : ℕ) (bytes : List ℕ) → IsGoing c v id bytes → v1.config ≡ v.config → ((events : List Event) → Shows v events → Shows v1 (events ++ Ended id ∷ [])) → stop_on (session_of id v1.sessions) ≡ Some (end_reason (is_cut (stream_of c bytes).rest))
+end_stops c v v1 _ bytes goes config shows =
+    subst (λ (n : ℕ). ((events : List Event) → Shows v events → Shows v1 (events ++ Ended n ∷ [])) → stop_on (session_of n v1.sessions) ≡ Some (end_reason (is_cut (stream_of c bytes).rest))) (sym goes.number)
+    (ended_stop c v v1 bytes goes.stands goes.going (config ∙ goes.stands.config)) shows
+
+-- the connection is there
+none_where_not_there : (o : Option SessionValue) → false ≡ is_there o → o ≡ None
+none_where_not_there None e = refl
+none_where_not_there (Some s) e = absurd cc
+
+pub not_there : (c : ConfigValues) (v : ServerValue) (id : ℕ) (bytes : List ℕ) → IsGoing c v id bytes → false ≡ is_there (session_of id v.sessions) → ⊥
+not_there c v id bytes goes none = is_not_missing c v id bytes [] goes (none_where_not_there (session_of id v.sessions) none)

@@ -12,8 +12,7 @@ use Rattle.coap_serve.specs.values.Dues.{stamp_of}
 use Rattle.coap_serve.specs.streams.Turns.{wants_of}
 use Rattle.coap_serve.specs.streams.Notes.{IsNoted, AreNoted}
 use Rattle.coap_serve.proofs.values.ServerLemmas.{Entries, all_settled_stay}
-use Rattle.coap_serve.proofs.streams.NoteLemmas.{Follows, change_follows, never_back, no_earlier_on}
-use Rattle.coap_serve.proofs.streams.NotedLemmas.{noted_where_ticked}
+use Rattle.coap_serve.proofs.streams.NoteLemmas.{Follows, change_follows, never_back, no_earlier_on, noted_where_ticked}
 
 -- the server on which a change was made, and every connection settled
 abbrev pub server_changed : ServerValue → Change → ServerValue

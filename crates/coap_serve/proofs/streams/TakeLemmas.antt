@@ -4,12 +4,12 @@ use Rattle.std.proofs.lemmas.Bool.{le-leb}
 use Rattle.std.proofs.lemmas.Bool.{cases_eq}
 use Rattle.coap_wire.specs.Message.{Message}
 use Rattle.std.proofs.lemmas.List.{append-nil}
-use Rattle.coap_wire.specs.Stream.{Stream, split, split_on}
+use Rattle.coap_wire.specs.Stream.{Stream, split_on}
 use Rattle.coap_conn.specs.declared.reason.Reason.{Reason}
 use Rattle.coap_conn.specs.Limits.{LimitValues, AreInRange}
 use Rattle.coap_conn.specs.Phases.{stop_of}
 use Rattle.coap_serve.specs.Configs.{ConfigValues}
-use Rattle.coap_serve.specs.values.Sessions.{SessionValue, RefusesPiece}
+use Rattle.coap_serve.specs.values.Sessions.{SessionValue}
 use Rattle.coap_serve.specs.values.Servers.{ServerValue, session_of, server_taken, server_taken_on}
 use Rattle.coap_serve.specs.values.ServerAnswers.{stop_on, RefusesPieceOn}
 use Rattle.coap_serve.specs.values.Flushes.{Flush, waiting_at, more_at, flush_turns, IsFlushed, IsPartFlushed}
@@ -23,33 +23,30 @@ use Rattle.coap_serve.specs.world.View.{change_made}
 use Rattle.coap_serve.proofs.world.RefusedLaws.{refuses_last}
 use Rattle.coap_serve.specs.world.Sides.{Side, waiting_on, has_room, handles}
 use Rattle.coap_serve.specs.world.World.{World, Step, side_of, step}
-use Rattle.coap_serve.specs.world.Events.{Event, Took, taken_on, stream_on, beyond, steps_by, world_after, front_of, takes, size_on, spelled_on, taken_in, size_by}
+use Rattle.coap_serve.specs.world.Events.{Event, Took, stream_on, beyond, steps_by, world_after, front_of, takes, size_on, spelled_on, taken_in, size_by}
 use Rattle.coap_serve.specs.world.Shows.{Shows, session_shown}
 use Rattle.coap_serve.specs.world.Handling.{handled_in, message_reason, count_of}
 use Rattle.coap_conn.specs.declared.reason.Reason.TheVariants as reason
 use Rattle.coap_serve.specs.declared.server.Handled.{Handled}
 use Rattle.coap_serve.specs.declared.server.Handled.TheVariants as handled
 use Rattle.coap_serve.proofs.values.FlushLemmas.{turn_more}
-use Rattle.coap_serve.proofs.world.StepLaws.{taken_then, taken_here, world_same, world_step, rest_unfinished, spelled_then, spelled_by}
+use Rattle.coap_serve.proofs.world.StepLaws.{taken_here, world_same, world_step, rest_unfinished, spelled_then, spelled_by}
 use Rattle.coap_frame.proofs.FrontLaws.{some_in_front}
 use Rattle.coap_serve.proofs.world.GoingOn.{side_is}
-use Rattle.coap_serve.proofs.world.ReachedLaws.{IsReached, accepted_is, takes_there, handling_goes_on}
+use Rattle.coap_serve.proofs.world.ReachedLaws.{accepted_is, takes_there, handling_goes_on, IsReached}
 use Rattle.coap_serve.proofs.world.ShowLaws.{side_there}
-use Rattle.coap_serve.proofs.world.HandlingLaws.{messages_counted, one_step_at_most}
+use Rattle.coap_serve.proofs.world.HandledLaws.{messages_counted, one_step_at_most}
 use Rattle.coap_serve.proofs.world.GrowLaws.{SideGrows, front_written, same_front, none_waits_all_written, took_grows}
 use Rattle.coap_serve.proofs.streams.FlushLaws.{quiet_flush}
 use Rattle.coap_serve.proofs.streams.OutputLaws.{one_step_more, no_step_more, world_for_written, world_for_hears, output_of, stop_there}
-use Rattle.coap_serve.proofs.streams.FlushShown.{FlushShown, session_is}
 use Rattle.coap_serve.proofs.streams.FlushShown as shown
 use Rattle.coap_serve.proofs.values.OptionLemmas.{same_there}
 use Rattle.coap_wire.proofs.StreamSteps.{split_goes_on}
+use Rattle.coap_serve.proofs.streams.FlushShown.{FlushShown, session_is}
 
 -- ---- some bytes are taken
 
 -- ---- more turns write more
-
-text_next : (id : ℕ) (v : ServerValue) (turns : ℕ) → (flush_turns (suc turns) id v).text ≡ (flush_turns turns id v).text ++ waiting_at id (flush_turns turns id v).server
-text_next id v turns = ap (λ (f : Flush). f.text) (turn_more turns id v)
 
 none_few : (few : ℕ) → few ≤ 0 → 0 ≡ few
 none_few zero within = refl
@@ -63,7 +60,7 @@ text_grows id v few (suc many) within =
       | inr apart ↦ (
           let before = text_grows id v few many (omega (arith, within, apart)) in
           let w : List ℕ = waiting_at id (flush_turns many id v).server in
-          (before.0 ++ w, text_next id v many ∙ ap (λ (b : List ℕ). b ++ w) before.1 ∙ append_assoc (flush_turns few id v).text before.0 w))
+          (before.0 ++ w, (ap (λ (f : Flush). f.text) (turn_more many id v)) ∙ ap (λ (b : List ℕ). b ++ w) before.1 ∙ append_assoc (flush_turns few id v).text before.0 w))
     ]
 
 pub front_of_nothing : (xs ys : List ℕ) → xs ++ ys ≡ [] → xs ≡ []
@@ -79,9 +76,6 @@ pub record FrontRefused (c : ConfigValues) (bytes piece : List ℕ) (n : ℕ) : 
   pub all : piece ≡ take n piece ++ last ∷ behind
   pub refused : IsLastByte c (bytes ++ take n piece) last
   pub says : Says c bytes (take n piece) []
-
-refuses_this : (v : ServerValue) (piece : List ℕ) (n : ℕ) (found : Option SessionValue) (s : SessionValue) → found ≡ Some s → RefusesPieceOn v piece n found → RefusesPiece v.host s piece n
-refuses_this v piece n found s is refused = subst (RefusesPieceOn v piece n) is refused
 
 -- ---- a take
 
@@ -182,7 +176,7 @@ module _ (v : ServerValue) (bytes piece : List ℕ) (stands : Stands v.config v 
   refused_front n refused =
       let M : ℕ = c.limits.max_message in
       let front : List ℕ = take n piece in
-      let last = refuses_last v es id piece n _ stands.shows session_shown_before (refuses_this v piece n (session_of id v.sessions) _ session_shown_before refused) in
+      let last = refuses_last v es id piece n _ stands.shows session_shown_before (subst (RefusesPieceOn v piece n) session_shown_before refused) in
       let spelled = stands.spelled going in
       let further : split_on M (stream_of c bytes) front ≡ stream_of c (bytes ++ front) = sym (split_goes_on M bytes front) in
       let quiet : beyond id (stream_of c bytes) (stream_of c (bytes ++ front)) ≡ [] =

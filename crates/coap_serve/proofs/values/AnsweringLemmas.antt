@@ -27,9 +27,8 @@ use Rattle.coap_store.proofs.WatchLaws.{promptly_watched_is_there}
 use Rattle.coap_serve.specs.declared.host.Host.{Host}
 use Rattle.coap_serve.specs.world.Sides.{moment_after}
 use Rattle.coap_serve.specs.world.Observers.{asks_entry, is_whole, with_entry, goes_on, first_becomes}
-use Rattle.coap_serve.specs.values.Sessions.{ObserverValue, new_entry, answer_on, hold_on, held_in, host_changed, entry_left, is_stale, mark_of, notification_on, state_on}
-use Rattle.coap_serve.specs.values.Causes.{change_hash}
-use Rattle.coap_serve.specs.values.Entries.{first_index, is_observed, response_on, is_sent, entries_asked, link_replied, entries_replied, entries_notified}
+use Rattle.coap_serve.specs.values.Sessions.{ObserverValue, new_entry, answer_on, hold_on, held_in, entry_left, is_stale, mark_of, notification_on, state_on}
+use Rattle.coap_serve.specs.values.Entries.{first_index, is_observed, response_on, is_sent, link_replied, entries_replied, entries_notified}
 use Rattle.coap_serve.proofs.values.EntryLemmas.{is_first}
 
 -- ---- a request
@@ -56,9 +55,6 @@ response_unobserved host m room others does bare =
     ap (λ (p : List ℕ). response_with_observe m.token false (record (answer_on host m).response { payload = p })) (sym bare)
     ∙ ap (λ (b : Bool). response_with_observe m.token b (answer_on host m).response) (sym (unobserved host m room others does))
 
-pub entries_unobserved : (host : Host) (l : LinkValue) (m : Message) (room : ℕ) (others : List ObserverValue) → changes (answer_on host m).change ≡ true → others ≡ entries_asked host l room others m
-entries_unobserved host l m room others does = rw (unobserved host m room others does) refl
-
 -- what is not nothing is a change
 pub nothing_changed : (c : answer.Change) → changes c ≡ false → c ≡ answer.Nothing
 nothing_changed answer.Nothing e = refl
@@ -67,29 +63,20 @@ nothing_changed (answer.Delete path) e = absurd cc
 
 -- ---- a request whose answer asks to be held
 
-late_quiet : (host : Host) (m : Message) (seconds : ℕ) → hold_on host m ≡ Some seconds → (answer_on host m).change ≡ answer.Nothing
+pub late_quiet : (host : Host) (m : Message) (seconds : ℕ) → hold_on host m ≡ Some seconds → (answer_on host m).change ≡ answer.Nothing
 late_quiet host m seconds e = same_change host.store host.now m ∙ (held_of host.store host.now m seconds e).change
-
-pub late_hash : (host : Host) (m : Message) (seconds : ℕ) → hold_on host m ≡ Some seconds → None ≡ change_hash (answer_on host m).change
-late_hash host m seconds e = ap change_hash (sym (late_quiet host m seconds e))
-
-pub late_host : (host : Host) (m : Message) (seconds : ℕ) → hold_on host m ≡ Some seconds → host ≡ host_changed host (answer_on host m).change
-late_host host m seconds e = ap (host_changed host) (sym (late_quiet host m seconds e))
 
 same_watch : (hold : Option ℕ) (a : Answer) → (unheld_by hold a).watch ≡ a.watch
 same_watch None a = refl
 same_watch (Some seconds) a = refl
 
-prompt_watch : (host : Host) (m : Message) → (answer_on host m).watch ≡ (answer_of host.store host.now m).watch
-unfolding prompt_answer
-prompt_watch host m = same_watch (hold_on host m) (answer_of host.store host.now m)
-
 -- it is not one of an observer
 late_unobserved : (host : Host) (m : Message) (seconds room : ℕ) (others : List ObserverValue) → hold_on host m ≡ Some seconds → is_observed host room others m ≡ false
+unfolding prompt_answer
 late_unobserved host m seconds room others e =
     let w = (answer_on host m).watch in
     elim (asks_entry w) as (λ b. asks_entry w ≡ b → (b && nat_lt (length others) room) ≡ false) [
-      | true ↦ λ asks. absurd (held_unwatched host.store host.now m seconds e (sym (prompt_watch host m) ∙ asks_to_enter w asks))
+      | true ↦ λ asks. absurd (held_unwatched host.store host.now m seconds e (sym (same_watch (hold_on host m) (answer_of host.store host.now m)) ∙ asks_to_enter w asks))
       | false ↦ λ silent. refl
     ] refl
 
@@ -154,7 +141,7 @@ pub change_link : (host : Host) (m : Message) (l : LinkValue) (room : ℕ) (othe
 change_link host m l room others response none is = ap (λ m. link_after l (call.Reply m)) is ∙ ap (λ (hold : Option ℕ). link_replied host l room others m (held_in l hold)) (sym none)
 
 pub change_entries : (host : Host) (m : Message) (l : LinkValue) (room : ℕ) (others : List ObserverValue) → hold_on host m ≡ None → changes (answer_on host m).change ≡ true → others ≡ entries_replied host l room others m (held_in l (hold_on host m))
-change_entries host m l room others none does = entries_unobserved host l m room others does ∙ ap (λ (hold : Option ℕ). entries_replied host l room others m (held_in l hold)) (sym none)
+change_entries host m l room others none does = (rw (unobserved host m room others does) refl) ∙ ap (λ (hold : Option ℕ). entries_replied host l room others m (held_in l hold)) (sym none)
 
 -- ---- what is held
 

@@ -16,7 +16,7 @@ use Rattle.coap_serve.specs.values.Sessions.{ObserverValue, SessionValue, mark_a
 use Rattle.coap_serve.specs.values.Servers.{ServerValue, AreSettled}
 use Rattle.coap_serve.specs.values.Dues.{sooner, next_second, tells_time, next_told, due_on, IsBefore, WaitsForWhatIsDue}
 use Rattle.coap_serve.proofs.values.ServerLemmas.{all_settled_stay, Entries}
-use Rattle.coap_serve.proofs.world.SettleLaws.{nothing_due_first}
+use Rattle.coap_serve.proofs.world.SideLaws.{nothing_due_first}
 
 abbrev pub at_moment : Host → ℕ → Host
 at_moment host later = record host { now = later }

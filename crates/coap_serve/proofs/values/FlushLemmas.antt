@@ -1,5 +1,5 @@
 -- A flush, one turn after the other, as the code makes it.
-use Rattle.std.proofs.Common.{◌≡◌, ℕ, suc, ◌≤◌, List, [], ◌∷◌, ◌++◌, length, Option, Result, Ok, Err, Bool, true, false, refl, sym, ap, subst, ◌∙◌, append_assoc, inl, not, OnErr}
+use Rattle.std.proofs.Common.{◌≡◌, ℕ, suc, ◌≤◌, List, [], ◌++◌, length, Option, Result, Ok, Err, Bool, true, false, refl, sym, ap, subst, ◌∙◌, append_assoc, inl, not, OnErr}
 use Rattle.std.proofs.lemmas.List.{append-nil}
 use Rattle.coap_serve.specs.streams.Device.{AddsBytes, WritesPart}
 use Rattle.coap_serve.specs.values.Servers.{ServerValue, server_written}
@@ -15,9 +15,6 @@ no_flush_turns id v = refl
 pub turn_more : (turns id : ℕ) (v : ServerValue) → flush_turns (suc turns) id v ≡ flush_once id (flush_turns turns id v)
 unfolding flush_turns
 turn_more turns id v = refl
-
-turn_more_so : (turns more id : ℕ) (v : ServerValue) → more ≡ suc turns → flush_turns more id v ≡ flush_once id (flush_turns turns id v)
-turn_more_so turns more id v is = ap (λ (n : ℕ). flush_turns n id v) is ∙ turn_more turns id v
 
 -- after so many turns the server is now this one; the outlet told x before the flush and tells y
 pub record Flushing (id : ℕ) (v : ServerValue) (turns : ℕ) (now : ServerValue) (x y : Option (List ℕ)) : Type 0 where
@@ -41,7 +38,7 @@ module _ (id : ℕ) (v : ServerValue) (turns : ℕ) (now : ServerValue) (x y z :
   -- one turn more
   pub flush_further : (more : ℕ) (w : List ℕ) (next : ServerValue) → more ≡ suc turns → w ≡ waiting_at id now → next ≡ server_written now id (length w) → AddsBytes y z w → Flushing id v more next x z
   flush_further more w next one waits is wrote =
-      let whole = turn_more_so turns more id v one in
+      let whole = ap (λ (n : ℕ). flush_turns n id v) one ∙ turn_more turns id v in
       let here : w ≡ waiting_at id flush_so_far.server = waits ∙ ap (waiting_at id) so_far.server in
       record {
         server =

@@ -7,7 +7,7 @@ use Rattle.coap_wire.specs.Message.{Message}
 use Rattle.coap_wire.specs.Beginning.{Beginning, Unfinished, Whole, beginning}
 use Rattle.coap_wire.proofs.StreamSteps.{whole_parts, whole_itself, whole_more}
 use Rattle.coap_conn.specs.declared.phase.Reject.{Reject}
-use Rattle.coap_conn.specs.Phases.{takes_messages, answers, is_open}
+use Rattle.coap_conn.specs.Phases.{takes_messages, answers}
 use Rattle.coap_conn.specs.LinkValue.{LinkValue}
 use Rattle.coap_conn.specs.Calls.{link_after}
 use Rattle.coap_conn.specs.Calls as call
@@ -31,9 +31,6 @@ reply_sizes l m = stays_so sizes_of (answers l.phase) l _ refl
 
 pub end_sizes : (l : LinkValue) (cut : Bool) → sizes_of (link_after l (call.End cut)) ≡ sizes_of l
 end_sizes l cut = stays_so sizes_of (takes_messages l.phase) l _ refl
-
-pub release_sizes : (l : LinkValue) → sizes_of (link_after l call.Release) ≡ sizes_of l
-release_sizes l = stays_so sizes_of (is_open l.phase) l _ refl
 
 -- ---- where a frame ends in its piece
 

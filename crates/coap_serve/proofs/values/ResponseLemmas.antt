@@ -47,9 +47,6 @@ pub record IsBuilt (token : List ℕ) (observes : Bool) (r : Response) (tagged o
   pub size1 : sized ≡ with_options aged (number_at numbers.size1 r.size1)
   pub payload : whole ≡ record sized { payload = r.payload }
 
-parts_in_order : (a b c d e f : List CoapOption) → ((((a ++ b) ++ c) ++ d) ++ e) ++ f ≡ a ++ (b ++ (c ++ (d ++ (e ++ f))))
-parts_in_order a b c d e f = simp append_assoc
-
 module _ (token : List ℕ) (observes : Bool) (r : Response) (tagged observed located formatted aged sized whole : Message) (built : IsBuilt token observes r tagged observed located formatted aged sized whole) where
   -- what is added behind each
   abbrev behind_aged : Message → Message
@@ -76,4 +73,4 @@ module _ (token : List ℕ) (observes : Bool) (r : Response) (tagged observed lo
       ∙ ap behind_located built.location
       ∙ ap behind_observed built.observe
       ∙ ap behind_tagged built.etag
-      ∙ ap (λ (os : List CoapOption). record { code = r.code; token = token; options = os; payload = r.payload }) (parts_in_order (option_at numbers.etag r.etag) (empty_at numbers.observe observes) (each_at numbers.location_path r.location) (number_at numbers.content_format r.format) (number_at numbers.max_age r.max_age) (number_at numbers.size1 r.size1))
+      ∙ ap (λ (os : List CoapOption). record { code = r.code; token = token; options = os; payload = r.payload }) (simp append_assoc)

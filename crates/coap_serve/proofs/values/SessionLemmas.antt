@@ -22,12 +22,11 @@ use Rattle.coap_conn.specs.Calls.{link_after, may_announce}
 use Rattle.coap_conn.specs.Calls as call
 use Rattle.coap_conn.specs.Phases.{is_open, takes_messages}
 use Rattle.coap_conn.specs.Verdicts.{is_request}
-use Rattle.coap_store.specs.Answer as answer
 use Rattle.coap_store.specs.Changes.{IsPut}
 use Rattle.coap_serve.specs.declared.host.Host.{Host}
 use Rattle.coap_serve.specs.declared.session.Session.TheInside.{Inside}
 use Rattle.coap_serve.specs.world.Sides.{held_message}
-use Rattle.coap_serve.specs.values.Sessions.{ObserverValue, ObserversValue, SessionValue, is_stale, session_ready, session_takes, session_max, sizes_of, observers_on, frame_on, session_with, without_entry, answer_on, hold_on, held_in, session_replied, asks_this, session_handled, change_by, Taking, taking_read, taking_found, taking, RefusesPiece, notification_on, session_notified, next_held_in, next_stale, link_sent, session_settled_so, session_settled_once, IsSettled}
+use Rattle.coap_serve.specs.values.Sessions.{ObserverValue, ObserversValue, SessionValue, is_stale, session_ready, session_takes, session_max, sizes_of, observers_on, frame_on, session_with, without_entry, hold_on, held_in, session_replied, asks_this, session_handled, change_by, Taking, taking_read, taking_found, taking, RefusesPiece, notification_on, session_notified, next_held_in, next_stale, link_sent, session_settled_so, session_settled_once, IsSettled}
 use Rattle.coap_serve.specs.values.Entries.{first_index, link_replied, entries_replied, entries_notified, framer_on}
 use Rattle.coap_serve.specs.views.SessionViews.{IsSession, session_value}
 use Rattle.coap_serve.proofs.values.LinkLemmas.{ends_in}
@@ -43,9 +42,6 @@ framer_stays l f is = elim (takes_messages l.phase) as (λ b. IsFramer (if b the
 max_stays : (l : LinkValue) (f : FramerValue) → (framer_on l f).max ≡ f.max
 max_stays l f = elim (takes_messages l.phase) as (λ b. (if b then f else record f { kept = []; spent = [] }).max ≡ f.max) [ true ↦ refl | false ↦ refl ]
 
-open_or_unobserved : (l : LinkValue) (os : List ObserverValue) → (is_open l.phase ≡ true) ⊎ (observers_on l os ≡ [])
-open_or_unobserved l os = elim (is_open l.phase) as (λ b. (b ≡ true) ⊎ ((if b then os else []) ≡ [])) [ true ↦ inl refl | false ↦ inr refl ]
-
 -- a session whose fields were changed, and which then gave up what a stop gives up
 pub given_up : (s : Inside) (l : LinkValue) (f g : FramerValue) (o p : ObserversValue) → IsSession s → sizes_of l ≡ sizes_of s.link → f.max ≡ s.framer.max → IsFramer f → o.room ≡ s.observers.room → g ≡ framer_on l f → p ≡ record o { entries = observers_on l o.entries }
     → IsSession (record { framer = g; link = l; observers = p })
@@ -56,7 +52,7 @@ given_up s l f g o p is sizes max framer room g_is p_is =
       greatest = ap (λ (k : FramerValue). k.max) g_is ∙ max_stays l f ∙ max ∙ is.greatest ∙ ap (λ (both : LimitValues × ℕ). both.1) (sym sizes);
       framer = subst IsFramer (sym g_is) (framer_stays l f framer);
       room = ap (λ (k : ObserversValue). k.room) p_is ∙ room ∙ is.room ∙ ap (λ (k : LimitValues). k.observers) (sym limits);
-      open_only = subst (λ (k : ObserversValue). (is_open l.phase ≡ true) ⊎ (k.entries ≡ [])) (sym p_is) (open_or_unobserved l o.entries);
+      open_only = subst (λ (k : ObserversValue). (is_open l.phase ≡ true) ⊎ (k.entries ≡ [])) (sym p_is) (elim (is_open l.phase) as (λ b. (b ≡ true) ⊎ ((if b then o.entries else []) ≡ [])) [ true ↦ inl refl | false ↦ inr refl ]);
     }
 
 -- a session that takes messages of another size from then on
@@ -117,9 +113,6 @@ unfolding session_handled
 message_handled host v m l other is =
     ap (λ (k : LinkValue). session_with [] k v.observers) is
     ∙ sym (cond-false (asks_this v.link m) (session_replied host (link_after v.link (call.Handle m)) (without_entry m.token v.observers) m (held_in (link_after v.link (call.Handle m)) (hold_on host m))) (session_with [] (link_after v.link (call.Handle m)) v.observers) other)
-
-pub nothing_changes : (host : Host) (l : LinkValue) (m : Message) → asks_this l m ≡ false → change_by host l m ≡ answer.Nothing
-nothing_changes host l m other = cond-false (asks_this l m) (answer_on host m).change answer.Nothing other
 
 -- ---- a piece
 

@@ -166,9 +166,6 @@ less_held host v e n found many =
     let told = fewer_open host (link_sent v.link host.now e) v.observers in
     omega (arith, fewer, told, many)
 
-less_stale : (host : Host) (v : SessionValue) (o : ObserverValue) (n : ℕ) → next_stale host v ≡ Some o → left_to_settle host v ≤ suc n → left_to_settle host (session_notified host v (Some o)) ≤ n
-less_stale host v o n found many = omega (arith, fewer_stale host v o (found_stale host v o found), reply_held v.link (notification_on host o), many)
-
 -- as many turns as there are of both leave nothing to settle
 enough_turns : (host : Host) (turns : ℕ) (v : SessionValue) → left_to_settle host v ≤ turns → IsSettled host (session_settled_within turns host v)
 unfolding session_settled_within
@@ -178,7 +175,7 @@ enough_turns host (suc turns) v many =
     (λ e found. enough_turns host turns (session_with v.frame (link_sent v.link host.now e) v.observers) (less_held host v e turns found many))
     (λ silent. elim (next_stale host v) as (λ next. next_stale host v ≡ next → IsSettled host (session_settled_within turns host (session_notified host v next))) [
       | None ↦ λ told. subst (IsSettled host) (sym (stays_within host v turns (silent, told))) (silent, told)
-      | Some o ↦ λ found. enough_turns host turns (session_notified host v (Some o)) (less_stale host v o turns found many)
+      | Some o ↦ λ found. enough_turns host turns (session_notified host v (Some o)) (omega (arith, fewer_stale host v o (found_stale host v o found), reply_held v.link (notification_on host o), many))
     ] refl)
 
 -- settling leaves nothing to settle

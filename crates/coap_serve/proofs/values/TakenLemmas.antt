@@ -31,7 +31,7 @@ use Rattle.coap_store.proofs.WatchLaws.{promptly_watched_is_there}
 use Rattle.coap_serve.specs.declared.host.Host.{Host}
 use Rattle.coap_serve.specs.world.Sides.{moment_after}
 use Rattle.coap_serve.specs.world.Observers.{asks_entry, has_place, with_entry, is_whole}
-use Rattle.coap_serve.specs.values.Sessions.{ObserverValue, SessionValue, Taking, mark_at, mark_of, is_marked, is_stale, session_ready, session_takes, session_max, observers_on, without_entry, new_entry, session_with, session_responded, session_answered, answer_on, hold_on, held_in, session_replied, asks_this, session_handled, taking_read, taking_found, taking, host_changed, next_held_in, next_stale, session_settled, IsSettled, RefusesPiece}
+use Rattle.coap_serve.specs.values.Sessions.{ObserverValue, SessionValue, Taking, mark_at, mark_of, is_marked, is_stale, session_ready, session_takes, session_max, observers_on, without_entry, new_entry, session_with, session_responded, answer_on, hold_on, held_in, session_replied, asks_this, session_handled, taking_read, taking_found, taking, host_changed, next_held_in, next_stale, session_settled, IsSettled, RefusesPiece}
 use Rattle.coap_serve.specs.values.Entries.{settled_held}
 use Rattle.coap_serve.specs.values.Servers.{ServerValue, LiesAt, session_of, changed_at, session_becomes, settled_entry, AreSettled, server_taken_so, server_taken_on, server_taken, count_on, count_taken}
 use Rattle.coap_serve.specs.values.ServerAnswers.{stop_on, handled_so, handled_on, handled_by, RefusesPieceOn}
@@ -52,10 +52,6 @@ settled_where_none host v nothing none = (
   elim (session_ready v) as (λ b. (if b then find (is_stale host) v.observers else None) ≡ None) [ true ↦ none | false ↦ refl ],
 )
 
-none_where_settled : (host : Host) (v : SessionValue) → session_ready v ≡ true → IsSettled host v → NoneStale host v.observers
-unfolding next_stale
-none_where_settled host v ready settled = sym (rw ready refl) ∙ settled.1
-
 -- where no observer is stale, a connection settles where it holds something
 settled_held_none : (host : Host) (v : SessionValue) → NoneStale host v.observers → settled_held host v ≡ session_settled host v
 settled_held_none host v none =
@@ -63,9 +59,6 @@ settled_held_none host v none =
       | true ↦ λ nothing. sym (settled_stays host v (settled_where_none host v (omega (arith, eqb-true (length v.link.held) 0 nothing)) none))
       | false ↦ λ _. refl
     ] refl
-
-settled_held_still : (host : Host) (v : SessionValue) → IsSettled host v → settled_held host v ≡ session_settled host v
-settled_held_still host v settled = elim (length v.link.held == 0) as (λ b. (if b then v else session_settled host v) ≡ session_settled host v) [ true ↦ sym (settled_stays host v settled) | false ↦ refl ]
 
 none_of_no_more : (host : Host) (l : LinkValue) (os : List ObserverValue) → NoneStale host os → NoneStale host (observers_on l os)
 none_of_no_more host l os none = elim (is_open l.phase) as (λ b. find (is_stale host) (if b then os else []) ≡ None) [ true ↦ none | false ↦ refl ]
@@ -105,32 +98,26 @@ responded_none host l others entry observes response none told =
     none_of_no_more host (link_after l (call.Reply response)) (with_entry (observes && whole) others entry)
     (none_with_entry host others entry (observes && whole) none (λ e. told (and_parts observes whole e).0))
 
-answered_none : (host : Host) (l : LinkValue) (others : List ObserverValue) (m : Message) → NoneStale host others → NoneStale host (session_answered host l others m (answer_on host m)).observers
-answered_none host l others m none =
+-- nor is any where the answer is held
+replied_none : (host : Host) (l : LinkValue) (others : List ObserverValue) (m : Message) (hold : Option ℕ) → NoneStale host others → NoneStale host (session_replied host l others m hold).observers
+replied_none host l others m None none =
     let a : Answer = answer_on host m in
     let observes : Bool = has_place l.limits.observers others a.watch in
     responded_none host l others (new_entry host m) observes (response_with_observe m.token observes a.response) none
     (λ e. entry_is_told host m (asks_to_enter a.watch (and_parts (asks_entry a.watch) (nat_lt (length others) l.limits.observers) e).0))
-
--- nor is any where the answer is held
-replied_none : (host : Host) (l : LinkValue) (others : List ObserverValue) (m : Message) (hold : Option ℕ) → NoneStale host others → NoneStale host (session_replied host l others m hold).observers
-replied_none host l others m None none = answered_none host l others m none
 replied_none host l others m (Some seconds) none = none_of_no_more host (link_after l (call.Hold m.token (moment_after host.now seconds))) others none
 
-handled_none : (host : Host) (v : SessionValue) (m : Message) → NoneStale host v.observers → NoneStale host (session_handled host v m).observers
+-- ---- the front of a piece
+
+read_none : (host : Host) (v : SessionValue) (count : ℕ) (r : Result Message FormatFault) → NoneStale host v.observers → NoneStale host (taking_read host v count r).session.observers
 unfolding session_handled without_entry
-handled_none host v m none =
+read_none host v count (Ok m) none =
     let l : LinkValue = link_after v.link (call.Handle m) in
     let hold : Option ℕ = held_in l (hold_on host m) in
     elim (asks_this v.link m) as (λ b. NoneStale host (if b then session_replied host l (without_entry m.token v.observers) m hold else session_with [] l v.observers).observers) [
       | true ↦ replied_none host l (without_entry m.token v.observers) m hold (none_of_fewer (is_stale host) (λ o. not (same_bytes o.token m.token)) v.observers none)
       | false ↦ none_of_no_more host l v.observers none
     ]
-
--- ---- the front of a piece
-
-read_none : (host : Host) (v : SessionValue) (count : ℕ) (r : Result Message FormatFault) → NoneStale host v.observers → NoneStale host (taking_read host v count r).session.observers
-read_none host v count (Ok m) none = handled_none host v m none
 read_none host v count (Err e) none = none_of_no_more host (link_after v.link (call.Reject reject.Format)) v.observers none
 
 found_none : (host : Host) (v : SessionValue) (f : Framing) (what : Finding) → NoneStale host v.observers → NoneStale host (taking_found host v f what).session.observers
@@ -140,13 +127,13 @@ found_none host v f (AFault fault) none = none_of_no_more host (link_after v.lin
 
 -- a connection that was settled settles where it holds something, while the host stays as it was
 pub taking_settles_held : (host : Host) (v : SessionValue) (piece : List ℕ) → IsSettled host v → settled_held host (taking host v piece).session ≡ session_settled host (taking host v piece).session
-unfolding taking
+unfolding taking next_stale
 taking_settles_held host v piece settled =
     let f : Framing = framing (session_max v) v.frame piece in
     let P : Taking → Type 0 = λ t. settled_held host t.session ≡ session_settled host t.session in
     elim (session_takes v) as (λ b. session_takes v ≡ b → P (if b then taking_found host v f f.finding else record { count = 0; handled = false; session = v; change = answer.Nothing })) [
-      | true ↦ λ takes. settled_held_none host _ (found_none host v f f.finding (none_where_settled host v (and_parts (takes_messages v.link.phase) (session_ready v) takes).1 settled))
-      | false ↦ λ _. settled_held_still host v settled
+      | true ↦ λ takes. settled_held_none host _ (found_none host v f f.finding (sym (rw (and_parts (takes_messages v.link.phase) (session_ready v) takes).1 refl) ∙ settled.1))
+      | false ↦ λ _. (elim (length v.link.held == 0) as (λ b. (if b then v else session_settled host v) ≡ session_settled host v) [ true ↦ sym (settled_stays host v settled) | false ↦ refl ])
     ] refl
 
 -- ---- memory was refused

@@ -15,7 +15,7 @@ use Rattle.coap_serve.specs.world.World.{Place, World, Step, new_world, side_of,
 use Rattle.coap_serve.specs.world.World as world
 use Rattle.coap_serve.specs.world.Events.{Event, steps_of, world_after}
 use Rattle.coap_serve.proofs.world.PlaceLaws.{found, nobody, all_there, changed_here, changed_elsewhere, still_there, new_there, but, dropped_here, dropped_elsewhere}
-use Rattle.coap_serve.proofs.world.WalkLaws.{Composes, Between, Hears, Replies, Holds, LetsGo, Pongs, Rejects, Ends, Releases, Announces, Writes, once_between, after_between, faulted_between, written_between, ended_between, released_between, announced_between}
+use Rattle.coap_serve.proofs.world.WalkLaws.{Between, Hears, Replies, Holds, LetsGo, Pongs, Rejects, Ends, Releases, Announces, Writes, Composes, once_between, after_between, faulted_between, written_between, ended_between, released_between, announced_between}
 use Rattle.coap_serve.proofs.values.OptionLemmas.{one_made, same_there}
 use Rattle.coap_wire.proofs.NumberLaws.{none_or_some}
 
@@ -125,7 +125,7 @@ module _ (R : Side → Side → Type 0) (limits : LimitValues) (w : World) (st :
 
 -- ---- what a step does to a connection that is there
 
-settles_there : (id : ℕ) (store : StoreValue) (now : ℕ) (f : Side → Side) (ps : List Place) (s : Side) → side_of id ps ≡ Some s → side_of id (map (settled_place store now) (map (changed_at id f) ps)) ≡ Some (settled store now (f s))
+pub settles_there : (id : ℕ) (store : StoreValue) (now : ℕ) (f : Side → Side) (ps : List Place) (s : Side) → side_of id ps ≡ Some s → side_of id (map (settled_place store now) (map (changed_at id f) ps)) ≡ Some (settled store now (f s))
 settles_there id store now f ps s there =
     all_there id (settled store now) (map (changed_at id f) ps) ∙ ap (option_map (settled store now)) (changed_here id f ps ∙ ap (option_map f) there)
 
@@ -150,11 +150,6 @@ pub ended_there : (limits : LimitValues) (w : World) (id : ℕ) (cut : Bool) (s 
     → side_of id (world.step limits w (world.Ended id cut)).sides ≡ Some (settled w.store w.now (side_ended s cut))
 unfolding world.step acted
 ended_there limits w id cut s there = settles_there id w.store w.now (λ u. side_ended u cut) w.sides s there
-
-pub announced_there : (limits : LimitValues) (w : World) (id size : ℕ) (s : Side) → side_of id w.sides ≡ Some s
-    → side_of id (world.step limits w (world.Announced id size)).sides ≡ Some (settled w.store w.now (side_announced s size))
-unfolding world.step acted
-announced_there limits w id size s there = settles_there id w.store w.now (λ u. side_announced u size) w.sides s there
 
 -- ---- a relation between histories
 

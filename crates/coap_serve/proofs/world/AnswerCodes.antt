@@ -24,21 +24,6 @@ coded_by_check : (b : Bool) (a : Answer) (checks : List (Option Answer)) (last :
 coded_by_check true a checks last here later = here
 coded_by_check false a checks last here later = later
 
-get_coded : (place : Place) (r : Representation) (m : Message) → IsCoded (get_answer place r m)
-unfolding get_answer
-get_coded place r m =
-    let last = watched place m (content place r) in
-    let wants_late = is_async place && not (is_good_query (value_of numbers.uri_query m)) in
-    let fourth = when (is_async place) (late place r m) ∷ [] in
-    let third = refuse wants_late code.bad_request ∷ fourth in
-    let is_valid = is_among (etag_at place r) (values_of numbers.etag m) in
-    let second = when is_valid (watched place m (valid place r)) ∷ third in
-    let other_format = not (is_accepted (number_of numbers.accept m) r.format) in
-    coded_by_check other_format (says (only code.not_acceptable)) second last refl
-    (coded_by_check is_valid (watched place m (valid place r)) third last refl
-    (coded_by_check wants_late (says (only code.bad_request)) fourth last refl
-    (coded_by_check (is_async place) (late place r m) [] last refl refl)))
-
 stored_coded : (key : Option Path) (state : Option Representation) (m : Message) → IsCoded (stored_under key state m)
 stored_coded None state m = refl
 stored_coded (Some path) None m = refl
@@ -59,8 +44,20 @@ store_coded s t m =
     (coded_by_check (s.versions == greatest_version) (says (only code.service_unavailable)) [] last refl (stored_coded t.key t.state m))))
 
 read_coded : (place : Place) (state : Option Representation) (m : Message) → IsCoded (read_answer place state m)
+unfolding get_answer
 read_coded place None m = refl
-read_coded place (Some r) m = get_coded place r m
+read_coded place (Some r) m =
+    let last = watched place m (content place r) in
+    let wants_late = is_async place && not (is_good_query (value_of numbers.uri_query m)) in
+    let fourth = when (is_async place) (late place r m) ∷ [] in
+    let third = refuse wants_late code.bad_request ∷ fourth in
+    let is_valid = is_among (etag_at place r) (values_of numbers.etag m) in
+    let second = when is_valid (watched place m (valid place r)) ∷ third in
+    let other_format = not (is_accepted (number_of numbers.accept m) r.format) in
+    coded_by_check other_format (says (only code.not_acceptable)) second last refl
+    (coded_by_check is_valid (watched place m (valid place r)) third last refl
+    (coded_by_check wants_late (says (only code.bad_request)) fourth last refl
+    (coded_by_check (is_async place) (late place r m) [] last refl refl)))
 
 method_coded : (s : StoreValue) (t : Target) (m : Message) → IsCoded (method_answer s t m)
 unfolding method_answer

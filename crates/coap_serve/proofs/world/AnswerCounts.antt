@@ -197,8 +197,9 @@ one_token token other q is =
     let same : q.token ≡ token = (bytes_decides q.token token).0 parts.1 in
     ap (λ (b : Bool). one (b && same_bytes q.token other)) parts.0 ∙ ap (λ (t : List ℕ). one (same_bytes t other)) same
 
-first_answered : (m : Message) (ms qs : List Message) → is_asking m ≡ true → AtMost (requests (m ∷ ms)) (responses qs) → ((rs : List Message) → AtMost (requests ms) (responses rs) → HaveOwnAnswers ms rs) → (place : HasResponse m.token qs) × HaveOwnAnswers ms (place.before ++ place.behind)
-first_answered m ms qs asks few others =
+own_by : (m : Message) (ms qs : List Message) (asks : Bool) → is_asking m ≡ asks → AtMost (requests (m ∷ ms)) (responses qs) → ((rs : List Message) → AtMost (requests ms) (responses rs) → HaveOwnAnswers ms rs)
+    → IfAsking asks ((place : HasResponse m.token qs) × HaveOwnAnswers ms (place.before ++ place.behind)) (HaveOwnAnswers ms qs)
+own_by m ms qs true asks few others =
     let asking : (t : List ℕ) → one (asks_with t m) ≡ one (same_bytes m.token t) = λ t. ap (λ (b : Bool). one (b && same_bytes m.token t)) asks in
     let itself : one (same_bytes m.token m.token) ≡ 1 = ap one ((bytes_decides m.token m.token).1 refl) in
     let place = response_found m.token qs (omega (arith, few m.token, asking m.token, itself)) in (
@@ -213,10 +214,6 @@ first_answered m ms qs asks few others =
         count_more (responds t) place.before place.behind,
       )),
     )
-
-own_by : (m : Message) (ms qs : List Message) (asks : Bool) → is_asking m ≡ asks → AtMost (requests (m ∷ ms)) (responses qs) → ((rs : List Message) → AtMost (requests ms) (responses rs) → HaveOwnAnswers ms rs)
-    → IfAsking asks ((place : HasResponse m.token qs) × HaveOwnAnswers ms (place.before ++ place.behind)) (HaveOwnAnswers ms qs)
-own_by m ms qs true asks few others = first_answered m ms qs asks few others
 own_by m ms qs false asks few others = others qs (λ t. omega (arith, few t))
 
 pub own_answers : (ms qs : List Message) → AtMost (requests ms) (responses qs) → HaveOwnAnswers ms qs

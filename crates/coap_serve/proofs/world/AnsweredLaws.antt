@@ -40,11 +40,11 @@ use Rattle.coap_serve.specs.world.Events.{Event, world_after}
 use Rattle.coap_serve.specs.world.Told.{is_response, responds}
 use Rattle.coap_serve.specs.world.Answered.{is_asking, FollowsAnswers}
 use Rattle.coap_serve.proofs.world.WalkLaws.{heard, sent, due_is, Announces, faulted_between, written_between, ended_between, released_between, announced_between}
-use Rattle.coap_serve.proofs.world.GoingOn.{Keeps, kept_after}
+use Rattle.coap_serve.proofs.world.GoingOn.{kept_after, Keeps}
 use Rattle.coap_serve.proofs.world.SideLaws.{held_room}
-use Rattle.coap_serve.proofs.world.ToldMessages.{Queues, IsPlain, reject_queues, end_queues, release_queues, abort_plain}
+use Rattle.coap_serve.proofs.world.ToldMessages.{IsPlain, reject_queues, end_queues, release_queues, abort_plain, Queues}
 use Rattle.coap_serve.proofs.world.CustodyLaws.{response_no_pong, bare_no_pong, held_at_all, asked_open, IsNoPong}
-use Rattle.coap_serve.proofs.world.AnswerCounts.{one, count_more, Tally, AtMost, plus, asks_with, requests, responses, awaits, held_back, IsBehind, PongsBehind, pongs_more, pongs_then, pongs_other, pong_at, HeldBehind, held_behind_more, held_grows, held_last, due_moves, due_counts_apart, own_answers}
+use Rattle.coap_serve.proofs.world.AnswerCounts.{one, count_more, Tally, AtMost, plus, asks_with, requests, responses, awaits, held_back, PongsBehind, pongs_more, pongs_then, pongs_other, pong_at, HeldBehind, held_behind_more, held_grows, held_last, due_moves, due_counts_apart, own_answers, IsBehind}
 use Rattle.coap_serve.proofs.world.AnswerCodes.{coded, prompt_coded, bare_coded}
 
 plain_no_pong : (ms : List Message) → AllByRecursion IsPlain ms → AllByRecursion IsNoPong ms
@@ -506,10 +506,6 @@ so_follows : (store : StoreValue) (now : ℕ) (s : Side) (found : Option HeldVal
 so_follows store now s None e is = notified_follows store now s (next_due store now s) is
 so_follows store now s (Some x) e is = sent_due s.history now x (held_room now s x e).1 is
 
-once_follows : (store : StoreValue) (now : ℕ) (s : Side) → PongsFollow s.history → PongsFollow (settled_once store now s).history
-unfolding settled_once
-once_follows store now s is = so_follows store now s (next_held now s) refl is
-
 -- ---- what a connection keeps
 
 -- our Capabilities and Settings are neither a response nor a Pong
@@ -524,6 +520,7 @@ announced_follows h size opened room fit is =
     }
 
 follows_keeps : (limits : LimitValues) → Keeps limits (λ s. PongsFollow s.history)
+unfolding settled_once
 follows_keeps limits = record {
   first = record { pongs = (λ custody. absurd cc, tt); held = tt; all = λ takes t. omega arith; quiet = λ off. refl };
   handled = λ store now s m side is. after_follows store now s m side.is_server is;
@@ -532,7 +529,7 @@ follows_keeps limits = record {
   ended = ended_between (λ h k. PongsFollow h → PongsFollow k) (λ h is. is) (λ h cut takes. stopped_follows h _ (end_queues h cut takes) refl refl refl);
   released = released_between (λ h k. PongsFollow h → PongsFollow k) (λ h is. is) (λ h opened none. stopped_follows h _ (release_queues h opened none) refl refl refl);
   announced = announced_between (λ h k. PongsFollow h → PongsFollow k) (λ h is. is) announced_follows;
-  told = once_follows;
+  told = λ store now s is. so_follows store now s (next_held now s) refl is;
 }
 
 -- a Pong with Custody follows the answers to all requests before its Ping, after any events

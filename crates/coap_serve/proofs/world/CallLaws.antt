@@ -1,5 +1,5 @@
 -- What the clauses of each call of a server say of its value shows the call's event.
-use Rattle.std.proofs.Common.{◌≡◌, ℕ, ◌+◌, ◌<◌, ◌^◌, Bool, true, false, List, [], ◌∷◌, ◌++◌, length, take, Option, Some, None, Result, Ok, Err, refl, sym, subst, ◌∙◌, arith, is_ok, nat_le, nat_lt, option_map, IfOk, IfErr, OnOk, if◌then◌else◌, ◌&&◌}
+use Rattle.std.proofs.Common.{◌≡◌, ℕ, ◌+◌, ◌<◌, ◌^◌, Bool, true, false, List, [], ◌∷◌, ◌++◌, length, take, Option, Some, None, Result, Ok, Err, refl, sym, subst, ◌∙◌, arith, is_ok, nat_le, nat_lt, option_map, IfOk, IfErr, OnOk, if◌then◌else◌, ◌&&◌, ap}
 use Rattle.std.proofs.lemmas.Bool.{leb-true, leb-false, le-leb, ltb-false}
 use Rattle.coap_wire.specs.Refusal.{RefusedBy}
 use Rattle.coap_conn.specs.declared.phase.SendFault.{SendFault}
@@ -23,21 +23,33 @@ use Rattle.coap_serve.specs.declared.server.TakeFault.TheVariants as taken
 use Rattle.coap_serve.specs.declared.server.WrittenFault.{WrittenFault}
 use Rattle.coap_serve.specs.declared.server.WrittenFault.TheVariants as writing
 use Rattle.coap_serve.specs.declared.server.ReleaseFault.{ReleaseFault}
+use Rattle.coap_serve.specs.declared.server.ReleaseFault.TheVariants as releasing
 use Rattle.coap_serve.specs.declared.server.AnnounceFault.{AnnounceFault}
 use Rattle.coap_serve.specs.declared.server.AnnounceFault.TheVariants as announcing
 use Rattle.coap_serve.specs.world.Events.{Event, Opened, Took, Wrote, Ticked, Stored, Removed, Ended, Released, Announced, Dropped, takes}
-use Rattle.coap_serve.specs.world.Shows.{Shows, ShowsRefused}
+use Rattle.coap_serve.specs.world.Shows.{Shows, ShowsRefused, server_of, server_shown}
 use Rattle.coap_store.proofs.RefusalLemmas.{passed}
-use Rattle.coap_serve.proofs.world.ShowLaws.{shows_new, shows_opened, shows_written, shows_ticked, shows_put, shows_removed, shows_ended, shows_released, shows_announced, shows_dropped, shows_taken, takes_shown, shows_refused_take}
+use Rattle.coap_serve.proofs.world.ShowLaws.{shows_opened, shows_written, shows_ticked, shows_put, shows_removed, shows_ended, shows_released, shows_announced, shows_dropped, shows_taken, takes_shown, shows_refused_take}
+use Rattle.coap_serve.proofs.world.StepLaws.{accepted_none, world_first}
 
 -- a server that is the one shown shows the same
 shown_as : (v new : ServerValue) (es : List Event) → new ≡ v → Shows v es → Shows new es
 shown_as v new es is shows = subst (λ (w : ServerValue). Shows w es) (sym is) shows
 
+-- what follows where a connection is there, and where nothing refuses a call on it
+where_one : (P : Type 0) (o : Option SessionValue) → true ≡ is_there o → ((s : SessionValue) → o ≡ Some s → P) → P
+where_one P None there of = absurd cc
+where_one P (Some s) there of = of s refl
+
+where_free : {F : Type 0} (P : Type 0) (refusal : Option SessionValue → Option F) (fault : F) (o : Option SessionValue) → refusal None ≡ Some fault → refusal o ≡ None → ((s : SessionValue) → o ≡ Some s → refusal (Some s) ≡ None → P) → P
+where_free P refusal fault None missing none of = absurd cc
+where_free P refusal fault (Some s) missing none of = of s refl none
+
 -- ---- new
 
 pub new_shows : {F : Type 0} (r : Result ServerValue F) (c : ConfigValues) → c.starts.moment < 2 ^ 64 → IfOk r (λ v. v ≡ new_server c) → IfOk r (λ v. Shows v [])
-new_shows (Ok v) c fits is = shown_as (new_server c) v [] is (shows_new c (omega (arith, fits)))
+unfolding server_of
+new_shows (Ok v) c fits is = shown_as (new_server c) v [] is (record { accepted = accepted_none c; same = (ap (server_shown c []) (sym (world_first c))); moment = (omega (arith, fits)) })
 new_shows (Err e) c fits is = tt
 
 -- ---- open
@@ -57,15 +69,12 @@ open_shows (Err e) v new fits none next is = tt
 
 -- ---- written
 
-written_by : (v : ServerValue) (es : List Event) (id n : ℕ) (s : Option SessionValue) → session_of id v.sessions ≡ s → written_refusal_on n s ≡ None → Shows v es → Shows (server_written v id n) (es ++ Wrote id n ∷ [])
-written_by v es id n None at none shows = absurd cc
-written_by v es id n (Some s) at none shows =
-    let few = passed (nat_lt (length s.link.waiting) n) writing.TooMany None none in
-    shows_written v es id n s shows at (ltb-false (length s.link.waiting) n few.0)
-
 pub written_shows : {T : Type 0} (r : Result T WrittenFault) (v new : ServerValue) (id n : ℕ) → RefusedBy r (written_refusal v id n) → OnOk r (new ≡ server_written v id n)
     → OnOk r ((es : List Event) → Shows v es → Shows new (es ++ Wrote id n ∷ []))
-written_shows (Ok x) v new id n none is = λ es shows. shown_as (server_written v id n) new (es ++ Wrote id n ∷ []) is (written_by v es id n (session_of id v.sessions) refl none shows)
+written_shows (Ok x) v new id n none is = λ es shows. shown_as (server_written v id n) new (es ++ Wrote id n ∷ []) is
+    (where_free _ (written_refusal_on n) writing.NoSuch (session_of id v.sessions) refl none (λ s at free.
+    let few = passed (nat_lt (length s.link.waiting) n) writing.TooMany None free in
+    shows_written v es id n s shows at (ltb-false (length s.link.waiting) n few.0)))
 written_shows (Err e) v new id n none is = tt
 
 -- ---- tick
@@ -89,22 +98,14 @@ remove_shows (Err e) v new path none is = tt
 
 -- ---- ended, drop_conn
 
-shows_ended_by : (v : ServerValue) (es : List Event) (id : ℕ) (s : Option SessionValue) → session_of id v.sessions ≡ s → true ≡ is_there s → Shows v es → Shows (server_ended v id) (es ++ Ended id ∷ [])
-shows_ended_by v es id None at there shows = absurd cc
-shows_ended_by v es id (Some s) at there shows = shows_ended v es id s shows at
-
 pub ended_shows : {T F : Type 0} (r : Result T F) (v new : ServerValue) (id : ℕ) → is_ok r ≡ is_there (session_of id v.sessions) → OnOk r (new ≡ server_ended v id)
     → OnOk r ((es : List Event) → Shows v es → Shows new (es ++ Ended id ∷ []))
-ended_shows (Ok x) v new id there is = λ es shows. shown_as (server_ended v id) new (es ++ Ended id ∷ []) is (shows_ended_by v es id (session_of id v.sessions) refl there shows)
+ended_shows (Ok x) v new id there is = λ es shows. shown_as (server_ended v id) new (es ++ Ended id ∷ []) is (where_one _ (session_of id v.sessions) there (λ s at. shows_ended v es id s shows at))
 ended_shows (Err e) v new id there is = tt
-
-dropped_by : (v : ServerValue) (es : List Event) (id : ℕ) (s : Option SessionValue) → session_of id v.sessions ≡ s → true ≡ is_there s → Shows v es → Shows (server_dropped v id) (es ++ Dropped id ∷ [])
-dropped_by v es id None at there shows = absurd cc
-dropped_by v es id (Some s) at there shows = shows_dropped v es id s shows at
 
 pub drop_shows : {T F : Type 0} (r : Result T F) (v new : ServerValue) (id : ℕ) → is_ok r ≡ is_there (session_of id v.sessions) → OnOk r (new ≡ server_dropped v id)
     → OnOk r ((es : List Event) → Shows v es → Shows new (es ++ Dropped id ∷ []))
-drop_shows (Ok x) v new id there is = λ es shows. shown_as (server_dropped v id) new (es ++ Dropped id ∷ []) is (dropped_by v es id (session_of id v.sessions) refl there shows)
+drop_shows (Ok x) v new id there is = λ es shows. shown_as (server_dropped v id) new (es ++ Dropped id ∷ []) is (where_one _ (session_of id v.sessions) there (λ s at. shows_dropped v es id s shows at))
 drop_shows (Err e) v new id there is = tt
 
 -- ---- release
@@ -112,10 +113,6 @@ drop_shows (Err e) v new id there is = tt
 pub not_refused : (refusal : Option SendFault) → option_map release_fault refusal ≡ None → refusal ≡ None
 not_refused None none = refl
 not_refused (Some f) none = absurd cc
-
-shows_released_by : (v : ServerValue) (es : List Event) (id : ℕ) (s : Option SessionValue) → session_of id v.sessions ≡ s → released_refusal_on s ≡ None → Shows v es → Shows (server_released v id) (es ++ Released id ∷ [])
-shows_released_by v es id None at none shows = absurd cc
-shows_released_by v es id (Some s) at none shows = shows_released v es id s shows at (not_refused (release_refusal s.link) none)
 
 -- what nothing refuses may be announced
 raises_by : (s : SessionValue) (size : ℕ) (opened lower above ready fit : Bool) → nat_lt size s.link.own_max ≡ lower → nat_lt greatest_size size ≡ above
@@ -128,18 +125,16 @@ raises_where_free : (s : SessionValue) (size : ℕ) → session_refusal s size �
 raises_where_free s size none =
     raises_by s size (is_open s.link.phase) (nat_lt size s.link.own_max) (nat_lt greatest_size size) (session_ready s) (fits (limit_in s.link) (own_csm size)) refl refl none
 
-shows_announced_by : (v : ServerValue) (es : List Event) (id size : ℕ) (s : Option SessionValue) → session_of id v.sessions ≡ s → announced_refusal_on size s ≡ None → Shows v es → Shows (server_announced v id size) (es ++ Announced id size ∷ [])
-shows_announced_by v es id size None at none shows = absurd cc
-shows_announced_by v es id size (Some s) at none shows = shows_announced v es id size s shows at (raises_where_free s size none)
-
 pub announce_shows : {T : Type 0} (r : Result T AnnounceFault) (v new : ServerValue) (id size : ℕ) → IsAnnounced size (session_of id v.sessions) r → OnOk r (new ≡ server_announced v id size)
     → OnOk r ((es : List Event) → Shows v es → Shows new (es ++ Announced id size ∷ []))
-announce_shows (Ok x) v new id size none is = λ es shows. shown_as (server_announced v id size) new (es ++ Announced id size ∷ []) is (shows_announced_by v es id size (session_of id v.sessions) refl none shows)
+announce_shows (Ok x) v new id size none is = λ es shows. shown_as (server_announced v id size) new (es ++ Announced id size ∷ []) is
+    (where_free _ (announced_refusal_on size) announcing.NoSuch (session_of id v.sessions) refl none (λ s at free. shows_announced v es id size s shows at (raises_where_free s size free)))
 announce_shows (Err e) v new id size none is = tt
 
 pub release_shows : {T : Type 0} (r : Result T ReleaseFault) (v new : ServerValue) (id : ℕ) → RefusedBy r (released_refusal v id) → OnOk r (new ≡ server_released v id)
     → OnOk r ((es : List Event) → Shows v es → Shows new (es ++ Released id ∷ []))
-release_shows (Ok x) v new id none is = λ es shows. shown_as (server_released v id) new (es ++ Released id ∷ []) is (shows_released_by v es id (session_of id v.sessions) refl none shows)
+release_shows (Ok x) v new id none is = λ es shows. shown_as (server_released v id) new (es ++ Released id ∷ []) is
+    (where_free _ released_refusal_on releasing.NoSuch (session_of id v.sessions) refl none (λ s at free. shows_released v es id s shows at (not_refused (release_refusal s.link) free)))
 release_shows (Err e) v new id none is = tt
 
 -- ---- take
@@ -149,15 +144,11 @@ pub take_takes : (r : Result Taken TakeFault) (v : ServerValue) (id : ℕ) (piec
 take_takes (Ok t) v id piece count = λ es shows. count ∙ takes_shown v es id piece shows
 take_takes (Err e) v id piece count = tt
 
-shows_taken_by : (v : ServerValue) (es : List Event) (id : ℕ) (piece : List ℕ) (s : Option SessionValue) → session_of id v.sessions ≡ s → is_there s ≡ true → Shows v es → Shows (server_taken v id piece) (es ++ Took id (take (count_taken v id piece) piece) ∷ [])
-shows_taken_by v es id piece None at there shows = absurd cc
-shows_taken_by v es id piece (Some s) at there shows = shows_taken v es id piece s shows at
-
 pub take_shows : (r : Result Taken TakeFault) (v new : ServerValue) (id : ℕ) (piece : List ℕ) → IfOk r (λ t. t.bytes ≡ count_taken v id piece) → OnOk r (is_there (session_of id v.sessions) ≡ true) → OnOk r (new ≡ server_taken v id piece)
     → IfOk r (λ t. (es : List Event) → Shows v es → Shows new (es ++ Took id (take t.bytes piece) ∷ []))
 take_shows (Ok t) v new id piece count there is = λ es shows.
     subst (λ (k : ℕ). Shows new (es ++ Took id (take k piece) ∷ [])) (sym count)
-    (shown_as (server_taken v id piece) new (es ++ Took id (take (count_taken v id piece) piece) ∷ []) is (shows_taken_by v es id piece (session_of id v.sessions) refl there shows))
+    (shown_as (server_taken v id piece) new (es ++ Took id (take (count_taken v id piece) piece) ∷ []) is (where_one _ (session_of id v.sessions) (sym there) (λ s at. shows_taken v es id piece s shows at)))
 take_shows (Err e) v new id piece count there is = tt
 
 refused_piece_is_shown : (v : ServerValue) (es : List Event) (id : ℕ) (piece : List ℕ) (n : ℕ) (s : Option SessionValue) → session_of id v.sessions ≡ s → RefusesPieceOn v piece n s → Shows v es → Shows (server_taken v id (take n piece)) (es ++ Took id (take n piece) ∷ [])

@@ -1,26 +1,20 @@
 -- What is held stands in the order of the messages that asked for it, and a Pong with Custody is queued only where nothing that is
 -- held came before its Ping.
-use Rattle.std.proofs.Common.{◌≡◌, ℕ, zero, suc, Bool, true, false, cond, ◌&&◌, ◌||◌, ◌==◌, List, [], ◌∷◌, ◌++◌, length, Option, Some, None, refl, sym, ap, subst, ◌∙◌, inl, inr}
+use Rattle.std.proofs.Common.{◌≡◌, ℕ, zero, suc, Bool, true, false, cond, ◌&&◌, ◌||◌, ◌==◌, List, [], ◌∷◌, ◌++◌, length, Option, Some, None, refl, sym, ap, subst, ◌∙◌, inl, inr, ◌⊎◌, arith}
 use Rattle.std.specs.List.{AllByRecursion, list_any, remove}
 use Rattle.std.proofs.lemmas.Bool.{and_parts, and_right, or_cases}
-use Rattle.std.proofs.lemmas.List.{append_cancel_left}
+use Rattle.std.proofs.lemmas.List.{append_cancel_left, append-nil}
 use lib.Pointwise.{bytes_decides}
 use Rattle.coap_wire.specs.Message.{CoapOption, Message}
-use Rattle.coap_wire.specs.Stream.{StreamFault}
-use Rattle.coap_wire.specs.Codes as code
-use Rattle.coap_wire.specs.OptionNumbers as numbers
-use Rattle.coap_conn.specs.SignalOptions as option
 use Rattle.coap_conn.specs.declared.phase.Phase.{Phase}
-use Rattle.coap_conn.specs.declared.phase.Phase.TheVariants as phase
 use Rattle.coap_conn.specs.declared.phase.Reply.{Reply}
 use Rattle.coap_conn.specs.declared.phase.Reply.TheVariants.{Whole, Bare, Stopped}
 use Rattle.coap_conn.specs.Limits.{LimitValues}
 use Rattle.coap_conn.specs.Phases.{takes_messages, answers, is_open, is_waiting}
 use Rattle.coap_conn.specs.Fit.{fit, bare_response}
-use Rattle.coap_conn.specs.Held.{HeldValue, Answer, Pong, without_at, due_index, without_due}
-use Rattle.coap_conn.specs.Reaction.{Standing, Effect, send_as, send, react, asks_custody, is_custody_pong, pong_with}
+use Rattle.coap_conn.specs.Held.{HeldValue, Answer, Pong, without_at, due_index, without_due, first_due}
+use Rattle.coap_conn.specs.Reaction.{Standing, Effect, send_as, send, react, asks_custody, is_custody_pong, pong_with, stay}
 use Rattle.coap_conn.specs.History.{History, limit_now, standing_now, with_effect, after, may_hold}
-use Rattle.coap_conn.specs.Calls as call
 use Rattle.coap_conn.proofs.HeldLaws.{custody_at_once, due_pong}
 use Rattle.coap_conn.proofs.RequestLemmas.{react_asks}
 use Rattle.coap_store.specs.Store.{StoreValue}
@@ -28,15 +22,25 @@ use Rattle.coap_store.specs.Answer.{Response, asks_late, answer_of, prompt_answe
 use Rattle.coap_store.specs.Messages.{option_at, number_at, each_at, empty_at, options_with_observe, response_with_observe}
 use Rattle.coap_store.proofs.HoldLaws.{held_of}
 use Rattle.coap_serve.specs.Configs.{ConfigValues}
-use Rattle.coap_serve.specs.world.Observers.{Observer, without_token, has_place}
-use Rattle.coap_serve.specs.world.Sides.{Side, has_room, handles, with_history, side_replied, held_for, moment_after, asks_answer, side_handled, side_after, side_faulted, side_written, side_ended, side_released, side_announced, next_held, held_message, settled_so, settled_once}
+use Rattle.coap_serve.specs.world.Observers.{Observer, without_token, has_place, notification, notification_message}
+use Rattle.coap_serve.specs.world.Sides.{Side, has_room, handles, with_history, side_replied, held_for, moment_after, asks_answer, side_handled, side_after, next_held, held_message, settled_so, settled_once, side_written, next_due, notified, after_sent}
 use Rattle.coap_serve.specs.world.World.{side_of}
 use Rattle.coap_serve.specs.world.Events.{Event, world_after}
-use Rattle.coap_serve.specs.world.Custody.{asks_held, StandFor, QueuesCustody, IsFirstHeld}
+use Rattle.coap_serve.specs.world.Custody.{asks_held, StandFor, QueuesCustody, IsFirstHeld, KeepsHeld, AddsAsked, KeepsHeldOver}
 use Rattle.coap_serve.proofs.world.EntryLemmas.{all_append}
-use Rattle.coap_serve.proofs.world.WalkLaws.{said_request, sent, without_first, Hears, Replies, Holds, Pongs, if_between, after_between, faulted_between, written_between, ended_between, released_between, announced_between, once_between}
-use Rattle.coap_serve.proofs.world.GoingOn.{Keeps, kept_after}
-use Rattle.coap_serve.proofs.world.ToldMessages.{Queues, queues_none, queues_effect, queues_to, queues_then, heard_queues, IsPlain, reject_queues, end_queues, release_queues, holding_queues, queues_as, written_queues, react_so, announcing_queues}
+use Rattle.coap_serve.proofs.world.WalkLaws.{said_request, sent, without_first, Hears, Replies, Holds, Pongs, if_between, after_between, faulted_between, written_between, ended_between, released_between, announced_between, once_between, due_is}
+use Rattle.coap_serve.proofs.world.GoingOn.{kept_after, Keeps}
+use Rattle.coap_serve.proofs.world.ToldMessages.{queues_none, queues_effect, queues_to, queues_then, heard_queues, IsPlain, holding_queues, queues_as, Queues, react_so}
+use Rattle.coap_conn.specs.declared.reason.Reason.{Reason}
+use Rattle.coap_conn.specs.declared.reason.Reason.TheVariants.{PeerTooSmall}
+use Rattle.coap_conn.specs.Calls.{standing_due}
+use Rattle.coap_serve.proofs.world.SideLaws.{held_room}
+use Rattle.coap_wire.specs.Codes as code
+use Rattle.coap_wire.specs.OptionNumbers as numbers
+use Rattle.coap_conn.specs.SignalOptions as option
+use Rattle.coap_conn.specs.declared.phase.Phase.TheVariants as phase
+use Rattle.coap_conn.specs.Calls as call
+use Rattle.coap_conn.specs.declared.phase.Reply.TheVariants as reply
 
 -- the second of two tests
 or_later : (a b : Bool) → b ≡ true → (a || b) ≡ true
@@ -155,23 +159,8 @@ custody_waits store now s m =
 -- ---- all else but settling
 
 -- none is queued
-plain_queues_no_custody : (s t : Side) → Queues IsPlain s.history t.history → QueuesCustody s t → ⊥
+pub plain_queues_no_custody : (s t : Side) → Queues IsPlain s.history t.history → QueuesCustody s t → ⊥
 plain_queues_no_custody s t queues = custody_gives ⊥ s t (queues_to IsPlain (Gives ⊥) (λ m is. no_pong ⊥ m is.1) s.history t.history queues)
-
-pub faulted_no_custody : (s : Side) (fault : StreamFault) → QueuesCustody s (side_faulted s fault) → ⊥
-faulted_no_custody s fault = plain_queues_no_custody s (side_faulted s fault) (faulted_between (Queues IsPlain) (queues_none IsPlain) reject_queues s fault)
-
-pub ended_no_custody : (s : Side) (cut : Bool) → QueuesCustody s (side_ended s cut) → ⊥
-ended_no_custody s cut = plain_queues_no_custody s (side_ended s cut) (ended_between (Queues IsPlain) (queues_none IsPlain) end_queues s cut)
-
-pub released_no_custody : (s : Side) → QueuesCustody s (side_released s) → ⊥
-released_no_custody s = plain_queues_no_custody s (side_released s) (released_between (Queues IsPlain) (queues_none IsPlain) release_queues s)
-
-pub announced_no_custody : (s : Side) (size : ℕ) → QueuesCustody s (side_announced s size) → ⊥
-announced_no_custody s size = plain_queues_no_custody s (side_announced s size) (announced_between (Queues IsPlain) (queues_none IsPlain) (λ h n opened room fit. announcing_queues h n) s size)
-
-pub written_no_custody : (s : Side) (n : ℕ) → QueuesCustody s (side_written s n) → ⊥
-written_no_custody s n = plain_queues_no_custody s (side_written s n) (written_between (Queues IsPlain) (queues_none IsPlain) (λ h k within. written_queues IsPlain h k) s n)
 
 -- ---- settling
 
@@ -414,3 +403,172 @@ held_when_asked store now s m seconds does asks is =
 pub sent_when_due : (store : StoreValue) (now : ℕ) (s : Side) (token : List ℕ) (moment : ℕ) → next_held now s ≡ Some (Answer token moment) → (settled_once store now s).history ≡ after (after s.history (call.Due now)) (call.Reply (held_message token))
 unfolding settled_once
 sent_when_due store now s token moment is = ap (λ (o : Option HeldValue). (settled_so store now s o).history) is
+
+-- ---- what leaves what is held as it is
+
+-- what is held is the same, or the connection stopped
+abbrev pub Leaves : History → History → Type 0
+Leaves h k = (k.held ≡ h.held) ⊎ ((why : Reason) × (k.phase ≡ phase.Stopped why))
+
+left_effect : (h : History) (e : Effect) (does : Bool) → (e.held ≡ h.held) ⊎ ((why : Reason) × (e.phase ≡ phase.Stopped why)) → Leaves h (cond does (with_effect h e) h)
+left_effect h e true leaves = leaves
+left_effect h e false leaves = inl refl
+
+send_leaves_held : (s : Standing) (m less : Message) (r : Reply) → ((send_as s m less r).held ≡ s.held) ⊎ ((why : Reason) × ((send_as s m less r).phase ≡ phase.Stopped why))
+send_leaves_held s m less reply.Whole = inl refl
+send_leaves_held s m less reply.Bare = inl refl
+send_leaves_held s m less reply.Stopped = inr (PeerTooSmall, refl)
+
+reply_leaves_held : (h : History) (m : Message) → Leaves h (after h (call.Reply m))
+reply_leaves_held h m = left_effect h (send (standing_now h) m (bare_response m)) (answers h.phase) (send_leaves_held (standing_now h) m (bare_response m) (fit (limit_now h) m (bare_response m)))
+
+-- so what is held stays
+pub left_kept : (s t : Side) → Leaves s.history t.history → KeepsHeld s t
+left_kept s t (inl same) = inl ([], same ∙ sym (append-nil s.history.held))
+left_kept s t (inr stopped) = inr stopped
+
+-- ---- a message
+
+-- more is held, each of it asked for by a message
+abbrev AddsHeld : Message → List HeldValue → List HeldValue → Type 0
+AddsHeld m before after = (more : List HeldValue) × (after ≡ before ++ more) × AddsAsked m more
+
+adds_none : (m : Message) (before after : List HeldValue) → after ≡ before → AddsHeld m before after
+adds_none m before after same = ([], same ∙ sym (append-nil before), record { few = omega arith; asked = tt })
+
+adds_one : (m : Message) (before : List HeldValue) (e : HeldValue) → asks_held m e ≡ true → AddsHeld m before (before ++ e ∷ [])
+adds_one m before e asks = (e ∷ [], refl, record { few = omega arith; asked = (asks, tt) })
+
+abbrev Over : Message → History → History → Type 0
+Over m h k = AddsHeld m h.held k.held ⊎ ((why : Reason) × (k.phase ≡ phase.Stopped why))
+
+over_self : (m : Message) (h : History) → Over m h h
+over_self m h = inl (adds_none m h.held h.held refl)
+
+left_over : (m : Message) (h k : History) → Leaves h k → Over m h k
+left_over m h k (inl same) = inl (adds_none m h.held k.held same)
+left_over m h k (inr stopped) = inr stopped
+
+-- behind a history that holds the same
+over_from : (m : Message) (h k g : History) → k.held ≡ h.held → Over m k g → Over m h g
+over_from m h k g same = subst (λ (es : List HeldValue). AddsHeld m es g.held ⊎ ((why : Reason) × (g.phase ≡ phase.Stopped why))) same
+
+-- a Ping with Custody asks for its Pong
+react_over : (s : Standing) (m : Message) → AddsHeld m s.held (react s m).effect.held ⊎ ((why : Reason) × ((react s m).effect.phase ≡ phase.Stopped why))
+react_over s m =
+    let still : AddsHeld m s.held s.held = adds_none m s.held s.held refl in
+    react_so s m (λ e. AddsHeld m s.held e.held ⊎ ((why : Reason) × (e.phase ≡ phase.Stopped why))) (record {
+      stays = inl still;
+      stands = λ now outstanding stands. inl still;
+      stops = λ why farewell plain one may. inr (why, refl);
+      queues = λ n is. inl still;
+      keeps = λ ping custody some. inl (adds_one m s.held (Pong m.token) (rw (ping, custody, (bytes_decides m.token m.token).1 refl) refl));
+    })
+
+heard_over : (h : History) (m : Message) (e : Effect) (takes : Bool) → AddsHeld m h.held e.held ⊎ ((why : Reason) × (e.phase ≡ phase.Stopped why)) → Over m h (cond takes (record (with_effect h e) { handled = h.handled ++ m ∷ [] }) h)
+heard_over h m e true over = over
+heard_over h m e false over = over_self m h
+
+-- a request that is answered late asks for its answer
+hold_over : (m : Message) (h : History) (moment : ℕ) (does : Bool) → asks_late m ≡ true → Over m h (cond does (record h { held = h.held ++ Answer m.token moment ∷ [] }) h)
+hold_over m h moment true late = inl (adds_one m h.held (Answer m.token moment) (rw (late, (bytes_decides m.token m.token).1 refl) refl))
+hold_over m h moment false late = over_self m h
+
+replied_over : (store : StoreValue) (now : ℕ) (h : History) (others : List Observer) (m : Message) (hold : Option ℕ) → ((seconds : ℕ) → hold ≡ Some seconds → asks_late m ≡ true) → Over m h (side_replied store now h others m hold).history
+replied_over store now h others m None late = left_over m h (side_replied store now h others m None).history (reply_leaves_held h _)
+replied_over store now h others m (Some seconds) late = hold_over m h (moment_after now seconds) (is_open h.phase && may_hold h) (late seconds refl)
+
+handled_by_over : (store : StoreValue) (now : ℕ) (s : Side) (m : Message) (hold : Option ℕ) (asks : Bool) → asks_answer s m ≡ asks → ((seconds : ℕ) → hold ≡ Some seconds → asks_late m ≡ true)
+    → KeepsHeldOver m s (cond asks (side_replied store now (after s.history (call.Handle m)) (without_token m.token s.observers) m hold) (with_history s (after s.history (call.Handle m))))
+handled_by_over store now s m hold true asks late =
+    let h : History = after s.history (call.Handle m) in
+    let others : List Observer = without_token m.token s.observers in
+    over_from m s.history h (side_replied store now h others m hold).history (asked_same s m asks) (replied_over store now h others m hold late)
+handled_by_over store now s m hold false asks late = heard_over s.history m (react (standing_now s.history) m).effect (takes_messages s.history.phase) (react_over (standing_now s.history) m)
+
+pub handled_over : (store : StoreValue) (now : ℕ) (s : Side) (m : Message) → KeepsHeldOver m s (side_handled store now s m)
+handled_over store now s m =
+    let h : History = after s.history (call.Handle m) in
+    let hold : Option ℕ = (answer_of store now m).hold in
+    handled_by_over store now s m (held_for h hold) (asks_answer s m) refl (λ seconds is. (held_of store now m seconds (asked_at_all h hold seconds is)).asked)
+
+pub if_over : (m : Message) (does : Bool) (s t : Side) → KeepsHeldOver m s t → KeepsHeldOver m s (cond does t s)
+if_over m true s t over = over
+if_over m false s t over = over_self m s.history
+
+-- ---- all else that happens
+
+pub written_same : (s : Side) (n : ℕ) → (side_written s n).history.held ≡ s.history.held
+written_same s n = written_between (λ h k. k.held ≡ h.held) (λ h. refl) (λ h n within. refl) s n
+
+notified_kept : (store : StoreValue) (now : ℕ) (s : Side) (found : Option Observer) → KeepsHeld s (notified store now s found)
+notified_kept store now s None = left_kept s s (inl refl)
+notified_kept store now s (Some o) = left_kept s (notified store now s (Some o)) (reply_leaves_held s.history (notification_message o.token (notification store now o)))
+
+-- where nothing that is held is due, an observer is told
+pub told_keeps : (store : StoreValue) (now : ℕ) (s : Side) → next_held now s ≡ None → KeepsHeld s (settled_once store now s)
+unfolding settled_once
+told_keeps store now s is = subst (λ (o : Option HeldValue). KeepsHeld s (settled_so store now s o)) (sym is) (notified_kept store now s (next_due store now s))
+
+-- ---- what is due first is held no more
+
+-- what is sent leaves what is held, where the phase stays one that answers
+sent_same : (s : Standing) (m less : Message) (r : Reply) → answers s.phase ≡ true → (send_as s m less r).phase ≡ s.phase → (send_as s m less r).held ≡ s.held
+sent_same s m less reply.Whole answering same = refl
+sent_same s m less reply.Bare answering same = refl
+sent_same s m less reply.Stopped answering same = let bad : ◌≡◌ {A = Bool} false true = ap answers same ∙ answering in absurd cc
+
+effect_same : (h : History) (e : Effect) (does : Bool) → (e.phase ≡ h.phase → e.held ≡ h.held) → (cond does (with_effect h e) h).phase ≡ h.phase → (cond does (with_effect h e) h).held ≡ h.held
+effect_same h e true leaves same = leaves same
+effect_same h e false leaves same = refl
+
+reply_same : (h : History) (m : Message) → answers h.phase ≡ true → (after h (call.Reply m)).phase ≡ h.phase → (after h (call.Reply m)).held ≡ h.held
+reply_same h m answering =
+    effect_same h (send (standing_now h) m (bare_response m)) (answers h.phase) (sent_same (standing_now h) m (bare_response m) (fit (limit_now h) m (bare_response m)) answering)
+
+taken_same : (h : History) (now : ℕ) (e : HeldValue) → first_due now h.held ≡ Some e → answers h.phase ≡ true → (after_sent h now e).phase ≡ h.phase → (after_sent h now e).held ≡ without_due now h.held
+taken_same h now (Answer token moment) due answering same =
+    let is = due_is h now (Some (Answer token moment)) due in
+    let stands : (after h (call.Due now)).phase ≡ h.phase = ap (λ (k : History). k.phase) is in
+    reply_same (after h (call.Due now)) (held_message token) (ap answers stands ∙ answering) (same ∙ sym stands) ∙ ap (λ (k : History). k.held) is
+taken_same h now (Pong token) due answering same =
+    let is = due_is h now (Some (Pong token)) due in
+    let s : Standing = standing_due now (standing_now h) in
+    let stands : (send s (pong_with true token) (pong_with false token)).phase ≡ h.phase = sym (ap (λ (k : History). k.phase) is) ∙ same in
+    ap (λ (k : History). k.held) is ∙ sent_same s (pong_with true token) (pong_with false token) (fit s.limit (pong_with true token) (pong_with false token)) answering stands
+
+settled_sends : (store : StoreValue) (now : ℕ) (s : Side) (e : HeldValue) → next_held now s ≡ Some e → (settled_once store now s).history ≡ after_sent s.history now e
+unfolding settled_once
+settled_sends store now s e is = ap (λ (o : Option HeldValue). (settled_so store now s o).history) is
+
+pub taken_out : (store : StoreValue) (now : ℕ) (s : Side) (e : HeldValue) → next_held now s ≡ Some e → answers s.history.phase ≡ true → (settled_once store now s).history.phase ≡ s.history.phase → (settled_once store now s).history.held ≡ without_due now s.history.held
+taken_out store now s e is answering same =
+    let sends = settled_sends store now s e is in
+    ap (λ (k : History). k.held) sends ∙ taken_same s.history now e (held_room now s e is).1 answering (sym (ap (λ (k : History). k.phase) sends) ∙ same)
+
+-- ---- it is sent
+
+-- a reply where one is sent
+reply_sent : (h : History) (m : Message) → answers h.phase ≡ true → (after h (call.Reply m)).queued ≡ h.queued ++ (send (standing_now h) m (bare_response m)).queued
+reply_sent h m answering = ap (λ (b : Bool). (cond b (with_effect h (send (standing_now h) m (bare_response m))) h).queued) answering
+
+-- behind an effect that queues nothing
+reply_queued_behind_stay : (h : History) (s : Standing) (m : Message) → s.phase ≡ h.phase → answers h.phase ≡ true → (after (with_effect h (stay s)) (call.Reply m)).queued ≡ h.queued ++ (send (standing_now (with_effect h (stay s))) m (bare_response m)).queued
+reply_queued_behind_stay h s m stands answering =
+    let k : History = with_effect h (stay s) in
+    reply_sent k m (ap answers stands ∙ answering) ∙ ap (λ (ms : List Message). ms ++ (send (standing_now k) m (bare_response m)).queued) (append-nil h.queued)
+
+pub answer_sent : (store : StoreValue) (now : ℕ) (s : Side) (token : List ℕ) (moment : ℕ) → next_held now s ≡ Some (Answer token moment) → answers s.history.phase ≡ true
+    → (settled_once store now s).history.queued ≡ s.history.queued ++ (send (standing_due now (standing_now s.history)) (held_message token) (bare_response (held_message token))).queued
+answer_sent store now s token moment is answering =
+    let h : History = s.history in
+    let e : HeldValue = Answer token moment in
+    ap (λ (k : History). k.queued) (sent_when_due store now s token moment is)
+    ∙ ap (λ (k : History). (after k (call.Reply (held_message token))).queued) (due_is h now (Some e) (held_room now s e is).1)
+    ∙ reply_queued_behind_stay h (standing_due now (standing_now h)) (held_message token) refl answering
+
+pub pong_sent : (store : StoreValue) (now : ℕ) (s : Side) (token : List ℕ) → next_held now s ≡ Some (Pong token)
+    → (settled_once store now s).history.queued ≡ s.history.queued ++ (send (standing_due now (standing_now s.history)) (pong_with true token) (pong_with false token)).queued
+pong_sent store now s token is =
+    let e : HeldValue = Pong token in
+    ap (λ (k : History). k.queued) (settled_sends store now s e is ∙ due_is s.history now (Some e) (held_room now s e is).1)

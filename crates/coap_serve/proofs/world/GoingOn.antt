@@ -1,6 +1,6 @@
 -- A history that another one goes on to: one of the same connection, which takes no message any more once it does not. What each call
 -- keeps of a history, and the link that shows the history after it.
-use Rattle.std.proofs.Common.{◌≡◌, ℕ, ◌≤◌, Bool, true, false, cond, ◌&&◌, List, [], ◌∷◌, length, Option, Some, None, refl, ap, ◌∙◌, arith}
+use Rattle.std.proofs.Common.{◌≡◌, ℕ, ◌≤◌, Bool, true, false, cond, List, [], ◌∷◌, length, Option, Some, None, refl, ap, ◌∙◌, arith}
 use Rattle.std.proofs.lemmas.Bool.{both_ways, and_parts}
 use Rattle.std.proofs.lemmas.List.{length-drop}
 use Rattle.coap_wire.specs.Message.{Message}
@@ -10,13 +10,13 @@ use Rattle.coap_conn.specs.declared.phase.Reply.{Reply}
 use Rattle.coap_conn.specs.declared.phase.Reply.TheVariants as reply
 use Rattle.coap_conn.specs.declared.phase.Role.TheVariants.{Server}
 use Rattle.coap_conn.specs.Limits.{LimitValues}
-use Rattle.coap_conn.specs.Phases.{takes_messages, answers, is_open}
+use Rattle.coap_conn.specs.Phases.{takes_messages, answers}
 use Rattle.coap_conn.specs.Fit.{fit, bare_response}
 use Rattle.coap_conn.specs.Held.{HeldValue, first_due}
 use Rattle.coap_conn.specs.Held as held
 use Rattle.coap_conn.specs.Reaction.{Standing, Effect, send_as, pong_with, due_effect}
 use Rattle.coap_conn.specs.Rejects.{reject_of}
-use Rattle.coap_conn.specs.History.{History, IsHistory, standing_now, with_effect, after, may_hold, link_of}
+use Rattle.coap_conn.specs.History.{History, IsHistory, standing_now, with_effect, after, link_of}
 use Rattle.coap_conn.specs.LinkValue.{bytes_of, own_csm}
 use Rattle.coap_conn.specs.Calls.{standing_due, link_after}
 use Rattle.coap_conn.specs.Calls as call
@@ -28,7 +28,7 @@ use Rattle.coap_serve.specs.world.Sides.{Side, new_side, handles, has_room, with
 use Rattle.coap_serve.specs.world.World.{World, Step, side_of}
 use Rattle.coap_serve.specs.world.Events.{Event, world_after}
 use Rattle.coap_serve.proofs.world.WalkLaws.{heard, sent, holding, without_first, Between, if_between, settled_between}
-use Rattle.coap_serve.proofs.world.AcrossLaws.{HoldsOf, KeepsAll, all_across, kept_by}
+use Rattle.coap_serve.proofs.world.AcrossLaws.{kept_by, HoldsOf, KeepsAll, all_across}
 
 -- ---- what is kept
 
@@ -58,7 +58,7 @@ was_live h k goes takes =
 -- ---- each part
 
 -- more is queued
-effect_goes_on : (h : History) (e : Effect) → (takes_messages h.phase ≡ false → takes_messages e.phase ≡ false) → GoesOn h (with_effect h e)
+pub effect_goes_on : (h : History) (e : Effect) → (takes_messages h.phase ≡ false → takes_messages e.phase ≡ false) → GoesOn h (with_effect h e)
 effect_goes_on h e over = record { role = refl; limits = refl; history = history_more h e.queued; over = over }
 
 heard_goes_on : (h : History) (m : Message) → takes_messages h.phase ≡ true → GoesOn h (heard h m)
@@ -72,7 +72,7 @@ sent_over s m less reply.Stopped e = refl
 pub sent_goes_so : (h : History) (m less : Message) → GoesOn h (sent h m less)
 sent_goes_so h m less = effect_goes_on h _ (sent_over (standing_now h) m less (fit (standing_now h).limit m less))
 
-holding_so : (h : History) (held : List HeldValue) → GoesOn h (holding h held)
+pub holding_so : (h : History) (held : List HeldValue) → GoesOn h (holding h held)
 holding_so h held = record { role = refl; limits = refl; history = λ is. is; over = λ e. e }
 
 pub written_goes_on : (h : History) (n : ℕ) → n ≤ length (link_of h).waiting → GoesOn h (after h (call.Written n))
@@ -100,15 +100,6 @@ message_goes_on h m = if_between GoesOn (takes_messages h.phase) h _ (as_before 
 
 pub reply_goes_on : (h : History) (m : Message) → GoesOn h (after h (call.Reply m))
 reply_goes_on h m = if_between GoesOn (answers h.phase) h _ (as_before h) (λ does. sent_goes_so h m (bare_response m))
-
-pub end_goes_on : (h : History) (cut : Bool) → GoesOn h (after h (call.End cut))
-end_goes_on h cut = if_between GoesOn (takes_messages h.phase) h _ (as_before h) (λ takes. effect_goes_on h _ (λ none. refl))
-
-pub release_goes_on : (h : History) → GoesOn h (after h call.Release)
-release_goes_on h = if_between GoesOn (is_open h.phase) h _ (as_before h) (λ opened. effect_goes_on h _ (λ none. refl))
-
-pub hold_goes_on : (h : History) (token : List ℕ) (moment : ℕ) → GoesOn h (after h (call.Hold token moment))
-hold_goes_on h token moment = if_between GoesOn (is_open h.phase && may_hold h) h _ (as_before h) (λ holds. holding_so h _)
 
 due_over : (s : Standing) (first : Option HeldValue) → takes_messages s.phase ≡ false → takes_messages (due_effect s first).phase ≡ false
 due_over s None e = e

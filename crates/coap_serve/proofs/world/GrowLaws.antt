@@ -106,15 +106,12 @@ handled_grown limits w id m s is =
     let t : Side = side_after w.store w.now s m in
     (settled there.0 w.now t, there.1, grows_then s.history t.history (settled there.0 w.now t).history (after_grows w.store w.now s m) (settled_grows there.0 w.now t))
 
-faulted_grown : (limits : LimitValues) (w : World) (id : ℕ) (fault : StreamFault) (s : Side) → side_of id w.sides ≡ Some s → SomeGrown id (world.step limits w (world.Faulted id fault)) s
-faulted_grown limits w id fault s is =
-    let t : Side = side_faulted s fault in
-    (settled w.store w.now t, faulted_there limits w id fault s is, grows_then s.history t.history (settled w.store w.now t).history (fault_grows s fault) (settled_grows w.store w.now t))
-
 fault_grown : (limits : LimitValues) (w : World) (id : ℕ) (before after : Option StreamFault) (s : Side) → side_of id w.sides ≡ Some s → SomeGrown id (after_steps limits w (new_fault id before after)) s
 unfolding after_steps
 fault_grown limits w id before None s is = (s, is, grows_self s.history)
-fault_grown limits w id None (Some fault) s is = faulted_grown limits w id fault s is
+fault_grown limits w id None (Some fault) s is =
+    let t : Side = side_faulted s fault in
+    (settled w.store w.now t, faulted_there limits w id fault s is, grows_then s.history t.history (settled w.store w.now t).history (fault_grows s fault) (settled_grows w.store w.now t))
 fault_grown limits w id (Some old) (Some fault) s is = (s, is, grows_self s.history)
 
 messages_grown : (limits : LimitValues) (w : World) (id : ℕ) (ms : List Message) (before after : Option StreamFault) (s : Side) → side_of id w.sides ≡ Some s → SomeGrown id (after_steps limits w (map (world.Handled id) ms ++ new_fault id before after)) s

@@ -62,16 +62,13 @@ all_there id g (p ∷ ps) = all_there_by id g p ps (p.id == id) refl (all_there 
 
 -- ---- a change of one connection
 
-changed_place : (id : ℕ) (f : Side → Side) (p : Place) → p.id ≡ id → changed_at id f p ≡ with_sides f p
-changed_place id f p e = rw (eq-eqb p.id id e) refl
-
 other_place : (id : ℕ) (f : Side → Side) (p : Place) → p.id ≢ id → changed_at id f p ≡ p
 other_place id f p e = rw (ne_eqb p.id id e) refl
 
 changed_here_by : (id : ℕ) (f : Side → Side) (p : Place) (ps : List Place) (same : Bool) → (p.id == id) ≡ same → side_of id (map (changed_at id f) ps) ≡ option_map f (side_of id ps) → side_of id (map (changed_at id f) (p ∷ ps)) ≡ option_map f (side_of id (p ∷ ps))
 changed_here_by id f p ps true e again =
     let here : p.id ≡ id = eqb-true p.id id e in
-    ap (λ (q : Place). side_of id (q ∷ map (changed_at id f) ps)) (changed_place id f p here)
+    ap (λ (q : Place). side_of id (q ∷ map (changed_at id f) ps)) (rw (eq-eqb p.id id here) refl)
     ∙ first_there id (with_sides f p) (map (changed_at id f) ps) here ∙ ap (option_map f) (sym (first_there id p ps here))
 changed_here_by id f p ps false e again =
     let apart : p.id ≢ id = eqb-false p.id id e in

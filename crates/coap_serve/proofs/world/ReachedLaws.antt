@@ -1,34 +1,184 @@
 -- What holds of the world after any accepted events: each number is given once, and the stream of a connection that takes
 -- messages has no fault.
-use Rattle.std.proofs.Common.{◌≡◌, ◌≢◌, ℕ, ◌+◌, ◌<◌, ◌≤◌, Bool, true, false, cond, List, [], ◌∷◌, ◌++◌, length, take, Option, Some, None, Result, Ok, Err, refl, sym, ap, subst, ◌∙◌, inl, inr, arith, ◌&&◌, nat_le, nat_lt, if◌then◌else◌}
+use Rattle.std.proofs.Common.{◌≡◌, ℕ, ◌+◌, ◌<◌, ◌≤◌, Bool, true, false, cond, List, [], ◌∷◌, length, map, Option, Some, None, refl, sym, ap, subst, ◌∙◌, arith, is_none, ◌≢◌, ◌++◌, take, Result, Ok, Err, inl, inr, ◌&&◌, nat_le, nat_lt, if◌then◌else◌}
+use Rattle.std.specs.List.{AllByRecursion}
+use Rattle.std.proofs.lemmas.List.{length-append, length-map, nil_from_length}
+use Rattle.coap_wire.specs.Stream.{StreamFault, Stream}
+use Rattle.coap_conn.specs.Limits.{LimitValues}
+use Rattle.coap_conn.specs.Phases.{takes_messages}
+use Rattle.coap_store.specs.Refusals.{put_refusal}
+use Rattle.coap_serve.specs.Configs.{ConfigValues}
+use Rattle.coap_serve.specs.world.Sides.{Side, new_side, handles, side_after, side_faulted, side_written, side_ended, side_released, side_announced, settled, has_room, with_history, may_raise}
+use Rattle.coap_serve.specs.world.World.{Place, World, Step, new_world, side_of, changed_at, ticks, acted, settled_place, all_settled, after_steps}
+use Rattle.coap_serve.specs.world.Events.{Event, steps_of, world_after, taken_in, size_on, stream_on, spelled_on, steps_by, front_of, takes_of, takes, IfSide, IsAccepted, AreAccepted}
+use Rattle.coap_serve.proofs.world.PlaceLaws.{changed_id, AreDistinct, distinct_mapped, distinct_more, distinct_but, of_number, each_weaker, each_mapped, each_more, each_but, fewer, nobody}
+use Rattle.coap_serve.proofs.world.AcrossLaws.{opened_world, faulted_there, HoldsFrom, settles_there, HoldsOf, step_across, all_across}
+use Rattle.coap_serve.proofs.world.GoingOn.{settled_goes_on, faulted_stops, all_go_on, was_live, GoesOn}
+use Rattle.coap_serve.proofs.values.OptionLemmas.{same_there}
 use Rattle.std.proofs.lemmas.Bool.{cases_eq, and_parts, leb-true, ltb-false}
-use Rattle.std.proofs.lemmas.List.{nil_from_length}
 use Rattle.coap_wire.specs.Message.{Message}
 use Rattle.coap_wire.specs.Reading.{message_of}
 use Rattle.coap_wire.specs.declared.fault.FormatFault.{FormatFault}
-use Rattle.coap_wire.specs.Stream.{StreamFault, Stream}
 use Rattle.coap_frame.specs.Framing.{Finding, Nothing, AFrame, AFault, framing}
 use Rattle.coap_frame.specs.Raising.{greatest_size}
-use Rattle.coap_conn.specs.Phases.{takes_messages}
 use Rattle.coap_conn.specs.History.{History, after, link_of}
 use Rattle.coap_conn.specs.Calls.{may_announce}
-use Rattle.coap_conn.specs.Calls as call
 use Rattle.coap_store.specs.Store.{StoreValue}
-use Rattle.coap_serve.specs.Configs.{ConfigValues}
-use Rattle.coap_serve.specs.world.Sides.{Side, has_room, handles, with_history, may_raise, side_announced, settled_once, settled}
-use Rattle.coap_serve.specs.world.World.{World, Step, new_world, side_of}
-use Rattle.coap_serve.specs.world.World as world
-use Rattle.coap_serve.specs.world.Events.{Event, taken_in, size_on, stream_on, spelled_on, steps_by, world_after, front_of, takes_of, takes, IfSide, IsAccepted, AreAccepted}
-use Rattle.coap_serve.specs.world.Events as event
 use Rattle.coap_serve.proofs.world.StepLaws.{world_first, world_same, world_step, by_events, stream_same, size_then, size_stays, announced_here, announced_elsewhere, nothing_spelled, first_spelled, spelled_same, taken_elsewhere, stream_elsewhere}
-use Rattle.coap_serve.proofs.world.TookLaws.{Adds, adds_nothing, adds_message, adds_bad, adds_fault, no_bytes_stream, no_bytes_steps, piece_whole}
-use Rattle.coap_serve.proofs.world.AcrossLaws.{HoldsOf, HoldsFrom, step_across, announced_there, all_across}
-use Rattle.coap_serve.proofs.world.GoingOn.{GoesOn, all_go_on, was_live}
+use Rattle.coap_serve.proofs.world.TookLaws.{no_bytes_stream, no_bytes_steps, Adds, adds_nothing, adds_message, adds_bad, adds_fault, piece_whole}
 use Rattle.coap_serve.proofs.world.WalkLaws.{announcing, Between, once_between, settled_between, after_between, faulted_between, written_between, ended_between, released_between}
-use Rattle.coap_serve.proofs.world.PlaceLaws.{nobody}
 use Rattle.coap_wire.proofs.NumberLaws.{none_or_some}
-use Rattle.coap_serve.proofs.world.WorldLaws.{OpensNext, IsGivenNumber, IsNumbered, new_world_numbered, number_given, step_numbered, ids_grow, faulted_is_stopped}
-use Rattle.coap_serve.proofs.values.OptionLemmas.{same_there}
+use Rattle.coap_serve.specs.world.World as world
+use Rattle.coap_conn.specs.Calls as call
+use Rattle.coap_serve.specs.world.Events as event
+
+-- ---- after any steps
+
+-- the numbers of connections are distinct
+opened_by : (limits : LimitValues) (w : World) (id : ℕ) (there : Option Side) → side_of id w.sides ≡ there → AreDistinct w.sides → AreDistinct (cond (is_none there) (opened_world limits w id) w).sides
+opened_by limits w id None e distinct = distinct_more w.sides (record { id = id; side = new_side limits }) distinct e
+opened_by limits w id (Some s) e distinct = distinct
+
+if_distinct : (does : Bool) (w v : World) → AreDistinct w.sides → AreDistinct v.sides → AreDistinct (cond does v w).sides
+if_distinct true w v distinct made = made
+if_distinct false w v distinct made = distinct
+
+changed_distinct : (id : ℕ) (f : Side → Side) (ps : List Place) → AreDistinct ps → AreDistinct (map (changed_at id f) ps)
+changed_distinct id f ps distinct = distinct_mapped (changed_at id f) (changed_id id f) ps distinct
+
+acted_distinct : (limits : LimitValues) (w : World) (s : Step) → AreDistinct w.sides → AreDistinct (acted limits w s).sides
+unfolding acted
+acted_distinct limits w (world.Opened id) distinct = opened_by limits w id (side_of id w.sides) refl distinct
+acted_distinct limits w (world.Handled id m) distinct = changed_distinct id (λ s. side_after w.store w.now s m) w.sides distinct
+acted_distinct limits w (world.Faulted id fault) distinct = changed_distinct id (λ s. side_faulted s fault) w.sides distinct
+acted_distinct limits w (world.Written id n) distinct = changed_distinct id (λ s. side_written s n) w.sides distinct
+acted_distinct limits w (world.Ticked now) distinct = if_distinct (ticks w.now now) w _ distinct distinct
+acted_distinct limits w (world.Stored path format bytes) distinct = if_distinct (is_none (put_refusal w.store path bytes)) w _ distinct distinct
+acted_distinct limits w (world.Removed path) distinct = distinct
+acted_distinct limits w (world.Ended id cut) distinct = changed_distinct id (λ s. side_ended s cut) w.sides distinct
+acted_distinct limits w (world.Released id) distinct = changed_distinct id side_released w.sides distinct
+acted_distinct limits w (world.Announced id size) distinct = changed_distinct id (λ s. side_announced s size) w.sides distinct
+acted_distinct limits w (world.Dropped id) distinct = distinct_but id w.sides distinct
+
+pub step_distinct : (limits : LimitValues) (w : World) (s : Step) → AreDistinct w.sides → AreDistinct (world.step limits w s).sides
+unfolding world.step
+step_distinct limits w s distinct = distinct_mapped (settled_place (acted limits w s).store (acted limits w s).now) (λ p. refl) (acted limits w s).sides (acted_distinct limits w s distinct)
+
+steps_distinct : (limits : LimitValues) (w : World) (ss : List Step) → AreDistinct w.sides → AreDistinct (after_steps limits w ss).sides
+unfolding after_steps
+steps_distinct limits w [] distinct = distinct
+steps_distinct limits w (s ∷ ss) distinct = steps_distinct limits (world.step limits w s) ss (step_distinct limits w s distinct)
+
+-- after any events, accepted or not
+pub events_distinct : (c : ConfigValues) (es : List Event) → AreDistinct (world_after c es).sides
+unfolding world_after
+events_distinct c es = steps_distinct c.limits (new_world c) (steps_of c.limits.max_message es) tt
+
+-- ---- after steps that give each number once
+
+-- a connection is opened with the next number, and where there is room for it
+abbrev pub OpensNext : ConfigValues → World → Step → Type 0
+OpensNext c w (world.Opened id) = (id ≡ w.ids + 1) × (length w.sides < c.connections)
+OpensNext c w other = Unit {0}
+
+-- the number was given, where this was given last
+pub record IsGivenNumber (c : ConfigValues) (last id : ℕ) : Type 0 where
+  pub above : c.starts.ids < id
+  pub within : id ≤ last
+
+-- each number was given, and there are no more connections than the configuration allows
+pub record IsNumbered (c : ConfigValues) (w : World) : Type 0 where
+  pub low : c.starts.ids ≤ w.ids
+  pub each : AllByRecursion (λ p. IsGivenNumber c w.ids p.id) w.sides
+  pub few : length w.sides ≤ c.connections
+
+-- the connection with a number was given it
+pub number_given : (c : ConfigValues) (w : World) (id : ℕ) (s : Side) → IsNumbered c w → side_of id w.sides ≡ Some s → IsGivenNumber c w.ids id
+number_given c w id s is e = of_number (λ n t. IsGivenNumber c w.ids n) id s w.sides is.each e
+
+-- a number that was not given is free
+free_by : (c : ConfigValues) (w : World) (id : ℕ) (there : Option Side) → side_of id w.sides ≡ there → IsNumbered c w → w.ids < id → side_of id w.sides ≡ None
+free_by c w id None e is h = e
+free_by c w id (Some s) e is h = absurd (omega (arith, h, (number_given c w id s is e).within))
+
+-- the same numbers
+same_numbers : (c : ConfigValues) (w v : World) (g : Place → Place) → ((p : Place) → (g p).id ≡ p.id) → IsNumbered c w → v.ids ≡ w.ids → v.sides ≡ map g w.sides → IsNumbered c v
+same_numbers c w v g keeps is ids sides = record {
+  low = omega (arith, is.low, ids);
+  each = subst (AllByRecursion (λ p. IsGivenNumber c v.ids p.id)) (sym sides)
+      (each_mapped (λ p. IsGivenNumber c w.ids p.id) (λ p. IsGivenNumber c v.ids p.id) g
+      (λ p given. record { above = omega (arith, given.above, keeps p); within = omega (arith, given.within, keeps p, ids) }) w.sides is.each);
+  few = omega (arith, is.few, ap (λ (ps : List Place). length ps) sides, length-map w.sides g);
+}
+
+changed_numbers : (c : ConfigValues) (w v : World) (id : ℕ) (f : Side → Side) → IsNumbered c w → v.ids ≡ w.ids → v.sides ≡ map (changed_at id f) w.sides → IsNumbered c v
+changed_numbers c w v id f is ids sides = same_numbers c w v (changed_at id f) (changed_id id f) is ids sides
+
+if_numbered : (c : ConfigValues) (does : Bool) (w v : World) → IsNumbered c w → IsNumbered c v → IsNumbered c (cond does v w)
+if_numbered c true w v is made = made
+if_numbered c false w v is made = is
+
+-- the next number
+opened_numbered : (c : ConfigValues) (w : World) (id : ℕ) → IsNumbered c w → id ≡ w.ids + 1 → length w.sides < c.connections → IsNumbered c (opened_world c.limits w id)
+opened_numbered c w id is next room = record {
+  low = omega (arith, is.low, next);
+  each = each_more (λ p. IsGivenNumber c id p.id) w.sides (record { id = id; side = new_side c.limits })
+      (each_weaker (λ p. IsGivenNumber c w.ids p.id) (λ p. IsGivenNumber c id p.id) (λ p given. record { above = given.above; within = omega (arith, given.within, next) }) w.sides is.each)
+      (record { above = omega (arith, is.low, next); within = omega arith });
+  few = omega (arith, room, length-append w.sides (record { id = id; side = new_side c.limits } ∷ []));
+}
+
+-- which opens a connection
+pub opens : (c : ConfigValues) (w : World) (id : ℕ) → IsNumbered c w → id ≡ w.ids + 1 → acted c.limits w (world.Opened id) ≡ opened_world c.limits w id
+unfolding acted
+opens c w id is next = ap (λ (o : Option Side). cond (is_none o) (opened_world c.limits w id) w) (free_by c w id (side_of id w.sides) refl is (omega (arith, next)))
+
+pub acted_numbered : (c : ConfigValues) (w : World) (s : Step) → IsNumbered c w → OpensNext c w s → IsNumbered c (acted c.limits w s)
+unfolding acted
+acted_numbered c w (world.Opened id) is next = subst (IsNumbered c) (sym (opens c w id is next.0)) (opened_numbered c w id is next.0 next.1)
+acted_numbered c w (world.Handled id m) is next = changed_numbers c w _ id (λ s. side_after w.store w.now s m) is refl refl
+acted_numbered c w (world.Faulted id fault) is next = changed_numbers c w _ id (λ s. side_faulted s fault) is refl refl
+acted_numbered c w (world.Written id n) is next = changed_numbers c w _ id (λ s. side_written s n) is refl refl
+acted_numbered c w (world.Ticked now) is next = if_numbered c (ticks w.now now) w _ is (record { low = is.low; each = is.each; few = is.few })
+acted_numbered c w (world.Stored path format bytes) is next = if_numbered c (is_none (put_refusal w.store path bytes)) w _ is (record { low = is.low; each = is.each; few = is.few })
+acted_numbered c w (world.Removed path) is next = record { low = is.low; each = is.each; few = is.few }
+acted_numbered c w (world.Ended id cut) is next = changed_numbers c w _ id (λ s. side_ended s cut) is refl refl
+acted_numbered c w (world.Released id) is next = changed_numbers c w _ id side_released is refl refl
+acted_numbered c w (world.Announced id size) is next = changed_numbers c w _ id (λ s. side_announced s size) is refl refl
+acted_numbered c w (world.Dropped id) is next = record {
+  low = is.low;
+  each = each_but (λ p. IsGivenNumber c w.ids p.id) id w.sides is.each;
+  few = omega (arith, is.few, fewer id w.sides);
+}
+
+pub step_numbered : (c : ConfigValues) (w : World) (s : Step) → IsNumbered c w → OpensNext c w s → IsNumbered c (world.step c.limits w s)
+unfolding world.step
+step_numbered c w s is next =
+    let did : World = acted c.limits w s in
+    same_numbers c did (all_settled did) (settled_place did.store did.now) (λ p. refl) (acted_numbered c w s is next) refl refl
+
+-- no number is taken back
+if_ids : (does : Bool) (w v : World) → w.ids ≤ v.ids → w.ids ≤ (cond does v w).ids
+if_ids true w v h = h
+if_ids false w v h = omega arith
+
+pub ids_grow : (c : ConfigValues) (w : World) (s : Step) → OpensNext c w s → w.ids ≤ (world.step c.limits w s).ids
+unfolding world.step acted
+ids_grow c w (world.Opened id) next = if_ids (is_none (side_of id w.sides)) w (opened_world c.limits w id) (omega (arith, next.0))
+ids_grow c w (world.Ticked now) next = if_ids (ticks w.now now) w _ (omega arith)
+ids_grow c w (world.Stored path format bytes) next = if_ids (is_none (put_refusal w.store path bytes)) w _ (omega arith)
+ids_grow c w other next = omega arith
+
+-- ---- a fault
+
+-- a fault stops the connection that it is on, where that handles messages
+pub faulted_is_stopped : (limits : LimitValues) (w : World) (id : ℕ) (fault : StreamFault) (s t : Side) → side_of id w.sides ≡ Some s → handles s ≡ true → side_of id (world.step limits w (world.Faulted id fault)).sides ≡ Some t → takes_messages t.history.phase ≡ false
+faulted_is_stopped limits w id fault s t before does e =
+    let same : settled w.store w.now (side_faulted s fault) ≡ t = same_there _ t (sym (faulted_there limits w id fault s before) ∙ e) in
+    ap (λ (u : Side). takes_messages u.history.phase) (sym same) ∙ (settled_goes_on w.store w.now (side_faulted s fault)).over (faulted_stops s fault does)
+
+-- ---- What holds of the world after any accepted events: each number is given once, and the stream of a connection that takes
+-- messages has no fault.
 
 -- where a connection takes messages, its stream has no fault
 abbrev pub HaveNoFault : ConfigValues → List Event → World → Type 0
@@ -69,7 +219,7 @@ silent_stream M id es none = ap (λ (s : Stream × ℕ). s.0.fault) none
 
 first_reached : (c : ConfigValues) → IsReached c []
 first_reached c = reached c [] (new_world c) (world_first c) (record {
-  numbered = new_world_numbered c;
+  numbered = record { low = omega arith; each = tt; few = omega arith };
   silent = λ id h. first_spelled c.limits.max_message id;
   goes_on = λ id s e takes. silent_stream c.limits.max_message id [] (first_spelled c.limits.max_message id);
   sizes = λ id s e. absurd (none_or_some s (sym (nobody id) ∙ e));
@@ -99,9 +249,6 @@ step_live c es s id t before next e takes = from_live c es s id t before next (s
 abbrev SameSize : History → History → Type 0
 SameSize h k = k.own_max ≡ h.own_max
 
-once_size : (store : StoreValue) (now : ℕ) (s : Side) → Between SameSize s (settled_once store now s)
-once_size = once_between SameSize SameSize (λ h. refl) (λ h k g one two. two ∙ one) (λ h token observe r does room. refl) (λ h now. refl) (λ h now token due room. refl)
-
 settled_size : (store : StoreValue) (now : ℕ) (s : Side) → Between SameSize s (settled store now s)
 settled_size = settled_between SameSize (record { same = λ h. refl; then = λ h k g one two. two ∙ one }) (λ h token observe r does room. refl) (λ h now. refl) (λ h now token due room. refl)
 
@@ -119,7 +266,7 @@ size_kept w st id none = record {
   ended = ended_between SameSize (λ h. refl) (λ h cut takes. refl);
   released = released_between SameSize (λ h. refl) (λ h opened may. refl);
   announced = λ size is. absurd (none size is);
-  told = λ store now s t is. once_size store now t ∙ is;
+  told = λ store now s t is. (once_between SameSize SameSize (λ h. refl) (λ h k g one two. two ∙ one) (λ h token observe r does room. refl) (λ h now. refl) (λ h now token due room. refl)) store now t ∙ is;
 }
 
 sized_from : (c : ConfigValues) (es : List Event) (st : Step) (id : ℕ) (t : Side) → IsReached c es → OpensNext c (world_after c es) st → HoldsFrom (Between SameSize) c.limits (world_after c es) st id t → t.history.own_max ≡ size_on c.limits.max_message id es
@@ -266,6 +413,7 @@ raised_to N size true is within = refl
 raised_to N size false is within = omega (arith, ltb-false N size is, within)
 
 announcing_has_sizes : (c : ConfigValues) (es : List Event) (id size : ℕ) (s : Side) → side_of id (world_after c es).sides ≡ Some s → IsReached c es → may_raise s size ≡ true → HaveSizes c (es ++ event.Announced id size ∷ []) (world.step c.limits (world_after c es) (world.Announced id size))
+unfolding world.step acted
 announcing_has_sizes c es id size s there before may k t at =
     let w : World = world_after c es in
     let M : ℕ = c.limits.max_message in
@@ -273,7 +421,7 @@ announcing_has_sizes c es id size s there before may k t at =
     elim (cases_eq id k) [
       | inl same ↦
           let there_now : side_of id (world.step c.limits w (world.Announced id size)).sides ≡ Some t = ap (λ (n : ℕ). side_of n (world.step c.limits w (world.Announced id size)).sides) same ∙ at in
-          let now : settled w.store w.now (side_announced s size) ≡ t = same_there _ t (sym (announced_there c.limits w id size s there) ∙ there_now) in
+          let now : settled w.store w.now (side_announced s size) ≡ t = same_there _ t (sym (settles_there id w.store w.now (λ u. side_announced u size) w.sides s there) ∙ there_now) in
           let own : t.history.own_max ≡ size = ap (λ (u : Side). u.history.own_max) (sym now) ∙ settled_size w.store w.now (side_announced s size) ∙ announced_size s size may in
           let lower : s.history.own_max ≤ size = leb-true s.history.own_max size (and_parts (nat_le s.history.own_max size) (nat_le size greatest_size) (and_parts (nat_le s.history.own_max size && nat_le size greatest_size) (has_room s && may_announce (link_of s.history) size) may).0).0 in
           let N : ℕ = size_on M id es in

@@ -1,34 +1,44 @@
 -- The last byte of a message for which memory is refused: the bytes before it make no step, and with it comes one message more,
 -- which stores a representation.
-use Rattle.std.proofs.Common.{◌≡◌, ℕ, ◌+◌, ◌-◌, ◌≤◌, Bool, true, List, [], ◌∷◌, ◌++◌, length, map, take, drop, Some, None, Result, Ok, Err, refl, sym, ap, subst, ◌∙◌, append_assoc, take-take, arith, if◌then◌else◌, Option}
-use Rattle.std.proofs.lemmas.List.{append-nil, length-append, length-drop, length-take-le, take-append-drop, take_at}
+use Rattle.std.proofs.Common.{◌≡◌, ℕ, ◌+◌, ◌-◌, ◌≤◌, Bool, true, List, [], ◌∷◌, ◌++◌, length, map, take, drop, Some, None, Result, Ok, Err, refl, sym, ap, subst, ◌∙◌, append_assoc, take-take, arith, if◌then◌else◌, Option, option_map, IfErr, inl, inr, ◌⊎◌}
+use Rattle.std.proofs.lemmas.List.{length-append, length-drop, length-take-le, take-append-drop, take_at}
 use Rattle.std.proofs.Math.Seq.{drop-append_seam}
 use Rattle.coap_wire.specs.Message.{Message}
 use Rattle.coap_wire.specs.Reading.{message_of}
 use Rattle.coap_wire.specs.declared.fault.FormatFault.{FormatFault}
 use Rattle.coap_wire.specs.Beginning.{Unfinished, Whole, beginning}
 use Rattle.coap_wire.specs.Stream.{Stream, with_message, split, split_on, StreamFault, gone_on}
-use Rattle.coap_wire.specs.Stream as stream
-use Rattle.coap_wire.proofs.StreamSteps.{unfinished_empty, split_unfinished, split_message, split_rest}
+use Rattle.coap_wire.proofs.StreamSteps.{unfinished_empty, split_unfinished, split_message}
 use Rattle.coap_frame.specs.Framing.{Finding, AFrame, framing, without_last}
 use Rattle.coap_frame.proofs.GivenLaws.{taken_within, frame_taken}
 use Rattle.coap_store.specs.Changes.{IsPut}
 use Rattle.coap_serve.specs.Configs.{ConfigValues}
 use Rattle.coap_serve.specs.declared.host.Host.{Host}
 use Rattle.coap_serve.specs.values.Sessions.{SessionValue, Taking, taking_read, taking_found, change_by, RefusesPiece}
-use Rattle.coap_serve.specs.values.Servers.{ServerValue, session_of}
+use Rattle.coap_serve.specs.values.Servers.{ServerValue, session_of, count_on, count_taken}
 use Rattle.coap_serve.specs.world.Sides.{Side, handles}
-use Rattle.coap_serve.specs.world.World.{World, side_of}
-use Rattle.coap_serve.specs.world.World as world
-use Rattle.coap_serve.specs.world.Events.{Event, taken_on, stream_on, new_fault, beyond, world_after, front_of, size_on}
+use Rattle.coap_serve.specs.world.World.{World, side_of, Handled}
+use Rattle.coap_serve.specs.world.Events.{Event, stream_on, new_fault, beyond, world_after, front_of, size_on, Took, steps_by, takes}
 use Rattle.coap_serve.specs.world.View.{change_on, change_made}
 use Rattle.coap_serve.specs.world.Shows.{session_shown, Shows}
 use Rattle.coap_serve.proofs.world.TookLaws.{frame_itself, but_last_unfinished}
 use Rattle.coap_serve.proofs.world.ReachedLaws.{IsReached, accepted_is, handling_goes_on}
 use Rattle.coap_serve.proofs.world.SideLaws.{host_of, change_shown}
-use Rattle.coap_serve.proofs.world.ShownLemmas.{taking_front, taking_count, put_has_frame}
-use Rattle.coap_serve.proofs.world.ShowLaws.{session_there, host_shown}
-use Rattle.coap_serve.proofs.world.StepLaws.{rest_unfinished}
+use Rattle.coap_serve.proofs.world.ShowLaws.{session_there, host_shown, taking_front, taking_count, put_has_frame, sessions_shown, takes_shown}
+use Rattle.coap_serve.proofs.world.StepLaws.{rest_unfinished, stream_more}
+use Rattle.std.specs.List.{AllByRecursion}
+use Rattle.coap_serve.specs.values.ServerAnswers.{RefusesPieceOn, IsNotTaken}
+use Rattle.coap_serve.specs.declared.server.Taken.{Taken}
+use Rattle.coap_serve.specs.declared.server.TakeFault.{TakeFault}
+use Rattle.coap_serve.specs.declared.server.WrittenFault.{WrittenFault}
+use Rattle.coap_serve.specs.declared.server.ReleaseFault.{ReleaseFault}
+use Rattle.coap_serve.specs.world.Memory.{IsRefusedStored, IsRefusedFor, StoresNothing}
+use Rattle.coap_wire.specs.Stream as stream
+use Rattle.coap_serve.specs.world.World as world
+use Rattle.coap_serve.specs.declared.server.TakeFault.TheVariants as fault
+use Rattle.coap_serve.specs.declared.server.WrittenFault.TheVariants as writing
+use Rattle.coap_serve.specs.declared.server.ReleaseFault.TheVariants as releasing
+use Rattle.coap_serve.specs.world.View as view
 
 -- what a connection has spelled, gone on with more bytes
 abbrev gone_on_with : ConfigValues → List Event → ℕ → List ℕ → Stream
@@ -175,3 +185,69 @@ pub refuses_last : (v : ServerValue) (es : List Event) (id : ℕ) (piece : List 
 refuses_last v es id piece n s shows e refuses =
     let at = session_there v es id s shows e in
     refuses_there v es id piece n at.side shows at.there (subst (λ (u : SessionValue). RefusesPiece v.host u piece n) at.shown refuses)
+
+-- ---- Where a take is refused memory, the events say for which message: the one that the next byte of the piece would end.
+
+-- the steps of taken bytes are what the stream has beyond the one before
+took_beyond : (M id : ℕ) (es : List Event) (bytes : List ℕ) → steps_by M es (Took id bytes) ≡ beyond id (stream_on M id es) (split_on (size_on M id es) (stream_on M id es) bytes)
+unfolding steps_by
+took_beyond M id es bytes = ap (beyond id (stream_on M id es)) (stream_more M id es bytes)
+
+-- how many bytes are taken on a connection that is there
+count_there : (v : ServerValue) (id : ℕ) (piece : List ℕ) (s : SessionValue) → session_of id v.sessions ≡ Some s → count_taken v id piece ≡ count_on v piece (Some s)
+unfolding count_taken
+count_there v id piece s e = ap (count_on v piece) e
+
+refused_where_there : (v : ServerValue) (es : List Event) (id : ℕ) (piece : List ℕ) (n : ℕ) (there : Option SessionValue) → Shows v es → session_of id v.sessions ≡ there → RefusesPieceOn v piece n there → IsRefusedStored v.config es id piece n
+refused_where_there v es id piece n None shows e refuses = absurd refuses
+refused_where_there v es id piece n (Some s) shows e refuses =
+    let M : ℕ = v.config.limits.max_message in
+    let last = refuses_last v es id piece n s shows e refuses in
+    record {
+      last = sym refuses.last ∙ sym (count_there v id piece s e) ∙ takes_shown v es id piece shows;
+      quiet = took_beyond M id es (take n piece) ∙ last.quiet;
+      message = last.message;
+      ends = took_beyond M id es (take (n + 1) piece) ∙ last.ends;
+      stores = last.stores;
+    }
+
+-- memory is refused for a message that is stored
+pub refused_is_stored : (v after : ServerValue) (es : List Event) (id : ℕ) (piece : List ℕ) (n : ℕ) → Shows v es → IsNotTaken v id piece (fault.Memory n) after → IsRefusedStored v.config es id piece n
+refused_is_stored v after es id piece n shows not = refused_where_there v es id piece n (session_of id v.sessions) shows refl not.0
+
+-- and so for no other
+pub other_not_refused : (v after : ServerValue) (es : List Event) (id : ℕ) (piece : List ℕ) (n : ℕ) → Shows v es → StoresNothing v.config es id piece → IsNotTaken v id piece (fault.Memory n) after → ⊥
+other_not_refused v after es id piece n shows nothing not =
+    let c : ConfigValues = v.config in
+    let refused = refused_is_stored v after es id piece n shows not in
+    let all : steps_by c.limits.max_message es (Took id (take (takes c es id piece) piece)) ≡ Handled id refused.message ∷ [] =
+    ap (λ (k : ℕ). steps_by c.limits.max_message es (Took id (take k piece))) (sym refused.last) ∙ refused.ends in
+    (subst (AllByRecursion (λ s. IsPut (view.change_by (world_after c es) s) → ⊥)) all nothing).0 refused.stores
+
+-- ---- the clause of a take
+
+nobody_behind : (f : Side → SessionValue) (there : Option Side) → option_map f there ≡ None → there ≡ None
+nobody_behind f None none = refl
+nobody_behind f (Some s) none = absurd cc
+
+not_taken_for : (why : TakeFault) (v new : ServerValue) (id : ℕ) (piece : List ℕ) → IsNotTaken v id piece why new → (es : List Event) → Shows v es → IsRefusedFor v.config es id piece why
+not_taken_for fault.NoSuch v new id piece not es shows =
+    nobody_behind (session_shown (stream_on v.config.limits.max_message id es).rest) (side_of id (world_after v.config es).sides) (sym (sessions_shown v es id shows) ∙ not.0)
+not_taken_for (fault.Memory n) v new id piece not es shows = refused_is_stored v new es id piece n shows not
+
+pub take_refused_for : (r : Result Taken TakeFault) (v new : ServerValue) (id : ℕ) (piece : List ℕ) → IfErr r (λ why. IsNotTaken v id piece why new)
+    → IfErr r (λ why. (es : List Event) → Shows v es → IsRefusedFor v.config es id piece why)
+take_refused_for (Ok t) v new id piece not = tt
+take_refused_for (Err e) v new id piece not = not_taken_for e v new id piece not
+
+-- ---- the other calls on a connection
+
+pub written_faults : (why : WrittenFault) → (why ≡ writing.NoSuch) ⊎ (why ≡ writing.TooMany)
+written_faults writing.NoSuch = inl refl
+written_faults writing.TooMany = inr refl
+
+pub release_faults : (why : ReleaseFault) → (why ≡ releasing.NoSuch) ⊎ ((why ≡ releasing.NotOpen) ⊎ ((why ≡ releasing.NoRoom) ⊎ (why ≡ releasing.PeerTooSmall)))
+release_faults releasing.NoSuch = inl refl
+release_faults releasing.NotOpen = inr (inl refl)
+release_faults releasing.NoRoom = inr (inr (inl refl))
+release_faults releasing.PeerTooSmall = inr (inr (inr refl))

@@ -2,7 +2,7 @@
 -- answered late had that token.
 use Rattle.std.proofs.Common.{◌≡◌, ◌≢◌, ℕ, Bool, true, false, cond, List, [], ◌∷◌, ◌++◌, length, Option, Some, None, refl, sym, ap, subst, ◌∙◌, filter, find, not, is_none, nat_le, nat_lt, ◌&&◌, if◌then◌else◌}
 use Rattle.std.specs.List.{AllByRecursion}
-use Rattle.std.proofs.lemmas.Bool.{cond_both, and_parts, and_right, or_parts}
+use Rattle.std.proofs.lemmas.Bool.{cond_both, and_parts, and_right, or_parts, false_from_ne_true}
 use Rattle.std.proofs.lemmas.List.Folds.{list_any-append}
 use lib.Pointwise.{bytes_decides}
 use Rattle.coap_wire.specs.Message.{Message}
@@ -32,13 +32,12 @@ use Rattle.coap_serve.specs.world.Told.{responds, is_response, TellsState, asked
 use Rattle.coap_serve.specs.world.Custody.{StandFor}
 use Rattle.coap_serve.proofs.world.EntryLemmas.{all_to, all_append, all_filter, all_become, found_all}
 use Rattle.coap_serve.proofs.values.AnsweringLemmas.{asks_to_enter}
-use Rattle.coap_serve.proofs.world.SideLaws.{replied_cases, settled_cases, held_room}
+use Rattle.coap_serve.proofs.world.SideLaws.{replied_cases, settled_cases, held_room, next_due_found}
 use Rattle.coap_serve.proofs.world.WalkLaws.{if_between, ended_between}
-use Rattle.coap_serve.proofs.world.GoingOn.{IsSide, Keeps, kept_after}
-use Rattle.coap_serve.proofs.world.ToldMessages.{other_bytes, last_is, last_stays, Queues, queues_none, queues_to, IsNoResponse, IsPlain, message_queues, reject_queues, end_queues, release_queues, holding_queues, due_queues, reply_queues, whole_last, announcing_queues}
-use Rattle.coap_serve.proofs.world.SettleLaws.{next_due_found}
+use Rattle.coap_serve.proofs.world.GoingOn.{kept_after, IsSide, Keeps}
+use Rattle.coap_serve.proofs.world.ToldMessages.{last_is, last_stays, queues_none, queues_to, IsNoResponse, IsPlain, message_queues, reject_queues, end_queues, release_queues, holding_queues, due_queues, reply_queues, whole_last, announcing_queues, Queues}
 use Rattle.coap_serve.proofs.world.CustodyLaws.{Stands, stand_asked, stands_keeps}
-use Rattle.coap_serve.proofs.world.ToldAnswers.{tells_responds, entry_tells, notification_tells_observer}
+use Rattle.coap_serve.proofs.world.KnownLaws.{tells_responds, entry_tells, notification_tells_observer}
 use Rattle.coap_conn.specs.Calls.{may_announce}
 
 -- ---- what is told stays told
@@ -63,11 +62,8 @@ still_told o queued more none told = (told.0, last_stays o.token queued more non
 told_by_last : (o : Observer) (queued : List Message) (m : Message) → TellsState o o.told m → WasToldLast (queued ++ m ∷ []) o
 told_by_last o queued m tells = (m, last_is o.token queued m (tells_responds o o.told m tells), tells)
 
-no_response : (token : List ℕ) (m : Message) → IsNoResponse m → responds token m ≡ false
-no_response token m e = ap (λ b. b && same_bytes m.token token) e
-
 other_response : (token : List ℕ) (m : Message) → m.token ≢ token → responds token m ≡ false
-other_response token m apart = and_right (is_response m) (same_bytes m.token token) (other_bytes m.token token apart)
+other_response token m apart = and_right (is_response m) (same_bytes m.token token) (false_from_ne_true (same_bytes m.token token) (λ e. apart ((bytes_decides m.token token).0 e)))
 
 -- where none has asked of all that was handled, none had of what was handled before
 asked_before : (token : List ℕ) (heard more : List Message) → asked_late token (heard ++ more) ≡ false → asked_late token heard ≡ false
@@ -85,11 +81,8 @@ queued_told P h k o queues other told none =
 signalled_told : (h k : History) (os : List Observer) → Queues IsNoResponse h k → AreTold h os → AreTold k os
 signalled_told h k os queues are = record {
   own = are.own;
-  told = all_to (ToldOn h) (ToldOn k) (λ o. queued_told IsNoResponse h k o queues (λ none. no_response o.token)) os are.told;
+  told = all_to (ToldOn h) (ToldOn k) (λ o. queued_told IsNoResponse h k o queues (λ none. (λ m e. ap (λ b. b && same_bytes m.token o.token) e))) os are.told;
 }
-
-plain_told : (h k : History) (os : List Observer) → Queues IsPlain h k → AreTold h os → AreTold k os
-plain_told h k os queues are = signalled_told h k os (queues_to IsPlain IsNoResponse (λ m is. is.0) h k queues) are
 
 -- responses with another token leave it
 abbrev HasToken : List ℕ → Message → Type 0
@@ -141,10 +134,6 @@ filter_others token (o ∷ os) =
       | true ↦ λ e. (kept_other token o e, filter_others token os)
       | false ↦ λ e. filter_others token os
     ] refl
-
-without_others : (token : List ℕ) (os : List Observer) → HaveOtherTokens token (without_token token os)
-unfolding without_token
-without_others token os = filter_others token os
 
 without_told : (token : List ℕ) (h : History) (os : List Observer) → AreTold h os → AreTold h (without_token token os)
 unfolding without_token
@@ -198,7 +187,7 @@ signalled_side : (s : Side) (h : History) → Queues IsNoResponse s.history h �
 signalled_side s h queues are = kept_told h s.observers (λ opened. signalled_told s.history h s.observers queues are)
 
 plain_side : (s : Side) (h : History) → Queues IsPlain s.history h → AllTold s → AllTold (with_history s h)
-plain_side s h queues are = kept_told h s.observers (λ opened. plain_told s.history h s.observers queues are)
+plain_side s h queues are = kept_told h s.observers (λ opened. (signalled_told s.history h s.observers (queues_to IsPlain IsNoResponse (λ m is. is.0) s.history h queues) are))
 
 -- an answer is held
 held_told : (h : History) (os : List Observer) (token : List ℕ) (moment : ℕ) → AreTold h os → AllTold (side_with (after h (call.Hold token moment)) os)
@@ -211,16 +200,13 @@ request_told store now h others m apart are =
     replied_cases store now h others m (answer_of store now m).hold AllTold (λ seconds e. held_told h others m.token (moment_after now seconds) are) (λ e. told_with_answer store now h others m apart are)
 
 handled_told : (limits : LimitValues) (store : StoreValue) (now : ℕ) (s : Side) (m : Message) → IsSide limits s → AllTold s → AllTold (side_handled store now s m)
+unfolding without_token
 handled_told limits store now s m is are =
     let h : History = after s.history (call.Handle m) in
     let queues : Queues IsNoResponse s.history h = message_queues s.history m is.is_server in
     let others : List Observer = without_token m.token s.observers in
     if_told (asks_answer s m) (with_history s h) (side_replied store now h others m (held_for h (answer_of store now m).hold)) (signalled_side s h queues are)
-    (λ asks. request_told store now h others m (without_others m.token s.observers) (signalled_told s.history h others queues (without_told m.token s.history s.observers are)))
-
-after_told : (limits : LimitValues) (store : StoreValue) (now : ℕ) (s : Side) (m : Message) → IsSide limits s → AllTold s → AllTold (side_after store now s m)
-unfolding side_after
-after_told limits store now s m is are = if_told (handles s) s (side_handled store now s m) are (λ does. handled_told limits store now s m is are)
+    (λ asks. request_told store now h others m (filter_others m.token s.observers) (signalled_told s.history h others queues (without_told m.token s.history s.observers are)))
 
 -- ---- notifications
 
@@ -324,10 +310,6 @@ written_told : (s : Side) (n : ℕ) → AllTold s → AllTold (side_written s n)
 unfolding side_written
 written_told s n are = if_told (nat_le n (length (waiting_on s))) s (record s { history = after s.history (call.Written n) }) are (λ does. record { own = are.own; told = are.told })
 
-ended_told : (s : Side) (cut : Bool) → AllTold s → AllTold (side_ended s cut)
-unfolding side_ended
-ended_told s cut are = plain_side s (after s.history (call.End cut)) (ended_between (Queues IsPlain) (queues_none IsPlain) end_queues s cut) are
-
 released_told : (s : Side) → AllTold s → AllTold (side_released s)
 unfolding side_released
 released_told s are =
@@ -343,12 +325,13 @@ announced_told s size are =
     (λ does. plain_side s (after h (call.Announce size)) (if_between (Queues IsPlain) (may_announce (link_of h) size) h _ (queues_none IsPlain h) (λ may. announcing_queues h size)) are)
 
 told_side_keeps : (limits : LimitValues) → Keeps limits IsToldSide
+unfolding side_after side_ended
 told_side_keeps limits = let stands : Keeps limits (λ s. Stands s.history) = stands_keeps limits in record {
   first = record { stand = stands.first; are = record { own = tt; told = tt } };
-  handled = λ store now s m is of. record { stand = stands.handled store now s m is of.stand; are = after_told limits store now s m is of.are };
+  handled = λ store now s m is of. record { stand = stands.handled store now s m is of.stand; are = (if_told (handles s) s (side_handled store now s m) of.are (λ does. handled_told limits store now s m is of.are)) };
   faulted = λ s fault of. record { stand = stands.faulted s fault of.stand; are = faulted_told s fault of.are };
   written = λ s n of. record { stand = stands.written s n of.stand; are = written_told s n of.are };
-  ended = λ s cut of. record { stand = stands.ended s cut of.stand; are = ended_told s cut of.are };
+  ended = λ s cut of. record { stand = stands.ended s cut of.stand; are = (plain_side s (after s.history (call.End cut)) (ended_between (Queues IsPlain) (queues_none IsPlain) end_queues s cut) of.are) };
   released = λ s of. record { stand = stands.released s of.stand; are = released_told s of.are };
   announced = λ s size of. record { stand = stands.announced s size of.stand; are = announced_told s size of.are };
   told = λ store now s of. record { stand = stands.told store now s of.stand; are = once_told store now s of.stand of.are };

@@ -1,10 +1,9 @@
 -- The last response with a token: what is queued behind it leaves it, unless it is a response with that token too. And what each
 -- thing that happens to a connection queues.
-use Rattle.std.proofs.Common.{◌≡◌, ◌≢◌, ℕ, Bool, true, false, cond, List, [], ◌∷◌, ◌++◌, Option, Some, None, refl, sym, ap, ◌∙◌, ◌≤◌, arith, length, nat_lt, reverse, find, ◌&&◌, ◌==◌}
+use Rattle.std.proofs.Common.{◌≡◌, ℕ, Bool, true, false, cond, List, [], ◌∷◌, ◌++◌, Option, Some, None, refl, sym, ap, ◌∙◌, ◌≤◌, arith, length, nat_lt, reverse, find, ◌&&◌, ◌==◌}
 use Rattle.std.specs.List.{AllByRecursion, list_any}
-use Rattle.std.proofs.lemmas.Bool.{cond_both, cond-true, cond-false, false_from_ne_true, and_parts, ltb-true}
+use Rattle.std.proofs.lemmas.Bool.{cond_both, cond-true, cond-false, and_parts, ltb-true}
 use Rattle.std.proofs.lemmas.List.{append-nil, append_assoc, reverse-append}
-use lib.Pointwise.{bytes_decides}
 use Rattle.coap_wire.specs.Message.{Message}
 use Rattle.coap_wire.specs.Codes as code
 use Rattle.coap_conn.specs.declared.phase.Phase.{Phase}
@@ -27,7 +26,6 @@ use Rattle.coap_conn.specs.History.{History, limit_now, standing_now, with_effec
 use Rattle.coap_conn.specs.LinkValue.{own_csm}
 use Rattle.coap_conn.specs.Calls.{end_reason, release, standing_due}
 use Rattle.coap_conn.specs.Calls as call
-use Rattle.coap_store.specs.Paths.{same_bytes}
 use Rattle.coap_serve.specs.world.Observers.{is_whole}
 use Rattle.coap_serve.specs.world.Handling.{message_reason}
 use Rattle.coap_serve.specs.world.Told.{is_response, responds, last_response}
@@ -35,9 +33,6 @@ use Rattle.coap_serve.proofs.world.EntryLemmas.{all_to, all_append}
 use Rattle.coap_serve.proofs.world.WalkLaws.{holding, announcing, Rejects, Ends, Releases}
 
 -- ---- tokens
-
-pub other_bytes : (xs ys : List ℕ) → xs ≢ ys → same_bytes xs ys ≡ false
-other_bytes xs ys apart = false_from_ne_true (same_bytes xs ys) (λ e. apart ((bytes_decides xs ys).0 e))
 
 -- ---- the last response
 

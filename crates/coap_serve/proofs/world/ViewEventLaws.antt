@@ -20,8 +20,7 @@ use Rattle.coap_serve.specs.world.View.{change_by, concerns}
 use Rattle.coap_serve.specs.world.ViewEvents.{first_number, change_events, changes_of, if_own, view_event, view_behind, view_events}
 use Rattle.coap_serve.proofs.world.StepLaws.{taken_here, taken_elsewhere, stream_more, size_stays, announced_here, announced_elsewhere, spelled_by, spelled_then, spelled_same, first_spelled, each_beyond, world_first, world_more, world_step, accepted_none, accepted_more, by_events}
 use Rattle.coap_serve.proofs.world.PlaceLaws.{nobody}
-use Rattle.coap_serve.proofs.world.WorldLaws.{OpensNext, IsNumbered, number_given, opens, ids_grow}
-use Rattle.coap_serve.proofs.world.ReachedLaws.{accepted_is}
+use Rattle.coap_serve.proofs.world.ReachedLaws.{accepted_is, OpensNext, IsNumbered, number_given, opens, ids_grow}
 use Rattle.coap_serve.proofs.world.ViewLaws.{IsNotRefused, by_passes, Share, share, share_of, settled_share, SettlesAlike, step_share, step_rests, did, own_did, other_did, new_rests}
 
 -- ---- lists

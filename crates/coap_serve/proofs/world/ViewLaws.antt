@@ -12,7 +12,7 @@ use Rattle.coap_store.specs.Refusals.{put_refusal, remove_refusal}
 use Rattle.coap_store.proofs.AnswerLaws.{answer_cases, get_cases, store_cases, CanStore, key_is, state_dynamic, change_finally, change_unheld}
 use Rattle.coap_serve.specs.Configs.{ConfigValues}
 use Rattle.coap_serve.specs.world.Sides.{Side, new_side, handles, asks_answer, side_after, change_after, side_faulted, side_written, side_ended, side_released, side_announced, settled}
-use Rattle.coap_serve.specs.world.World.{World, Step, new_world, side_of, changed_at, stored_after, ticks, acted, all_settled, after_steps}
+use Rattle.coap_serve.specs.world.World.{World, Step, new_world, side_of, changed_at, stored_after, ticks, acted, after_steps}
 use Rattle.coap_serve.specs.world.World as world
 use Rattle.coap_serve.specs.world.Events.{Event, steps_of, world_after}
 use Rattle.coap_serve.specs.world.View.{change_steps, change_on, change_made, change_by, concerns, view_step, view_of, after_view, AreSeen}
@@ -20,7 +20,7 @@ use Rattle.coap_serve.proofs.world.StepLaws.{steps_then}
 use Rattle.coap_serve.proofs.world.PlaceLaws.{first_there, later_there, nobody, all_there, changed_here, changed_elsewhere, still_there, new_there, dropped_here, dropped_elsewhere}
 use Rattle.coap_serve.proofs.world.AcrossLaws.{opened_world}
 use Rattle.coap_serve.proofs.world.EntryLemmas.{all_append}
-use Rattle.coap_serve.proofs.world.SettleLaws.{IsAtRest, at_rest, settled_rests}
+use Rattle.coap_serve.proofs.world.SideLaws.{at_rest, settled_rests}
 use Rattle.coap_conn.proofs.AskingLaws.{none_where}
 
 -- ---- the store refuses nothing that a message puts
@@ -57,16 +57,13 @@ deletion_by s now path (Some q) (Some r) dynamic key found =
     let there : found_in s.resources q ≡ Some r = sym (state_dynamic s now (key_for path) (place_of path) dynamic ∙ ap (stored_at s) key) ∙ found in
     rw (place, there) refl
 
-deletion_passes : (s : StoreValue) (now : ℕ) (path : Path) → is_dynamic (place_of path) ≡ true → IsNotRefused s (deletion (target_of s now path).key (target_of s now path).state)
-deletion_passes s now path dynamic = deletion_by s now path (key_for path) (state_at s now (key_for path) (place_of path)) dynamic refl refl
-
 answer_passes : (s : StoreValue) (now : ℕ) (path : Path) (m : Message) → IsNotRefused s (answer_at s (target_of s now path) m).change
 answer_passes s now path m =
     let t = target_of s now path in
     let P : Answer → Type 0 = λ a. IsNotRefused s a.change in
     answer_cases P s t m (λ c e. tt) (record {
       read = λ r is. get_cases P t.place r m (λ c e. tt) (record { valid = λ among. tt; late = tt; content = tt });
-      deleted = λ dynamic other. deletion_passes s now path dynamic;
+      deleted = λ dynamic other. (deletion_by s now path (key_for path) (state_at s now (key_for path) (place_of path)) dynamic refl refl);
       stored = λ dynamic other. store_cases P s t m (λ c e. tt) tt (λ can. stored_passes s t.key t.state m (λ q key. put_passes s now path q m dynamic can key));
     })
 
@@ -118,16 +115,10 @@ share_either id false v w x first last = last
 abbrev pub settled_share : Share → Share
 settled_share x = record x { side = option_map (settled x.store x.now) x.side }
 
-all_settled_share : (id : ℕ) (w : World) → share_of id (all_settled w) ≡ settled_share (share_of id w)
-all_settled_share id w = ap (share w.store w.now) (all_there id (settled w.store w.now) w.sides)
-
-settled_same : (store : StoreValue) (now : ℕ) (s : Side) → IsAtRest store now s → settled store now s ≡ s
-unfolding settled
-settled_same store now s rests = at_rest (length s.history.held + length s.observers) store now s rests
-
 settled_again : (store : StoreValue) (now : ℕ) (there : Option Side) → option_map (settled store now) (option_map (settled store now) there) ≡ option_map (settled store now) there
+unfolding settled
 settled_again store now None = refl
-settled_again store now (Some s) = ap (λ (t : Side). Some t) (settled_same store now (settled store now s) (settled_rests store now s))
+settled_again store now (Some s) = ap (λ (t : Side). Some t) (at_rest (length (settled store now s).history.held + length (settled store now s).observers) store now (settled store now s) (settled_rests store now s))
 
 -- settling changes nothing of it
 abbrev pub SettlesAlike : ℕ → World → Type 0
@@ -137,7 +128,7 @@ SettlesAlike id w = settled_share (share_of id w) ≡ share_of id w
 
 pub step_share : (limits : LimitValues) (id : ℕ) (w : World) (s : Step) → share_of id (world.step limits w s) ≡ settled_share (share_of id (acted limits w s))
 unfolding world.step
-step_share limits id w s = all_settled_share id (acted limits w s)
+step_share limits id w s = ap (share (acted limits w s).store (acted limits w s).now) (all_there id (settled (acted limits w s).store (acted limits w s).now) (acted limits w s).sides)
 
 pub step_rests : (limits : LimitValues) (id : ℕ) (w : World) (s : Step) → SettlesAlike id (world.step limits w s)
 step_rests limits id w s =
@@ -335,14 +326,6 @@ one_moment_of_a_view c id ss = ap (λ (x : Share). x.now) (view_shares c id ss)
 pub one_side_of_events : (c : ConfigValues) (id : ℕ) (events : List Event) → side_of id (world_after c events).sides ≡ side_of id (after_view c id (steps_of c.limits.max_message events)).sides
 unfolding world_after
 one_side_of_events c id events = one_side_of_a_view c id (steps_of c.limits.max_message events)
-
-pub one_store_of_events : (c : ConfigValues) (id : ℕ) (events : List Event) → (world_after c events).store ≡ (after_view c id (steps_of c.limits.max_message events)).store
-unfolding world_after
-one_store_of_events c id events = one_store_of_a_view c id (steps_of c.limits.max_message events)
-
-pub one_moment_of_events : (c : ConfigValues) (id : ℕ) (events : List Event) → (world_after c events).now ≡ (after_view c id (steps_of c.limits.max_message events)).now
-unfolding world_after
-one_moment_of_events c id events = one_moment_of_a_view c id (steps_of c.limits.max_message events)
 
 -- of lists of events whose steps look the same to a connection, it becomes the same
 pub one_side_of_one_view : (c : ConfigValues) (id : ℕ) (events others : List Event)

@@ -1,10 +1,10 @@
 -- Worked values of the definitions of specs/world: which messages ask for what is held, and in which order.
-use Rattle.std.proofs.Common.{◌≡◌, ℕ, true, false, List, [], ◌∷◌, refl, sym, codes, inl, inr, true≢false}
+use Rattle.std.proofs.Common.{◌≡◌, ℕ, true, false, List, [], ◌∷◌, map, refl, sym, codes, inl, inr, true≢false}
 use Rattle.coap_wire.specs.Message.{CoapOption, Message}
 use Rattle.coap_wire.specs.Codes as code
 use Rattle.coap_wire.specs.OptionNumbers as numbers
 use Rattle.coap_conn.specs.SignalOptions as option
-use Rattle.coap_conn.specs.Held.{Answer, Pong}
+use Rattle.coap_conn.specs.Held.{HeldValue, Answer, Pong}
 use Rattle.coap_conn.specs.Reaction.{is_custody_pong}
 use Rattle.coap_serve.specs.world.Told.{asked_late}
 use Rattle.coap_serve.specs.world.Custody.{asks_held, StandFor}
@@ -28,53 +28,29 @@ custody = record { number = option.custody; value = [] } ∷ []
 
 -- ---- what asks for what is held
 
--- a request that is answered late asks for the answer with its token alone
-asks_answer : asks_held (late_get 5) (Answer (5 ∷ []) 3) ≡ true
+-- A request that is answered late asks for the answer with its token alone, and no other request for any; a Ping with Custody asks
+-- for its Pong, and one without for nothing.
+what_is_asked : map (λ (r : Message × HeldValue). asks_held r.0 r.1) (
+    (late_get 5, Answer (5 ∷ []) 3)
+    ∷ (late_get 5, Answer (6 ∷ []) 3)
+    ∷ (late_get 5, Pong (5 ∷ []))
+    ∷ (prompt_get 5, Answer (5 ∷ []) 3)
+    ∷ (message_with code.ping 6 custody, Pong (6 ∷ []))
+    ∷ (message_with code.ping 6 [], Pong (6 ∷ []))
+    ∷ [])
+    ≡ true ∷ false ∷ false ∷ false ∷ true ∷ false ∷ []
 unfolding told
-asks_answer = refl
-
-asks_no_other : asks_held (late_get 5) (Answer (6 ∷ []) 3) ≡ false
-unfolding told
-asks_no_other = refl
-
-asks_no_pong : asks_held (late_get 5) (Pong (5 ∷ [])) ≡ false
-unfolding told
-asks_no_pong = refl
-
-asks_nothing_late : asks_held (prompt_get 5) (Answer (5 ∷ []) 3) ≡ false
-unfolding told
-asks_nothing_late = refl
-
--- a Ping with Custody asks for its Pong, and one without asks for nothing
-asks_pong : asks_held (message_with code.ping 6 custody) (Pong (6 ∷ [])) ≡ true
-unfolding told
-asks_pong = refl
-
-asks_bare_pong : asks_held (message_with code.ping 6 []) (Pong (6 ∷ [])) ≡ false
-unfolding told
-asks_bare_pong = refl
+what_is_asked = refl
 
 -- a Pong has Custody or not; a Ping is none
-has_custody : is_custody_pong (message_with code.pong 6 custody) ≡ true
+has_custody : map is_custody_pong (message_with code.pong 6 custody ∷ message_with code.pong 6 [] ∷ message_with code.ping 6 custody ∷ []) ≡ true ∷ false ∷ false ∷ []
 unfolding told
 has_custody = refl
 
-has_no_custody : is_custody_pong (message_with code.pong 6 []) ≡ false
-unfolding told
-has_no_custody = refl
-
-is_no_pong : is_custody_pong (message_with code.ping 6 custody) ≡ false
-unfolding told
-is_no_pong = refl
-
 -- which tokens belong to a request that is answered late
-token_late : asked_late (5 ∷ []) (prompt_get 4 ∷ late_get 5 ∷ []) ≡ true
+token_late : map (λ token. asked_late (token ∷ []) (prompt_get 4 ∷ late_get 5 ∷ [])) (5 ∷ 4 ∷ []) ≡ true ∷ false ∷ []
 unfolding told
 token_late = refl
-
-token_prompt : asked_late (4 ∷ []) (prompt_get 4 ∷ late_get 5 ∷ []) ≡ false
-unfolding told
-token_prompt = refl
 
 -- ---- the order
 

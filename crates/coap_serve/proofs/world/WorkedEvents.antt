@@ -21,25 +21,13 @@ root_events : events_of usual (Open 1 ∷ Drain 1 ∷ In 1 (hex "00e1010101") �
 unfolding events_of
 root_events = refl
 
-takes_first : takes usual opened_event 1 (hex "00e1010101") ≡ 2
+-- a piece is taken up to the end of a message, and a part of a frame whole
+takes_messages : takes usual opened_event 1 (hex "00e1010101") ∷ map (takes usual (opened_event ++ Took 1 (hex "00e1") ∷ []) 1) (hex "010101" ∷ hex "3101" ∷ []) ≡ 2 ∷ 3 ∷ 2 ∷ []
 unfolding told
-takes_first = refl
-
-takes_second : takes usual (opened_event ++ Took 1 (hex "00e1") ∷ []) 1 (hex "010101") ≡ 3
-unfolding told
-takes_second = refl
-
--- a part of a frame is taken whole
-takes_part : takes usual (opened_event ++ Took 1 (hex "00e1") ∷ []) 1 (hex "3101") ≡ 2
-unfolding told
-takes_part = refl
+takes_messages = refl
 
 -- Nothing is taken where our Capabilities and Settings leave no room for the greatest message; drained, there is room.
-takes_without_room : takes (config_with (narrow_limits 65536) 0) (Opened 1 ∷ []) 1 (hex "00e1") ≡ 0
-unfolding told
-takes_without_room = refl
-
-takes_with_room : takes (config_with (narrow_limits 65536) 0) opened_event 1 (hex "00e1") ≡ 2
+takes_with_room : map (λ es. takes (config_with (narrow_limits 65536) 0) es 1 (hex "00e1")) ((Opened 1 ∷ []) ∷ opened_event ∷ []) ≡ 0 ∷ 2 ∷ []
 unfolding told
 takes_with_room = refl
 
@@ -69,17 +57,13 @@ behind_a_fault = refl
 from_four : ConfigValues
 from_four = record usual { starts = record { moment = 0; versions = 0; ids = 4 } }
 
-number_at_first : (world_after from_four []).ids ≡ 4
-unfolding told from_four
-number_at_first = refl
-
-numbers_given : (world_after from_four (Opened 5 ∷ Opened 6 ∷ Dropped 5 ∷ Opened 7 ∷ [])).ids ≡ 7
-unfolding told from_four
-numbers_given = refl
-
 numbers_left : map (λ p. p.id) (world_after from_four (Opened 5 ∷ Opened 6 ∷ Dropped 5 ∷ Opened 7 ∷ [])).sides ≡ 6 ∷ 7 ∷ []
 unfolding told from_four
 numbers_left = refl
+
+numbers_given : map (λ es. (world_after from_four es).ids) ([] ∷ (Opened 5 ∷ Opened 6 ∷ Dropped 5 ∷ Opened 7 ∷ []) ∷ []) ≡ 4 ∷ 7 ∷ []
+unfolding told from_four
+numbers_given = refl
 
 -- ---- steps that change nothing
 

@@ -1,14 +1,13 @@
 -- Worked values of the definitions of specs/world: a greater size in the life of a connection (RFC 8323 section 5.3.1).
-use Rattle.std.proofs.Common.{◌≡◌, ℕ, Bool, true, false, List, [], ◌∷◌, ◌++◌, Option, Some, None, refl, replicate}
+use Rattle.std.proofs.Common.{◌≡◌, ℕ, List, [], ◌∷◌, ◌++◌, map, Option, Some, None, refl}
 use Rattle.coap_conn.specs.declared.phase.Phase.TheVariants as phase
 use Rattle.coap_conn.specs.declared.reason.Reason.TheVariants as reason
 use Rattle.coap_serve.specs.Configs.{ConfigValues}
 use Rattle.coap_serve.specs.values.Sessions.{SessionValue}
-use Rattle.coap_serve.specs.values.Servers.{session_of}
 use Rattle.coap_serve.specs.values.ServerAnswers.{announced_refusal_on}
 use Rattle.coap_serve.specs.declared.server.AnnounceFault.{AnnounceFault}
 use Rattle.coap_serve.specs.declared.server.AnnounceFault.TheVariants as fault
-use Rattle.coap_serve.specs.world.Sides.{Side, may_raise}
+use Rattle.coap_serve.specs.world.Sides.{Side}
 use Rattle.coap_serve.specs.world.World.{side_of}
 use Rattle.coap_serve.specs.world.Events.{Event, Opened, Took, Wrote, Announced, size_on, sizes_on, stream_on, world_after}
 use Rattle.coap_serve.specs.world.Shows.{session_shown}
@@ -79,41 +78,29 @@ greeted_events = Opened 1 ∷ Wrote 1 7 ∷ []
 opened_events : List Event
 opened_events = greeted_events ++ Took 1 (hex "00e1") ∷ []
 
--- before the peer's Capabilities and Settings, and on no connection
-not_open_to_announce : announced_refusal_on 2000 (there greeted_events 1) ≡ Some fault.NotOpen
-unfolding told narrow_config greeted_events
-not_open_to_announce = refl
+small_peer : List Event
+small_peer = greeted_events ++ Took 1 (hex "20e12104") ∷ []
 
-no_such : announced_refusal_on 2000 (there greeted_events 2) ≡ Some fault.NoSuch
-unfolding told narrow_config greeted_events
-no_such = refl
+-- why a size is not announced on a connection after events
+abbrev refusals : List (List Event × ℕ × ℕ) → List (Option AnnounceFault)
+refusals rows = map (λ r. announced_refusal_on r.2 (there r.0 r.1)) rows
 
-too_large_to_announce : announced_refusal_on 1048577 (there opened_events 1) ≡ Some fault.TooLarge
-unfolding told narrow_config greeted_events opened_events
-too_large_to_announce = refl
-
-lower_not_announced : announced_refusal_on 1000 (there opened_events 1) ≡ Some fault.Lower
-unfolding told narrow_config greeted_events opened_events
-lower_not_announced = refl
-
--- before the announcement is written
-no_room_to_announce : announced_refusal_on 2000 (there (opened_events ++ Announced 1 1152 ∷ []) 1) ≡ Some fault.NoRoom
-unfolding told narrow_config greeted_events opened_events
-no_room_to_announce = refl
-
--- a peer that takes 4 bytes does not take the 5 of an announcement
-too_small : announced_refusal_on 2000 (there (greeted_events ++ Took 1 (hex "20e12104") ∷ []) 1) ≡ Some fault.PeerTooSmall
-unfolding told narrow_config greeted_events
-too_small = refl
-
--- a lower size is no refusal of the room, and none of the peer
-lower_first : announced_refusal_on 1000 (there (greeted_events ++ Took 1 (hex "20e12104") ∷ []) 1) ≡ Some fault.Lower
-unfolding told narrow_config greeted_events
-lower_first = refl
-
-none_refuses : announced_refusal_on 2000 (there opened_events 1) ≡ None
-unfolding told narrow_config greeted_events opened_events
-none_refuses = refl
+not_announced : refusals (
+    -- before the peer's Capabilities and Settings, and on no connection
+    (greeted_events, 1, 2000)
+    ∷ (greeted_events, 2, 2000)
+    ∷ (opened_events, 1, 1048577)
+    ∷ (opened_events, 1, 1000)
+    -- before the announcement is written
+    ∷ (opened_events ++ Announced 1 1152 ∷ [], 1, 2000)
+    -- A peer that takes 4 bytes does not take the 5 of an announcement; a lower size is no refusal of the room, and none of the peer.
+    ∷ (small_peer, 1, 2000)
+    ∷ (small_peer, 1, 1000)
+    ∷ (opened_events, 1, 2000)
+    ∷ [])
+    ≡ Some fault.NotOpen ∷ Some fault.NoSuch ∷ Some fault.TooLarge ∷ Some fault.Lower ∷ Some fault.NoRoom ∷ Some fault.PeerTooSmall ∷ Some fault.Lower ∷ None ∷ []
+unfolding told narrow_config greeted_events opened_events small_peer
+not_announced = refl
 
 -- ---- the sizes in force
 
@@ -121,7 +108,7 @@ none_refuses = refl
 raised : List Event
 raised = Took 1 (hex "e103") ∷ Announced 1 2000 ∷ Took 1 (hex "6f") ∷ []
 
-sizes_of_bytes : sizes_on 1152 1 raised 0 ∷ sizes_on 1152 1 raised 1 ∷ sizes_on 1152 1 raised 2 ∷ sizes_on 1152 1 raised 3 ∷ [] ≡ 1152 ∷ 1152 ∷ 2000 ∷ 2000 ∷ []
+sizes_of_bytes : map (sizes_on 1152 1 raised) (0 ∷ 1 ∷ 2 ∷ 3 ∷ []) ≡ 1152 ∷ 1152 ∷ 2000 ∷ 2000 ∷ []
 unfolding told raised
 sizes_of_bytes = refl
 

@@ -11,7 +11,7 @@ use Rattle.coap_serve.specs.world.Observers.{asks_entry, is_whole, with_entry}
 use Rattle.coap_serve.specs.values.Sessions.{ObserverValue, ObserversValue, hold_on, host_changed, new_entry, without_entry}
 use Rattle.coap_serve.specs.values.Causes.{change_hash}
 use Rattle.coap_serve.specs.values.Entries.{is_observed}
-use Rattle.coap_serve.proofs.values.AnsweringLemmas.{nothing_changed, response_unobserved, late_hash, late_host, late_link, late_entries, prompt_is, prompt_link, prompt_entries, change_link, change_entries, observed_where_asked, observed_where_unasked, may_watch}
+use Rattle.coap_serve.proofs.values.AnsweringLemmas.{nothing_changed, response_unobserved, late_link, late_entries, prompt_is, change_link, change_entries, observed_where_asked, observed_where_unasked, may_watch, late_quiet, prompt_link, prompt_entries}
 use Rattle.coap_serve.proofs.values.FlushLemmas.{on_any_fault}
 use Rattle.coap_serve.proofs.answering.answer.Goals.{then-asks_entry, else-asks_entry, else-observes-via-then-observes+else-is_whole, else-observes-via-else-observes}
 use Rattle.coap_serve.proofs.answering.answer.Goals as goal
@@ -29,13 +29,13 @@ returns-in-Some c =
     let holds : hold_on host m ≡ Some seconds = ap (λ (a : Answer). a.hold) (sym c.answer-plan.ensures.answer) ∙ sym c.in-Some.ensures.seconds in
     let at = c.saturating_add-moment.ensures ∙ ap (λ (n : ℕ). min (host.now + n) 18446744073709551615) c.from.ensures in
     record {
-      changed = late_hash host m seconds holds;
+      changed = ap change_hash (sym (late_quiet host m seconds holds));
       link =
           c.answer_late.ensures.link
           ∙ ap (λ (a : Answer). if can_hold l then link_after l (call.Hold m.token moment) else link_after l (call.Reply (response_message m.token (unheld a).response))) c.answer-plan.ensures.answer
           ∙ late_link host m l seconds moment room others holds at;
       entries = c.answer_late.ensures.entries ∙ ap (λ (os : List ObserverValue). record c.args.observers.now { entries = os }) (late_entries host m l seconds room others holds);
-      host = late_host host m seconds holds;
+      host = ap (host_changed host) (sym (late_quiet host m seconds holds));
       put = tt;
       unchanged = tt;
       silent = tt;

@@ -1,32 +1,19 @@
-use Rattle.coap_serve.proofs.world.CustodyLaws.{held_in_order, custody_waits, custody_comes_first, faulted_no_custody, ended_no_custody, released_no_custody, announced_no_custody, written_no_custody, held_when_asked, sent_when_due}
+use Rattle.coap_serve.proofs.world.CustodyLaws.{held_in_order, custody_waits, custody_comes_first, held_when_asked, sent_when_due, plain_queues_no_custody}
 use Rattle.coap_serve.proofs.laws.custody_comes_last.Goals as goal
+use Rattle.coap_serve.proofs.world.WalkLaws.{faulted_between, ended_between, released_between, announced_between, written_between}
+use Rattle.coap_serve.specs.world.Sides.{side_faulted, side_ended, side_released, side_announced, side_written}
+use Rattle.coap_serve.proofs.world.ToldMessages.{Queues, IsPlain, queues_none, reject_queues, end_queues, release_queues, announcing_queues, written_queues}
 
-pub returns-clause-order : goal.returns-clause-order
-returns-clause-order c k events id s there = held_in_order k events id s there
-
-pub returns-clause-at_once : goal.returns-clause-at_once
-returns-clause-at_once c = custody_waits
-
-pub returns-clause-later : goal.returns-clause-later
-returns-clause-later c = custody_comes_first
-
-pub returns-clause-faulted : goal.returns-clause-faulted
-returns-clause-faulted c = faulted_no_custody
-
-pub returns-clause-ended : goal.returns-clause-ended
-returns-clause-ended c = ended_no_custody
-
-pub returns-clause-released : goal.returns-clause-released
-returns-clause-released c = released_no_custody
-
-pub returns-clause-announced : goal.returns-clause-announced
-returns-clause-announced c = announced_no_custody
-
-pub returns-clause-written : goal.returns-clause-written
-returns-clause-written c = written_no_custody
-
-pub returns-clause-held : goal.returns-clause-held
-returns-clause-held c = held_when_asked
-
-pub returns-clause-sent : goal.returns-clause-sent
-returns-clause-sent c = sent_when_due
+pub returns : goal.returns
+returns c = record {
+  order = held_in_order;
+  at_once = custody_waits;
+  later = custody_comes_first;
+  held = held_when_asked;
+  sent = sent_when_due;
+  faulted = λ s fault. plain_queues_no_custody s (side_faulted s fault) (faulted_between (Queues IsPlain) (queues_none IsPlain) reject_queues s fault);
+  ended = λ s cut. plain_queues_no_custody s (side_ended s cut) (ended_between (Queues IsPlain) (queues_none IsPlain) end_queues s cut);
+  released = λ s. plain_queues_no_custody s (side_released s) (released_between (Queues IsPlain) (queues_none IsPlain) release_queues s);
+  announced = λ s size. plain_queues_no_custody s (side_announced s size) (announced_between (Queues IsPlain) (queues_none IsPlain) (λ h n opened room fit. announcing_queues h n) s size);
+  written = λ s n. plain_queues_no_custody s (side_written s n) (written_between (Queues IsPlain) (queues_none IsPlain) (λ h k within. written_queues IsPlain h k) s n);
+}

@@ -1,32 +1,23 @@
-use Rattle.coap_serve.proofs.world.HeldLaws.{message_keeps, faulted_keeps, ended_keeps, released_keeps, announced_keeps, written_same, told_keeps, taken_out, answer_sent, pong_sent}
+use Rattle.coap_serve.proofs.world.CustodyLaws.{written_same, told_keeps, taken_out, answer_sent, pong_sent, if_over, handled_over, left_kept, Leaves}
 use Rattle.coap_serve.proofs.laws.what_is_held_is_sent.Goals as goal
+use Rattle.coap_serve.specs.world.Sides.{side_after, handles, side_handled, side_faulted, side_ended, side_released, side_announced}
+use Rattle.coap_serve.proofs.world.WalkLaws.{faulted_between, ended_between, released_between, announced_between}
+use Rattle.std.proofs.Common.{inl, refl, inr}
+use Rattle.coap_conn.specs.Rejects.{reject_reason}
+use Rattle.coap_conn.specs.Calls.{end_reason}
+use Rattle.coap_conn.specs.declared.reason.Reason.TheVariants.{ReleasedHere}
 
-pub returns-clause-message : goal.returns-clause-message
-returns-clause-message c = message_keeps
-
-pub returns-clause-faulted : goal.returns-clause-faulted
-returns-clause-faulted c = faulted_keeps
-
-pub returns-clause-ended : goal.returns-clause-ended
-returns-clause-ended c = ended_keeps
-
-pub returns-clause-released : goal.returns-clause-released
-returns-clause-released c = released_keeps
-
-pub returns-clause-announced : goal.returns-clause-announced
-returns-clause-announced c = announced_keeps
-
-pub returns-clause-written : goal.returns-clause-written
-returns-clause-written c = written_same
-
-pub returns-clause-told : goal.returns-clause-told
-returns-clause-told c = told_keeps
-
-pub returns-clause-taken : goal.returns-clause-taken
-returns-clause-taken c = taken_out
-
-pub returns-clause-answer : goal.returns-clause-answer
-returns-clause-answer c = answer_sent
-
-pub returns-clause-pong : goal.returns-clause-pong
-returns-clause-pong c = pong_sent
+pub returns : goal.returns
+unfolding side_after
+returns c = record {
+  message = λ store now s m. if_over m (handles s) s (side_handled store now s m) (handled_over store now s m);
+  faulted = λ s fault. left_kept s (side_faulted s fault) (faulted_between Leaves (λ h. inl refl) (λ h r takes room. inr (reject_reason r, refl)) s fault);
+  ended = λ s cut. left_kept s (side_ended s cut) (ended_between Leaves (λ h. inl refl) (λ h cut takes. inr (end_reason cut, refl)) s cut);
+  released = λ s. left_kept s (side_released s) (released_between Leaves (λ h. inl refl) (λ h opened none. inr (ReleasedHere, refl)) s);
+  announced = λ s size. left_kept s (side_announced s size) (announced_between Leaves (λ h. inl refl) (λ h n opened room fit. inl refl) s size);
+  written = written_same;
+  told = told_keeps;
+  taken = taken_out;
+  answer = answer_sent;
+  pong = pong_sent;
+}

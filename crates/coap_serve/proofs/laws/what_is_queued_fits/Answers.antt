@@ -1,4 +1,4 @@
-use Rattle.coap_serve.proofs.world.FitLaws.{step_fits, opening_fits}
+use Rattle.coap_serve.proofs.world.LimitLaws.{step_fits, opening_fits}
 use Rattle.coap_serve.proofs.laws.what_is_queued_fits.Goals as goal
 
 pub returns-clause-more : goal.returns-clause-more

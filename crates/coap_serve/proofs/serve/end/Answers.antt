@@ -1,6 +1,6 @@
 use Rattle.std.proofs.Common.{ap, ◌∙◌}
 use Rattle.coap_serve.specs.values.Servers.{ServerValue}
-use Rattle.coap_serve.proofs.streams.EndLemmas.{end_stops, not_there}
+use Rattle.coap_serve.proofs.streams.RunLemmas.{end_stops, not_there}
 use Rattle.coap_serve.proofs.serve.end.Goals as goal
 
 pub unreachable-requires : goal.unreachable-requires

@@ -1,4 +1,4 @@
-use Rattle.coap_serve.proofs.streams.StartLemmas.{Opens, opens_so, goes_at_first, text_at_first, cut_at_first, greeted, not_begun}
+use Rattle.coap_serve.proofs.streams.RunLemmas.{Opens, opens_so, goes_at_first, text_at_first, cut_at_first, greeted, not_begun}
 use Rattle.coap_serve.proofs.serve.serve_one.Goals as goal
 
 pub returns-in_default-clause-run : goal.returns-in_default-clause-run

@@ -1,7 +1,7 @@
 use Rattle.std.proofs.Common.{sym, arith}
 use Rattle.std.proofs.lemmas.List.{length-take-le}
 use Rattle.std.proofs.lemmas.Result.{err_from_is_err_and}
-use Rattle.coap_serve.proofs.streams.TurnLemmas.{has_read, turn_fault, turn_piece}
+use Rattle.coap_serve.proofs.streams.RunLemmas.{has_read, turn_fault, turn_piece}
 use Rattle.coap_serve.proofs.serve.take_turn.Goals as goal
 
 pub returns-in_err-messages-clause-turn : goal.returns-in_err-messages-clause-turn

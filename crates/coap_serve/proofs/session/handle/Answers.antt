@@ -1,10 +1,12 @@
 use Rattle.std.proofs.Common.{[], refl, sym, ap, ◌∙◌}
+use Rattle.coap_store.specs.Answer as answer
 use Rattle.coap_conn.specs.Verdicts.{is_request}
-use Rattle.coap_serve.specs.values.Sessions.{SessionValue, sizes_of, host_changed}
+use Rattle.coap_serve.specs.values.Sessions.{SessionValue, sizes_of, host_changed, asks_this, answer_on}
 use Rattle.coap_serve.specs.values.Causes.{change_hash}
 use Rattle.coap_serve.proofs.values.LinkLemmas.{message_sizes}
-use Rattle.coap_serve.proofs.values.SessionLemmas.{on_request, no_request_told, message_handled, nothing_changes}
+use Rattle.coap_serve.proofs.values.SessionLemmas.{on_request, no_request_told, message_handled}
 use Rattle.coap_serve.proofs.session.handle.Goals as goal
+use Rattle.std.proofs.lemmas.Bool.{cond-false}
 
 pub returns-in-Request-clause-after : goal.returns-in-Request-clause-after
 returns-in-Request-clause-after c =
@@ -18,7 +20,7 @@ returns-in_default c =
     let link = c.args.link.now in
     let m = c.args.message.now in
     let other = ap is_request (sym c.on.ensures.verdict) ∙ no_request_told c.on.result c.in_default.not-Request in
-    let same = nothing_changes host link m other in
+    let same = cond-false (asks_this link m) (answer_on host m).change answer.Nothing other in
     record {
       after = λ frame. message_handled host (record { frame = frame; link = link; observers = c.args.observers.now.entries }) m c.on.new.self other c.on.ensures.after;
       room = refl;

@@ -1,4 +1,4 @@
-use Rattle.std.proofs.Common.{◌≡◌, sym, ap, ◌∙◌, arith}
+use Rattle.std.proofs.Common.{◌≡◌, sym, ap, ◌∙◌, arith, rules}
 use Rattle.coap_serve.specs.values.Dues.{sooner}
 use Rattle.coap_serve.specs.streams.Turns.{end_of, IsInTurn}
 use Rattle.coap_serve.proofs.streams.AgendaLemmas.{not_sooner, none_passed, one_more_passed, none_next, one_next}
@@ -23,26 +23,20 @@ loop-at-preserved g c =
           c.loop-at.invariant.0 c.index-in-loop-at.ensures c.index.ensures c.loop-at.invariant.2 c.if-is_at_rest.ensures later,
     )
 
-pub returns-else-is_at_rest-clause-from : goal.returns-else-is_at_rest-clause-from
-returns-else-is_at_rest-clause-from g c = c.loop-at.invariant.0
+pub returns-else-is_at_rest : goal.returns-else-is_at_rest
+returns-else-is_at_rest g c = record {
+  from = c.loop-at.invariant.0;
+  within = search rules;
+  rest = c.loop-at.invariant.2.rest;
+  agenda = ap (λ due. record c.args.seen.agenda { due = due }) c.loop-at.invariant.2.due;
+  next = one_next (end_of g.W.Ready.readable g.W.Ready.writable) c.args.peers.now.entries c.loop-at.at c.index.result.now c.args.stamp c.index.ensures c.if-is_at_rest.ensures;
+}
 
-pub returns-else-is_at_rest-clause-rest : goal.returns-else-is_at_rest-clause-rest
-returns-else-is_at_rest-clause-rest g c = c.loop-at.invariant.2.rest
-
-pub returns-else-is_at_rest-clause-agenda : goal.returns-else-is_at_rest-clause-agenda
-returns-else-is_at_rest-clause-agenda g c = ap (λ due. record c.args.seen.agenda { due = due }) c.loop-at.invariant.2.due
-
-pub returns-else-is_at_rest-clause-next : goal.returns-else-is_at_rest-clause-next
-returns-else-is_at_rest-clause-next g c = one_next (end_of g.W.Ready.readable g.W.Ready.writable) c.args.peers.now.entries c.loop-at.at c.index.result.now c.args.stamp c.index.ensures c.if-is_at_rest.ensures
-
-pub returns-after-loop-at-clause-within : goal.returns-after-loop-at-clause-within
-returns-after-loop-at-clause-within g c = c.loop-at.invariant.1
-
-pub returns-after-loop-at-clause-rest : goal.returns-after-loop-at-clause-rest
-returns-after-loop-at-clause-rest g c = c.loop-at.invariant.2.rest
-
-pub returns-after-loop-at-clause-agenda : goal.returns-after-loop-at-clause-agenda
-returns-after-loop-at-clause-agenda g c = ap (λ due. record c.args.seen.agenda { due = due }) c.loop-at.invariant.2.due
-
-pub returns-after-loop-at-clause-next : goal.returns-after-loop-at-clause-next
-returns-after-loop-at-clause-next g c = none_next (λ e. IsInTurn c.args.stamp (end_of g.W.Ready.readable g.W.Ready.writable e.1)) c.args.peers.now.entries c.loop-at.at (omega (arith, c.loop-at-test.false, c.len.ensures.len))
+pub returns-after-loop-at : goal.returns-after-loop-at
+returns-after-loop-at g c = record {
+  from = search rules;
+  within = c.loop-at.invariant.1;
+  rest = c.loop-at.invariant.2.rest;
+  agenda = ap (λ due. record c.args.seen.agenda { due = due }) c.loop-at.invariant.2.due;
+  next = none_next (λ e. IsInTurn c.args.stamp (end_of g.W.Ready.readable g.W.Ready.writable e.1)) c.args.peers.now.entries c.loop-at.at (omega (arith, c.loop-at-test.false, c.len.ensures.len));
+}

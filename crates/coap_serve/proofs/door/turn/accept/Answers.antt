@@ -1,5 +1,5 @@
-use Rattle.coap_serve.proofs.streams.NotedLemmas.{noted_with_one_more}
-use Rattle.coap_serve.proofs.streams.PartLemmas.{one_more_opened}
+use Rattle.coap_serve.proofs.streams.NoteLemmas.{noted_with_one_more}
+use Rattle.coap_serve.proofs.streams.AgendaLemmas.{one_more_opened}
 use Rattle.coap_serve.proofs.door.turn.accept.Goals as goal
 
 pub returns-clause-noted : goal.returns-clause-noted

@@ -1,6 +1,6 @@
 use Rattle.std.proofs.Common.{sym, subst}
 use Rattle.coap_serve.specs.streams.Notes.{AreNoted}
-use Rattle.coap_serve.proofs.streams.NotedLemmas.{noted_without, dropped_there}
+use Rattle.coap_serve.proofs.streams.NoteLemmas.{noted_without, dropped_there}
 use Rattle.coap_serve.proofs.streams.ServingLemmas.{dropped_served}
 use Rattle.coap_serve.proofs.door.turn.drop_at.Goals as goal
 

@@ -3,8 +3,7 @@ use Rattle.coap_serve.specs.declared.door.agenda.Seen.{Seen}
 use Rattle.coap_serve.specs.declared.server.Stamp.{Stamp}
 use Rattle.coap_serve.specs.values.Dues.{stamp_of}
 use Rattle.coap_serve.specs.streams.Turns.{end_of, IsAgendaOf, IsInTurn}
-use Rattle.coap_serve.proofs.streams.AgendaLemmas.{past_on}
-use Rattle.coap_serve.proofs.streams.PartLemmas.{AreServedTo, none_yet, passed_on, one_further, all_are_served}
+use Rattle.coap_serve.proofs.streams.AgendaLemmas.{past_on, AreServedTo, none_yet, passed_on, one_further, all_are_served}
 use Rattle.coap_serve.proofs.streams.ServingLemmas.{none_served, served_further}
 use Rattle.coap_serve.proofs.door.turn.serve_each.Goals as goal
 

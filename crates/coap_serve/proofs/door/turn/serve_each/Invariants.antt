@@ -4,7 +4,7 @@ use Rattle.coap_serve.specs.values.Servers.{AreSettled}
 use Rattle.coap_serve.specs.streams.Notes.{AreNoted}
 use Rattle.coap_serve.specs.streams.Turns.{end_of, IsAgendaOf, IsInTurn}
 use Rattle.coap_serve.specs.streams.Serving.{HasServed}
-use Rattle.coap_serve.proofs.streams.PartLemmas.{AreServedTo}
+use Rattle.coap_serve.proofs.streams.AgendaLemmas.{AreServedTo}
 use Rattle.coap_serve.proofs.door.turn.serve_each.Given as goal
 
 -- what is left to be done on those before it is known, and what was noted of all is true; those before it were served, and it is in turn

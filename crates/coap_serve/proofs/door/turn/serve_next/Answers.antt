@@ -3,10 +3,9 @@ use Rattle.std.proofs.lemmas.List.Edits.{length-remove}
 use Rattle.coap_serve.specs.declared.door.peer.Peer.{Peer}
 use Rattle.coap_serve.specs.values.Dues.{stamp_of}
 use Rattle.coap_serve.specs.streams.Turns.{end_of, IsAgendaOf}
-use Rattle.coap_serve.proofs.streams.AgendaLemmas.{served_later, dropped_step, open_step, stamp_noted, same_length}
+use Rattle.coap_serve.proofs.streams.AgendaLemmas.{served_later, dropped_step, open_step, stamp_noted, same_length, one_open, one_over}
 use Rattle.coap_serve.specs.declared.door.peer.Course.{Course}
 use Rattle.coap_serve.specs.streams.Turns.{IsServed}
-use Rattle.coap_serve.proofs.streams.PartLemmas.{one_open, one_over}
 use Rattle.coap_serve.proofs.streams.ServingLemmas.{served_further}
 use Rattle.coap_serve.proofs.door.turn.serve_next.Goals as goal
 

@@ -1,5 +1,5 @@
 use Rattle.coap_serve.specs.streams.Turns.{wait_of}
-use Rattle.coap_serve.proofs.streams.NotedLemmas.{may_wait_so}
+use Rattle.coap_serve.proofs.streams.NoteLemmas.{may_wait_so}
 use Rattle.coap_serve.proofs.streams.ServingLemmas.{turned_further}
 use Rattle.coap_serve.proofs.door.turn.take_turn.Goals as goal
 

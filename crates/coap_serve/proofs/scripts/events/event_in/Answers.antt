@@ -3,13 +3,14 @@ use Rattle.std.proofs.lemmas.Iterator.{YieldsList-from_slice}
 use Rattle.std.proofs.lemmas.Iterator.Search.{all_from_yields_List}
 use Rattle.coap_serve.specs.script.Events.{EventValue, event_of}
 use Rattle.coap_serve.specs.script.EventViews.{event_value}
-use Rattle.coap_serve.proofs.scripting.ScriptLemmas.{event_of_words, no_event_of_many}
+use Rattle.coap_serve.proofs.scripting.ScriptLemmas.{event_of_words, too_many_words}
 use Rattle.coap_serve.proofs.scripts.events.event_in.Goals as goal
+use Rattle.coap_serve.specs.script.Words.{words_of}
 
 pub returns-in_default : goal.returns-in_default
 returns-in_default c =
     let all = all_from_yields_List (λ b. nat_lt b 128) _ _ c.all.result c.all.ensures.ran (YieldsList-from_slice c.args.line.now cc) (λ x b q k. search (rules, tests)) in
-    no_event_of_many c.args.line.now (sym all ∙ c.if-not-all.false) c.in_default.ensures.many
+    sym (too_many_words (words_of c.args.line.now) c.in_default.ensures.many) ∙ event_of_words c.args.line.now (sym all ∙ c.if-not-all.false)
 
 pub returns : goal.returns
 returns c =

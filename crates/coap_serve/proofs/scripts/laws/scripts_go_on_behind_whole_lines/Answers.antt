@@ -1,4 +1,4 @@
-use Rattle.coap_serve.proofs.scripting.ScriptLaws.{script_goes_on}
+use Rattle.coap_serve.proofs.scripting.ScriptLemmas.{script_goes_on}
 use Rattle.coap_serve.proofs.scripts.laws.scripts_go_on_behind_whole_lines.Goals as goal
 
 pub returns : goal.returns

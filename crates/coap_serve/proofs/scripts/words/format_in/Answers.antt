@@ -1,6 +1,6 @@
-use Rattle.std.proofs.Common.{sym, ◌∙◌, rules}
+use Rattle.std.proofs.Common.{sym, ◌∙◌, rules, refl}
 use Rattle.coap_serve.specs.script.Words.{format_value}
-use Rattle.coap_serve.proofs.scripting.WordLemmas.{no_format, great_format, small_format}
+use Rattle.coap_serve.proofs.scripting.WordLemmas.{great_format, small_format}
 use Rattle.coap_serve.proofs.scripts.words.format_in.Goals as goal
 
 pub returns-then-is_hyphen : goal.returns-then-is_hyphen
@@ -8,7 +8,8 @@ unfolding format_value
 returns-then-is_hyphen c = search rules
 
 pub returns-in_err-number : goal.returns-in_err-number
-returns-in_err-number c = rw c.from_residual.ensures (no_format c.args.word.now (sym c.if-is_hyphen.ensures) (sym c.number_in.ensures ∙ c.in_err-number.was))
+unfolding format_value
+returns-in_err-number c = rw c.from_residual.ensures (rw ((sym c.if-is_hyphen.ensures), (sym c.number_in.ensures ∙ c.in_err-number.was)) refl)
 
 pub returns-in_err-format : goal.returns-in_err-format
 returns-in_err-format c =

@@ -3,12 +3,14 @@ use Rattle.std.proofs.lemmas.List.{length-map}
 use Rattle.coap_serve.specs.script.EventViews.{event_value}
 use Rattle.coap_serve.specs.streams.Device.{AddsBytes, WritesPart}
 use Rattle.coap_serve.specs.views.LineViews.{line_bytes}
-use Rattle.coap_serve.proofs.scripting.ReplayLemmas.{stands, none_replayed, refused_at, cut_at, one_replayed, all_replayed}
-use Rattle.coap_serve.proofs.scripting.ReplayShown.{none_shown, one_shown, cut_shown, refused_shown, all_shown}
+use Rattle.coap_serve.proofs.scripting.ReplayLemmas.{stands, none_replayed, all_replayed, refused_at, cut_at, one_replayed, all_shown, one_shown, cut_shown, refused_shown}
 use Rattle.coap_serve.proofs.server.Server.replay.Goals as goal
+use Rattle.coap_serve.specs.script.Shown.{events_ran}
+use Rattle.coap_serve.proofs.scripting.ShownLemmas.{shows_same}
 
 pub loop-index-init : goal.loop-index-init
-loop-index-init g c = record { replays = none_replayed _ _ _; shows = none_shown c.args.self.now (map event_value c.args.events.now); works = c.requires }
+unfolding events_ran
+loop-index-init g c = record { replays = none_replayed _ _ _; shows = (shows_same c.args.self.now c.args.self.now refl); works = c.requires }
 
 pub returns-in_default-clause-replayed : goal.returns-in_default-clause-replayed
 returns-in_default-clause-replayed g c =

@@ -1,7 +1,6 @@
 use Rattle.std.proofs.Common.{◌≡◌, false, map}
 use Rattle.coap_serve.specs.script.EventViews.{event_value}
-use Rattle.coap_serve.proofs.scripting.ReplayLemmas.{Replays}
-use Rattle.coap_serve.proofs.scripting.ReplayShown.{ShowsFirst}
+use Rattle.coap_serve.proofs.scripting.ReplayLemmas.{Replays, ShowsFirst}
 use Rattle.coap_serve.proofs.server.Server.replay.Given as goal
 
 abbrev pub invariant-loop-index : goal.invariant-loop-index

@@ -10,41 +10,33 @@ use Rattle.coap_serve.proofs.scripting.ReplayLemmas.{on_it, on_none, enough, non
 use Rattle.coap_serve.proofs.scripting.ShownLemmas.{shows_same, shows_as, made_on, unmade_there, nothing_made, run_refused}
 use Rattle.coap_serve.proofs.server.Server.run_drain.Goals as goal
 
-pub returns-in_default-clause-run : goal.returns-in_default-clause-run
-unfolding event_ran
-returns-in_default-clause-run c =
+pub returns-in_default : goal.returns-in_default
+unfolding event_ran events_made
+returns-in_default c =
+    let v = c.args.self.now in
+    let id = c.args.id in
     let e = c.in_ok-drained.ensures in
-    let found = subst (λ (d : Option Drained). IsDrainable c.args.id c.args.most d (session_of c.args.id c.args.self.now.sessions)) c.in_default.is e.ok in
-    on_none c.args.self.now (codes "drain") c.args.id _ _ c.drain.new.self c.fault_line.result.items (none_drainable c.args.id c.args.most (session_of c.args.id c.args.self.now.sessions) found) e.unchanged c.fault_line.ensures
+    let found = subst (λ (d : Option Drained). IsDrainable id c.args.most d (session_of id v.sessions)) c.in_default.is e.ok in
+    let none = none_drainable id c.args.most (session_of id v.sessions) found in
+    record {
+      run = on_none v (codes "drain") id _ _ c.drain.new.self c.fault_line.result.items none e.unchanged c.fault_line.ensures;
+      shows = shows_as v c.drain.new.self [] _ (unmade_there (session_of id v.sessions) _ none) (shows_same v c.drain.new.self e.unchanged);
+    }
 
-pub returns-clause-run : goal.returns-clause-run
-unfolding event_ran
-returns-clause-run c =
+pub returns : goal.returns
+unfolding event_ran events_made
+returns c =
     let v = c.args.self.now in
     let id = c.args.id in
     let e = c.in_ok-drained.ensures in
     let it = enough id c.args.most c.in-Some.drained (session_of id v.sessions) (subst (λ (d : Option Drained). IsDrainable id c.args.most d (session_of id v.sessions)) c.in-Some.is e.ok) in
-    on_it v (codes "drain") id (λ s. drain_ran v id (drained c.args.most s.link.waiting)) _ it.0 c.written.new.self c.in-Some.drained.line.items it.1
-    (c.in-Ok.ensures.ok ∙ ap (λ (w : ServerValue). server_written w id c.in-Some.drained.count) e.unchanged ∙ ap (server_written v id) it.2.1) it.2.0
-
-pub returns-in_default-clause-shows : goal.returns-in_default-clause-shows
-unfolding events_made
-returns-in_default-clause-shows c =
-    let v = c.args.self.now in
-    let e = c.in_ok-drained.ensures in
-    let found = subst (λ (d : Option Drained). IsDrainable c.args.id c.args.most d (session_of c.args.id v.sessions)) c.in_default.is e.ok in
-    shows_as v c.drain.new.self [] _ (unmade_there (session_of c.args.id v.sessions) _ (none_drainable c.args.id c.args.most (session_of c.args.id v.sessions) found)) (shows_same v c.drain.new.self e.unchanged)
-
-pub returns-clause-shows : goal.returns-clause-shows
-unfolding events_made
-returns-clause-shows c =
-    let v = c.args.self.now in
-    let id = c.args.id in
-    let e = c.in_ok-drained.ensures in
-    let it = enough id c.args.most c.in-Some.drained (session_of id v.sessions) (subst (λ (d : Option Drained). IsDrainable id c.args.most d (session_of id v.sessions)) c.in-Some.is e.ok) in
-    shows_as v c.written.new.self (Wrote id c.in-Some.drained.count ∷ []) _
-    (ap (λ (n : ℕ). Wrote id n ∷ []) it.2.1 ∙ made_on (session_of id v.sessions) it.0 (λ s. Wrote id (length (drained c.args.most s.link.waiting))) it.1)
-    (subst (λ (w : ServerValue). ShowsMore w c.written.new.self (Wrote id c.in-Some.drained.count ∷ [])) e.unchanged c.in-Ok.ensures.shows)
+    record {
+      run = on_it v (codes "drain") id (λ s. drain_ran v id (drained c.args.most s.link.waiting)) _ it.0 c.written.new.self c.in-Some.drained.line.items it.1
+          (c.in-Ok.ensures.ok ∙ ap (λ (w : ServerValue). server_written w id c.in-Some.drained.count) e.unchanged ∙ ap (server_written v id) it.2.1) it.2.0;
+      shows = shows_as v c.written.new.self (Wrote id c.in-Some.drained.count ∷ []) _
+          (ap (λ (n : ℕ). Wrote id n ∷ []) it.2.1 ∙ made_on (session_of id v.sessions) it.0 (λ s. Wrote id (length (drained c.args.most s.link.waiting))) it.1)
+          (subst (λ (w : ServerValue). ShowsMore w c.written.new.self (Wrote id c.in-Some.drained.count ∷ [])) e.unchanged c.in-Ok.ensures.shows);
+    }
 
 pub returns-in_err-drained-clause-shows : goal.returns-in_err-drained-clause-shows
 returns-in_err-drained-clause-shows c =

@@ -11,8 +11,8 @@ use Rattle.coap_serve.proofs.values.ServerLemmas.{length-written}
 use Rattle.coap_serve.proofs.values.CauseLemmas.{hash_where_changed, others_settled}
 use Rattle.coap_serve.proofs.values.TakenLemmas.{count_is, taken_value, taken_server, taken_lies, taken_handled, refuses_on, refused_value, refused_server}
 use Rattle.coap_serve.proofs.world.CallLaws.{take_takes, take_shows, refused_take_shows}
-use Rattle.coap_serve.proofs.world.HandlingLaws.{take_says}
-use Rattle.coap_serve.proofs.world.MemoryLaws.{take_refused_for}
+use Rattle.coap_serve.proofs.world.HandledLaws.{take_says}
+use Rattle.coap_serve.proofs.world.RefusedLaws.{take_refused_for}
 use Rattle.coap_serve.specs.declared.server.Taken.{Taken}
 use Rattle.coap_serve.specs.declared.server.TakeFault.TheVariants as taking
 use Rattle.coap_serve.proofs.server.Server.take.Goals.{After-what_was_handled}

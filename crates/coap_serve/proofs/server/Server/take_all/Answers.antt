@@ -1,17 +1,19 @@
-use Rattle.std.proofs.Common.{◌≡◌, ◌-◌, ◌≤◌, ℕ, List, true, false, length, take, drop, sym, ap, subst, ◌∙◌, arith, [], ◌∷◌}
-use Rattle.coap_serve.specs.script.Replay.{Fed, fed}
-use Rattle.coap_serve.specs.script.Shown.{ShowsMore}
-use Rattle.coap_serve.specs.values.Servers.{server_taken, count_taken}
+use Rattle.std.proofs.Common.{◌≡◌, ◌-◌, ◌≤◌, ℕ, List, true, false, length, take, drop, sym, ap, subst, ◌∙◌, arith, [], ◌∷◌, refl}
+use Rattle.coap_serve.specs.script.Replay.{Fed, fed, fed_turns}
+use Rattle.coap_serve.specs.script.Shown.{ShowsMore, took_turns}
+use Rattle.coap_serve.specs.values.Servers.{server_taken, count_taken, session_of, is_there}
 use Rattle.coap_serve.specs.values.ServerAnswers.{IsNotTaken}
 use Rattle.coap_serve.specs.world.Events.{Took}
 use Rattle.coap_serve.specs.world.Shows.{ShowsRefused}
 use Rattle.coap_serve.specs.declared.server.TakeFault.{TakeFault}
 use Rattle.coap_serve.specs.declared.server.TakeFault.TheVariants as taking
-use Rattle.coap_serve.proofs.scripting.ReplayLemmas.{rest_of, nothing_fed, feeds_more, fed_and_stopped, short, used_up, take_where_none, take_shown, no_take_shown, stopped_shows, short_shows, used_up_shows}
+use Rattle.coap_serve.proofs.scripting.ReplayLemmas.{rest_of, used_up, take_where_none, take_shown, used_up_shows, feeds_more, fed_and_stopped, short, stopped_shows, short_shows}
 use Rattle.coap_serve.proofs.server.Server.take_all.Goals as goal
+use Rattle.coap_serve.proofs.scripting.ShownLemmas.{shows_same, shows_as, unmade_there}
 
 pub loop-taken-init : goal.loop-taken-init
-loop-taken-init c = nothing_fed c.args.self.now c.args.id c.args.bytes.now
+unfolding fed_turns took_turns
+loop-taken-init c = record { turns = 0; few = omega arith; within = omega arith; so_far = refl; shows = shows_same c.args.self.now c.args.self.now refl }
 
 -- a take took none
 none_taken : (c : goal.Then-piece-eq0) → fed c.args.self.now c.args.id c.args.bytes.now ≡ record { server = c.take.new.self; count = c.loop-taken.taken; done = true }
@@ -94,7 +96,7 @@ returns-in-Err-NoSuch-clause-shows c =
     (subst (λ (f : TakeFault). IsNotTaken c.loop-taken.self c.args.id (take (length c.args.bytes.now - c.loop-taken.taken) left) f c.take.new.self) c.in-Err-NoSuch.field-0-is c.in-Err-NoSuch.ensures.refused) in
     let none = take_where_none c.loop-taken.self c.args.id left c.take.new.self no in
     stopped_shows c.args.self.now c.args.id c.args.bytes.now c.loop-taken.self c.loop-taken.taken c.loop-taken.invariant c.loop-taken-test.true c.take.new.self none.0 none.1
-    (no_take_shown c.loop-taken.self c.args.id left c.take.new.self no)
+    (shows_as c.loop-taken.self c.take.new.self [] _ (unmade_there (session_of c.args.id c.loop-taken.self.sessions) _ (ap is_there no.0)) (shows_same c.loop-taken.self c.take.new.self no.1))
 
 pub returns-in-Err-Memory-clause-shows_refused : goal.returns-in-Err-Memory-clause-shows_refused
 returns-in-Err-Memory-clause-shows_refused c =
