@@ -3,7 +3,7 @@ use Rattle.std.proofs.Common.{◌≡◌, ◌≢◌, ℕ, ◌+◌, ◌-◌, ◌*�
 use Rattle.std.proofs.lemmas.Bool.{eq-eqb, ne_eqb, lt-ltb, le-ltb, cases_lt, cases_eq}
 use Rattle.std.proofs.lemmas.List.{length-take, length-drop, length-append, take-append-drop, take_at, drop_at}
 use Rattle.coap_wire.specs.Message.{AreBytes}
-use Rattle.coap_wire.specs.Forms.{IsLengthForm, extension_of, IsOptionForm, option_extension}
+use Rattle.coap_wire.specs.Forms.{IsLengthForm, extension_of, IsOptionForm, option_extension, greatest_token}
 use Rattle.coap_wire.specs.Size.{code_and_extension, StatesLengths, IsDeclaredSize, IsFrame, HasBadToken, Declares}
 use Rattle.coap_wire.specs.Spelling.{IsHeadAndBody}
 use Rattle.coap_wire.specs.Faults.{IsFirstFault}
@@ -87,23 +87,23 @@ declared_with : (b : ℕ) (s : List ℕ) (t n : ℕ) → (r : ReadsLengths b s t
 declared_with b s t n r =
     declared_from b s r.nibble ∙ ap (size_from (b % 16) s) r.body ∙ ap (size_with (1 + (length s - length r.at_code)) n (drop 1 r.at_code)) r.token
 
-size_of_token : (first n : ℕ) (behind : List ℕ) (y : ℕ × List ℕ) → y.0 ≤ 64 → size_with first n behind (Some y) ≡ Size (first + 1 + (length behind - length y.1) + y.0 + n)
-size_of_token first n behind y h = rw (le-ltb 64 y.0 h) refl
+size_of_token : (first n : ℕ) (behind : List ℕ) (y : ℕ × List ℕ) → y.0 ≤ greatest_token → size_with first n behind (Some y) ≡ Size (first + 1 + (length behind - length y.1) + y.0 + n)
+size_of_token first n behind y h = rw (le-ltb greatest_token y.0 h) refl
 
-size_of_long_token : (first n : ℕ) (behind : List ℕ) (y : ℕ × List ℕ) → 64 < y.0 → size_with first n behind (Some y) ≡ BadToken
-size_of_long_token first n behind y h = rw (lt-ltb 64 y.0 h) refl
+size_of_long_token : (first n : ℕ) (behind : List ℕ) (y : ℕ × List ℕ) → greatest_token < y.0 → size_with first n behind (Some y) ≡ BadToken
+size_of_long_token first n behind y h = rw (lt-ltb greatest_token y.0 h) refl
 
 -- the size of a frame with this first byte, a token of t bytes and a body of n bytes
 abbrev pub frame_size : ℕ → ℕ → ℕ → ℕ
 frame_size b t n = 1 + extension_of (b / 16) + 1 + option_extension (b % 16) + t + n
 
-pub declared_size : (b : ℕ) (s : List ℕ) (t n : ℕ) → ReadsLengths b s t n → t ≤ 64 → declared_of (b ∷ s) ≡ Size (frame_size b t n)
+pub declared_size : (b : ℕ) (s : List ℕ) (t n : ℕ) → ReadsLengths b s t n → t ≤ greatest_token → declared_of (b ∷ s) ≡ Size (frame_size b t n)
 declared_size b s t n r short =
     let w = widths b s t n r in
     let same : 1 + (length s - length r.at_code) + 1 + (length (drop 1 r.at_code) - length r.at_token) + t + n ≡ frame_size b t n = omega (arith, w.body, w.token) in
     declared_with b s t n r ∙ size_of_token (1 + (length s - length r.at_code)) n (drop 1 r.at_code) (t, r.at_token) short ∙ ap Size same
 
-pub declared_long : (b : ℕ) (s : List ℕ) (t n : ℕ) → ReadsLengths b s t n → 64 < t → declared_of (b ∷ s) ≡ BadToken
+pub declared_long : (b : ℕ) (s : List ℕ) (t n : ℕ) → ReadsLengths b s t n → greatest_token < t → declared_of (b ∷ s) ≡ BadToken
 declared_long b s t n r long = declared_with b s t n r ∙ size_of_long_token (1 + (length s - length r.at_code)) n (drop 1 r.at_code) (t, r.at_token) long
 
 -- ---- lengths that are stated are read
@@ -232,7 +232,7 @@ read_stated b s t n fits r =
       token_extension = option_form_width (b % 16) k.extension t k.form;
     }
 
-read_size : (b : ℕ) (s : List ℕ) (t n : ℕ) → AreBytes (b ∷ s) → ReadsLengths b s t n → t ≤ 64 → IsDeclaredSize (b ∷ s) (frame_size b t n)
+read_size : (b : ℕ) (s : List ℕ) (t n : ℕ) → AreBytes (b ∷ s) → ReadsLengths b s t n → t ≤ greatest_token → IsDeclaredSize (b ∷ s) (frame_size b t n)
 read_size b s t n fits r short =
     let i = read_stated b s t n fits r in (
       i.head,
@@ -241,7 +241,7 @@ read_size b s t n fits r short =
       record { token_length = t; body_length = n; lengths = i.lengths; short = short; size = omega (arith, i.extension, i.token_extension) },
     )
 
-pub read_bad_token : (b : ℕ) (s : List ℕ) (t n : ℕ) → AreBytes (b ∷ s) → ReadsLengths b s t n → 64 < t → HasBadToken (b ∷ s)
+pub read_bad_token : (b : ℕ) (s : List ℕ) (t n : ℕ) → AreBytes (b ∷ s) → ReadsLengths b s t n → greatest_token < t → HasBadToken (b ∷ s)
 read_bad_token b s t n fits r long =
     let i = read_stated b s t n fits r in
     (i.head, i.more, i.bytes, inr (t, n, i.lengths, long))
@@ -254,7 +254,7 @@ pub declares : (s : List ℕ) → AreBytes s → Declares s (declared_of s)
 declares [] fits = rw declared_nothing (declares_unknown [] declared_nothing)
 declares (b ∷ s) fits =
     elim (head_cases b s) [
-      | inl r ↦ elim (cases_lt 64 r.0) [
+      | inl r ↦ elim (cases_lt greatest_token r.0) [
         | inl long ↦ rw (declared_long b s r.0 r.1 r.2 long) (read_bad_token b s r.0 r.1 fits r.2 long)
         | inr short ↦ rw (declared_size b s r.0 r.1 r.2 short) (read_size b s r.0 r.1 fits r.2 short)
       ]
@@ -308,18 +308,18 @@ head_read b s t n at_code at_token code nibble body token =
 head_made : ℕ → ℕ → List ℕ → Head
 head_made code t s = record { code = code; token = take t s; body = drop t s }
 
-head_long : (code t n : ℕ) (s : List ℕ) → 64 < t → head_with code n (Some (t, s)) ≡ Err TokenLength
-head_long code t n s long = rw (lt-ltb 64 t long) refl
+head_long : (code t n : ℕ) (s : List ℕ) → greatest_token < t → head_with code n (Some (t, s)) ≡ Err TokenLength
+head_long code t n s long = rw (lt-ltb greatest_token t long) refl
 
-head_whole : (code t n : ℕ) (s : List ℕ) → t ≤ 64 → length s ≡ t + n → head_with code n (Some (t, s)) ≡ Ok (head_made code t s)
+head_whole : (code t n : ℕ) (s : List ℕ) → t ≤ greatest_token → length s ≡ t + n → head_with code n (Some (t, s)) ≡ Ok (head_made code t s)
 unfolding head_made
-head_whole code t n s short h = rw (le-ltb 64 t short, eq-eqb (length s) (t + n) h) refl
+head_whole code t n s short h = rw (le-ltb greatest_token t short, eq-eqb (length s) (t + n) h) refl
 
-head_not_whole : (code t n : ℕ) (s : List ℕ) → t ≤ 64 → length s ≢ t + n → head_with code n (Some (t, s)) ≡ Err NotOneFrame
-head_not_whole code t n s short h = rw (le-ltb 64 t short, ne_eqb (length s) (t + n) h) refl
+head_not_whole : (code t n : ℕ) (s : List ℕ) → t ≤ greatest_token → length s ≢ t + n → head_with code n (Some (t, s)) ≡ Err NotOneFrame
+head_not_whole code t n s short h = rw (le-ltb greatest_token t short, ne_eqb (length s) (t + n) h) refl
 
 -- where no byte stands behind the length, no byte extends the token's length
-few_token : (x t : ℕ) (behind : List ℕ) → option_number_at x [] ≡ Some (t, behind) → t ≤ 64
+few_token : (x t : ℕ) (behind : List ℕ) → option_number_at x [] ≡ Some (t, behind) → t ≤ greatest_token
 few_token x t behind e =
     elim (cases_lt x 13) [
       | inl lt ↦ let same : x ≡ t = ap (λ (y : ℕ × List ℕ). y.0) (some_is (x, []) (t, behind) (sym (option_number_none x [] lt) ∙ e)) in omega (arith, lt, same)
@@ -329,7 +329,7 @@ few_token x t behind e =
 -- what is read of a head whose lengths are read: no code, or what stands behind it
 abbrev HeadParts : ℕ → List ℕ → ℕ → ℕ → List ℕ → List ℕ → Type 0
 HeadParts b s t n at_code at_token =
-    ((at_code ≡ []) × (head_at (b ∷ s) ≡ Err NotOneFrame) × (t ≤ 64))
+    ((at_code ≡ []) × (head_at (b ∷ s) ≡ Err NotOneFrame) × (t ≤ greatest_token))
     ⊎ ((code : ℕ) × (behind : List ℕ) × (at_code ≡ code ∷ behind) × (head_at (b ∷ s) ≡ head_with code n (Some (t, at_token))))
 
 parts_by : (b : ℕ) (s : List ℕ) (t n : ℕ) (at_code at_token : List ℕ) → b % 16 ≢ 15 → length_at (b / 16) s ≡ Some (n, at_code)
@@ -342,7 +342,7 @@ head_parts : (b : ℕ) (s : List ℕ) (t n : ℕ) → (r : ReadsLengths b s t n)
 head_parts b s t n r = parts_by b s t n r.at_code r.at_token r.nibble r.body r.token
 
 -- a head that is read is spelled so, and its body is bytes
-head_spelled : (b : ℕ) (s : List ℕ) (t n code : ℕ) (behind : List ℕ) → AreBytes (b ∷ s) → (r : ReadsLengths b s t n) → r.at_code ≡ code ∷ behind → t ≤ 64 → length r.at_token ≡ t + n
+head_spelled : (b : ℕ) (s : List ℕ) (t n code : ℕ) (behind : List ℕ) → AreBytes (b ∷ s) → (r : ReadsLengths b s t n) → r.at_code ≡ code ∷ behind → t ≤ greatest_token → length r.at_token ≡ t + n
     → IsHeadAndBody (b ∷ s) code (take t r.at_token) (drop t r.at_token) × AreBytes (drop t r.at_token)
 head_spelled b s t n code behind fits r is short whole =
     let byte : b < 256 = fits 0 in
@@ -374,7 +374,7 @@ takes_parts : (b : ℕ) (s : List ℕ) (h : Head) (t n code : ℕ) (behind : Lis
     → head_with code n (Some (t, r.at_token)) ≡ Ok h → IsSpelledSo (b ∷ s) h
 unfolding head_made
 takes_parts b s h t n code behind fits r is e =
-    elim (cases_lt 64 t) [
+    elim (cases_lt greatest_token t) [
       | inl long ↦ absurd (ok_or_err (head_with code n (Some (t, r.at_token))) h TokenLength e (head_long code t n r.at_token long))
       | inr short ↦ elim (cases_eq (length r.at_token) (t + n)) [
         | inl whole ↦ subst (IsSpelledSo (b ∷ s)) (ok_is (head_made code t r.at_token) h (sym (head_whole code t n r.at_token short whole) ∙ e)) (head_spelled b s t n code behind fits r is short whole)
@@ -490,7 +490,7 @@ bad_token_is s e bad h = let same : TokenLength ≡ e = cc (bad_token_read s bad
 parts_fault : (b : ℕ) (s : List ℕ) (e : FormatFault) (t n code : ℕ) → AreBytes (b ∷ s) → (r : ReadsLengths b s t n) → head_at (b ∷ s) ≡ head_with code n (Some (t, r.at_token))
     → head_at (b ∷ s) ≡ Err e → IsFirstFault (b ∷ s) e
 parts_fault b s e t n code fits r is h =
-    elim (cases_lt 64 t) [
+    elim (cases_lt greatest_token t) [
       | inl long ↦ bad_token_is (b ∷ s) e (read_bad_token b s t n fits r long) h
       | inr short ↦ elim (cases_eq (length r.at_token) (t + n)) [
         | inl whole ↦ absurd (ok_or_err (head_at (b ∷ s)) (head_made code t r.at_token) e (is ∙ head_whole code t n r.at_token short whole) h)

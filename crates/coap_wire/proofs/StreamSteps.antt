@@ -3,7 +3,7 @@ use Rattle.std.proofs.Common.{◌≡◌, ◌≢◌, ℕ, zero, suc, ◌+◌, ◌
 use Rattle.std.proofs.lemmas.Bool.{eq-eqb, ne_eqb, lt-ltb, le-ltb, cases_lt, cases_eq}
 use Rattle.std.proofs.lemmas.List.{length-append, length-drop, length-take, length-take-le, take-append-drop, take-append-le, drop-append-le, take_all, drop_all}
 use Rattle.coap_wire.specs.Message.{Message}
-use Rattle.coap_wire.specs.Forms.{extension_of, option_extension}
+use Rattle.coap_wire.specs.Forms.{extension_of, option_extension, greatest_token}
 use Rattle.coap_wire.specs.Size.{code_and_extension, StatesLengths}
 use Rattle.coap_wire.specs.declared.frame.Declared.{Declared}
 use Rattle.coap_wire.specs.declared.frame.Declared.TheVariants.{Unknown, Size, BadToken}
@@ -42,13 +42,13 @@ record HasSize (b : ℕ) (s : List ℕ) (m : ℕ) : Type 0 where
   token_length : ℕ
   body_length : ℕ
   read : ReadsLengths b s token_length body_length
-  short : token_length ≤ 64
+  short : token_length ≤ greatest_token
   size : m ≡ frame_size b token_length body_length
 
 size_at : (b : ℕ) (s : List ℕ) (m : ℕ) → declared_of (b ∷ s) ≡ Size m → HasSize b s m
 size_at b s m e =
     elim (head_cases b s) [
-      | inl r ↦ elim (cases_lt 64 r.0) [
+      | inl r ↦ elim (cases_lt greatest_token r.0) [
         | inl long ↦ absurd (bad_not_size m (sym (declared_long b s r.0 r.1 r.2 long) ∙ e))
         | inr short ↦ record {
           token_length = r.0;
@@ -152,7 +152,7 @@ cut_head_bytes b s c =
 unknown_at : (b : ℕ) (s : List ℕ) → declared_of (b ∷ s) ≡ Unknown → length (b ∷ s) < size_bytes (b ∷ s)
 unknown_at b s e =
     elim (head_cases b s) [
-      | inl r ↦ elim (cases_lt 64 r.0) [
+      | inl r ↦ elim (cases_lt greatest_token r.0) [
         | inl long ↦ absurd (bad_not_unknown (sym (declared_long b s r.0 r.1 r.2 long) ∙ e))
         | inr short ↦ absurd (unknown_not_size _ (sym e ∙ declared_size b s r.0 r.1 r.2 short))
       ]
@@ -217,7 +217,7 @@ pub bad_token_more : (s t : List ℕ) → declared_of s ≡ BadToken → declare
 bad_token_more [] t e = absurd (unknown_not_bad (sym declared_nothing ∙ e))
 bad_token_more (b ∷ s) t e =
     elim (head_cases b s) [
-      | inl r ↦ elim (cases_lt 64 r.0) [
+      | inl r ↦ elim (cases_lt greatest_token r.0) [
         | inl long ↦ declared_long b (s ++ t) r.0 r.1 (reads_more b s t r.0 r.1 r.2) long
         | inr short ↦ absurd (bad_not_size _ (sym e ∙ declared_size b s r.0 r.1 r.2 short))
       ]

@@ -48,8 +48,8 @@ option_number_at x s =
 abbrev pub token_length_at : ℕ → List ℕ → Option (ℕ × List ℕ)
 token_length_at x s = option_number_at x s
 
--- the whole size that the first bytes declare: first come so many, then the code and behind, and of behind the token's length
--- leaves token.1; the length of options and payload is n
+-- The size that first bytes declare, of which so many stand before the code: behind the code stands this, of which the token's
+-- length leaves token.1, and n bytes of options and payload come at last.
 abbrev pub size_with : ℕ → ℕ → List ℕ → Option (ℕ × List ℕ) → Declared
 size_with first n behind None = declared.Unknown
 size_with first n behind (Some token) =
