@@ -6,7 +6,7 @@ ghost use Rattle.coap_conn.specs.Prelude.{abort_text as text_for, abort_with as 
 use crate::csm::{CUSTODY, EXTENDED_TOKEN_LENGTH, MAX_MESSAGE_SIZE};
 use crate::queue::OutQueue;
 use crate::reason::Reason;
-use coap_wire::{Code, MessageBuilder, Token, TokenRef, uint_bytes};
+use coap_wire::{Code, MessageBuilder, Token, TokenRef, UintBytes, uint_bytes};
 
 /// Bad-CSM-Option, an option of Abort (RFC 8323 section 5.6).
 const BAD_CSM_OPTION: u16 = 2;
@@ -15,9 +15,8 @@ const BAD_CSM_OPTION: u16 = 2;
 const OWN_TOKEN_LENGTH: [u8; 1] = [64];
 
 /// Our Capabilities and Settings: Max-Message-Size with these bytes, and nothing else (RFC 8323 section 5.3.1).
-fn csm_with<'a>(size: &'a [u8]) -> MessageBuilder<'a, 1>
-    requires { length size.now ≤ 8 }
-    ensures { result ≡ csm_of size.now }
+fn csm_with<'a>(size: &'a UintBytes) -> MessageBuilder<'a, 2>
+    ensures { result ≡ csm_of size.now.items }
 {
     let mut csm = MessageBuilder::to(Code::CSM, TokenRef::empty());
     let Ok(()) = csm.option(MAX_MESSAGE_SIZE, size) else {
@@ -26,17 +25,12 @@ fn csm_with<'a>(size: &'a [u8]) -> MessageBuilder<'a, 1>
     csm
 }
 
-/// Our first Capabilities and Settings: Max-Message-Size with these bytes, and the longest token that we take (RFC 8974
-/// section 2.2.1).
-fn first_csm_with<'a>(size: &'a [u8]) -> MessageBuilder<'a, 2>
-    requires { length size.now ≤ 8 }
-    ensures { result ≡ first_csm_of size.now }
+/// Our first Capabilities and Settings: these, and the longest token that we take (RFC 8974 section 2.2.1).
+fn first_csm_with<'a>(size: &'a UintBytes) -> MessageBuilder<'a, 2>
+    ensures { result ≡ first_csm_of size.now.items }
 {
-    let mut csm = MessageBuilder::to(Code::CSM, TokenRef::empty());
-    let (Ok(()), Ok(())) = (
-        csm.option(MAX_MESSAGE_SIZE, size),
-        csm.option(EXTENDED_TOKEN_LENGTH, &OWN_TOKEN_LENGTH),
-    ) else {
+    let mut csm = csm_with(size);
+    let Ok(()) = csm.option(EXTENDED_TOKEN_LENGTH, &OWN_TOKEN_LENGTH) else {
         unreachable!()
     };
     csm

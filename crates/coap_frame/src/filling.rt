@@ -5,6 +5,9 @@ ghost use Rattle.coap_frame.specs.Prelude.{Unfinished, beginning, token_bytes, s
 
 use coap_wire::{Declared, FrameFault, declared};
 
+/// The nibble that means no token length (RFC 8974 section 2.1).
+const NO_TOKEN_LENGTH: u8 = 15;
+
 /// How a piece or a buffer stands.
 #[derive(Clone, Copy)]
 pub(crate) enum Standing {
@@ -43,7 +46,7 @@ fn size_bytes(frame: &[u8]) -> usize
     let Some(first) = frame.first() else {
         return 0;
     };
-    if *first % 16 == 15 {
+    if *first % 16 == NO_TOKEN_LENGTH {
         return 1;
     }
     1 + extension(*first / 16) + code_and_extension(*first % 16)
