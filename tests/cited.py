@@ -28,7 +28,7 @@ from rooms import ROOT, crates
 WIDTH = 120
 ANSWERS = ("Answers", "Invariants", "Proof")
 WORD = re.compile(r"[^\s()\[\]{},;\"λ|]+")
-IMPORT = re.compile(r"(?:ghost |pub )?use ([\w.«»]+?)(?:\.\{(.*)\}| as (\w+))?;?$")
+IMPORT = re.compile(r"(?:ghost |pub |unfoldable pub )?use ([\w.«»]+?)(?:\.\{(.*)\}| as (\w+))?;?$")
 MODULE = re.compile(r"(pub )?mod ")
 HEAD = re.compile(r"((?:(?:abbrev|unfoldable|pub|record|data|ruleset) )*)([^\s:)\]}][^\s:]*)(?= [:({=]| where|$)")
 
@@ -65,7 +65,7 @@ class Scope:
         for item in (items or "").split(", "):
             name, _, alias = item.partition(" as ")
             self.names[alias or name].add(f"{path}.{name}")
-            if line.startswith("pub "):
+            if "pub " in line.partition("use ")[0]:
                 self.passed[f"{self.module}.{alias or name}"] = f"{path}.{name}"
 
     def cited(self, words):
@@ -102,7 +102,7 @@ def read_antt(path, crate):
             indent = len(line) - len(text)
             while blocks and indent <= blocks[-1][0]:
                 blocks.pop()
-            if text.startswith(("use ", "pub use ")):
+            if text.startswith(("use ", "pub use ", "unfoldable pub use ")):
                 scope.add_import(text)
             elif text.startswith("module "):
                 blocks.append((indent, WORD.findall(text)))

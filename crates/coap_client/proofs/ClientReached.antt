@@ -1,31 +1,21 @@
 -- What holds of a client after any accepted calls, and what one call more leaves of it.
 use Rattle.std.proofs.Common.{◌≡◌, ℕ, ◌≤◌, Bool, true, false, cond, List, [], ◌∷◌, ◌++◌, length, map, take, Some, None, Result, Ok, Err, refl, sym, ap, subst, ◌∙◌, arith}
-use Rattle.std.specs.Prelude.{nat_le}
+use Rattle.coap_client.specs.Prelude.{nat_le, Message, message_of, StreamFault, OfFrame, Format, Stream, frame_then}
+use Rattle.coap_client.specs.Prelude.{fault_bytes, FormatFault, Framing, Finding, Nothing, AFrame, AFault, framing}
+use Rattle.coap_client.specs.Prelude.{Phase, Reject, Client, LimitValues, takes_messages, reject_of}
+use Rattle.coap_client.specs.Prelude.{OutstandingValue, History, IsHistory, new_history, after, after_asking}
+use Rattle.coap_client.specs.Prelude.{link_of, LinkValue, free_in, link_after, Method, TargetValue, ExtrasValue}
+use Rattle.coap_client.specs.Prelude.{request_of, cancel_of, ClientValue, Taking, taking_rejected, taking_read}
+use Rattle.coap_client.specs.Prelude.{taking_found, taking, is_cut, client_written, client_ended, client_sent}
+use Rattle.coap_client.specs.Prelude.{client_cancelled, client_pinged, ClientCall, Took, Sent, Cancelled, Pinged}
+use Rattle.coap_client.specs.Prelude.{Wrote, Ended, ClientStep, Handles, Faults, Requests, Cancels, Pings, Writes}
+use Rattle.coap_client.specs.Prelude.{Ends, taken_by, stream_in, new_fault, steps_by, after_steps, client_after}
+use Rattle.coap_client.specs.Prelude.{handles, takes, event_by, event_of, IsAccepted, AreAccepted, kept_after}
+use Rattle.coap_client.specs.Prelude.{client_of}
 use Rattle.std.proofs.lemmas.Bool.{and_parts}
 use Rattle.std.proofs.lemmas.List.{nil_from_length, take_all}
-use Rattle.coap_wire.specs.Message.{Message}
-use Rattle.coap_wire.specs.Reading.{message_of}
-use Rattle.coap_wire.specs.Stream.{StreamFault, OfFrame, Format, Stream, frame_then}
-use Rattle.coap_wire.specs.Beginning.{fault_bytes}
-use Rattle.coap_wire.specs.declared.fault.FormatFault.{FormatFault}
-use Rattle.coap_frame.specs.Framing.{Framing, Finding, Nothing, AFrame, AFault, framing}
-use Rattle.coap_conn.specs.declared.phase.Phase.{Phase}
-use Rattle.coap_conn.specs.declared.phase.Reject.{Reject}
-use Rattle.coap_conn.specs.declared.phase.Role.TheVariants.{Client}
-use Rattle.coap_conn.specs.Limits.{LimitValues}
-use Rattle.coap_conn.specs.Phases.{takes_messages}
-use Rattle.coap_conn.specs.Rejects.{reject_of}
-use Rattle.coap_conn.specs.Outstanding.{OutstandingValue}
-use Rattle.coap_conn.specs.History.{History, IsHistory, new_history, after, after_asking, link_of}
-use Rattle.coap_conn.specs.LinkValue.{LinkValue, free_in}
-use Rattle.coap_conn.specs.Calls.{link_after}
 use Rattle.coap_conn.specs.Calls as call
 use Rattle.coap_conn.proofs.LinkLemmas.{new_shown, shows, shown_after}
-use Rattle.coap_client.specs.declared.request.Method.{Method}
-use Rattle.coap_client.specs.Targets.{TargetValue}
-use Rattle.coap_client.specs.Requests.{ExtrasValue, request_of, cancel_of}
-use Rattle.coap_client.specs.ClientValues.{ClientValue, Taking, taking_rejected, taking_read, taking_found, taking, is_cut, client_written, client_ended, client_sent, client_cancelled, client_pinged}
-use Rattle.coap_client.specs.ClientWorld.{ClientCall, Took, Sent, Cancelled, Pinged, Wrote, Ended, ClientStep, Handles, Faults, Requests, Cancels, Pings, Writes, Ends, taken_by, stream_in, new_fault, steps_by, after_steps, client_after, handles, takes, event_by, event_of, IsAccepted, AreAccepted, kept_after, client_of}
 use Rattle.coap_client.specs.ClientWorld as client
 use Rattle.coap_frame.proofs.FrontLaws.{front, front_whole, added_by, added_front, front_kept}
 use Rattle.coap_client.proofs.ClientSteps.{stream_stays, stream_first, stream_rest_unfinished, client_first, client_same, client_step, client_more, by_calls, AddsTo, take_adds, empty_take_stream, empty_take_steps}

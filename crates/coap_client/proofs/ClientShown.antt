@@ -1,23 +1,16 @@
 -- What the clauses of each call of a client say of its value shows the call: what a client holds after calls is what they leave.
 use Rattle.std.proofs.Common.{◌≡◌, ℕ, ◌≤◌, Bool, true, false, cond, List, [], ◌∷◌, ◌++◌, length, take, Option, Some, None, Result, Ok, Err, refl, sym, ap, subst, ◌∙◌}
-use Rattle.std.specs.Prelude.{IfOk, OnOk}
-use Rattle.coap_wire.specs.Message.{Message}
-use Rattle.coap_wire.specs.Refusal.{RefusedBy}
-use Rattle.coap_conn.specs.Asking.{else_refusal, new_refusal, asking_refusal, observation_refusal, cancel_refusal, next_token, with_token}
-use Rattle.coap_conn.specs.declared.phase.RequestFault.TheVariants.{TooBig}
-use Rattle.coap_conn.specs.declared.phase.RequestFault.{RequestFault}
-use Rattle.coap_conn.specs.declared.phase.Role.TheVariants.{Client}
-use Rattle.coap_conn.specs.Limits.{LimitValues}
-use Rattle.coap_conn.specs.LinkValue.{LinkValue, asking_in}
-use Rattle.coap_conn.specs.History.{link_of}
-use Rattle.coap_conn.specs.Calls.{link_after}
+use Rattle.coap_client.specs.Prelude.{IfOk, OnOk, Message, RefusedBy, else_refusal, new_refusal, asking_refusal}
+use Rattle.coap_client.specs.Prelude.{observation_refusal, cancel_refusal, next_token, with_token, TooBig}
+use Rattle.coap_client.specs.Prelude.{RequestFault, Client, LimitValues, LinkValue, asking_in, link_of, link_after}
+use Rattle.coap_client.specs.Prelude.{Method, TargetValue, ExtrasValue, request_of, cancel_of, is_too_long}
+use Rattle.coap_client.specs.Prelude.{has_long_extra, ClientValue, EventValue, taking, new_client, client_written}
+use Rattle.coap_client.specs.Prelude.{client_ended, client_sent, client_cancelled, client_pinged, send_refusal}
+use Rattle.coap_client.specs.Prelude.{cancelling_refusal, ping_refusal, ClientCall, Took, Sent, Cancelled, Pinged}
+use Rattle.coap_client.specs.Prelude.{Wrote, Ended, client_after, takes, event_of, IsAccepted, AreAccepted}
+use Rattle.coap_client.specs.Prelude.{kept_after, client_of, ClientShows}
 use Rattle.coap_conn.specs.Calls as call
 use Rattle.coap_conn.proofs.LinkLemmas.{new_shown}
-use Rattle.coap_client.specs.declared.request.Method.{Method}
-use Rattle.coap_client.specs.Targets.{TargetValue}
-use Rattle.coap_client.specs.Requests.{ExtrasValue, request_of, cancel_of, is_too_long, has_long_extra}
-use Rattle.coap_client.specs.ClientValues.{ClientValue, EventValue, taking, new_client, client_written, client_ended, client_sent, client_cancelled, client_pinged, send_refusal, cancelling_refusal, ping_refusal}
-use Rattle.coap_client.specs.ClientWorld.{ClientCall, Took, Sent, Cancelled, Pinged, Wrote, Ended, client_after, takes, event_of, IsAccepted, AreAccepted, kept_after, client_of, ClientShows}
 use Rattle.coap_client.proofs.ClientSteps.{stream_first, client_first, accepted_no_call, accepted_with_call}
 use Rattle.coap_client.proofs.ClientReached.{limits_same, CallsReach, accepted_reach, after_of, client_link, IsTakenAndTold, takes_and_tells, sent_left, cancelled_left, pinged_left, wrote_left, ended_left}
 

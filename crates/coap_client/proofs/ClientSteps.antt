@@ -1,18 +1,14 @@
 -- Calls one behind the other: their bytes, their steps, the connection after them, and which calls are accepted.
 use Rattle.std.proofs.Common.{◌≡◌, ℕ, List, [], ◌∷◌, ◌++◌, length, map, Option, Some, None, refl, sym, ap, subst, ◌∙◌, append_assoc}
-use Rattle.std.specs.List.{flat_map}
+use Rattle.coap_client.specs.Prelude.{flat_map, Message, Unfinished, beginning, StreamFault, Stream, split, behind}
+use Rattle.coap_client.specs.Prelude.{gone_on, split_on, framing, LimitValues, History, new_history, Client}
+use Rattle.coap_client.specs.Prelude.{ClientCall, Took, ClientStep, Handles, taken_by, stream_in, new_fault, beyond}
+use Rattle.coap_client.specs.Prelude.{steps_by, steps_behind, steps_of, after_steps, client_after, IsAccepted}
+use Rattle.coap_client.specs.Prelude.{AreAcceptedBehind, AreAccepted}
 use Rattle.std.proofs.lemmas.List.{append-nil}
 use Rattle.std.proofs.lemmas.List.Concat.{flat_map-append}
 use Rattle.std.proofs.Math.Seq.{drop-length, drop-append_seam}
-use Rattle.coap_wire.specs.Message.{Message}
-use Rattle.coap_wire.specs.Beginning.{Unfinished, beginning}
-use Rattle.coap_wire.specs.Stream.{StreamFault, Stream, split, behind, gone_on, split_on}
 use Rattle.coap_wire.proofs.StreamSteps.{unfinished_empty, split_unfinished, split_goes_on, split_rest}
-use Rattle.coap_frame.specs.Framing.{framing}
-use Rattle.coap_conn.specs.Limits.{LimitValues}
-use Rattle.coap_conn.specs.History.{History, new_history}
-use Rattle.coap_conn.specs.declared.phase.Role.TheVariants.{Client}
-use Rattle.coap_client.specs.ClientWorld.{ClientCall, Took, ClientStep, Handles, taken_by, stream_in, new_fault, beyond, steps_by, steps_behind, steps_of, after_steps, client_after, IsAccepted, AreAcceptedBehind, AreAccepted}
 use Rattle.coap_client.specs.ClientWorld as client
 use Rattle.coap_frame.proofs.FrontLaws.{added_by, added_whole}
 

@@ -1,24 +1,17 @@
 -- What holds of every course of a client's run: what was taken is a front of what the wire gave, and what was written a front of what
 -- was queued.
 use Rattle.std.proofs.Common.{◌≡◌, ◌+◌, ◌≤◌, ℕ, Bool, true, false, cond, List, [], ◌∷◌, ◌++◌, length, map, take, drop, Option, Some, None, refl, sym, ap, subst, ◌∙◌, append_assoc}
-use Rattle.std.specs.List.{flat_map}
+use Rattle.coap_client.specs.Prelude.{flat_map, Message, spelling, StreamFault, Stream, LimitValues, takes_messages}
+use Rattle.coap_client.specs.Prelude.{History, IsHistory, bytes_of, Got, Bytes, Later, End, Failed, bytes_passed}
+use Rattle.coap_client.specs.Prelude.{ClientPlan, ClientCall, Took, Sent, Cancelled, Pinged, Wrote, Ended}
+use Rattle.coap_client.specs.Prelude.{ClientStep, Handles, Faults, Requests, Cancels, Pings, Writes, Ends, taken_by}
+use Rattle.coap_client.specs.Prelude.{stream_in, new_fault, steps_by, step, after_steps, client_after, client_of}
+use Rattle.coap_client.specs.Prelude.{AreAcceptedBehind, AreAccepted, calls_read, calls_written, Course, Begins}
+use Rattle.coap_client.specs.Prelude.{Turns, Reads, Calls, Refuses, GivesUp, Rests, own_limits, calls_in, history_in}
+use Rattle.coap_client.specs.Prelude.{waiting_in, taken_in, given_in, rest_in, written_in, IsPlanned, IsCourse}
 use Rattle.std.proofs.lemmas.List.{append-nil, take-append-drop, take-append-le}
 use Rattle.std.proofs.Math.Seq.{drop-append_seam, take-append-add}
 use Rattle.std.proofs.lemmas.List.Concat.{flat_map-append}
-use Rattle.coap_wire.specs.Message.{Message}
-use Rattle.coap_wire.specs.Spelling.{spelling}
-use Rattle.coap_wire.specs.Stream.{StreamFault, Stream}
-use Rattle.coap_conn.specs.Limits.{LimitValues}
-use Rattle.coap_conn.specs.Phases.{takes_messages}
-use Rattle.coap_conn.specs.History.{History, IsHistory}
-use Rattle.coap_conn.specs.LinkValue.{bytes_of}
-use Rattle.coap_serve.specs.declared.wire.Got.{Got}
-use Rattle.coap_serve.specs.declared.wire.Got.TheVariants.{Bytes, Later, End, Failed}
-use Rattle.coap_serve.specs.streams.Wires.{bytes_passed}
-use Rattle.coap_client.specs.declared.plan.ClientPlan.{ClientPlan}
-use Rattle.coap_client.specs.ClientWorld.{ClientCall, Took, Sent, Cancelled, Pinged, Wrote, Ended, ClientStep, Handles, Faults, Requests, Cancels, Pings, Writes, Ends, taken_by, stream_in, new_fault, steps_by, step, after_steps, client_after, client_of, AreAcceptedBehind, AreAccepted}
-use Rattle.coap_client.specs.RunSteps.{calls_read, calls_written}
-use Rattle.coap_client.specs.RunCourse.{Course, Begins, Turns, Reads, Calls, Refuses, GivesUp, Rests, own_limits, calls_in, history_in, waiting_in, taken_in, given_in, rest_in, written_in, IsPlanned, IsCourse}
 use Rattle.coap_client.specs.RunCourse as course
 use Rattle.coap_client.proofs.ClientSteps.{taken_with_call, client_first, client_more}
 use Rattle.coap_client.proofs.ClientReached.{accepted_reach}

@@ -1,17 +1,14 @@
 -- Where pieces are cut does not matter: a piece, and its two parts one after the other, make the same steps and leave the same
 -- client.
 use Rattle.std.proofs.Common.{◌≡◌, ℕ, List, [], ◌∷◌, ◌++◌, map, Option, Some, None, refl, sym, ap, subst, ◌∙◌, append_assoc}
-use Rattle.std.specs.List.{flat_map}
+use Rattle.coap_client.specs.Prelude.{flat_map, Message, StreamFault, Stream, split, behind, gone_on, split_on}
+use Rattle.coap_client.specs.Prelude.{Client, LimitValues, History, new_history, link_of, ClientValue, is_cut}
+use Rattle.coap_client.specs.Prelude.{ClientCall, Took, Sent, Cancelled, Pinged, Wrote, Ended, ClientStep, Handles}
+use Rattle.coap_client.specs.Prelude.{Ends, taken_by, stream_in, new_fault, beyond, steps_by, steps_behind, steps_of}
+use Rattle.coap_client.specs.Prelude.{after_steps, client_after, kept_after, client_of}
 use Rattle.std.proofs.lemmas.List.{append-nil, map-append}
 use Rattle.std.proofs.lemmas.List.Concat.{flat_map-append}
 use Rattle.std.proofs.Math.Seq.{drop-append_seam}
-use Rattle.coap_wire.specs.Message.{Message}
-use Rattle.coap_wire.specs.Stream.{StreamFault, Stream, split, behind, gone_on, split_on}
-use Rattle.coap_conn.specs.declared.phase.Role.TheVariants.{Client}
-use Rattle.coap_conn.specs.Limits.{LimitValues}
-use Rattle.coap_conn.specs.History.{History, new_history, link_of}
-use Rattle.coap_client.specs.ClientValues.{ClientValue, is_cut}
-use Rattle.coap_client.specs.ClientWorld.{ClientCall, Took, Sent, Cancelled, Pinged, Wrote, Ended, ClientStep, Handles, Ends, taken_by, stream_in, new_fault, beyond, steps_by, steps_behind, steps_of, after_steps, client_after, kept_after, client_of}
 use Rattle.coap_client.proofs.ClientSteps.{stream_goes_on, call_steps_behind_more, nothing_beyond_itself}
 
 -- ---- only the bytes that were taken matter

@@ -1,21 +1,16 @@
 -- What a step queues stands behind what was queued, and is at most as great as the greatest message that may be sent at that
 -- moment.
 use Rattle.std.proofs.Common.{◌≡◌, ℕ, Bool, true, false, cond, List, [], ◌∷◌, ◌++◌, refl, sym, ◌∙◌}
-use Rattle.std.specs.Prelude.{◌+◌, is_none}
+use Rattle.coap_client.specs.Prelude.{◌+◌, is_none, Message, takes_messages, reject_of, reject_reason, AllFit}
+use Rattle.coap_client.specs.Prelude.{OutstandingValue, Ping, with_cancelled, asking_refusal, cancel_refusal}
+use Rattle.coap_client.specs.Prelude.{next_token, with_token, entry_of, ping_with, Effect, stop, abort, react}
+use Rattle.coap_client.specs.Prelude.{History, limit_now, standing_now, asking_now, with_effect, after_asking, after}
+use Rattle.coap_client.specs.Prelude.{end_reason, ClientStep, Handles, Faults, Requests, Cancels, Pings, Writes}
+use Rattle.coap_client.specs.Prelude.{Ends, step}
 use Rattle.std.proofs.lemmas.List.{append-nil}
-use Rattle.coap_wire.specs.Message.{Message}
-use Rattle.coap_conn.specs.Phases.{takes_messages}
-use Rattle.coap_conn.specs.Rejects.{reject_of, reject_reason}
-use Rattle.coap_conn.specs.Fit.{AllFit}
-use Rattle.coap_conn.specs.Outstanding.{OutstandingValue, Ping, with_cancelled}
-use Rattle.coap_conn.specs.Asking.{asking_refusal, cancel_refusal, next_token, with_token, entry_of, ping_with}
-use Rattle.coap_conn.specs.Reaction.{Effect, stop, abort, react}
-use Rattle.coap_conn.specs.History.{History, limit_now, standing_now, asking_now, with_effect, after_asking, after}
-use Rattle.coap_conn.specs.Calls.{end_reason}
 use Rattle.coap_conn.specs.Calls as call
 use Rattle.coap_conn.proofs.AskingLaws.{none_where}
 use Rattle.coap_conn.proofs.HistoryLaws.{reaction_fits, stopped_fits, asked_fits, cancelled_fits}
-use Rattle.coap_client.specs.ClientWorld.{ClientStep, Handles, Faults, Requests, Cancels, Pings, Writes, Ends, step}
 
 -- more is queued, and it fits
 abbrev GrowsFit : History → History → Type 0

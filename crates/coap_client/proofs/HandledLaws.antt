@@ -1,29 +1,18 @@
 -- The messages handled are exactly those that the bytes taken spell, and their fault stops the connection.
 use Rattle.std.proofs.Common.{◌≡◌, ℕ, Bool, true, false, cond, List, [], ◌∷◌, ◌++◌, length, Some, None, Result, Ok, Err, refl, sym, ap, subst, ◌∙◌}
-use Rattle.std.specs.Prelude.{◌≤◌, nat_le, is_none}
+use Rattle.coap_client.specs.Prelude.{◌≤◌, nat_le, is_none, Message, message_of, FormatFault, StreamFault, OfFrame}
+use Rattle.coap_client.specs.Prelude.{Format, Stream, frame_then, Finding, Nothing, AFrame, AFault, Framing, framing}
+use Rattle.coap_client.specs.Prelude.{Phase, Stopped, Reason, takes_messages, reject_of, reject_reason, LimitValues}
+use Rattle.coap_client.specs.Prelude.{OutstandingValue, Ping, asking_refusal, cancel_refusal, next_token, with_token}
+use Rattle.coap_client.specs.Prelude.{entry_of, ping_with, stop, abort, react, History, standing_now, asking_now}
+use Rattle.coap_client.specs.Prelude.{with_effect, after, after_asking, link_of, end_reason, free_in, is_cut}
+use Rattle.coap_client.specs.Prelude.{ClientCall, ClientStep, Took, Sent, Cancelled, Pinged, Wrote, Ended, Handles}
+use Rattle.coap_client.specs.Prelude.{Faults, Requests, Cancels, Pings, Writes, Ends, taken_by, stream_in, steps_by}
+use Rattle.coap_client.specs.Prelude.{step, client_after, handles, takes, IsAccepted, AreAccepted, request_of}
+use Rattle.coap_client.specs.Prelude.{cancel_of}
 use Rattle.std.proofs.lemmas.Bool.{and_parts, leb-true}
 use Rattle.std.proofs.lemmas.List.{append-nil, nil_from_length}
-use Rattle.coap_wire.specs.Message.{Message}
-use Rattle.coap_wire.specs.Reading.{message_of}
-use Rattle.coap_wire.specs.declared.fault.FormatFault.{FormatFault}
-use Rattle.coap_wire.specs.Stream.{StreamFault, OfFrame, Format, Stream, frame_then}
-use Rattle.coap_frame.specs.Framing.{Finding, Nothing, AFrame, AFault, Framing, framing}
-use Rattle.coap_conn.specs.declared.phase.Phase.{Phase}
-use Rattle.coap_conn.specs.declared.phase.Phase.TheVariants.{Stopped}
-use Rattle.coap_conn.specs.declared.reason.Reason.{Reason}
-use Rattle.coap_conn.specs.Phases.{takes_messages}
-use Rattle.coap_conn.specs.Rejects.{reject_of, reject_reason}
-use Rattle.coap_conn.specs.Limits.{LimitValues}
-use Rattle.coap_conn.specs.Outstanding.{OutstandingValue, Ping}
-use Rattle.coap_conn.specs.Asking.{asking_refusal, cancel_refusal, next_token, with_token, entry_of, ping_with}
-use Rattle.coap_conn.specs.Reaction.{stop, abort, react}
-use Rattle.coap_conn.specs.History.{History, standing_now, asking_now, with_effect, after, after_asking, link_of}
-use Rattle.coap_conn.specs.Calls.{end_reason}
 use Rattle.coap_conn.specs.Calls as call
-use Rattle.coap_conn.specs.LinkValue.{free_in}
-use Rattle.coap_client.specs.ClientValues.{is_cut}
-use Rattle.coap_client.specs.ClientWorld.{ClientCall, ClientStep, Took, Sent, Cancelled, Pinged, Wrote, Ended, Handles, Faults, Requests, Cancels, Pings, Writes, Ends, taken_by, stream_in, steps_by, step, client_after, handles, takes, IsAccepted, AreAccepted}
-use Rattle.coap_client.specs.Requests.{request_of, cancel_of}
 use Rattle.coap_frame.proofs.FrontLaws.{added_by}
 use Rattle.coap_client.proofs.ClientSteps.{stream_stays, stream_first, client_first, client_same, client_step, by_calls, AddsTo, adds_whole, empty_take_steps}
 use Rattle.coap_client.proofs.ClientReached.{accepted_reach}

@@ -1,34 +1,24 @@
 -- The limits of a client hold: after any calls of what is held and outstanding, and after accepted calls of the bytes that wait
 -- and of those that are kept of an unfinished frame.
 use Rattle.std.proofs.Common.{◌≡◌, ℕ, ◌+◌, ◌<◌, ◌≤◌, Bool, true, false, cond, List, [], ◌∷◌, ◌++◌, length, drop, refl, sym, ap, subst, ◌∙◌, arith}
-use Rattle.std.specs.Prelude.{is_none}
+use Rattle.coap_client.specs.Prelude.{is_none, Message, spelling, Client, Reason, LimitValues, AreInRange}
+use Rattle.coap_client.specs.Prelude.{takes_messages, abort_of, reject_of, reject_reason, AllFit, fit}
+use Rattle.coap_client.specs.Prelude.{OutstandingValue, Ping, cancelled_by, asking_refusal, cancel_refusal}
+use Rattle.coap_client.specs.Prelude.{next_token, with_token, entry_of, ping_with, Standing, stop, abort, react}
+use Rattle.coap_client.specs.Prelude.{Effect, History, IsHistory, new_history, limit_now, standing_now, asking_now}
+use Rattle.coap_client.specs.Prelude.{waiting_of, with_effect, after, after_asking, bytes_of, end_reason, HeldValue}
+use Rattle.coap_client.specs.Prelude.{request_of, cancel_of, is_cut, ClientCall, ClientStep, Took, Sent, Cancelled}
+use Rattle.coap_client.specs.Prelude.{Pinged, Wrote, Ended, Handles, Faults, Requests, Cancels, Pings, Writes, Ends}
+use Rattle.coap_client.specs.Prelude.{stream_in, steps_by, steps_of, step, after_steps, client_after, handles}
+use Rattle.coap_client.specs.Prelude.{IsAccepted, AreAccepted, client_of}
 use Rattle.std.proofs.lemmas.Bool.{cond_both}
 use Rattle.std.proofs.lemmas.List.{length-append, length-drop, length-map}
-use Rattle.coap_wire.specs.Message.{Message}
-use Rattle.coap_wire.specs.Spelling.{spelling}
 use Rattle.coap_wire.proofs.StreamSteps.{unfinished_below}
-use Rattle.coap_conn.specs.declared.phase.Role.TheVariants.{Client}
-use Rattle.coap_conn.specs.declared.reason.Reason.{Reason}
-use Rattle.coap_conn.specs.Limits.{LimitValues, AreInRange}
-use Rattle.coap_conn.specs.Phases.{takes_messages}
-use Rattle.coap_conn.specs.Reasons.{abort_of}
-use Rattle.coap_conn.specs.Rejects.{reject_of, reject_reason}
-use Rattle.coap_conn.specs.Fit.{AllFit, fit}
-use Rattle.coap_conn.specs.Outstanding.{OutstandingValue, Ping, cancelled_by}
-use Rattle.coap_conn.specs.Asking.{asking_refusal, cancel_refusal, next_token, with_token, entry_of, ping_with}
-use Rattle.coap_conn.specs.Reaction.{Standing, stop, abort, react, Effect}
-use Rattle.coap_conn.specs.History.{History, IsHistory, new_history, limit_now, standing_now, asking_now, waiting_of, with_effect, after, after_asking}
-use Rattle.coap_conn.specs.LinkValue.{bytes_of}
-use Rattle.coap_conn.specs.Calls.{end_reason}
 use Rattle.coap_conn.specs.Calls as call
 use Rattle.coap_conn.proofs.SmallLemmas.{first_csm_bytes_small}
 use Rattle.coap_conn.proofs.AskingLaws.{none_where, asked_size, cancel_size}
 use Rattle.coap_conn.proofs.AskedLaws.{asked_no_more, asked_few}
 use Rattle.coap_conn.proofs.HistoryLaws.{reaction_fits, stopped_fits}
-use Rattle.coap_conn.specs.Held.{HeldValue}
-use Rattle.coap_client.specs.Requests.{request_of, cancel_of}
-use Rattle.coap_client.specs.ClientValues.{is_cut}
-use Rattle.coap_client.specs.ClientWorld.{ClientCall, ClientStep, Took, Sent, Cancelled, Pinged, Wrote, Ended, Handles, Faults, Requests, Cancels, Pings, Writes, Ends, stream_in, steps_by, steps_of, step, after_steps, client_after, handles, IsAccepted, AreAccepted, client_of}
 use Rattle.coap_client.proofs.ClientSteps.{stream_rest_unfinished, client_first, client_same, client_step, by_calls}
 use Rattle.coap_client.proofs.ClientReached.{limits_same, accepted_reach}
 use Rattle.coap_client.proofs.HandledLaws.{TakeMakes, NoStep, OneMessage, OneFault, handling_has_room, take_makes}

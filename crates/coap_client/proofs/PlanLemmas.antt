@@ -1,13 +1,10 @@
 -- From what `clap` found in the words to what they ask for.
 use Rattle.std.proofs.Common.{◌≡◌, ◌∙◌, List, [], ◌∷◌, Result, sym, ap, refl, subst}
-use Rattle.clap.specs.Words.{App, Kinds, Row, Text, fault_of, matches_of}
-use Rattle.coap_client.specs.CommandLines.{WordsFaultValue, unless_refused}
-use Rattle.coap_client.specs.PlanViews.{IsRefused, IsTurnedDown, TellsClientPlan, TellsServerPlan}
-use Rattle.coap_client.specs.ClientWords.{client_app, client_plan_in, client_plan_of}
-use Rattle.coap_client.specs.ServerWords.{server_app, server_plan_in, server_plan_of}
-use Rattle.coap_client.specs.declared.plan.ClientPlan.{ClientPlan}
-use Rattle.coap_client.specs.declared.plan.ServerPlan.{ServerPlan}
-use Rattle.coap_client.specs.declared.words.WordsFault.{WordsFault}
+use Rattle.coap_client.specs.Prelude.{App, Kinds, Row, Text, fault_of, matches_of, WordsFaultValue, IsTurnedDown}
+use Rattle.coap_client.specs.Prelude.{TellsClientPlan, TellsServerPlan, client_app, client_plan_in, client_plan_of}
+use Rattle.coap_client.specs.Prelude.{server_app, server_plan_in, server_plan_of, ClientPlan, ServerPlan, WordsFault}
+use Rattle.coap_client.specs.CommandLines.{unless_refused}
+use Rattle.coap_client.specs.PlanViews.{IsRefused}
 use Rattle.coap_client.specs.declared.words.WordsFault.TheVariants as faults
 
 nothing_refused : {A : Type 0} (kinds : Kinds) (answer : Result A WordsFaultValue) → kinds ≡ [] → unless_refused kinds answer ≡ answer

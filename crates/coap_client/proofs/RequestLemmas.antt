@@ -1,24 +1,17 @@
 -- The options of a request.
 use Rattle.std.proofs.Common.{◌≡◌, ℕ, zero, suc, ◌+◌, ◌<◌, ◌≤◌, Bool, true, false, cond, ltb, List, [], ◌∷◌, ◌++◌, length, get_or, take, drop, Vec, Option, Some, None, refl, sym, ap, subst, ◌∙◌, append_assoc, arith}
-use Rattle.std.specs.Prelude.{unwrap_or, not, nat_lt, if◌then◌else◌}
-use Rattle.std.specs.Borrow.{Bor}
-use Rattle.std.specs.List.{AllByRecursion, position_or_len}
+use Rattle.coap_client.specs.Prelude.{unwrap_or, not, nat_lt, if◌then◌else◌, Bor, AllByRecursion, position_or_len}
+use Rattle.coap_client.specs.Prelude.{OptionRef, CoapOption, Message, AreOrdered, last_number, HasOptionForm}
+use Rattle.coap_client.specs.Prelude.{coap_option, coap_options, payload_refusal, ExtrasValue, code_of_method}
+use Rattle.coap_client.specs.Prelude.{observe_sent, deregister, with_extra, request_of, cancel_of, host_sent}
+use Rattle.coap_client.specs.Prelude.{uint_sent, own_options, option_with, options_with, insert_option}
+use Rattle.coap_client.specs.Prelude.{is_long_option, has_long_extra, is_too_long, BuildFault, TooLong, Method}
+use Rattle.coap_client.specs.Prelude.{TargetValue, IsRow, IsShort, byte_lists}
 use Rattle.std.proofs.lemmas.Bool.{ltb-false, ltb-true, or_parts}
 use Rattle.std.proofs.lemmas.List.{map_push}
-use Rattle.coap_wire.specs.declared.options.OptionRef.{OptionRef}
-use Rattle.coap_wire.specs.Message.{CoapOption, Message, AreOrdered, last_number}
-use Rattle.coap_wire.specs.Spelling.{HasOptionForm}
-use Rattle.coap_wire.specs.Views.{coap_option, coap_options, payload_refusal}
 use Rattle.coap_wire.proofs.OptionLists.{last_number-push, ordered-push, forms-push}
-use Rattle.coap_client.specs.Requests.{ExtrasValue, code_of_method, observe_sent, deregister, with_extra, request_of, cancel_of, host_sent, uint_sent, own_options, option_with, options_with, insert_option, is_long_option, has_long_extra, is_too_long}
 use Rattle.coap_wire.specs.OptionNumbers as numbers
 use Rattle.coap_wire.specs.Codes as codes
-use Rattle.coap_wire.specs.declared.fault.BuildFault.{BuildFault}
-use Rattle.coap_wire.specs.declared.fault.BuildFault.TheVariants.{TooLong}
-use Rattle.coap_client.specs.declared.request.Method.{Method}
-use Rattle.coap_client.specs.Targets.{TargetValue}
-use Rattle.coap_client.specs.RequestViews.{IsRow}
-use Rattle.coap_client.specs.TargetViews.{IsShort, byte_lists}
 
 -- ---- one option more at the end
 

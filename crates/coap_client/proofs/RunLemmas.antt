@@ -1,30 +1,32 @@
 -- What each step of a client's run adds to its course.
 use Rattle.std.proofs.Common.{◌≡◌, ◌≢◌, ◌+◌, ◌<◌, ◌≤◌, ◌⊎◌, ℕ, max, Bool, true, false, cond, List, [], ◌∷◌, ◌++◌, length, take, drop, Option, Some, None, Result, Ok, Err, refl, sym, ap, subst, ◌∙◌, inl, inr, arith}
-use Rattle.std.specs.Prelude.{◌==◌, IfOk, OnOk, option_map, nat_lt, ◌&&◌, ◌||◌}
+use Rattle.coap_client.specs.Prelude.{◌==◌, IfOk, OnOk, option_map, nat_lt, ◌&&◌, ◌||◌, next_token, LimitValues}
+use Rattle.coap_client.specs.Prelude.{Phase, Waiting, Open, Releasing, RequestFault, NotOpen, TooMany, TooBig}
+use Rattle.coap_client.specs.Prelude.{NoRoom, TokensSpent, NoSuchToken, Reason, WriteFailed, Got, AddsBytes}
+use Rattle.coap_client.specs.Prelude.{TellsMore, bytes_passed, count_passed, ClientValue, EventValue, client_takes}
+use Rattle.coap_client.specs.Prelude.{taking, client_written, client_sent, client_cancelled, send_refusal, Took}
+use Rattle.coap_client.specs.Prelude.{Sent, Cancelled, client_of, takes, event_of, AreAccepted, ClientShows}
+use Rattle.coap_client.specs.Prelude.{may_take, is_to_ask, is_to_cancel, has_passed, late, watched, planned_extras}
+use Rattle.coap_client.specs.Prelude.{client_asking, client_cancelling, token_asking, cancelled_at, ended_by}
+use Rattle.coap_client.specs.Prelude.{refusal_text, status_told, first_told, output_told, errors_told, calls_read}
+use Rattle.coap_client.specs.Prelude.{calls_written, client_read, stop_behind, stop_written, unless_refused, Course}
+use Rattle.coap_client.specs.Prelude.{Begins, Turns, Reads, Calls, Refuses, GivesUp, Rests, own_limits, calls_in}
+use Rattle.coap_client.specs.Prelude.{client_in, phase_in, waiting_in, event_in, token_in, moments_in, turns_in}
+use Rattle.coap_client.specs.Prelude.{moment_in, started_in, first_in, cancelled_in, waits_since, since_in}
+use Rattle.coap_client.specs.Prelude.{is_late_since, is_overdue_since, is_overdue, is_cancel_due, answers_in}
+use Rattle.coap_client.specs.Prelude.{given_in, written_in, stop_read, status_stopped, stop_text, or_then, status_in}
+use Rattle.coap_client.specs.Prelude.{output_in, errors_in, has_looked, IsAskedWhereDue, IsCancelledWhereDue}
+use Rattle.coap_client.specs.Prelude.{IsTakenUp, IsFresh, IsPlanned, IsRefused, HasWaited, IsDone, IsResting}
+use Rattle.coap_client.specs.Prelude.{IsBetween, MayWrite, Seen, seen, token_of, Stands, LeadsOn, IsAsked, IsTaken}
+use Rattle.coap_client.specs.Prelude.{IsHeard, IsFinished, IsFlushed, most_turns, IsEnded, IsOutOfTurns, IsClientRun}
+use Rattle.coap_client.specs.Prelude.{ClientPlan, Run}
 use Rattle.std.proofs.lemmas.Bool.{eqb-true, ltb-true, lt-ltb}
 use Rattle.std.proofs.lemmas.List.{length-drop, nil_from_length}
-use Rattle.coap_conn.specs.Asking.{next_token}
-use Rattle.coap_conn.specs.Limits.{LimitValues}
-use Rattle.coap_conn.specs.declared.phase.Phase.{Phase}
-use Rattle.coap_conn.specs.declared.phase.Phase.TheVariants.{Waiting, Open, Releasing}
 use Rattle.coap_conn.specs.declared.phase.Phase.TheVariants as phase
-use Rattle.coap_conn.specs.declared.phase.RequestFault.{RequestFault}
-use Rattle.coap_conn.specs.declared.phase.RequestFault.TheVariants.{NotOpen, TooMany, TooBig, NoRoom, TokensSpent, NoSuchToken}
-use Rattle.coap_conn.specs.declared.reason.Reason.{Reason}
-use Rattle.coap_serve.specs.declared.output.WriteFailed.{WriteFailed}
-use Rattle.coap_serve.specs.declared.wire.Got.{Got}
-use Rattle.coap_serve.specs.streams.Device.{AddsBytes}
-use Rattle.coap_serve.specs.streams.Telling.{TellsMore}
-use Rattle.coap_serve.specs.streams.Wires.{bytes_passed, count_passed}
 use Rattle.coap_serve.proofs.streams.DeviceLemmas.{bytes_none, bytes_then}
-use Rattle.coap_client.specs.ClientValues.{ClientValue, EventValue, client_takes, taking, client_written, client_sent, client_cancelled, send_refusal}
 use Rattle.coap_client.specs.ClientValues as value
-use Rattle.coap_client.specs.ClientWorld.{Took, Sent, Cancelled, client_of, takes, event_of, AreAccepted, ClientShows}
-use Rattle.coap_client.specs.RunSteps.{may_take, is_to_ask, is_to_cancel, has_passed, late, watched, planned_extras, asking_refusal, cancelling_refusal, client_asking, client_cancelling, token_asking, cancelled_at, ended_by, refusal_text, status_told, first_told, output_told, errors_told, calls_read, calls_written, client_read, stop_behind, stop_written, unless_refused}
-use Rattle.coap_client.specs.RunCourse.{Course, Begins, Turns, Reads, Calls, Refuses, GivesUp, Rests, Writes, own_limits, calls_in, client_in, phase_in, waiting_in, event_in, token_in, moments_in, turns_in, moment_in, started_in, first_in, cancelled_in, waits_since, since_in, is_late_since, is_overdue_since, is_overdue, is_cancel_due, answers_in, given_in, written_in, stop_read, status_stopped, stop_text, or_then, status_in, output_in, errors_in, has_looked, IsAskedWhereDue, IsCancelledWhereDue, IsTakenUp, IsFresh, IsPlanned, IsRefused, HasWaited, IsDone, IsResting, IsBetween, MayWrite}
-use Rattle.coap_client.specs.ClientRun.{Seen, seen, token_of, Stands, LeadsOn, IsAsked, IsTaken, IsHeard, IsFinished, IsFlushed, most_turns, IsEnded, IsOutOfTurns, IsClientRun}
-use Rattle.coap_client.specs.declared.plan.ClientPlan.{ClientPlan}
-use Rattle.coap_client.specs.declared.run.Run.{Run}
+use Rattle.coap_client.specs.RunSteps.{asking_refusal, cancelling_refusal}
+use Rattle.coap_client.specs.RunCourse.{Writes}
 use Rattle.coap_client.proofs.CourseLaws.{course_taken, course_queued}
 use Rattle.coap_client.proofs.ClientShown.{took_takes, took_told, took_shown}
 use Rattle.coap_client.proofs.TakenLemmas.{client_takes_some, cancelled_takes, may_parts, may_not}

@@ -1,20 +1,11 @@
 -- What devices tell of a run, and what calls leave of its client.
 use Rattle.std.proofs.Common.{◌≡◌, ℕ, ◌≤◌, Bool, true, false, cond, List, [], ◌∷◌, ◌++◌, length, take, Option, None, Result, Ok, refl, sym, ap, subst, ◌∙◌, arith}
 use Rattle.std.proofs.lemmas.List.{append-nil, length-take}
-use Rattle.coap_frame.specs.Framing.{framing}
-use Rattle.coap_conn.specs.Limits.{LimitValues}
-use Rattle.coap_conn.specs.LinkValue.{LinkValue}
-use Rattle.coap_conn.specs.declared.phase.RequestFault.{RequestFault}
-use Rattle.coap_serve.specs.declared.wire.Got.{Got}
-use Rattle.coap_serve.specs.declared.wire.Got.TheVariants.{Bytes, Later, End, Failed}
-use Rattle.coap_serve.specs.streams.Device.{AddsBytes}
+use Rattle.coap_client.specs.Prelude.{framing, LimitValues, LinkValue, RequestFault, Got, Bytes, Later, End, Failed}
+use Rattle.coap_client.specs.Prelude.{AddsBytes, Method, TargetValue, ExtrasValue, ClientValue, Taking, taking}
+use Rattle.coap_client.specs.Prelude.{client_sent, client_cancelled, send_refusal, cancelling_refusal, ClientCall}
+use Rattle.coap_client.specs.Prelude.{Sent, Cancelled, steps_by, event_of, ClientShows, calls_read, client_read}
 use Rattle.coap_serve.proofs.streams.DeviceLemmas.{bytes_then}
-use Rattle.coap_client.specs.declared.request.Method.{Method}
-use Rattle.coap_client.specs.Targets.{TargetValue}
-use Rattle.coap_client.specs.Requests.{ExtrasValue}
-use Rattle.coap_client.specs.ClientValues.{ClientValue, Taking, taking, client_sent, client_cancelled, send_refusal, cancelling_refusal}
-use Rattle.coap_client.specs.ClientWorld.{ClientCall, Sent, Cancelled, steps_by, event_of, ClientShows}
-use Rattle.coap_client.specs.RunSteps.{calls_read, client_read}
 use Rattle.coap_client.proofs.TakingLemmas.{limits_found}
 use Rattle.coap_client.proofs.ClientShown.{sent_shown, cancelled_shown, ended_shown}
 use Rattle.coap_serve.proofs.values.LinkLemmas.{stays_so, end_sizes}

@@ -1,26 +1,21 @@
 -- What a client takes of a piece and tells of it: the token of an answer is its message's, and a frame that was given is found again.
 use Rattle.std.proofs.Common.{◌≡◌, ℕ, Bool, true, false, cond, List, [], ◌∷◌, ◌++◌, length, take, Option, Some, None, refl, sym, ap, subst, ◌∙◌}
-use Rattle.std.specs.Prelude.{◌&&◌, find, nat_lt, ◌==◌, if◌then◌else◌}
-use Rattle.std.specs.List.{list_any}
-use Rattle.coap_wire.specs.Message.{Message}
+use Rattle.coap_client.specs.Prelude.{◌&&◌, find, nat_lt, ◌==◌, if◌then◌else◌, list_any, Message, Beginning}
+use Rattle.coap_client.specs.Prelude.{Unfinished, Whole, Faulty, beginning, FramerValue, IsFramer, AFrame}
+use Rattle.coap_client.specs.Prelude.{split_frame, framing_at, framing, framing_of, framer_after, frame_back, Reply}
+use Rattle.coap_client.specs.Prelude.{Bare, Role, Server, Client, Reason, is_waiting, stop_of, ReservedCode}
+use Rattle.coap_client.specs.Prelude.{CsmExpected, BadSignalOption, PeerAbort, bad_csm_option, has_critical_option}
+use Rattle.coap_client.specs.Prelude.{fit, bare_response, without_options, Pong, OutstandingValue, is_asked, is_last}
+use Rattle.coap_client.specs.Prelude.{is_pinged, without_asked, without_pinged, VerdictValue, Standing, Reaction}
+use Rattle.coap_client.specs.Prelude.{tells, aborts, told_of, sends, is_reserved, is_signal, is_method}
+use Rattle.coap_client.specs.Prelude.{minds_critical_options, asks_custody, pong_with, pong_of, holds, leaves}
+use Rattle.coap_client.specs.Prelude.{late_pong, ping_reaction, not_implemented, request_reaction, release_reaction}
+use Rattle.coap_client.specs.Prelude.{csm_reaction, answered, response_reaction, pong_reaction, open_reaction}
+use Rattle.coap_client.specs.Prelude.{live_reaction, reaction_unless, react}
 use Rattle.coap_wire.specs.Codes as code
-use Rattle.coap_wire.specs.Beginning.{Beginning, Unfinished, Whole, Faulty, beginning}
-use Rattle.coap_frame.specs.Framing.{FramerValue, IsFramer, AFrame, split_frame, framing_at, framing, framing_of, framer_after, frame_back}
 use Rattle.coap_frame.proofs.GivenLaws.{frame_taken}
-use Rattle.coap_conn.specs.declared.phase.Reply.{Reply}
-use Rattle.coap_conn.specs.declared.phase.Reply.TheVariants.{Whole as WholeReply, Bare, Stopped}
-use Rattle.coap_conn.specs.declared.phase.Role.{Role}
-use Rattle.coap_conn.specs.declared.phase.Role.TheVariants.{Server, Client}
-use Rattle.coap_conn.specs.declared.reason.Reason.{Reason}
-use Rattle.coap_conn.specs.Phases.{is_waiting, stop_of}
-use Rattle.coap_conn.specs.declared.reason.Reason.TheVariants.{ReservedCode, CsmExpected, BadSignalOption, PeerAbort}
-use Rattle.coap_conn.specs.Announced.{bad_csm_option, has_critical_option}
-use Rattle.coap_conn.specs.Fit.{fit, bare_response, without_options}
-use Rattle.coap_conn.specs.Held.{Pong}
-use Rattle.coap_conn.specs.Outstanding.{OutstandingValue, is_asked, is_last, is_pinged, without_asked, without_pinged}
-use Rattle.coap_conn.specs.Verdicts.{VerdictValue}
+use Rattle.coap_conn.specs.declared.phase.Reply.TheVariants.{Whole as WholeReply, Stopped}
 use Rattle.coap_conn.specs.Verdicts as verdict
-use Rattle.coap_conn.specs.Reaction.{Standing, Reaction, tells, aborts, told_of, sends, is_reserved, is_signal, is_method, minds_critical_options, asks_custody, pong_with, pong_of, holds, leaves, late_pong, ping_reaction, not_implemented, request_reaction, release_reaction, csm_reaction, answered, response_reaction, pong_reaction, open_reaction, live_reaction, reaction_unless, react}
 
 -- ---- whose token is told
 

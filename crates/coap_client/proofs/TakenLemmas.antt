@@ -1,18 +1,11 @@
 -- What a client's run takes of what it read: something, as long as it may, until nothing is left.
 use Rattle.std.proofs.Common.{◌≡◌, ◌+◌, ◌-◌, ◌≤◌, ◌<◌, ◌⊎◌, ℕ, Bool, true, false, cond, List, ◌++◌, length, refl, sym, ap, subst, ◌∙◌, inl, inr, arith}
-use Rattle.std.specs.Prelude.{nat_le, ◌&&◌}
+use Rattle.coap_client.specs.Prelude.{nat_le, ◌&&◌, framing, History, link_of, LinkValue, free_in, OutstandingValue}
+use Rattle.coap_client.specs.Prelude.{takes_messages, ClientValue, client_takes, client_cancelled, ClientCall}
+use Rattle.coap_client.specs.Prelude.{stream_in, handles, takes, client_after, client_of, AreAccepted, ExtrasValue}
+use Rattle.coap_client.specs.Prelude.{TargetValue, own_limits}
 use Rattle.std.proofs.lemmas.Bool.{leb-false, lt-leb, and_parts}
 use Rattle.std.proofs.lemmas.List.{length-append}
-use Rattle.coap_frame.specs.Framing.{framing}
-use Rattle.coap_conn.specs.History.{History, link_of}
-use Rattle.coap_conn.specs.LinkValue.{LinkValue, free_in}
-use Rattle.coap_conn.specs.Outstanding.{OutstandingValue}
-use Rattle.coap_conn.specs.Phases.{takes_messages}
-use Rattle.coap_client.specs.ClientValues.{ClientValue, client_takes, client_cancelled}
-use Rattle.coap_client.specs.ClientWorld.{ClientCall, stream_in, handles, takes, client_after, client_of, AreAccepted}
-use Rattle.coap_client.specs.Requests.{ExtrasValue}
-use Rattle.coap_client.specs.Targets.{TargetValue}
-use Rattle.coap_client.specs.RunCourse.{own_limits}
 use Rattle.coap_client.proofs.ClientSteps.{stream_rest_unfinished}
 use Rattle.coap_client.proofs.ClientReached.{accepted_reach}
 use Rattle.coap_frame.proofs.FrontLaws.{some_in_front}

@@ -1,23 +1,16 @@
 -- What a client's framer and link do with a piece is what the definition of taking says.
 use Rattle.std.proofs.Common.{◌≡◌, ℕ, Bool, true, false, cond, List, [], ◌++◌, take, Option, None, Result, Ok, Err, refl, sym, ap, subst, ◌∙◌}
-use Rattle.coap_wire.specs.Message.{Message}
-use Rattle.coap_wire.specs.Reading.{message_of}
-use Rattle.coap_wire.specs.Beginning.{Beginning, Unfinished, Whole, Faulty, beginning}
-use Rattle.coap_wire.specs.declared.fault.FormatFault.{FormatFault}
-use Rattle.coap_wire.specs.declared.fault.FrameFault.{FrameFault}
-use Rattle.coap_frame.specs.Framing.{FramerValue, IsFramer, Framing, Finding, Nothing, AFrame, AFault, framing_at, framing, framing_of, framer_after, frame_back}
+use Rattle.coap_client.specs.Prelude.{Message, message_of, Beginning, Unfinished, Whole, Faulty, beginning}
+use Rattle.coap_client.specs.Prelude.{FormatFault, FrameFault, FramerValue, IsFramer, Framing, Finding, Nothing}
+use Rattle.coap_client.specs.Prelude.{AFrame, AFault, framing_at, framing, framing_of, framer_after, frame_back}
+use Rattle.coap_client.specs.Prelude.{LimitValues, AreInRange, takes_messages, reject_of_frame, reject_reason, react}
+use Rattle.coap_client.specs.Prelude.{LinkValue, standing_in, ClientValue, EventValue, Taking, client_takes}
+use Rattle.coap_client.specs.Prelude.{event_told, taking_read, taking_found, taking, IsClient, heard_value}
+use Rattle.coap_client.specs.Prelude.{taking_framed, Inside, Heard}
 use Rattle.coap_frame.proofs.FramingLemmas.{framing_is_framer}
 use Rattle.coap_conn.specs.declared.phase.Reject.TheVariants as reject
-use Rattle.coap_conn.specs.Limits.{LimitValues, AreInRange}
-use Rattle.coap_conn.specs.Phases.{takes_messages}
-use Rattle.coap_conn.specs.Rejects.{reject_of_frame, reject_reason}
-use Rattle.coap_conn.specs.Reaction.{react}
-use Rattle.coap_conn.specs.LinkValue.{LinkValue, standing_in}
 use Rattle.coap_conn.specs.Calls as call
-use Rattle.coap_client.specs.ClientValues.{ClientValue, EventValue, Taking, client_takes, event_told, taking_read, taking_found, taking}
-use Rattle.coap_client.specs.EventViews.{client_value, IsClient, heard_value, taking_framed}
-use Rattle.coap_client.specs.declared.client.Client.TheInside.{Inside}
-use Rattle.coap_client.specs.declared.client.Heard.{Heard}
+use Rattle.coap_client.specs.EventViews.{client_value}
 use Rattle.coap_client.specs.declared.client.Heard.TheVariants as heard
 use Rattle.coap_client.proofs.TakeLemmas.{frame_is_back}
 use Rattle.coap_serve.proofs.values.LinkLemmas.{stays_so}

@@ -1,30 +1,20 @@
 -- What the parts of a URI name.
 use Rattle.std.proofs.Common.{◌≡◌, ℕ, ◌+◌, ◌-◌, ◌<◌, ◌≤◌, Bool, true, false, cond, ◌==◌, ◌||◌, List, [], ◌∷◌, ◌++◌, length, take, drop, map, codes, decimal, flat_map, Vec, Option, Some, None, Result, Ok, Err, refl, sym, ap, subst, ◌∙◌, ⊎_elim, append-nil, length-append, length-drop, take_at, arith, lit≤}
-use Rattle.std.specs.Prelude.{is_some, is_ok, not, nat_le, nat_lt, slice_index, slice_range, unwrap_or, MatchOption}
-use Rattle.std.specs.Borrow.{Bor}
-use Rattle.std.specs.List.{list_any, AllByRecursion}
+use Rattle.coap_client.specs.Prelude.{is_some, is_ok, not, nat_le, nat_lt, slice_index, slice_range, unwrap_or}
+use Rattle.coap_client.specs.Prelude.{MatchOption, Bor, list_any, AllByRecursion, to_ascii_lowercase, Ipv4Addr}
+use Rattle.coap_client.specs.Prelude.{IsDotted, IsIpv4Text, Parses, whole_value, read_ipv4, ipv4_text, hex}
+use Rattle.coap_client.specs.Prelude.{leading_zero_digits, groups_text, longest_zero_run, hex_groups_text, Ipv6Addr}
+use Rattle.coap_client.specs.Prelude.{borrowed_host, host_text, Host, Domain, Ipv4, Ipv6, Parts, IsValid, kind_of}
+use Rattle.coap_client.specs.Prelude.{has_host, host_or_empty, percent_decode, is_escape, is_empty_host, IsHostOf}
+use Rattle.coap_client.specs.Prelude.{is_special, SchemeType, TargetValue, is_dotted, domain_named, host_named}
+use Rattle.coap_client.specs.Prelude.{value_named, is_long, has_long_part, has_many_parts, form_refusal}
+use Rattle.coap_client.specs.Prelude.{size_refusal, unless, target_in, byte_lists, IsShort, IsTarget}
 use Rattle.std.proofs.lemmas.Bool.{cases_Bool, or_parts, ltb-false}
 use Rattle.std.proofs.lemmas.Bool.Decides.{nat_tests}
 use Rattle.std.proofs.lemmas.List.{nil_from_length, length-map}
-use Rattle.std.specs.Char.{to_ascii_lowercase}
-use Rattle.std.specs.declared.net.ipv4_addr.Ipv4Addr.{Ipv4Addr}
-use Rattle.std.specs.Net.Grammar.{IsDotted, IsIpv4Text, Parses}
-use Rattle.std.specs.Net.Reader.{whole_value, read_ipv4}
 use Rattle.std.proofs.NetLemmas.Ipv4.{read_ipv4_complete, read_ipv4_sound}
-use Rattle.std.specs.Net.Text.{ipv4_text, hex, leading_zero_digits, groups_text, longest_zero_run, hex_groups_text}
-use Rattle.std.specs.declared.net.ipv6_addr.Ipv6Addr.{Ipv6Addr}
-use Rattle.url.specs.Host.{borrowed_host, host_text}
-use Rattle.url.specs.declared.host.Host.{Host}
-use Rattle.url.specs.declared.host.Host.TheVariants.{Domain, Ipv4, Ipv6}
-use Rattle.url.specs.Parts.{Parts, IsValid, kind_of, has_host, host_or_empty}
-use Rattle.percent_encoding.specs.Percent.{percent_decode, is_escape}
-use Rattle.url.specs.Host.{is_empty_host, IsHostOf}
-use Rattle.url.specs.Scheme.{is_special}
-use Rattle.url.specs.declared.scheme.SchemeType.{SchemeType}
 use Rattle.coap_wire.proofs.NumberLaws.{option_cases}
-use Rattle.coap_client.specs.Targets.{TargetValue, is_dotted, domain_named, host_named, value_named, is_long, has_long_part, has_many_parts, form_refusal, size_refusal, unless, target_in}
 use Rattle.coap_client.specs.declared.target.TargetFault.TheVariants as fault
-use Rattle.coap_client.specs.TargetViews.{byte_lists, IsShort, IsTarget}
 
 -- ---- four decimal numbers
 

@@ -1,26 +1,17 @@
 -- A token is given once: each is that of a number which no call before it was given.
 use Rattle.std.proofs.Common.{◌≡◌, ℕ, ◌+◌, ◌<◌, ◌≤◌, Bool, true, false, cond, List, [], ◌∷◌, ◌++◌, Option, Some, None, refl, sym, ap, subst, ◌∙◌, arith}
-use Rattle.std.specs.Prelude.{◌≢◌, is_none}
-use Rattle.std.specs.List.{AllByRecursion}
+use Rattle.coap_client.specs.Prelude.{◌≢◌, is_none, AllByRecursion, Message, RequestFault, TooBig, takes_messages}
+use Rattle.coap_client.specs.Prelude.{reject_of, reject_reason, LimitValues, OutstandingValue, Ping, else_refusal}
+use Rattle.coap_client.specs.Prelude.{new_refusal, asking_refusal, cancel_refusal, next_token, with_token, entry_of}
+use Rattle.coap_client.specs.Prelude.{ping_with, stop, abort, react, History, standing_now, asking_now, with_effect}
+use Rattle.coap_client.specs.Prelude.{after_asking, link_of, end_reason, Method, TargetValue, ExtrasValue}
+use Rattle.coap_client.specs.Prelude.{request_of, is_too_long, send_refusal, ClientCall, ClientStep, Took, Sent}
+use Rattle.coap_client.specs.Prelude.{Cancelled, Pinged, Wrote, Ended, Handles, Faults, Requests, Cancels, Pings}
+use Rattle.coap_client.specs.Prelude.{Writes, Ends, step, steps_by, after_steps, client_after, IsAccepted}
+use Rattle.coap_client.specs.Prelude.{AreAcceptedBehind, AreAccepted, token_given, tokens_behind, tokens_given}
+use Rattle.coap_client.specs.Prelude.{AreDifferent}
 use Rattle.std.proofs.lemmas.Bool.{cond_both}
-use Rattle.coap_wire.specs.Message.{Message}
-use Rattle.coap_conn.specs.declared.phase.RequestFault.{RequestFault}
-use Rattle.coap_conn.specs.declared.phase.RequestFault.TheVariants.{TooBig}
-use Rattle.coap_conn.specs.Phases.{takes_messages}
-use Rattle.coap_conn.specs.Rejects.{reject_of, reject_reason}
-use Rattle.coap_conn.specs.Limits.{LimitValues}
-use Rattle.coap_conn.specs.Outstanding.{OutstandingValue, Ping}
-use Rattle.coap_conn.specs.Asking.{else_refusal, new_refusal, asking_refusal, cancel_refusal, next_token, with_token, entry_of, ping_with}
-use Rattle.coap_conn.specs.Reaction.{stop, abort, react}
-use Rattle.coap_conn.specs.History.{History, standing_now, asking_now, with_effect, after_asking, link_of}
-use Rattle.coap_conn.specs.Calls.{end_reason}
 use Rattle.coap_conn.proofs.AskedLaws.{tokens_differ, token_left}
-use Rattle.coap_client.specs.declared.request.Method.{Method}
-use Rattle.coap_client.specs.Targets.{TargetValue}
-use Rattle.coap_client.specs.Requests.{ExtrasValue, request_of, is_too_long}
-use Rattle.coap_client.specs.ClientValues.{send_refusal}
-use Rattle.coap_client.specs.ClientWorld.{ClientCall, ClientStep, Took, Sent, Cancelled, Pinged, Wrote, Ended, Handles, Faults, Requests, Cancels, Pings, Writes, Ends, step, steps_by, after_steps, client_after, IsAccepted, AreAcceptedBehind, AreAccepted}
-use Rattle.coap_client.specs.ClientLaws.{token_given, tokens_behind, tokens_given, AreDifferent}
 use Rattle.coap_client.proofs.ClientSteps.{client_more, client_step}
 
 -- ---- the number of the last token

@@ -1,22 +1,15 @@
 -- What `clap` hands out, and the texts of addresses.
 use Rattle.std.proofs.Common.{◌≡◌, ◌∙◌, ℕ, List, [], ◌∷◌, length, Option, Some, None, Result, Ok, Err, sym, ap, refl, subst, option_map, true, append-nil, ne_eqb, arith, lit≤}
-use Rattle.std.specs.Result.{result_ok}
-use Rattle.std.specs.Net.Addr.{ipv4_octets, ipv6_segments}
-use Rattle.std.specs.Net.Grammar.{IsColonHex, IsDotted, IsIpText, Parses}
-use Rattle.std.specs.Net.Reader.{Read, read_ipv4, read_ipv6, whole_value}
-use Rattle.std.specs.declared.net.ip_addr.IpAddr.{IpAddr}
+use Rattle.coap_client.specs.Prelude.{result_ok, ipv4_octets, ipv6_segments, IsColonHex, IsDotted, IsIpText, Parses}
+use Rattle.coap_client.specs.Prelude.{Read, read_ipv4, read_ipv6, whole_value, IpAddr, App, Rule, Text, first_of}
+use Rattle.coap_client.specs.Prelude.{first_value, rows_of, with_rule, Found, list_any, Bor, AreHalves, is_comma}
+use Rattle.coap_client.specs.Prelude.{address_of}
 use Rattle.std.specs.declared.net.ip_addr.IpAddr.TheVariants as ip
 use Rattle.std.proofs.NetLemmas.Ipv4.{read_ipv4_complete, read_ipv4_sound}
 use Rattle.std.proofs.NetLemmas.Ipv6.{EndsGroups-nil, IsDotted-not_colon_hex, read_ipv6_complete, read_ipv6_sound}
-use Rattle.clap.specs.Words.{App, Rule, Text, first_of, first_value, rows_of, with_rule}
-use Rattle.clap.specs.declared.parser.matches.Found.{Found}
 use Rattle.clap.proofs.WalkLemmas.{first_value-rows}
-use Rattle.std.specs.List.{list_any}
-use Rattle.std.specs.Borrow.{Bor}
 use Rattle.std.proofs.lemmas.Str.Pattern.{IsSplitOnceResult, split_once_first, split_parts}
 use Rattle.clap.proofs.CutLemmas.{list_any-Lacks, list_any-at}
-use Rattle.coap_client.specs.ClientWords.{AreHalves, is_comma}
-use Rattle.coap_client.specs.ServerWords.{address_of}
 
 -- the text that a parse kept for an option is that of its row
 pub first_text : (f : Found) (name : Text) (said : Option Text) → said ≡ first_value f name → said ≡ first_of name (rows_of f)

@@ -1,19 +1,15 @@
 -- Worked values of the definitions: words of a command line, and what they ask for.
 use Rattle.std.proofs.Common.{true, false, Some, None, ◌≡◌, [], ◌∷◌, Ok, Err, refl}
-use Rattle.std.specs.Prelude.{codes}
-use Rattle.std.specs.Net.Reader.{read_ipv4, read_ipv6, read_number, read_octet, read_segment, read_segments}
+use Rattle.coap_client.specs.Prelude.{codes, read_ipv4, read_ipv6, read_number, read_octet, read_segment}
+use Rattle.coap_client.specs.Prelude.{read_segments, limits_of, decimal_value, hex_value, fault_of, matches_of}
+use Rattle.coap_client.specs.Prelude.{decode_pairs, percent_decode, Get, Put, client_app, clashes, extra_of}
+use Rattle.coap_client.specs.Prelude.{extra_said, format_named, format_of, method_named, option_bytes, payload_said}
+use Rattle.coap_client.specs.Prelude.{request_said, uri_said, Clash, Usage, Value, is_used, number_within, Listen}
+use Rattle.coap_client.specs.Prelude.{Script, Stdio, address_of, every_address, limits_said, server_plan_in}
+use Rattle.coap_client.specs.Prelude.{server_plan_of, values_said}
 use Rattle.std.specs.declared.net.ip_addr.IpAddr.TheVariants as ip
 use Rattle.clap.specs.declared.error.kind.ErrorKind.TheVariants as kind
 use Rattle.clap.proofs.OnLiterals.{clap_on_literals}
-use Rattle.coap_conn.specs.Limits.{limits_of}
-use Rattle.coap_serve.specs.script.Words.{decimal_value, hex_value}
-use Rattle.clap.specs.Words.{fault_of, matches_of}
-use Rattle.hex.specs.Hex.{decode_pairs}
-use Rattle.percent_encoding.specs.Percent.{percent_decode}
-use Rattle.coap_client.specs.declared.request.Method.TheVariants.{Get, Put}
-use Rattle.coap_client.specs.ClientWords.{client_app, clashes, extra_of, extra_said, format_named, format_of, method_named, option_bytes, payload_said, request_said, uri_said}
-use Rattle.coap_client.specs.CommandLines.{Clash, Usage, Value, is_used, number_within}
-use Rattle.coap_client.specs.ServerWords.{Listen, Script, Stdio, address_of, every_address, limits_said, server_plan_in, server_plan_of, values_said}
 
 -- ---- coap-server
 

@@ -1,16 +1,12 @@
 -- Worked values of the definitions, on literal texts.
 use Rattle.std.proofs.Common.{◌≡◌, ℕ, ◌++◌, false, true, List, [], ◌∷◌, codes, replicate, refl, Option, Some, None, Ok, Err}
-use Rattle.std.specs.Prelude.{option_map}
-use Rattle.std.specs.Result.{result_ok}
+use Rattle.coap_client.specs.Prelude.{option_map, result_ok, percent_decode, spelling, bytes_of_uint, Method, Get}
+use Rattle.coap_client.specs.Prelude.{Put, target_of, target_in, form_refusal, size_refusal, value_named}
+use Rattle.coap_client.specs.Prelude.{names_address, host_named, domain_named, segments_named, arguments_named}
+use Rattle.coap_client.specs.Prelude.{decoded_parts, ExtrasValue, request_of, cancel_of, host_sent, observe_sent}
+use Rattle.coap_client.specs.Prelude.{own_options, with_extra, insert_option, is_too_long, has_long_extra}
 use Rattle.url.proofs.OnLiterals.{url_on_literals}
-use Rattle.percent_encoding.specs.Percent.{percent_decode}
-use Rattle.coap_wire.specs.Spelling.{spelling}
-use Rattle.coap_wire.specs.Uint.{bytes_of_uint}
 use Rattle.coap_client.specs.declared.target.TargetFault.TheVariants as fault
-use Rattle.coap_client.specs.declared.request.Method.{Method}
-use Rattle.coap_client.specs.declared.request.Method.TheVariants.{Get, Put}
-use Rattle.coap_client.specs.Targets.{target_of, target_in, form_refusal, size_refusal, value_named, names_address, host_named, domain_named, segments_named, arguments_named, decoded_parts}
-use Rattle.coap_client.specs.Requests.{ExtrasValue, request_of, cancel_of, host_sent, observe_sent, own_options, with_extra, insert_option, is_too_long, has_long_extra}
 
 -- a request that says nothing beside its method and its target
 abbrev defaults : ExtrasValue

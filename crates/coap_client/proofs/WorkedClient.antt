@@ -1,23 +1,18 @@
 -- What a client tells, sends and has outstanding in a short life, worked out from its calls.
 use Rattle.std.proofs.Common.{◌≡◌, ℕ, true, false, List, [], ◌∷◌, ◌++◌, Option, Some, None, refl, arith}
-use Rattle.std.specs.Prelude.{codes}
-use Rattle.coap_wire.specs.Message.{Message}
-use Rattle.coap_wire.specs.Recognition.{kind_of, is_recognised, known_behind, first_critical_behind}
-use Rattle.coap_conn.specs.declared.phase.RequestFault.{RequestFault}
+use Rattle.coap_client.specs.Prelude.{codes, Message, is_recognised, known_behind, first_critical_behind}
+use Rattle.coap_client.specs.Prelude.{RequestFault, LimitValues, announced, OutstandingValue, Request, Observation}
+use Rattle.coap_client.specs.Prelude.{is_notification, new_refusal, asking_refusal, observation_refusal}
+use Rattle.coap_client.specs.Prelude.{cancel_refusal, react, live_reaction, waiting_of, link_of, Get, TargetValue}
+use Rattle.coap_client.specs.Prelude.{ExtrasValue, host_sent, observe_sent, own_options, insert_option, with_extra}
+use Rattle.coap_client.specs.Prelude.{request_of, cancel_of, has_long_extra, is_too_long, EventValue, send_refusal}
+use Rattle.coap_client.specs.Prelude.{cancelling_refusal, ClientCall, Took, Sent, Cancelled, Pinged, Wrote, steps_by}
+use Rattle.coap_client.specs.Prelude.{steps_behind, steps_of, step, after_steps, client_after, takes, event_of}
+use Rattle.coap_client.specs.Prelude.{IsAccepted, AreAcceptedBehind, AreAccepted}
+use Rattle.coap_wire.specs.Recognition.{kind_of}
 use Rattle.coap_conn.specs.declared.phase.RequestFault.TheVariants as fault
 use Rattle.coap_conn.specs.declared.reason.Reason.TheVariants as reason
-use Rattle.coap_conn.specs.Limits.{LimitValues}
-use Rattle.coap_conn.specs.Announced.{announced}
-use Rattle.coap_conn.specs.Outstanding.{OutstandingValue, Request, Observation, is_notification}
-use Rattle.coap_conn.specs.Asking.{new_refusal, asking_refusal, observation_refusal, cancel_refusal}
-use Rattle.coap_conn.specs.Reaction.{react, live_reaction}
-use Rattle.coap_conn.specs.History.{waiting_of, link_of}
-use Rattle.coap_client.specs.declared.request.Method.TheVariants.{Get}
-use Rattle.coap_client.specs.Targets.{TargetValue}
-use Rattle.coap_client.specs.Requests.{ExtrasValue, host_sent, observe_sent, own_options, insert_option, with_extra, request_of, cancel_of, has_long_extra, is_too_long}
-use Rattle.coap_client.specs.ClientValues.{EventValue, send_refusal, cancelling_refusal}
 use Rattle.coap_client.specs.ClientValues as value
-use Rattle.coap_client.specs.ClientWorld.{ClientCall, Took, Sent, Cancelled, Pinged, Wrote, steps_by, steps_behind, steps_of, step, after_steps, client_after, takes, event_of, IsAccepted, AreAcceptedBehind, AreAccepted}
 use Rattle.coap_serve.proofs.world.Rows.{hex, bytes_computed}
 
 -- ---- what is computed with: to unfold one of these is to unfold all that its line names

@@ -1,17 +1,10 @@
 -- Worked values of what the laws speak of: calls that are accepted, the tokens that they give, and which client they leave.
 use Rattle.std.proofs.Common.{◌≡◌, List, [], ◌∷◌, true, false, Some, refl, arith}
-use Rattle.coap_conn.specs.Limits.{LimitValues}
-use Rattle.coap_conn.specs.Outstanding.{Ping}
-use Rattle.coap_conn.specs.Announced.{announced}
-use Rattle.coap_conn.specs.Asking.{new_refusal, asking_refusal}
-use Rattle.coap_conn.specs.Reaction.{react, live_reaction}
-use Rattle.coap_conn.specs.History.{link_of}
-use Rattle.coap_conn.specs.declared.phase.Phase.TheVariants.{Stopped}
-use Rattle.coap_conn.specs.declared.phase.RequestFault.TheVariants.{TooMany}
-use Rattle.coap_conn.specs.declared.reason.Reason.TheVariants.{TokenLength}
-use Rattle.coap_client.specs.ClientValues.{ping_refusal}
-use Rattle.coap_client.specs.ClientWorld.{ClientCall, Took, Pinged, Wrote, client_after, client_of, IsAccepted, AreAcceptedBehind, AreAccepted, takes, steps_of, steps_behind, steps_by, after_steps, step}
-use Rattle.coap_client.specs.ClientLaws.{tokens_given}
+use Rattle.coap_client.specs.Prelude.{LimitValues, Ping, announced, new_refusal, asking_refusal, react}
+use Rattle.coap_client.specs.Prelude.{live_reaction, link_of, Stopped, TooMany, TokenLength, ping_refusal}
+use Rattle.coap_client.specs.Prelude.{ClientCall, Took, Pinged, Wrote, client_after, client_of, IsAccepted}
+use Rattle.coap_client.specs.Prelude.{AreAcceptedBehind, AreAccepted, takes, steps_of, steps_behind, steps_by}
+use Rattle.coap_client.specs.Prelude.{after_steps, step, tokens_given}
 use Rattle.coap_serve.proofs.world.Rows.{bytes_computed}
 
 -- ---- what is computed with: to unfold one of these is to unfold all that its line names

@@ -1,13 +1,9 @@
 -- What our end announces as the greatest message that it takes.
 use Rattle.std.proofs.Common.{◌≡◌, ℕ, Bool, true, false, ◌&&◌, cond, [], ◌∷◌, ◌++◌, refl, ap}
 use Rattle.std.proofs.lemmas.Bool.{leb-true}
-use Rattle.coap_conn.specs.Phases.{is_open}
-use Rattle.coap_conn.specs.Fit.{AllFit, fits}
-use Rattle.coap_conn.specs.LinkValue.{own_csm}
-use Rattle.coap_conn.specs.Calls.{Call, doing, may_announce}
-use Rattle.coap_conn.specs.CallKinds.{announces}
+use Rattle.coap_conn.specs.Prelude.{is_open, AllFit, fits, own_csm, Call, doing, may_announce, announces, History}
+use Rattle.coap_conn.specs.Prelude.{link_of, limit_now, with_deed, after}
 use Rattle.coap_conn.specs.Calls as call
-use Rattle.coap_conn.specs.History.{History, link_of, limit_now, with_deed, after}
 
 own_if : (so : Bool) (h k : History) → k.own_max ≡ h.own_max → (cond so k h).own_max ≡ h.own_max
 own_if true h k same = same

@@ -1,33 +1,27 @@
 -- What is outstanding is limited, answers end it, and tokens are given once.
 use Rattle.std.proofs.Common.{◌≡◌, ℕ, ◌+◌, ◌<◌, ◌≤◌, Bool, true, false, ◌||◌, ◌&&◌, ◌==◌, cond, List, [], ◌∷◌, length, Option, Some, None, refl, sym, ap, subst, ◌∙◌, arith, inl, inr}
-use Rattle.std.specs.Prelude.{not, filter, find, is_none, nat_lt}
-use Rattle.std.specs.List.{list_any}
+use Rattle.coap_conn.specs.Prelude.{not, filter, find, is_none, nat_lt, list_any, Message, Reason, Phase, Role}
+use Rattle.coap_conn.specs.Prelude.{Server, Client, Reply, Whole, Bare, Stopped, stop_of, is_waiting}
+use Rattle.coap_conn.specs.Prelude.{has_critical_option, bad_csm_option, fit, bare_response, without_options}
+use Rattle.coap_conn.specs.Prelude.{VerdictValue, HeldValue, first_due, OutstandingValue, Observation, Ping}
+use Rattle.coap_conn.specs.Prelude.{is_asked, is_last, is_notification, is_pinged, is_request_entry, cancelled_by}
+use Rattle.coap_conn.specs.Prelude.{without_asked, without_pinged, asking_refusal, next_token, with_token, entry_of}
+use Rattle.coap_conn.specs.Prelude.{ping_with, Standing, Effect, Reaction, stay, tells, leaves, told_of}
+use Rattle.coap_conn.specs.Prelude.{ping_reaction, pong_reaction, csm_reaction, request_reaction, answered}
+use Rattle.coap_conn.specs.Prelude.{response_reaction, open_reaction, live_reaction, reaction_unless, react}
+use Rattle.coap_conn.specs.Prelude.{is_reserved, is_signal, is_method, minds_critical_options, asks_custody}
+use Rattle.coap_conn.specs.Prelude.{pong_with, pong_of, not_implemented, send_as, due_effect, Call, standing_due}
+use Rattle.coap_conn.specs.Prelude.{doing, gives_token, History, link_of, limit_now, standing_now, asking_now}
+use Rattle.coap_conn.specs.Prelude.{with_deed, after, after_asking}
 use Rattle.std.proofs.lemmas.Bool.{cond_both, cond-true, cond-false, eqb-true, not-true, not-false, and_from, and_left, and_right, or_cases, or_from, or_left, or_right, true≢false, false_from_ne_true}
 use Rattle.std.proofs.lemmas.List.{length-append, length-map}
-use Rattle.coap_wire.specs.Message.{Message}
 use Rattle.coap_wire.specs.Codes as code
 use Rattle.coap_wire.proofs.UintLaws.{bytes_are_one}
-use Rattle.coap_conn.specs.declared.reason.Reason.{Reason}
-use Rattle.coap_conn.specs.declared.phase.Phase.{Phase}
 use Rattle.coap_conn.specs.declared.phase.Phase.TheVariants as phase
-use Rattle.coap_conn.specs.declared.phase.Role.{Role}
-use Rattle.coap_conn.specs.declared.phase.Role.TheVariants.{Server, Client}
-use Rattle.coap_conn.specs.declared.phase.Reply.{Reply}
-use Rattle.coap_conn.specs.declared.phase.Reply.TheVariants.{Whole, Bare, Stopped}
-use Rattle.coap_conn.specs.Phases.{stop_of, is_waiting}
-use Rattle.coap_conn.specs.Announced.{has_critical_option, bad_csm_option}
-use Rattle.coap_conn.specs.Fit.{fit, bare_response, without_options}
-use Rattle.coap_conn.specs.Verdicts.{VerdictValue}
 use Rattle.coap_conn.specs.Verdicts as verdict
-use Rattle.coap_conn.specs.Held.{HeldValue, first_due}
 use Rattle.coap_conn.specs.Held as held
-use Rattle.coap_conn.specs.Outstanding.{OutstandingValue, Request, Observation, Ping, is_asked, is_last, is_notification, is_pinged, is_request_entry, cancelled_by, without_asked, without_pinged}
-use Rattle.coap_conn.specs.Asking.{asking_refusal, next_token, with_token, entry_of, ping_with}
-use Rattle.coap_conn.specs.Reaction.{Standing, Effect, Reaction, stay, tells, leaves, told_of, ping_reaction, pong_reaction, csm_reaction, request_reaction, answered, response_reaction, open_reaction, live_reaction, reaction_unless, react, is_reserved, is_signal, is_method, minds_critical_options, asks_custody, pong_with, pong_of, not_implemented, send_as, due_effect}
-use Rattle.coap_conn.specs.Calls.{Call, standing_due, doing}
-use Rattle.coap_conn.specs.CallKinds.{gives_token}
+use Rattle.coap_conn.specs.Outstanding.{Request}
 use Rattle.coap_conn.specs.Calls as call
-use Rattle.coap_conn.specs.History.{History, link_of, limit_now, standing_now, asking_now, with_deed, after, after_asking}
 use Rattle.coap_conn.proofs.AskingLaws.{none_where, asked_new}
 use Rattle.coap_conn.proofs.RequestLemmas.{react_live}
 use Rattle.coap_conn.proofs.HeldLaws.{react_does}

@@ -1,22 +1,15 @@
 -- What the code has outstanding, seen as values: which of it is answered, what is left of it, and what is given a token.
 use Rattle.std.proofs.Common.{◌≡◌, ℕ, ◌+◌, ◌<◌, ◌≤◌, Bool, true, false, not, ◌||◌, cond, List, [], ◌∷◌, ◌++◌, length, map, filter, set, take, drop, get_or, Option, Some, None, refl, sym, ap, ◌∙◌, arith}
-use Rattle.std.specs.Prelude.{find, option_map, is_none, nat_lt}
-use Rattle.std.specs.List.{list_any}
+use Rattle.coap_conn.specs.Prelude.{find, option_map, is_none, nat_lt, list_any, Message, spelling, RequestFault}
+use Rattle.coap_conn.specs.Prelude.{NotOpen, NoSuchToken, Outstanding, OutstandingValue, cancelled_by}
+use Rattle.coap_conn.specs.Prelude.{with_cancelled, outstanding_value, is_open, Asking, new_refusal, token_refusal}
+use Rattle.coap_conn.specs.Prelude.{size_refusal, else_refusal, asking_refusal, has_observation, cancel_refusal}
+use Rattle.coap_conn.specs.Prelude.{with_token, LinkValue, IsLink, asking_in, bytes_of, asks_one, link_done}
+use Rattle.coap_conn.specs.Prelude.{link_after}
 use Rattle.std.proofs.lemmas.Bool.{cond_both, ltb-true}
 use Rattle.std.proofs.lemmas.List.{map-set, get_or-map}
 use Rattle.std.proofs.lemmas.List.Edits.{map_over_more}
 use Rattle.std.proofs.lemmas.List.Filters.{length-filter_both}
-use Rattle.coap_wire.specs.Message.{Message}
-use Rattle.coap_wire.specs.Spelling.{spelling}
-use Rattle.coap_conn.specs.declared.phase.RequestFault.{RequestFault}
-use Rattle.coap_conn.specs.declared.phase.RequestFault.TheVariants.{NotOpen, NoSuchToken}
-use Rattle.coap_conn.specs.declared.asked.Outstanding.{Outstanding}
-use Rattle.coap_conn.specs.Outstanding.{OutstandingValue, cancelled_by, with_cancelled}
-use Rattle.coap_conn.specs.OutstandingViews.{outstanding_value}
-use Rattle.coap_conn.specs.Phases.{is_open}
-use Rattle.coap_conn.specs.Asking.{Asking, new_refusal, token_refusal, size_refusal, else_refusal, asking_refusal, has_observation, cancel_refusal, with_token}
-use Rattle.coap_conn.specs.LinkValue.{LinkValue, IsLink, asking_in, bytes_of}
-use Rattle.coap_conn.specs.Calls.{asks_one, link_done, link_after}
 use Rattle.coap_conn.specs.Calls as call
 
 -- ---- what was looked at is what is outstanding

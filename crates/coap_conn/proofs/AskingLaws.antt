@@ -1,13 +1,9 @@
 -- What it means that something is asked, or that an observation is cancelled.
 use Rattle.std.proofs.Common.{◌≡◌, ℕ, ◌<◌, ◌≤◌, Bool, true, false, cond, List, length, Option, Some, None, refl, ap}
-use Rattle.std.specs.Prelude.{nat_lt, is_none}
+use Rattle.coap_conn.specs.Prelude.{nat_lt, is_none, Message, spelling, is_open, Asking, size_refusal, token_refusal}
+use Rattle.coap_conn.specs.Prelude.{else_refusal, new_refusal, asking_refusal, has_observation, cancel_refusal}
+use Rattle.coap_conn.specs.Prelude.{RequestFault, NotOpen, TooBig, NoRoom, NoSuchToken}
 use Rattle.std.proofs.lemmas.Bool.{cond_both, ltb-true, ltb-false}
-use Rattle.coap_wire.specs.Message.{Message}
-use Rattle.coap_wire.specs.Spelling.{spelling}
-use Rattle.coap_conn.specs.Phases.{is_open}
-use Rattle.coap_conn.specs.Asking.{Asking, size_refusal, token_refusal, else_refusal, new_refusal, asking_refusal, has_observation, cancel_refusal}
-use Rattle.coap_conn.specs.declared.phase.RequestFault.{RequestFault}
-use Rattle.coap_conn.specs.declared.phase.RequestFault.TheVariants.{NotOpen, TooBig, NoRoom, NoSuchToken}
 
 -- a test whether there is none
 pub none_where : {X : Type 0} (o : Option X) → is_none o ≡ true → o ≡ None

@@ -1,11 +1,8 @@
 -- What Capabilities and Settings announce.
 use Rattle.std.proofs.Common.{◌≡◌, ℕ, ◌<◌, ◌≤◌, Bool, true, false, ◌||◌, ◌&&◌, cond, List, [], ◌∷◌, length, Option, Some, None, refl, sym, ap, ◌∙◌, inl, inr}
-use Rattle.std.specs.Prelude.{option_map, is_none, find}
+use Rattle.coap_conn.specs.Prelude.{option_map, is_none, find, CoapOption, Message, is_critical, uint_of, is_size}
+use Rattle.coap_conn.specs.Prelude.{is_bad, first_size}
 use Rattle.std.proofs.lemmas.Bool.{cases_lt}
-use Rattle.coap_wire.specs.Message.{CoapOption, Message}
-use Rattle.coap_wire.specs.Recognition.{is_critical}
-use Rattle.coap_wire.specs.Uint.{uint_of}
-use Rattle.coap_conn.specs.Announced.{is_size, is_bad, first_size}
 
 bad_step : (x o : CoapOption) (r s : Option CoapOption) (critical size : Bool) → cond size (Some x) r ≡ Some o → cond (critical || (size && true)) (Some x) s ≡ None → (r ≡ Some o → s ≡ None → ⊥) → ⊥
 bad_step x o r s true size e f go = let bad : ◌≡◌ {A = Option CoapOption} (Some x) None = f in cc

@@ -1,17 +1,13 @@
 -- What comes first on both sides of a connection.
 use Rattle.std.proofs.Common.{◌≡◌, ℕ, Bool, true, false, cond, ◌==◌, List, [], ◌∷◌, ◌++◌, Option, Some, None, refl, sym, ap, ◌∙◌}
 use Rattle.std.proofs.lemmas.Bool.{cond_both, eqb-true}
-use Rattle.coap_wire.specs.Message.{Message}
-use Rattle.coap_conn.specs.declared.phase.Phase.{Phase}
+use Rattle.coap_conn.specs.Prelude.{Message, Phase, bad_csm_option, stop_of, is_waiting, Standing, Reaction}
+use Rattle.coap_conn.specs.Prelude.{live_reaction, react, csm_reaction, is_reserved, own_csm, first_csm, Call, Deed}
+use Rattle.coap_conn.specs.Prelude.{Handles, Does, Holds, Asks, Announces, Writes, Doing, doing, History}
+use Rattle.coap_conn.specs.Prelude.{AnnouncedFirst, link_of, with_deed, after}
 use Rattle.coap_conn.specs.declared.phase.Phase.TheVariants as phase
-use Rattle.coap_conn.specs.Announced.{bad_csm_option}
 use Rattle.coap_conn.specs.Verdicts as verdict
 use Rattle.coap_wire.specs.Codes as code
-use Rattle.coap_conn.specs.Phases.{stop_of, is_waiting}
-use Rattle.coap_conn.specs.Reaction.{Standing, Reaction, live_reaction, react, csm_reaction, is_reserved}
-use Rattle.coap_conn.specs.LinkValue.{own_csm, first_csm}
-use Rattle.coap_conn.specs.Calls.{Call, Deed, Handles, Does, Holds, Asks, Announces, Writes, Doing, doing}
-use Rattle.coap_conn.specs.History.{History, AnnouncedFirst, link_of, with_deed, after}
 use Rattle.coap_conn.proofs.RequestLemmas.{react_live, react_asks}
 
 -- whatever is queued later stands behind

@@ -1,30 +1,27 @@
 -- What is due comes first, and a Pong with Custody waits for what is held.
 use Rattle.std.proofs.Common.{◌≡◌, ℕ, zero, suc, ◌+◌, ◌<◌, ◌≤◌, Bool, true, false, cond, ◌&&◌, ◌==◌, List, [], ◌∷◌, ◌++◌, length, get_or, take, drop, min, Option, Some, None, refl, sym, ap, subst, ◌∙◌, arith, inl, inr}
-use Rattle.std.specs.Prelude.{slice_get, nat_le, nat_lt, option_map, not, find}
-use Rattle.std.specs.List.{AllByRecursion, list_any, filter_map, cons_option, fold, reduce, position, position_from, remove}
+use Rattle.coap_conn.specs.Prelude.{slice_get, nat_le, nat_lt, option_map, not, find, AllByRecursion, list_any}
+use Rattle.coap_conn.specs.Prelude.{filter_map, cons_option, fold, reduce, position, position_from, remove}
+use Rattle.coap_conn.specs.Prelude.{CoapOption, Message, Reason, Phase, Role, Server, Client, Reply, Whole, Bare}
+use Rattle.coap_conn.specs.Prelude.{Stopped, stop_of, is_waiting, abort_text, number_told, abort_options, abort_with}
+use Rattle.coap_conn.specs.Prelude.{abort_of, has_critical_option, bad_csm_option, fit, fitted, abort_fitted}
+use Rattle.coap_conn.specs.Prelude.{bare_response, without_options, without_payload, OutstandingValue, is_asked}
+use Rattle.coap_conn.specs.Prelude.{is_last, is_pinged, without_asked, without_pinged, Standing, Effect, Reaction}
+use Rattle.coap_conn.specs.Prelude.{stay, stop, abort, send_as, holds, ping_reaction, pong_reaction, csm_reaction}
+use Rattle.coap_conn.specs.Prelude.{request_reaction, answered, open_reaction, live_reaction, reaction_unless, react}
+use Rattle.coap_conn.specs.Prelude.{is_reserved, is_signal, is_method, minds_critical_options, asks_custody}
+use Rattle.coap_conn.specs.Prelude.{pong_with, pong_of, is_custody_pong, not_implemented, HeldValue, Answer, Pong}
+use Rattle.coap_conn.specs.Prelude.{come, least_come, is_answer_at, answer_index, pong_index, else_index, due_index}
+use Rattle.coap_conn.specs.Prelude.{held_at, without_at, first_due, without_due, HoldsNothingDue, IsDueFirst}
 use Rattle.std.proofs.lemmas.Bool.{cond_both, cases_lt, leb-true, ltb-true, ltb-false, eqb-true, eq-eqb, or_cases}
 use Rattle.std.proofs.lemmas.List.{append-nil, length-append}
 use Rattle.std.proofs.lemmas.List.Edits.{length-remove}
 use Rattle.std.proofs.lemmas.List.Quantifiers.{position-Some}
 use Rattle.std.proofs.lemmas.Iterator.Adapters.{position_from-zero}
 use Rattle.std.proofs.lemmas.Option.{slice_get_within, slice_get-get_or}
-use Rattle.coap_wire.specs.Message.{CoapOption, Message}
 use Rattle.coap_wire.specs.Codes as code
-use Rattle.coap_conn.specs.declared.reason.Reason.{Reason}
 use Rattle.coap_conn.specs.declared.reason.Reason.TheVariants as reason
-use Rattle.coap_conn.specs.declared.phase.Phase.{Phase}
 use Rattle.coap_conn.specs.declared.phase.Phase.TheVariants as phase
-use Rattle.coap_conn.specs.declared.phase.Role.{Role}
-use Rattle.coap_conn.specs.declared.phase.Role.TheVariants.{Server, Client}
-use Rattle.coap_conn.specs.declared.phase.Reply.{Reply}
-use Rattle.coap_conn.specs.declared.phase.Reply.TheVariants.{Whole, Bare, Stopped}
-use Rattle.coap_conn.specs.Phases.{stop_of, is_waiting}
-use Rattle.coap_conn.specs.Reasons.{abort_text, number_told, abort_options, abort_with, abort_of}
-use Rattle.coap_conn.specs.Announced.{has_critical_option, bad_csm_option}
-use Rattle.coap_conn.specs.Fit.{fit, fitted, abort_fitted, bare_response, without_options, without_payload}
-use Rattle.coap_conn.specs.Outstanding.{OutstandingValue, is_asked, is_last, is_pinged, without_asked, without_pinged}
-use Rattle.coap_conn.specs.Reaction.{Standing, Effect, Reaction, stay, stop, abort, send_as, holds, ping_reaction, pong_reaction, csm_reaction, request_reaction, answered, open_reaction, live_reaction, reaction_unless, react, is_reserved, is_signal, is_method, minds_critical_options, asks_custody, pong_with, pong_of, is_custody_pong, not_implemented}
-use Rattle.coap_conn.specs.Held.{HeldValue, Answer, Pong, come, least_come, is_answer_at, answer_index, pong_index, else_index, due_index, held_at, without_at, first_due, without_due, HoldsNothingDue, IsDueFirst}
 use Rattle.coap_conn.proofs.AskedLemmas.{count_left}
 
 -- ---- what is made of the moments

@@ -1,29 +1,21 @@
 -- What was announced last counts, and whatever is queued fits.
 use Rattle.std.proofs.Common.{◌≡◌, ℕ, ◌≤◌, true, false, ◌&&◌, ◌==◌, List, [], ◌∷◌, ◌++◌, length, min, Option, Some, None, refl, ap, ◌∙◌, arith}
-use Rattle.std.specs.Prelude.{nat_le, nat_lt, find}
-use Rattle.std.specs.List.{AllByRecursion, filter_map, list_any}
+use Rattle.coap_conn.specs.Prelude.{nat_le, nat_lt, find, AllByRecursion, filter_map, list_any, Message, spelling}
+use Rattle.coap_conn.specs.Prelude.{Reason, Role, Server, Client, Reply, Whole, Bare, Stopped, stop_of, is_waiting}
+use Rattle.coap_conn.specs.Prelude.{abort_of, announcement, announced, token_announcement, announced_token, last_or}
+use Rattle.coap_conn.specs.Prelude.{last_told, has_critical_option, bad_csm_option, AllFit, fit, fitted}
+use Rattle.coap_conn.specs.Prelude.{abort_fitted, without_payload, without_options, bare_response, LimitValues}
+use Rattle.coap_conn.specs.Prelude.{AreInRange, HeldValue, Answer, Pong, OutstandingValue, is_asked, is_last}
+use Rattle.coap_conn.specs.Prelude.{is_pinged, asking_refusal, cancel_refusal, Standing, Reaction, react}
+use Rattle.coap_conn.specs.Prelude.{reaction_unless, live_reaction, open_reaction, csm_reaction, request_reaction}
+use Rattle.coap_conn.specs.Prelude.{send, send_as, abort, is_reserved, is_signal, is_method, minds_critical_options}
+use Rattle.coap_conn.specs.Prelude.{asks_custody, pong_with, pong_of, ping_reaction, pong_reaction, answered}
+use Rattle.coap_conn.specs.Prelude.{response_reaction, not_implemented, due_effect, History, new_history, limit_now}
+use Rattle.coap_conn.specs.Prelude.{standing_now, asking_now, release}
 use Rattle.std.proofs.lemmas.Bool.{cond_both, leb-true}
 use Rattle.std.proofs.lemmas.List.Elements.{filter_map-append}
-use Rattle.coap_wire.specs.Message.{Message}
-use Rattle.coap_wire.specs.Spelling.{spelling}
-use Rattle.coap_conn.specs.declared.reason.Reason.{Reason}
 use Rattle.coap_conn.specs.declared.reason.Reason.TheVariants as reason
-use Rattle.coap_conn.specs.declared.phase.Role.{Role}
-use Rattle.coap_conn.specs.declared.phase.Role.TheVariants.{Server, Client}
-use Rattle.coap_conn.specs.declared.phase.Reply.{Reply}
-use Rattle.coap_conn.specs.declared.phase.Reply.TheVariants.{Whole, Bare, Stopped}
 use Rattle.coap_wire.specs.Codes as code
-use Rattle.coap_conn.specs.Phases.{stop_of, is_waiting}
-use Rattle.coap_conn.specs.Reasons.{abort_of}
-use Rattle.coap_conn.specs.Announced.{announcement, announced, token_announcement, announced_token, last_or, last_told, has_critical_option, bad_csm_option}
-use Rattle.coap_conn.specs.Fit.{AllFit, fit, fitted, abort_fitted, without_payload, without_options, bare_response}
-use Rattle.coap_conn.specs.Limits.{LimitValues, AreInRange}
-use Rattle.coap_conn.specs.Held.{HeldValue, Answer, Pong}
-use Rattle.coap_conn.specs.Outstanding.{OutstandingValue, is_asked, is_last, is_pinged}
-use Rattle.coap_conn.specs.Asking.{asking_refusal, cancel_refusal}
-use Rattle.coap_conn.specs.Reaction.{Standing, Reaction, react, reaction_unless, live_reaction, open_reaction, csm_reaction, request_reaction, send, send_as, abort, is_reserved, is_signal, is_method, minds_critical_options, asks_custody, pong_with, pong_of, ping_reaction, pong_reaction, answered, response_reaction, not_implemented, due_effect}
-use Rattle.coap_conn.specs.History.{History, new_history, limit_now, standing_now, asking_now}
-use Rattle.coap_conn.specs.Calls.{release}
 use Rattle.coap_conn.proofs.AskingLaws.{asked_size, cancel_size}
 use Rattle.coap_conn.proofs.LinkLemmas.{announced_none}
 use Rattle.coap_conn.proofs.SmallLemmas.{first_csm_small, release_small}

@@ -1,22 +1,14 @@
 -- A link shows its history after each call.
 use Rattle.std.proofs.Common.{◌≡◌, ℕ, ◌≤◌, Bool, true, false, cond, List, [], ◌∷◌, ◌++◌, length, drop, Option, Some, None, refl, sym, ap, subst, ◌∙◌, arith}
-use Rattle.std.specs.Prelude.{unwrap_or}
-use Rattle.std.specs.List.{filter_map}
+use Rattle.coap_conn.specs.Prelude.{unwrap_or, filter_map, Message, spelling, Phase, Role, LimitValues, announcement}
+use Rattle.coap_conn.specs.Prelude.{announced, token_announcement, announced_token, last_or, last_told, HeldValue}
+use Rattle.coap_conn.specs.Prelude.{OutstandingValue, Effect, LinkValue, bytes_of, own_csm, first_csm, new_link}
+use Rattle.coap_conn.specs.Prelude.{link_with, Call, Deed, Handles, Does, Holds, Asks, Announces, Writes, doing}
+use Rattle.coap_conn.specs.Prelude.{link_with_deed, link_after, IsWithin, History, IsHistory, LinkShows, link_of}
+use Rattle.coap_conn.specs.Prelude.{new_history, with_effect, with_deed, after}
 use Rattle.std.proofs.lemmas.List.{append-nil, drop-append-le, drop-drop, length-append, length-drop}
 use Rattle.std.proofs.lemmas.List.Concat.{flat_map-append}
 use Rattle.std.proofs.lemmas.List.Elements.{filter_map-append}
-use Rattle.coap_wire.specs.Message.{Message}
-use Rattle.coap_wire.specs.Spelling.{spelling}
-use Rattle.coap_conn.specs.declared.phase.Phase.{Phase}
-use Rattle.coap_conn.specs.declared.phase.Role.{Role}
-use Rattle.coap_conn.specs.Limits.{LimitValues}
-use Rattle.coap_conn.specs.Announced.{announcement, announced, token_announcement, announced_token, last_or, last_told}
-use Rattle.coap_conn.specs.Held.{HeldValue}
-use Rattle.coap_conn.specs.Outstanding.{OutstandingValue}
-use Rattle.coap_conn.specs.Reaction.{Effect}
-use Rattle.coap_conn.specs.LinkValue.{LinkValue, bytes_of, own_csm, first_csm, new_link, link_with}
-use Rattle.coap_conn.specs.Calls.{Call, Deed, Handles, Does, Holds, Asks, Announces, Writes, doing, link_with_deed, link_after, IsWithin}
-use Rattle.coap_conn.specs.History.{History, IsHistory, LinkShows, link_of, new_history, with_effect, with_deed, after}
 
 -- ---- what is queued
 

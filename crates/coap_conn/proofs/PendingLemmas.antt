@@ -1,17 +1,13 @@
 -- What the code holds, seen as values: which of them is due first, and what is left without one.
 use Rattle.std.proofs.Common.{◌≡◌, ℕ, suc, ◌+◌, ◌<◌, Bool, true, false, not, cond, List, [], ◌∷◌, ◌++◌, length, map, take, drop, remove, slice_get, position, Option, Some, None, refl, sym, ap, ◌∙◌, arith}
-use Rattle.std.specs.Prelude.{IfSome, nat_lt, option_map}
-use Rattle.std.specs.List.{filter_map, cons_option, position_or_len}
+use Rattle.coap_conn.specs.Prelude.{IfSome, nat_lt, option_map, filter_map, cons_option, position_or_len, Held}
+use Rattle.coap_conn.specs.Prelude.{HeldValue, Answer, Pong, least_come, is_answer_at, answer_index, pong_index}
+use Rattle.coap_conn.specs.Prelude.{else_index, due_index, held_at, without_at, first_due, without_due, held_value}
+use Rattle.coap_conn.specs.Prelude.{stay, send, pong_with, due_effect, LinkValue, standing_in, link_with, link_after}
 use Rattle.std.proofs.lemmas.Bool.{cond_both, ltb-true}
 use Rattle.std.proofs.lemmas.List.{append-nil, map-append, take-map, drop-map, length-map}
 use Rattle.std.proofs.lemmas.List.Recursion.{is_position_or_len}
 use Rattle.std.proofs.lemmas.Option.{slice_get-map}
-use Rattle.coap_conn.specs.declared.pending.Held.{Held}
-use Rattle.coap_conn.specs.Held.{HeldValue, Answer, Pong, least_come, is_answer_at, answer_index, pong_index, else_index, due_index, held_at, without_at, first_due, without_due}
-use Rattle.coap_conn.specs.HeldViews.{held_value}
-use Rattle.coap_conn.specs.Reaction.{stay, send, pong_with, due_effect}
-use Rattle.coap_conn.specs.LinkValue.{LinkValue, standing_in, link_with}
-use Rattle.coap_conn.specs.Calls.{link_after}
 use Rattle.coap_conn.specs.Calls as call
 
 -- ---- what was looked at is what is held

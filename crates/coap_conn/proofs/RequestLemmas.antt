@@ -1,27 +1,20 @@
 -- A request changes nothing, and can be answered at once.
 use Rattle.std.proofs.Common.{◌≡◌, ℕ, Bool, true, false, ◌&&◌, ◌==◌, cond, List, [], ◌++◌, Option, Some, None, refl, ap, ◌∙◌}
-use Rattle.std.specs.Prelude.{if◌then◌else◌, length, nat_lt, unwrap_or, is_none, find}
-use Rattle.std.specs.List.{list_any}
+use Rattle.coap_conn.specs.Prelude.{if◌then◌else◌, length, nat_lt, unwrap_or, is_none, find, list_any, Message}
+use Rattle.coap_conn.specs.Prelude.{Reason, Phase, Role, Server, Client, Reply, Whole, Bare, Stopped, stop_of}
+use Rattle.coap_conn.specs.Prelude.{takes_messages, IsLive, IsAnswering, is_waiting, has_critical_option}
+use Rattle.coap_conn.specs.Prelude.{bad_csm_option, csm_size, csm_token, announcement, token_announcement, fit}
+use Rattle.coap_conn.specs.Prelude.{bare_response, without_options, HeldValue, OutstandingValue, is_asked, is_last}
+use Rattle.coap_conn.specs.Prelude.{is_pinged, Standing, Effect, Reaction, react, reaction_unless, live_reaction}
+use Rattle.coap_conn.specs.Prelude.{open_reaction, csm_reaction, request_reaction, told_of, becomes, is_reserved}
+use Rattle.coap_conn.specs.Prelude.{is_signal, is_method, minds_critical_options, asks_custody, pong_with, pong_of}
+use Rattle.coap_conn.specs.Prelude.{late_pong, ping_reaction, not_implemented, answered, pong_reaction, bytes_of}
+use Rattle.coap_conn.specs.Prelude.{LinkValue, standing_in, link_handled, link_heard, link_after}
 use Rattle.std.proofs.lemmas.Bool.{cond_both}
 use Rattle.std.proofs.lemmas.List.{append-nil}
-use Rattle.coap_wire.specs.Message.{Message}
-use Rattle.coap_conn.specs.declared.reason.Reason.{Reason}
-use Rattle.coap_conn.specs.declared.phase.Phase.{Phase}
 use Rattle.coap_conn.specs.declared.phase.Phase.TheVariants as phase
-use Rattle.coap_conn.specs.declared.phase.Role.{Role}
-use Rattle.coap_conn.specs.declared.phase.Role.TheVariants.{Server, Client}
-use Rattle.coap_conn.specs.declared.phase.Reply.{Reply}
-use Rattle.coap_conn.specs.declared.phase.Reply.TheVariants.{Whole, Bare, Stopped}
 use Rattle.coap_wire.specs.Codes as code
-use Rattle.coap_conn.specs.Phases.{stop_of, takes_messages, IsLive, IsAnswering, is_waiting}
-use Rattle.coap_conn.specs.Announced.{has_critical_option, bad_csm_option, csm_size, csm_token, announcement, token_announcement}
-use Rattle.coap_conn.specs.Fit.{fit, bare_response, without_options}
-use Rattle.coap_conn.specs.Held.{HeldValue}
-use Rattle.coap_conn.specs.Outstanding.{OutstandingValue, is_asked, is_last, is_pinged}
 use Rattle.coap_conn.specs.Verdicts as verdict
-use Rattle.coap_conn.specs.Reaction.{Standing, Effect, Reaction, react, reaction_unless, live_reaction, open_reaction, csm_reaction, request_reaction, told_of, becomes, is_reserved, is_signal, is_method, minds_critical_options, asks_custody, pong_with, pong_of, late_pong, ping_reaction, not_implemented, answered, pong_reaction}
-use Rattle.coap_conn.specs.LinkValue.{bytes_of, LinkValue, standing_in, link_handled, link_heard}
-use Rattle.coap_conn.specs.Calls.{link_after}
 use Rattle.coap_conn.specs.Calls as call
 
 -- ---- what messages do where they are taken

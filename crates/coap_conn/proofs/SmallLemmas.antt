@@ -1,16 +1,12 @@
 -- The messages of the connection itself are small.
 use Rattle.std.proofs.Common.{◌≡◌, ℕ, zero, suc, ◌+◌, ◌-◌, ◌≤◌, ltb, List, [], ◌∷◌, ◌++◌, length, refl, ap, ◌∙◌, arith}
-use Rattle.std.specs.Int.{w64, to_be_bytes}
+use Rattle.coap_conn.specs.Prelude.{w64, to_be_bytes, CoapOption, Message, length_form, option_form, token_form}
+use Rattle.coap_conn.specs.Prelude.{spelling, option_spelling, body_spelling, head_spelling, bytes_of_uint}
+use Rattle.coap_conn.specs.Prelude.{without_leading_zeros, own_csm, own_token_length, first_csm, release}
 use Rattle.std.proofs.lemmas.Bool.{cond_both}
 use Rattle.std.proofs.lemmas.List.{append-nil, length-append}
-use Rattle.coap_wire.specs.Message.{CoapOption, Message}
-use Rattle.coap_wire.specs.Forms.{length_form, option_form, token_form}
-use Rattle.coap_wire.specs.Spelling.{spelling, option_spelling, body_spelling, head_spelling}
-use Rattle.coap_wire.specs.Uint.{bytes_of_uint, without_leading_zeros}
 use Rattle.coap_wire.specs.Codes as code
 use Rattle.coap_conn.specs.SignalOptions as option
-use Rattle.coap_conn.specs.LinkValue.{own_csm, own_token_length, first_csm}
-use Rattle.coap_conn.specs.Calls.{release}
 
 abbrev HasShortForm : ℕ → ℕ × List ℕ → Type 0
 HasShortForm most form = length form.1 ≤ most

@@ -1,20 +1,12 @@
 -- Nothing follows a stop.
 use Rattle.std.proofs.Common.{◌≡◌, ℕ, Bool, true, false, List, ◌&&◌, cond, Option, Some, refl, ap}
-use Rattle.std.specs.Prelude.{is_none}
-use Rattle.coap_wire.specs.Message.{Message}
-use Rattle.coap_conn.specs.declared.reason.Reason.{Reason}
-use Rattle.coap_conn.specs.declared.phase.Phase.{Phase}
+use Rattle.coap_conn.specs.Prelude.{is_none, Message, Reason, Phase, stop_of, answers, is_open, Standing}
+use Rattle.coap_conn.specs.Prelude.{reaction_unless, react, asking_refusal, cancel_refusal, next_token, with_token}
+use Rattle.coap_conn.specs.Prelude.{ping_with, fits, own_csm, Call, needs_live, History, limit_now, asking_now}
+use Rattle.coap_conn.specs.Prelude.{may_hold, after}
 use Rattle.coap_conn.specs.declared.phase.Phase.TheVariants as phase
-use Rattle.coap_conn.specs.Phases.{stop_of, answers, is_open}
 use Rattle.coap_conn.specs.Verdicts as verdict
-use Rattle.coap_conn.specs.Reaction.{Standing, reaction_unless, react}
-use Rattle.coap_conn.specs.Asking.{asking_refusal, cancel_refusal, next_token, with_token, ping_with}
-use Rattle.coap_conn.specs.Fit.{fits}
-use Rattle.coap_conn.specs.LinkValue.{own_csm}
-use Rattle.coap_conn.specs.Calls.{Call}
-use Rattle.coap_conn.specs.CallKinds.{needs_live}
 use Rattle.coap_conn.specs.Calls as call
-use Rattle.coap_conn.specs.History.{History, limit_now, asking_now, may_hold, after}
 use Rattle.coap_conn.proofs.AskingLaws.{not_asked, not_cancelled}
 
 -- what messages, faults and the end of input do where none is taken

@@ -1,20 +1,16 @@
 -- What the words for what is held and what is outstanding give on plain values.
 use Rattle.std.proofs.Common.{◌≡◌, ℕ, true, false, List, [], ◌∷◌, Some, None, refl}
-use Rattle.coap_wire.specs.Message.{CoapOption, Message}
-use Rattle.coap_wire.specs.Spelling.{spelling}
-use Rattle.coap_wire.specs.Uint.{bytes_of_uint}
-use Rattle.coap_wire.specs.Recognition.{known_behind, is_recognised, kind_of, first_critical_behind}
+use Rattle.coap_conn.specs.Prelude.{CoapOption, Message, spelling, bytes_of_uint, known_behind, is_recognised}
+use Rattle.coap_conn.specs.Prelude.{kind_of, first_critical_behind, Server, Client, TooMany, TooBig, NoRoom}
+use Rattle.coap_conn.specs.Prelude.{TokensSpent, NoSuchToken, HeldValue, Answer, Pong, due_index, first_due}
+use Rattle.coap_conn.specs.Prelude.{without_due, OutstandingValue, Observation, Ping, is_notification}
+use Rattle.coap_conn.specs.Prelude.{with_cancelled, Asking, new_refusal, asking_refusal, cancel_refusal, next_token}
+use Rattle.coap_conn.specs.Prelude.{own_csm, VerdictValue, Standing, Effect, Reaction, live_reaction, react}
+use Rattle.coap_conn.specs.Prelude.{due_effect}
 use Rattle.coap_conn.specs.declared.reason.Reason.TheVariants as reason
 use Rattle.coap_conn.specs.declared.phase.Phase.TheVariants as phase
-use Rattle.coap_conn.specs.declared.phase.Role.TheVariants.{Server, Client}
-use Rattle.coap_conn.specs.declared.phase.RequestFault.TheVariants.{TooMany, TooBig, NoRoom, TokensSpent, NoSuchToken}
-use Rattle.coap_conn.specs.Held.{HeldValue, Answer, Pong, due_index, first_due, without_due}
-use Rattle.coap_conn.specs.Outstanding.{OutstandingValue, Request, Observation, Ping, is_notification, with_cancelled}
-use Rattle.coap_conn.specs.Asking.{Asking, new_refusal, asking_refusal, cancel_refusal, next_token}
-use Rattle.coap_conn.specs.LinkValue.{own_csm}
-use Rattle.coap_conn.specs.Verdicts.{VerdictValue}
+use Rattle.coap_conn.specs.Outstanding.{Request}
 use Rattle.coap_conn.specs.Verdicts as verdict
-use Rattle.coap_conn.specs.Reaction.{Standing, Effect, Reaction, live_reaction, react, due_effect}
 
 -- ---- what is due first
 

@@ -1,51 +1,82 @@
--- What the contracts of the crate name, passed on from one place. Declares nothing.
+-- What the contracts and the proofs of the crate name, passed on from one place. Declares nothing.
 
 -- ---- std and the kit's crates
 pub use Rattle.std.specs.Borrow.{sem, follows_so}
-pub use Rattle.std.specs.List.{list_any, AllByRecursion, reduce}
+pub use Rattle.std.specs.Int.{to_be_bytes, w64}
+pub use Rattle.std.specs.List.{list_any, AllByRecursion, reduce, cons_option, filter_map, fold, position}
+pub use Rattle.std.specs.List.{position_from, position_or_len, remove}
+pub use Rattle.std.specs.Prelude.{IfSome, filter, find, if◌then◌else◌, is_none, length, nat_le, nat_lt, not}
+pub use Rattle.std.specs.Prelude.{option_map, slice_get, unwrap_or}
+pub use Rattle.std.specs.Vec.{vec_capacity}
 pub use mathlib.Core.Option.{none}
 -- ---- coap_wire
-pub use Rattle.coap_wire.specs.Message.{Message}
+pub use Rattle.coap_wire.specs.Forms.{length_form, option_form, token_form}
+pub use Rattle.coap_wire.specs.Message.{Message, CoapOption}
+pub use Rattle.coap_wire.specs.Recognition.{is_critical}
+unfoldable pub use Rattle.coap_wire.specs.Recognition.{first_critical_behind, is_recognised, kind_of, known_behind}
 pub use Rattle.coap_wire.specs.Refusal.{RefusedBy}
-pub use Rattle.coap_wire.specs.Spelling.{spelling}
-pub use Rattle.coap_wire.specs.Uint.{uint_of, bytes_of_uint}
+pub use Rattle.coap_wire.specs.Spelling.{body_spelling, head_spelling, option_spelling}
+unfoldable pub use Rattle.coap_wire.specs.Spelling.{spelling}
+pub use Rattle.coap_wire.specs.Uint.{uint_of, without_leading_zeros}
+unfoldable pub use Rattle.coap_wire.specs.Uint.{bytes_of_uint}
 pub use Rattle.coap_wire.specs.Views.{coap_option}
 -- ---- coap_conn
 pub use Rattle.coap_conn.specs.Announced.{is_bad, first_size, has_critical_option, bad_csm_option, first_token_length}
-pub use Rattle.coap_conn.specs.Announced.{token_length, token_told, announcement, announced, token_announcement}
-pub use Rattle.coap_conn.specs.Announced.{announced_token}
-pub use Rattle.coap_conn.specs.Asking.{asking_refusal, cancel_refusal, next_token, observation_refusal, new_refusal}
-pub use Rattle.coap_conn.specs.Asking.{size_refusal, with_token, ping_with}
+pub use Rattle.coap_conn.specs.Announced.{token_length, token_told, announcement, token_announcement, csm_size}
+pub use Rattle.coap_conn.specs.Announced.{csm_token, is_size, is_token_length, last_or, last_told}
+unfoldable pub use Rattle.coap_conn.specs.Announced.{announced, announced_token}
+pub use Rattle.coap_conn.specs.Asking.{next_token, observation_refusal, size_refusal, with_token, ping_with, Asking}
+pub use Rattle.coap_conn.specs.Asking.{else_refusal, entry_of, has_observation, token_refusal}
+unfoldable pub use Rattle.coap_conn.specs.Asking.{asking_refusal, cancel_refusal, new_refusal}
 pub use Rattle.coap_conn.specs.CallKinds.{needs_live, gives_token, announces}
-pub use Rattle.coap_conn.specs.Calls.{Call, release, may_announce, link_after}
-pub use Rattle.coap_conn.specs.Fit.{AllFit, fit, fits, fitted, bare_response}
-pub use Rattle.coap_conn.specs.Held.{HeldValue, Answer, Pong, HoldsNothingDue, IsDueFirst, come, first_due, without_due}
-pub use Rattle.coap_conn.specs.Held.{next_moment, AnAnswer, due_told, is_answer_at, least_come, answer_index, due_index}
-pub use Rattle.coap_conn.specs.Held.{pong_index, to_come}
+pub use Rattle.coap_conn.specs.Calls.{Call, release, may_announce, link_after, Announces, Asks, Deed, Does, Doing}
+pub use Rattle.coap_conn.specs.Calls.{Handles, Holds, IsWithin, Writes, asks_one, doing, link_done, link_with_deed}
+pub use Rattle.coap_conn.specs.Calls.{standing_due}
+pub use Rattle.coap_conn.specs.Fit.{AllFit, fit, fits, fitted, bare_response, abort_fitted, without_options}
+pub use Rattle.coap_conn.specs.Fit.{without_payload}
+pub use Rattle.coap_conn.specs.Held.{HeldValue, Answer, Pong, HoldsNothingDue, IsDueFirst, come, next_moment}
+pub use Rattle.coap_conn.specs.Held.{AnAnswer, due_told, is_answer_at, least_come, answer_index, pong_index, to_come}
+pub use Rattle.coap_conn.specs.Held.{PendingValue, else_index, held_at, without_at}
+unfoldable pub use Rattle.coap_conn.specs.Held.{first_due, without_due, due_index}
 pub use Rattle.coap_conn.specs.HeldViews.{due_value, held_value}
 pub use Rattle.coap_conn.specs.History.{History, AnnouncedFirst, link_of, new_history, limit_now, standing_now, after}
-pub use Rattle.coap_conn.specs.History.{after_send, asking_now, after_asking, LinkShows}
+pub use Rattle.coap_conn.specs.History.{after_send, asking_now, after_asking, LinkShows, IsHistory, may_hold}
+pub use Rattle.coap_conn.specs.History.{with_deed, with_effect}
 pub use Rattle.coap_conn.specs.Limits.{LimitValues, AreInRange, limits_of, limit_refusal}
-pub use Rattle.coap_conn.specs.LinkValue.{own_csm, IsLink, IsReady, free_in, limit_in, is_finished, new_link, bytes_of}
-pub use Rattle.coap_conn.specs.LinkValue.{asking_in, standing_in, link_with, link_handled, link_after_csm, can_hold}
-pub use Rattle.coap_conn.specs.LinkValue.{csm_with, first_csm_with, first_csm}
-pub use Rattle.coap_conn.specs.LinkViews.{verdict_value}
-pub use Rattle.coap_conn.specs.Outstanding.{is_asked, is_pinged, may_cancel, is_last, is_notification, has_observe}
-pub use Rattle.coap_conn.specs.Outstanding.{without_asked, without_pinged, with_cancelled, cancelled_by}
-pub use Rattle.coap_conn.specs.Outstanding.{OutstandingValue, is_request_entry}
+pub use Rattle.coap_conn.specs.LinkValue.{own_csm, IsLink, IsReady, free_in, limit_in, is_finished, new_link}
+pub use Rattle.coap_conn.specs.LinkValue.{bytes_of, asking_in, standing_in, link_with, link_handled, link_after_csm}
+pub use Rattle.coap_conn.specs.LinkValue.{can_hold, csm_with, first_csm_with, first_csm, LinkValue, link_heard}
+pub use Rattle.coap_conn.specs.LinkValue.{own_token_length}
+pub use Rattle.coap_conn.specs.LinkViews.{verdict_value, link_value}
+pub use Rattle.coap_conn.specs.Outstanding.{is_asked, is_pinged, may_cancel, is_last, has_observe, without_asked}
+pub use Rattle.coap_conn.specs.Outstanding.{without_pinged, with_cancelled, cancelled_by, OutstandingValue}
+pub use Rattle.coap_conn.specs.Outstanding.{is_request_entry, AskedValue, Observation, Ping}
+unfoldable pub use Rattle.coap_conn.specs.Outstanding.{is_notification}
 pub use Rattle.coap_conn.specs.OutstandingViews.{outstanding_value}
-pub use Rattle.coap_conn.specs.Phases.{stop_of, IsLive, IsAnswering, is_waiting, is_open}
+pub use Rattle.coap_conn.specs.Phases.{stop_of, IsLive, IsAnswering, is_waiting, is_open, answers, takes_messages}
 pub use Rattle.coap_conn.specs.QueueValue.{IsNextPart, free_of, IsQueue}
-pub use Rattle.coap_conn.specs.Reaction.{asks_custody, Standing, react, send, abort, stay, due_effect, is_custody_pong}
+pub use Rattle.coap_conn.specs.Reaction.{asks_custody, Standing, send, abort, stay, due_effect, is_custody_pong}
 pub use Rattle.coap_conn.specs.Reaction.{is_reserved, is_signal, is_method, minds_critical_options, csm_reaction}
-pub use Rattle.coap_conn.specs.Reaction.{live_reaction, open_reaction, ping_reaction, request_reaction}
-pub use Rattle.coap_conn.specs.Reaction.{release_reaction, response_reaction, pong_reaction, stop, told_of, pong_with}
-pub use Rattle.coap_conn.specs.Reaction.{sends}
-pub use Rattle.coap_conn.specs.Reasons.{abort_text, abort_with, number_told, told_options, reason_number}
+pub use Rattle.coap_conn.specs.Reaction.{open_reaction, ping_reaction, request_reaction, release_reaction}
+pub use Rattle.coap_conn.specs.Reaction.{response_reaction, pong_reaction, stop, told_of, pong_with, sends, Effect}
+pub use Rattle.coap_conn.specs.Reaction.{Reaction, answered, becomes, holds, late_pong, leaves, not_implemented}
+pub use Rattle.coap_conn.specs.Reaction.{pong_of, reaction_unless, send_as, tells}
+unfoldable pub use Rattle.coap_conn.specs.Reaction.{react, live_reaction}
+pub use Rattle.coap_conn.specs.Reasons.{abort_text, abort_with, number_told, told_options, reason_number, abort_of}
+pub use Rattle.coap_conn.specs.Reasons.{abort_options}
 pub use Rattle.coap_conn.specs.Rejects.{reject_of_frame, reject_reason}
 pub use Rattle.coap_conn.specs.Release.{release_refusal}
-pub use Rattle.coap_conn.specs.Verdicts.{Request}
+pub use Rattle.coap_conn.specs.Verdicts.{Request, VerdictValue}
 -- ---- coap_conn, declared
+pub use Rattle.coap_conn.specs.declared.asked.Outstanding.{Outstanding}
+pub use Rattle.coap_conn.specs.declared.pending.Held.{Held}
+pub use Rattle.coap_conn.specs.declared.phase.Phase.{Phase}
 pub use Rattle.coap_conn.specs.declared.phase.Reject.{Reject}
+pub use Rattle.coap_conn.specs.declared.phase.Reply.{Reply}
+pub use Rattle.coap_conn.specs.declared.phase.Reply.TheVariants.{Bare, Stopped, Whole}
+pub use Rattle.coap_conn.specs.declared.phase.RequestFault.{RequestFault}
+pub use Rattle.coap_conn.specs.declared.phase.RequestFault.TheVariants.{NoRoom, NoSuchToken, NotOpen, TokensSpent}
+pub use Rattle.coap_conn.specs.declared.phase.RequestFault.TheVariants.{TooBig, TooMany}
 pub use Rattle.coap_conn.specs.declared.phase.Role.{Role}
+pub use Rattle.coap_conn.specs.declared.phase.Role.TheVariants.{Client, Server}
 pub use Rattle.coap_conn.specs.declared.reason.Reason.{Reason}

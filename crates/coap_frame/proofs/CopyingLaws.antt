@@ -1,10 +1,12 @@
 -- What the calls of a framer add to its count.
 use Rattle.std.proofs.Common.{◌≡◌, ◌≢◌, ℕ, ◌+◌, ◌-◌, ◌≤◌, List, [], ◌∷◌, ◌++◌, length, refl, ap, arith}
 use Rattle.std.proofs.lemmas.List.{length-append, length-take}
-use Rattle.coap_wire.specs.Beginning.{Beginning, Unfinished, Whole, Faulty, beginning}
+use Rattle.coap_frame.specs.Prelude.{Beginning, Unfinished, Whole, Faulty, beginning, FramerValue, IsFramer, Finding}
+use Rattle.coap_frame.specs.Prelude.{Nothing, AFrame, AFault, Framing, framing_at, framing, framing_of, counted}
+use Rattle.coap_frame.specs.Prelude.{copied_alone, copied_of, framer_after, without_last, frame_back, copied_back}
+use Rattle.coap_frame.specs.Prelude.{with_frame_back, FramerCall, Next, Unread, Clear, Raise, MayCall, after_call}
+use Rattle.coap_frame.specs.Prelude.{IsCountedNext, IsCountedUnread, IsCounted, AreCounted}
 use Rattle.coap_wire.proofs.StreamSteps.{whole_parts}
-use Rattle.coap_frame.specs.Framing.{FramerValue, IsFramer, Finding, Nothing, AFrame, AFault, Framing, framing_at, framing, framing_of, counted, copied_alone, copied_of, framer_after, without_last, frame_back, copied_back, with_frame_back}
-use Rattle.coap_frame.specs.Copying.{FramerCall, Next, Unread, Clear, Raise, MayCall, after_call, IsCountedNext, IsCountedUnread, IsCounted, AreCounted}
 use Rattle.coap_frame.proofs.RaiseLemmas.{asked_is_framer, asked_copied}
 use Rattle.coap_frame.proofs.FramingLemmas.{empty_framer, framing_is_framer, unread_is_framer}
 

@@ -2,14 +2,10 @@
 use Rattle.std.proofs.Common.{◌≡◌, ℕ, ◌+◌, ◌-◌, ◌<◌, ◌≤◌, List, [], ◌∷◌, ◌++◌, length, get_or, take, drop, refl, sym, ap, ◌∙◌, append_assoc, arith, inl, inr}
 use Rattle.std.proofs.lemmas.Bool.{cases_lt}
 use Rattle.std.proofs.lemmas.List.{append-nil, take-append-drop, take_more, take_all, length-append, length-take, length-drop}
-use Rattle.coap_wire.specs.Reading.{declared_of}
-use Rattle.coap_wire.specs.declared.frame.Declared.{Declared}
-use Rattle.coap_wire.specs.declared.frame.Declared.TheVariants.{Unknown, Size, BadToken}
-use Rattle.coap_wire.specs.declared.fault.FrameFault.{FrameFault}
-use Rattle.coap_wire.specs.declared.fault.FrameFault.TheVariants.{TokenLength, TooLarge}
-use Rattle.coap_wire.specs.Beginning.{Beginning, Unfinished, Whole, Faulty, beginning, fault_bytes, size_bytes}
+use Rattle.coap_frame.specs.Prelude.{declared_of, Declared, Unknown, Size, BadToken, FrameFault, TokenLength}
+use Rattle.coap_frame.specs.Prelude.{TooLarge, Beginning, Unfinished, Whole, Faulty, beginning, fault_bytes}
+use Rattle.coap_frame.specs.Prelude.{size_bytes, IsTakenTo, IsFilled}
 use Rattle.coap_wire.proofs.StreamSteps.{begin_unknown, begin_bad_token, begin_too_large, begin_short, begin_whole, size_has_bytes, size_at_last, declared_more, faulty_more, fault_bytes_more, fault_at_last, fault_has_bytes}
-use Rattle.coap_frame.specs.Filling.{IsTakenTo, IsFilled}
 use Rattle.coap_frame.specs.declared.filling.Standing.TheVariants as standing
 use Rattle.std.proofs.Math.Seq.{take-append-add}
 

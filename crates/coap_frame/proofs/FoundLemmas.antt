@@ -1,15 +1,10 @@
 -- What is given, by what was found and by how the buffer stands.
 use Rattle.std.proofs.Common.{◌≡◌, ℕ, List, [], take, sym, ap, ◌∙◌}
-use Rattle.coap_frame.specs.Framing.{Nothing, AFrame, AFault, framing}
-use Rattle.coap_frame.specs.BufferViews.{spent_in, frame_in, finding_in}
-use Rattle.coap_frame.specs.FramedViews.{finding_of, lent_of, IsFramed}
-use Rattle.coap_frame.specs.declared.framer.Held.{Held}
+use Rattle.coap_frame.specs.Prelude.{Nothing, AFrame, AFault, framing, spent_in, frame_in, finding_in, finding_of}
+use Rattle.coap_frame.specs.Prelude.{lent_of, IsFramed, Held, Found, Standing, FrameFault}
 use Rattle.coap_frame.specs.declared.framer.Held.TheVariants as held
-use Rattle.coap_frame.specs.declared.framer.Found.{Found}
 use Rattle.coap_frame.specs.declared.framer.Found.TheVariants as found
-use Rattle.coap_frame.specs.declared.filling.Standing.{Standing}
 use Rattle.coap_frame.specs.declared.filling.Standing.TheVariants as standing
-use Rattle.coap_wire.specs.declared.fault.FrameFault.{FrameFault}
 use Rattle.coap_frame.proofs.FramingLemmas.{none_spent}
 
 module _ (max : ℕ) (kept piece buffer : List ℕ) (taken : ℕ) (now : Held) (stands : Standing) (what : Found) (count : taken ≡ (framing max kept piece).taken) (finds : finding_in (frame_in now buffer (take taken piece)) stands ≡ (framing max kept piece).finding) (spends : spent_in now buffer ≡ (framing max kept piece).spent) where

@@ -2,13 +2,11 @@
 use Rattle.std.proofs.Common.{◌≡◌, ◌≢◌, ℕ, ◌-◌, ◌<◌, ◌≤◌, List, [], ◌∷◌, ◌++◌, length, take, drop, refl, sym, ap, ◌∙◌, arith, inl, inr, ◌⊎◌}
 use Rattle.std.proofs.lemmas.Bool.{cases_lt}
 use Rattle.std.proofs.lemmas.List.{length-append, length-drop, take-append-drop}
-use Rattle.coap_wire.specs.Beginning.{Beginning, Unfinished, Whole, Faulty, beginning, fault_bytes}
+use Rattle.coap_frame.specs.Prelude.{Beginning, Unfinished, Whole, Faulty, beginning, fault_bytes, FramerValue}
+use Rattle.coap_frame.specs.Prelude.{IsFramer, Finding, Nothing, AFrame, AFault, Framing, split_frame, framing_at}
+use Rattle.coap_frame.specs.Prelude.{framing, counted, copied_of, framed, framer_after, without_last, frame_back}
+use Rattle.coap_frame.specs.Prelude.{with_frame_back, MayUnread, framer_of, spent_in, IsFilled, FrameFault, Held}
 use Rattle.coap_wire.proofs.StreamSteps.{unfinished_empty, unfinished_below, whole_parts, whole_itself, whole_more, faulty_more}
-use Rattle.coap_frame.specs.Framing.{FramerValue, IsFramer, Finding, Nothing, AFrame, AFault, Framing, split_frame, framing_at, framing, counted, copied_of, framed, framer_after, without_last, frame_back, with_frame_back, MayUnread}
-use Rattle.coap_frame.specs.BufferViews.{framer_of, spent_in}
-use Rattle.coap_frame.specs.Filling.{IsFilled}
-use Rattle.coap_wire.specs.declared.fault.FrameFault.{FrameFault}
-use Rattle.coap_frame.specs.declared.framer.Held.{Held}
 use Rattle.coap_frame.specs.declared.framer.Held.TheVariants as held
 use Rattle.coap_frame.specs.declared.filling.Standing.TheVariants as standing
 

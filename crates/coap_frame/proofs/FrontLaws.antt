@@ -1,12 +1,10 @@
 -- What is found of a piece is found of the bytes that are taken of it, and what those add to a stream.
 use Rattle.std.proofs.Common.{◌≡◌, ℕ, zero, suc, ◌-◌, ◌<◌, ◌≤◌, List, [], ◌∷◌, ◌++◌, length, take, drop, Some, None, refl, sym, ap, ◌∙◌, append_assoc, arith}
 use Rattle.std.proofs.lemmas.List.{append-nil, length-append, length-take-le, take-append-drop, take_all}
-use Rattle.coap_wire.specs.Reading.{message_of}
-use Rattle.coap_wire.specs.declared.fault.FrameFault.{FrameFault}
-use Rattle.coap_wire.specs.Beginning.{Beginning, Unfinished, Whole, Faulty, beginning, fault_bytes}
-use Rattle.coap_wire.specs.Stream.{OfFrame, Stream, frame_then, split}
+use Rattle.coap_frame.specs.Prelude.{message_of, FrameFault, Beginning, Unfinished, Whole, Faulty, beginning}
+use Rattle.coap_frame.specs.Prelude.{fault_bytes, OfFrame, Stream, frame_then, split, Framing, Finding, Nothing}
+use Rattle.coap_frame.specs.Prelude.{AFrame, AFault, split_frame, framing_at, framing}
 use Rattle.coap_wire.proofs.StreamSteps.{unfinished_empty, whole_itself, whole_more, faulty_more, fault_at_last, fault_bytes_more, split_step, split_unfinished, split_faulty}
-use Rattle.coap_frame.specs.Framing.{Framing, Finding, Nothing, AFrame, AFault, split_frame, framing_at, framing}
 use Rattle.coap_frame.proofs.GivenLaws.{taken_within, frame_taken, fault_taken}
 
 -- ---- what was found of bytes

@@ -3,14 +3,16 @@ use Rattle.std.proofs.Common.{◌≡◌, ℕ, ◌+◌, ◌-◌, ◌≤◌, Bool,
 use Rattle.std.proofs.lemmas.Bool.{cases_lt}
 use Rattle.std.proofs.lemmas.List.{append-nil, take-append-drop, take-append-le, take_all, take_at, length-append, length-drop}
 use Rattle.std.proofs.Math.Seq.{take-append-add}
-use Rattle.coap_wire.specs.declared.fault.FrameFault.{FrameFault}
-use Rattle.coap_wire.specs.Beginning.{Beginning, Unfinished, Whole, Faulty, beginning, size_bytes, fault_bytes}
-use Rattle.coap_wire.specs.Frames.{Frames, Sizes, always, sizes_first, size_for, sizes_behind, with_frame, sized_frames}
+use Rattle.coap_frame.specs.Prelude.{FrameFault, Beginning, Unfinished, Whole, Faulty, beginning, size_bytes}
+use Rattle.coap_frame.specs.Prelude.{fault_bytes, Frames, Sizes, always, sizes_first, size_for, sizes_behind}
+use Rattle.coap_frame.specs.Prelude.{with_frame, sized_frames, FramerValue, IsFramer, Finding, Nothing, AFrame}
+use Rattle.coap_frame.specs.Prelude.{AFault, Framing, split_frame, framing_at, framing, framing_of, framer_after}
+use Rattle.coap_frame.specs.Prelude.{without_last, frame_back, MayUnread, raise_refusal, with_size, asked_for}
+use Rattle.coap_frame.specs.Prelude.{Handed, Piece, Given, given_then, given_by, stream_given, IsGiven, taken_of}
+use Rattle.coap_frame.specs.Prelude.{unread_after, last_byte}
 use Rattle.coap_wire.proofs.StreamSteps.{whole_parts, whole_itself, whole_more, faulty_more, fault_bytes_more, fault_at_last, size_has_bytes, size_bytes_more, AreAlikeBehind, frames_unfinished, frames_faulty, frames_whole, frames_alike}
 use Rattle.coap_wire.proofs.SizesLaws.{first_in, first_past, behind_first, first_none, first_always}
-use Rattle.coap_frame.specs.Framing.{FramerValue, IsFramer, Finding, Nothing, AFrame, AFault, Framing, split_frame, framing_at, framing, framing_of, framer_after, without_last, frame_back, MayUnread}
-use Rattle.coap_frame.specs.Raising.{raise_refusal, with_size, asked_for}
-use Rattle.coap_frame.specs.Given.{Handed, Piece, Size, Given, given_then, given_by, stream_given, IsGiven, taken_of, unread_after, last_byte}
+use Rattle.coap_frame.specs.Given.{Size}
 use Rattle.coap_frame.proofs.FramingLemmas.{framing_is_framer, frame_is_small, front_unfinished}
 use Rattle.coap_frame.proofs.RaiseLemmas.{unfinished_with, allowed_by, asked_is_framer}
 

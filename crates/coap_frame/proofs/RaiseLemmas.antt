@@ -1,19 +1,12 @@
 -- A framer whose greatest frame is raised.
 use Rattle.std.proofs.Common.{◌≡◌, ℕ, ◌-◌, ◌<◌, ◌≤◌, Bool, true, false, List, length, Option, Some, None, refl, sym, subst, ◌∙◌, arith, inl, inr, is_none, if◌then◌else◌}
 use Rattle.std.proofs.lemmas.Bool.{cases_lt, lt-ltb, le-ltb}
-use Rattle.coap_wire.specs.Reading.{declared_of}
-use Rattle.coap_wire.specs.Beginning.{Beginning, Unfinished, Faulty, beginning, size_bytes}
-use Rattle.coap_wire.specs.declared.frame.Declared.{Declared}
-use Rattle.coap_wire.specs.declared.frame.Declared.TheVariants.{Unknown, Size, BadToken}
-use Rattle.coap_wire.specs.declared.fault.FrameFault.TheVariants.{TokenLength}
+use Rattle.coap_frame.specs.Prelude.{declared_of, Beginning, Unfinished, Faulty, beginning, size_bytes, Declared}
+use Rattle.coap_frame.specs.Prelude.{Unknown, Size, BadToken, TokenLength, FramerValue, IsFramer, raise_refusal}
+use Rattle.coap_frame.specs.Prelude.{with_size, asked_for, framer_of, kept_in, Held, RaiseFault, Lower}
 use Rattle.coap_wire.proofs.StreamSteps.{begin_unknown, begin_bad_token, begin_short, size_has_bytes, declared_some, unfinished_larger, unknown_not_size}
-use Rattle.coap_frame.specs.Framing.{FramerValue, IsFramer}
-use Rattle.coap_frame.specs.Raising.{raise_refusal, with_size, asked_for}
-use Rattle.coap_frame.specs.BufferViews.{framer_of, kept_in}
-use Rattle.coap_frame.specs.declared.framer.Held.{Held}
 use Rattle.coap_frame.specs.declared.framer.Held.TheVariants as held
-use Rattle.coap_frame.specs.declared.fault.RaiseFault.{RaiseFault}
-use Rattle.coap_frame.specs.declared.fault.RaiseFault.TheVariants.{Lower, TooLarge}
+use Rattle.coap_frame.specs.declared.fault.RaiseFault.TheVariants.{TooLarge}
 use Rattle.coap_frame.proofs.FillLemmas.{told_unfinished}
 
 still_unfinished : (M N : ℕ) (s : List ℕ) (d : Declared) → beginning M s ≡ Unfinished → (size_bytes s - 1 < length s → M ≤ N) → declared_of s ≡ d → beginning N s ≡ Unfinished

@@ -1,13 +1,10 @@
 -- Worked values of the definitions.
 use Rattle.std.proofs.Common.{◌≡◌, ℕ, List, [], ◌∷◌, ◌++◌, Some, None, refl}
-use Rattle.coap_wire.specs.Beginning.{beginning}
-use Rattle.coap_wire.specs.Frames.{always, sizes_first, frames_within, sized_frames}
-use Rattle.coap_wire.specs.Stream.{OfFrame, sized_split}
-use Rattle.coap_wire.specs.Reading.{declared_of, length_at, option_number_at, one_byte_at, two_bytes_at}
-use Rattle.coap_wire.specs.declared.fault.FrameFault.TheVariants.{TokenLength, TooLarge}
+use Rattle.coap_frame.specs.Prelude.{beginning, always, sizes_first, frames_within, sized_frames, OfFrame}
+use Rattle.coap_frame.specs.Prelude.{sized_split, declared_of, length_at, option_number_at, one_byte_at}
+use Rattle.coap_frame.specs.Prelude.{two_bytes_at, TokenLength, TooLarge, raise_refusal, asked_for, FramerValue}
+use Rattle.coap_frame.specs.Prelude.{AFrame, AFault, framing, framing_of, framer_after, with_frame_back}
 use Rattle.coap_frame.specs.declared.fault.RaiseFault.TheVariants as raise
-use Rattle.coap_frame.specs.Raising.{raise_refusal, asked_for}
-use Rattle.coap_frame.specs.Framing.{FramerValue, AFrame, AFault, framing, framing_of, framer_after, with_frame_back}
 
 -- a framer of which nothing was asked yet
 abbrev fresh : FramerValue

@@ -1,19 +1,44 @@
--- What the contracts of the crate name, passed on from one place. Declares nothing.
+-- What the contracts and the proofs of the crate name, passed on from one place. Declares nothing.
 
 -- ---- std and the kit's crates
 pub use Rattle.std.specs.Borrow.{sem, follows_so}
+pub use Rattle.std.specs.Vec.{vec_capacity}
 pub use mathlib.Core.Option.{none}
 -- ---- coap_wire
-pub use Rattle.coap_wire.specs.Beginning.{Unfinished, beginning, token_bytes, size_bytes, Faulty, fault_bytes}
+pub use Rattle.coap_wire.specs.Beginning.{Unfinished, token_bytes, size_bytes, Faulty, fault_bytes, Beginning, Whole}
+unfoldable pub use Rattle.coap_wire.specs.Beginning.{beginning}
 pub use Rattle.coap_wire.specs.Forms.{extension_of}
--- ---- coap_wire, declared
+pub use Rattle.coap_wire.specs.Frames.{Frames, Sizes, always, size_for, sizes_behind, sizes_first, with_frame}
+unfoldable pub use Rattle.coap_wire.specs.Frames.{frames_within, sized_frames}
+pub use Rattle.coap_wire.specs.Reading.{message_of}
+unfoldable pub use Rattle.coap_wire.specs.Reading.{declared_of, length_at, one_byte_at, option_number_at}
+unfoldable pub use Rattle.coap_wire.specs.Reading.{two_bytes_at}
+pub use Rattle.coap_wire.specs.Stream.{OfFrame, Stream, frame_then, split}
+unfoldable pub use Rattle.coap_wire.specs.Stream.{sized_split}
 pub use Rattle.coap_wire.specs.declared.fault.FrameFault.{FrameFault}
+pub use Rattle.coap_wire.specs.declared.fault.FrameFault.TheVariants.{TokenLength, TooLarge}
+pub use Rattle.coap_wire.specs.declared.frame.Declared.{Declared}
+pub use Rattle.coap_wire.specs.declared.frame.Declared.TheVariants.{BadToken, Size, Unknown}
 -- ---- coap_frame
-pub use Rattle.coap_frame.specs.BufferViews.{framer_of, kept_in, frame_in, finding_in}
-pub use Rattle.coap_frame.specs.Copying.{FramerCall, AreCounted}
-pub use Rattle.coap_frame.specs.Filling.{IsHead, IsFilled}
-pub use Rattle.coap_frame.specs.FramedViews.{finding_of, finding_read, IsFramed}
-pub use Rattle.coap_frame.specs.Framing.{framing, framing_of, framer_after, IsFramer, MayUnread, with_frame_back}
-pub use Rattle.coap_frame.specs.Framing.{FramerValue, Nothing, AFrame, AFault, without_last}
-pub use Rattle.coap_frame.specs.Given.{Handed, IsGiven, given_by, taken_of, unread_after, last_byte}
-pub use Rattle.coap_frame.specs.Raising.{raised, IsRaiseAnswer}
+pub use Rattle.coap_frame.specs.BufferViews.{framer_of, kept_in, frame_in, finding_in, spent_in}
+pub use Rattle.coap_frame.specs.Copying.{FramerCall, Clear, IsCounted, IsCountedNext, IsCountedUnread, MayCall, Next}
+pub use Rattle.coap_frame.specs.Copying.{Raise, Unread, after_call}
+unfoldable pub use Rattle.coap_frame.specs.Copying.{AreCounted}
+pub use Rattle.coap_frame.specs.Filling.{IsHead, IsFilled, IsTakenTo}
+pub use Rattle.coap_frame.specs.FramedViews.{finding_of, finding_read, IsFramed, lent_of}
+pub use Rattle.coap_frame.specs.FramerViews.{framer_value, is_framer}
+pub use Rattle.coap_frame.specs.Framing.{framing_of, framer_after, IsFramer, MayUnread, with_frame_back, FramerValue}
+pub use Rattle.coap_frame.specs.Framing.{Nothing, AFrame, AFault, without_last, Finding, Framing, copied_alone}
+pub use Rattle.coap_frame.specs.Framing.{copied_back, copied_of, counted, frame_back, framed, framing_at, split_frame}
+unfoldable pub use Rattle.coap_frame.specs.Framing.{framing}
+pub use Rattle.coap_frame.specs.Given.{Handed, IsGiven, taken_of, unread_after, last_byte, Given, Piece, given_then}
+pub use Rattle.coap_frame.specs.Given.{stream_given}
+unfoldable pub use Rattle.coap_frame.specs.Given.{given_by}
+pub use Rattle.coap_frame.specs.Raising.{raised, IsRaiseAnswer, asked_for, raise_refusal, with_size}
+-- ---- coap_frame, declared
+pub use Rattle.coap_frame.specs.declared.fault.RaiseFault.{RaiseFault}
+pub use Rattle.coap_frame.specs.declared.fault.RaiseFault.TheVariants.{Lower}
+pub use Rattle.coap_frame.specs.declared.filling.Standing.{Standing}
+pub use Rattle.coap_frame.specs.declared.framer.Found.{Found}
+pub use Rattle.coap_frame.specs.declared.framer.Framer.TheInside.{Inside}
+pub use Rattle.coap_frame.specs.declared.framer.Held.{Held}

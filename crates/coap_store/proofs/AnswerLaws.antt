@@ -1,22 +1,19 @@
 -- What holds of every answer.
 use Rattle.std.proofs.Common.{◌≡◌, ℕ, ◌+◌, ◌<◌, ◌≤◌, ◌^◌, Bool, true, false, ◌&&◌, ◌||◌, List, [], ◌∷◌, length, Option, Some, None, refl, sym, ap, subst, ◌∙◌, arith}
-use Rattle.std.specs.Prelude.{codes, is_some, is_none, nat_le, nat_lt, ◌==◌, not, if◌then◌else◌}
-use Rattle.std.specs.Fmt.{decimal}
+use Rattle.coap_store.specs.Prelude.{codes, is_some, is_none, nat_le, nat_lt, ◌==◌, not, if◌then◌else◌, decimal}
+use Rattle.coap_store.specs.Prelude.{Message, first_critical, Path, is_path, Representation, StoreValue, found_in}
+use Rattle.coap_store.specs.Prelude.{is_dynamic, is_async, place_of, key_for, stored_at, state_at, Target, target_of}
+use Rattle.coap_store.specs.Prelude.{listing, values_of, value_of, number_of, has_option, is_get, is_delete}
+use Rattle.coap_store.specs.Prelude.{is_method, path_of, preconditions_hold, is_good_query, Answer, only, says, when}
+use Rattle.coap_store.specs.Prelude.{refuse, first_of, is_accepted, etag_at, is_among, valid, content, watched, late}
+use Rattle.coap_store.specs.Prelude.{get_answer, greatest_version, stored_under, too_large, store_answer, deletion}
+use Rattle.coap_store.specs.Prelude.{delete_answer, needs_resource, read_answer, method_answer, resource_answer}
+use Rattle.coap_store.specs.Prelude.{answer_at, removes_watch, finally, answer_of, unheld_by, unheld, TakesPut}
+use Rattle.coap_store.specs.Prelude.{TakesChange, changes, Place, Root, Time, Async, Listing, Dynamic}
 use Rattle.std.proofs.lemmas.Bool.{leb-false, ltb-false, eqb-false, lt-ltb}
 use Rattle.std.proofs.lemmas.Fmt.{length-decimal-le}
-use Rattle.coap_wire.specs.Message.{Message}
 use Rattle.coap_wire.specs.Codes as code
 use Rattle.coap_wire.specs.OptionNumbers as numbers
-use Rattle.coap_wire.specs.Recognition.{first_critical}
-use Rattle.coap_store.specs.Paths.{Path, is_path}
-use Rattle.coap_store.specs.Store.{Representation, StoreValue, found_in}
-use Rattle.coap_store.specs.State.{is_dynamic, is_async, place_of, key_for, stored_at, state_at, Target, target_of}
-use Rattle.coap_store.specs.Listing.{listing}
-use Rattle.coap_store.specs.Requests.{values_of, value_of, number_of, has_option, is_get, is_delete, is_method, path_of, preconditions_hold, is_good_query}
-use Rattle.coap_store.specs.Answer.{Answer, only, says, when, refuse, first_of, is_accepted, etag_at, is_among, valid, content, watched, late, get_answer, greatest_version, stored_under, too_large, store_answer, deletion, delete_answer, needs_resource, read_answer, method_answer, resource_answer, answer_at, removes_watch, finally, answer_of, unheld_by, unheld}
-use Rattle.coap_store.specs.Changes.{TakesPut, TakesChange, changes}
-use Rattle.coap_store.specs.declared.place.Place.{Place}
-use Rattle.coap_store.specs.declared.place.Place.TheVariants.{Root, Time, Async, Listing, Dynamic}
 
 -- ---- answers by cases
 

@@ -1,11 +1,7 @@
 -- The answer to a request, by the checks and then by what becomes of its observer.
 use Rattle.std.proofs.Common.{◌≡◌, ℕ, true, false, sym, ap, ◌∙◌, refl}
-use Rattle.coap_wire.specs.Message.{Message}
-use Rattle.coap_store.specs.Store.{StoreValue}
-use Rattle.coap_store.specs.Requests.{path_of}
-use Rattle.coap_store.specs.State.{target_of}
-use Rattle.coap_store.specs.Answer.{Answer, answer_at, answer_of, finally, removes_watch}
-use Rattle.coap_store.specs.declared.plan.Watch.TheVariants.{Drop}
+use Rattle.coap_store.specs.Prelude.{Message, StoreValue, path_of, target_of, Answer, answer_at, answer_of, finally}
+use Rattle.coap_store.specs.Prelude.{removes_watch, Drop}
 
 -- the answer before it is said what becomes of the observer
 abbrev pub answer_before_watch : StoreValue → ℕ → Message → Answer

@@ -1,18 +1,12 @@
 -- The map of the resources against their list.
 use Rattle.std.proofs.Common.{◌≡◌, ℕ, ◌+◌, ◌≤◌, Bool, true, false, List, [], ◌++◌, length, Option, Some, None, refl, sym, ap, subst, ◌∙◌, arith}
-use Rattle.std.specs.Prelude.{option_map, not, nat_eq}
-use Rattle.std.specs.Option.{is_some, option_copied, option_eq}
+use Rattle.coap_store.specs.Prelude.{option_map, not, nat_eq, option_eq, Bor, lookup, set_value, string_bytes}
+use Rattle.coap_store.specs.Prelude.{insert_entry, shift_remove_entry, Path, Representation, found_in, put_at}
+use Rattle.coap_store.specs.Prelude.{removed_at, entry_bytes, built_in_bytes, listing, representation, resources_in}
+use Rattle.coap_store.specs.Prelude.{has_format, AreListed, IsListed, Resource}
+use Rattle.std.specs.Option.{is_some, option_copied}
 use Rattle.std.proofs.lemmas.Bool.{eqb-true}
-use Rattle.std.specs.Borrow.{Bor}
-use Rattle.std.specs.Map.{lookup, set_value}
 use Rattle.std.proofs.lemmas.List.{length-map}
-use Rattle.std.specs.String.{string_bytes}
-use Rattle.indexmap.specs.IndexMap.{insert_entry, shift_remove_entry}
-use Rattle.coap_store.specs.Paths.{Path}
-use Rattle.coap_store.specs.Store.{Representation, found_in, put_at, removed_at}
-use Rattle.coap_store.specs.Listing.{entry_bytes, built_in_bytes, listing}
-use Rattle.coap_store.specs.ResourceViews.{representation, resources_in, has_format, AreListed, IsListed}
-use Rattle.coap_store.specs.declared.resource.Resource.{Resource}
 use Rattle.coap_store.specs.contracts.path.PathKeyPartialEq.TheImpl as key_eq
 use Rattle.coap_store.proofs.PathLemmas.{key_equality, same_path_sound}
 use Rattle.coap_store.proofs.ListingLemmas.{resources_found, resources_put, resources_written, resources_removed, put_listed, written_listed, removed_listed, listing_created, listing_replaced, listing_grows, listing_shrinks}

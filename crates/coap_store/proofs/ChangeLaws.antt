@@ -1,17 +1,14 @@
 -- Which answers change a store, and what a change does.
 use Rattle.std.proofs.Common.{◌≡◌, ◌≢◌, ℕ, ◌+◌, ◌≤◌, Bool, true, false, List, [], ◌∷◌, length, Option, Some, None, refl, sym, ap, subst, ◌∙◌, arith}
-use Rattle.std.specs.Prelude.{is_some, ◌==◌, if◌then◌else◌}
+use Rattle.coap_store.specs.Prelude.{is_some, ◌==◌, if◌then◌else◌, Message, Path, same_path, Representation}
+use Rattle.coap_store.specs.Prelude.{StoreValue, found_in, put_at, removed_at, stored_at, state_of, target_of}
+use Rattle.coap_store.specs.Prelude.{path_of, Answer, Change, Nothing, Put, Delete, only, says, stored_under}
+use Rattle.coap_store.specs.Prelude.{deletion, answer_at, removes_watch, finally, answer_of, changed, unheld}
+use Rattle.coap_store.specs.Prelude.{prompt_answer, changes, says_change, AreDistinct}
 use Rattle.std.proofs.lemmas.Bool.{leb-true, ne_eqb}
 use lib.Pointwise.{pointwise_decides, bytes_decides}
-use Rattle.coap_wire.specs.Message.{Message}
 use Rattle.coap_wire.specs.Codes as code
-use Rattle.coap_store.specs.Paths.{Path, same_path}
-use Rattle.coap_store.specs.Store.{Representation, Resource, StoreValue, found_in, put_at, removed_at}
-use Rattle.coap_store.specs.State.{stored_at, state_of, target_of}
-use Rattle.coap_store.specs.Requests.{path_of}
-use Rattle.coap_store.specs.Answer.{Answer, Change, Nothing, Put, Delete, only, says, stored_under, deletion, answer_at, removes_watch, finally, answer_of, changed, unheld, prompt_answer}
-use Rattle.coap_store.specs.Changes.{changes, says_change}
-use Rattle.coap_store.specs.Invariant.{AreDistinct}
+use Rattle.coap_store.specs.Store.{Resource}
 use Rattle.coap_store.proofs.AnswerLaws.{is_error, OfErrors, get_cases, store_cases, answer_cases, state_dynamic, change_finally, change_unheld, unheld_finally}
 use Rattle.coap_store.proofs.PathLemmas.{same_path_sound}
 

@@ -1,12 +1,8 @@
 -- The bytes of a segment, escaped.
 use Rattle.std.proofs.Common.{◌≡◌, ℕ, ◌/◌, ◌%◌, ◌<◌, suc, true, false, List, [], ◌∷◌, ◌++◌, get_or, refl, ap, ◌∙◌, arith}
-use Rattle.std.specs.Prelude.{if◌then◌else◌, not}
-use Rattle.std.specs.List.{flat_map}
+use Rattle.coap_store.specs.Prelude.{if◌then◌else◌, not, flat_map, should_percent_encode, percent_encode_byte}
+use Rattle.coap_store.specs.Prelude.{encode_byte, percent_encode, ESCAPED, is_unreserved, hex_digit, encoded_byte}
 use Rattle.std.proofs.lemmas.Bool.{agree_below_at}
-use Rattle.percent_encoding.specs.AsciiSet.{should_percent_encode}
-use Rattle.percent_encoding.specs.Percent.{percent_encode_byte, encode_byte, percent_encode}
-use Rattle.coap_store.specs.declared.resource.TheConstants.{ESCAPED}
-use Rattle.coap_store.specs.Listing.{is_unreserved, hex_digit, encoded_byte}
 
 -- what is unreserved is not escaped, and the rest is
 escaped_is : (b : ℕ) → b < 256 → should_percent_encode ESCAPED b ≡ not (is_unreserved b)

@@ -1,15 +1,10 @@
 -- The answer to GET where it is a representation.
 use Rattle.std.proofs.Common.{◌≡◌, ℕ, true, false, Option, Some, None, refl}
-use Rattle.std.specs.Borrow.{Bor}
+use Rattle.coap_store.specs.Prelude.{Bor, ArrayVec, Message, Representation, number_of, values_of, value_of}
+use Rattle.coap_store.specs.Prelude.{is_good_query, is_async, get_answer, is_accepted, etag_at, is_among, watched}
+use Rattle.coap_store.specs.Prelude.{valid, late, content, Place}
 use Rattle.std.specs.Option.{option_map, option_copied}
-use Rattle.arrayvec.specs.declared.array_vec.ArrayVec.{ArrayVec}
-use Rattle.coap_wire.specs.Message.{Message}
 use Rattle.coap_wire.specs.OptionNumbers as numbers
-use Rattle.coap_store.specs.Store.{Representation}
-use Rattle.coap_store.specs.Requests.{number_of, values_of, value_of, is_good_query}
-use Rattle.coap_store.specs.State.{is_async}
-use Rattle.coap_store.specs.Answer.{get_answer, is_accepted, etag_at, is_among, watched, valid, late, content}
-use Rattle.coap_store.specs.declared.place.Place.{Place}
 
 pub get_valid : (place : Place) (r : Representation) (m : Message) → is_accepted (number_of numbers.accept m) r.format ≡ true → is_among (etag_at place r) (values_of numbers.etag m) ≡ true → get_answer place r m ≡ watched place m (valid place r)
 unfolding get_answer

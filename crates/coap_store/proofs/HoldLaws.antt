@@ -1,17 +1,13 @@
 -- What holds of an answer that is held, and of one that cannot be.
 use Rattle.std.proofs.Common.{◌≡◌, ◌≢◌, ℕ, ◌≤◌, Bool, true, false, List, Option, Some, None, refl, ap, subst, arith}
 use Rattle.std.proofs.lemmas.Bool.{and_parts, leb-true}
-use Rattle.coap_wire.specs.Message.{Message}
+use Rattle.coap_store.specs.Prelude.{Message, Path, Representation, StoreValue, is_async, place_of, state_at}
+use Rattle.coap_store.specs.Prelude.{target_of, is_get, path_of, value_of, digits_mean, is_seconds, is_good_query}
+use Rattle.coap_store.specs.Prelude.{seconds_of, Answer, Nothing, only, content, late, held_response, asks_late}
+use Rattle.coap_store.specs.Prelude.{stored_under, answer_at, removes_watch, finally, answer_of, unheld_by, unheld}
+use Rattle.coap_store.specs.Prelude.{prompt_answer, Place, Root, Time, Async, Listing, Dynamic, Add}
 use Rattle.coap_wire.specs.Codes as code
 use Rattle.coap_wire.specs.OptionNumbers as numbers
-use Rattle.coap_store.specs.Paths.{Path}
-use Rattle.coap_store.specs.Store.{Representation, StoreValue}
-use Rattle.coap_store.specs.State.{is_async, place_of, state_at, target_of}
-use Rattle.coap_store.specs.Requests.{is_get, path_of, value_of, digits_mean, is_seconds, is_good_query, seconds_of}
-use Rattle.coap_store.specs.Answer.{Answer, Nothing, only, content, late, held_response, asks_late, stored_under, answer_at, removes_watch, finally, answer_of, unheld_by, unheld, prompt_answer}
-use Rattle.coap_store.specs.declared.place.Place.{Place}
-use Rattle.coap_store.specs.declared.place.Place.TheVariants.{Root, Time, Async, Listing, Dynamic}
-use Rattle.coap_store.specs.declared.plan.Watch.TheVariants.{Add}
 use Rattle.coap_store.proofs.AnswerLaws.{known_get_cases, known_answer_cases, store_cases, change_unheld}
 use Rattle.coap_store.proofs.WatchLaws.{watched_at_once}
 

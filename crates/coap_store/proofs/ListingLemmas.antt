@@ -1,19 +1,15 @@
 -- The listing, and the resources that are kept, after a change.
 use Rattle.std.proofs.Common.{◌≡◌, ℕ, ◌+◌, ◌*◌, ◌<◌, ◌≤◌, Bool, true, false, List, [], ◌∷◌, ◌++◌, length, Option, Some, None, refl, sym, ap, subst, ◌∙◌, append_assoc, arith}
-use Rattle.std.specs.Prelude.{IfSome, option_map, if◌then◌else◌, codes, ◌/◌, ◌%◌}
-use Rattle.std.specs.List.{AllByRecursion, flat_map}
-use Rattle.std.specs.Fmt.{decimal}
-use Rattle.std.specs.Map.{lookup, set_value, values_of}
-use Rattle.std.specs.String.{string_bytes}
+use Rattle.coap_store.specs.Prelude.{IfSome, option_map, if◌then◌else◌, codes, ◌/◌, ◌%◌, AllByRecursion, flat_map}
+use Rattle.coap_store.specs.Prelude.{decimal, lookup, set_value, string_bytes, insert_entry, shift_remove_entry}
+use Rattle.coap_store.specs.Prelude.{Path, same_path, written_length, is_path, Representation, found_in, put_at}
+use Rattle.coap_store.specs.Prelude.{removed_at, is_unreserved, hex_digit, encoded_byte, path_bytes, format_bytes}
+use Rattle.coap_store.specs.Prelude.{entry_bytes, built_in_bytes, listing, representation, resource_at, resources_in}
+use Rattle.coap_store.specs.Prelude.{AreListed, Resource}
+use Rattle.std.specs.Map.{values_of}
 use Rattle.std.proofs.lemmas.Fmt.{length-decimal-le}
 use Rattle.std.proofs.lemmas.List.{append-nil, length-append}
-use Rattle.indexmap.specs.IndexMap.{insert_entry, shift_remove_entry}
-use Rattle.coap_store.specs.Paths.{Path, same_path, written_length, is_path}
-use Rattle.coap_store.specs.Store.{Representation, found_in, put_at, removed_at}
 use Rattle.coap_store.specs.Store as store
-use Rattle.coap_store.specs.Listing.{is_unreserved, hex_digit, encoded_byte, path_bytes, format_bytes, entry_bytes, built_in_bytes, listing}
-use Rattle.coap_store.specs.ResourceViews.{representation, resource_at, resources_in, AreListed}
-use Rattle.coap_store.specs.declared.resource.Resource.{Resource}
 use Rattle.coap_store.proofs.PathLemmas.{path_fits, same_path_sound}
 
 -- paths that compare equal are the same

@@ -1,18 +1,11 @@
 -- What observers are told.
 use Rattle.std.proofs.Common.{◌≡◌, ℕ, ◌<◌, ◌≤◌, ◌^◌, Bool, true, false, List, length, Option, Some, None, refl, sym, ap, ◌∙◌, arith}
-use Rattle.std.specs.Prelude.{nat_eq, not, if◌then◌else◌}
-use Rattle.std.specs.Option.{option_eq}
+use Rattle.coap_store.specs.Prelude.{nat_eq, not, if◌then◌else◌, option_eq, Path, is_path, Representation}
+use Rattle.coap_store.specs.Prelude.{StoreValue, place_of, key_for, state_of, Response, only, content, answer_of}
+use Rattle.coap_store.specs.Prelude.{TellsState, plain_get, content_of, IsStore, notification_at, notification_of}
+use Rattle.coap_store.specs.Prelude.{Place, Dynamic}
 use Rattle.std.proofs.lemmas.Bool.{cond-true, cond-false}
 use Rattle.coap_wire.specs.Codes as code
-use Rattle.coap_store.specs.Paths.{Path, is_path}
-use Rattle.coap_store.specs.Store.{Representation, StoreValue}
-use Rattle.coap_store.specs.State.{place_of, key_for, state_of}
-use Rattle.coap_store.specs.Answer.{Response, only, content, answer_of}
-use Rattle.coap_store.specs.Serving.{TellsState, plain_get, content_of}
-use Rattle.coap_store.specs.Invariant.{IsStore}
-use Rattle.coap_store.specs.Notifications.{notification_at, notification_of}
-use Rattle.coap_store.specs.declared.place.Place.{Place}
-use Rattle.coap_store.specs.declared.place.Place.TheVariants.{Dynamic}
 use Rattle.coap_store.proofs.CatalogueLemmas.{same_format}
 use Rattle.coap_store.proofs.AnswerLaws.{AreShort, state_short}
 use Rattle.coap_store.proofs.StoreLemmas.{listing_short, stored_small}

@@ -1,12 +1,9 @@
 -- What is noted of all recognised options is what a request says.
 use Rattle.std.proofs.Common.{◌≡◌, ℕ, Bool, true, false, ◌||◌, ◌==◌, cond, List, [], ◌∷◌, map, filter, Option, Some, None, refl, ap, ◌∙◌}
-use Rattle.coap_wire.specs.Message.{CoapOption, Message}
+use Rattle.coap_store.specs.Prelude.{CoapOption, Message, known_options, values_of, value_of, has_option, path_of}
+use Rattle.coap_store.specs.Prelude.{is_given, first_or_none, trail_behind, place_at, Notes, nothing, first_given}
+use Rattle.coap_store.specs.Prelude.{led, noted, all_noted, AreNotesOf, Trail}
 use Rattle.coap_wire.specs.OptionNumbers as numbers
-use Rattle.coap_wire.specs.Recognition.{known_options}
-use Rattle.coap_store.specs.Requests.{values_of, value_of, has_option, path_of, is_given, first_or_none}
-use Rattle.coap_store.specs.Trails.{trail_behind, place_at}
-use Rattle.coap_store.specs.Noting.{Notes, nothing, first_given, led, noted, all_noted, AreNotesOf}
-use Rattle.coap_store.specs.declared.trail.Trail.{Trail}
 use Rattle.coap_store.proofs.RequestLemmas.{has_number, values_in, given_at}
 use Rattle.coap_store.proofs.TrailLemmas.{place_by_trail}
 

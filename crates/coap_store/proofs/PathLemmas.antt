@@ -3,11 +3,9 @@ use Rattle.std.proofs.Common.{◌≡◌, ℕ, zero, suc, ◌+◌, ◌<◌, ◌�
 use Rattle.std.proofs.Math.Seq.{take-append_seam, drop-append_seam}
 use Rattle.std.proofs.lemmas.Bool.{and_parts, leb-true}
 use Rattle.std.proofs.lemmas.List.{append-nil, append_cancel_left, length-take, take-append-drop, at_drop_more, at_drop_all, length-map, nil_from_length}
-use Rattle.std.specs.List.{list_any}
-use Rattle.std.specs.Borrow.{Bor}
+use Rattle.coap_store.specs.Prelude.{list_any, Bor, Path, same_path, is_path, written_length, IsWritten, written}
+use Rattle.coap_store.specs.Prelude.{segments_by, segments_at, segment_list}
 use lib.Pointwise.{bytes_decides, pointwise_decides}
-use Rattle.coap_store.specs.Paths.{Path, same_path, is_path, written_length}
-use Rattle.coap_store.specs.PathViews.{IsWritten, written, segments_by, segments_at, segment_list}
 use Rattle.coap_store.specs.contracts.path.PathKeyPartialEq.TheImpl as key_eq
 
 -- ---- the same path

@@ -1,10 +1,8 @@
 -- Which resource a path names, by how the path is kept.
 use Rattle.std.proofs.Common.{rules, ◌≡◌, ℕ, nat_eq, Bool, true, false, List, [], ◌∷◌, length, sym, ap, ◌∙◌}
 use Rattle.std.proofs.lemmas.Bool.{cond-true, cond-false}
-use Rattle.coap_store.specs.Paths.{Path, same_path}
-use Rattle.coap_store.specs.PathViews.{written}
-use Rattle.coap_store.specs.State.{place_of, root_path, time_path, async_path, listing_path}
-use Rattle.coap_store.specs.declared.place.Place.TheVariants.{Root, Time, Async, Listing, Dynamic}
+use Rattle.coap_store.specs.Prelude.{Path, same_path, written, place_of, root_path, time_path, async_path}
+use Rattle.coap_store.specs.Prelude.{listing_path, Root, Time, Async, Listing, Dynamic}
 use Rattle.coap_store.proofs.PathLemmas.{key_equality}
 use lib.Pointwise.{pointwise}
 

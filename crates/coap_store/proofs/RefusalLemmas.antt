@@ -1,20 +1,12 @@
 -- What is refused from inside, and what is not.
 use Rattle.std.proofs.Common.{◌≡◌, ℕ, ◌<◌, ◌^◌, Bool, true, false, ◌&&◌, List, [], ◌∷◌, length, Option, Some, None, refl, sym, ap, subst, ◌∙◌}
-use Rattle.std.specs.Prelude.{is_some, is_none, nat_le, nat_lt, ◌==◌, not, option_map, IfSome, if◌then◌else◌}
-use Rattle.std.specs.Borrow.{Bor}
-use Rattle.std.specs.List.{AllByRecursion}
+use Rattle.coap_store.specs.Prelude.{is_some, is_none, nat_le, nat_lt, ◌==◌, not, option_map, IfSome, if◌then◌else◌}
+use Rattle.coap_store.specs.Prelude.{Bor, AllByRecursion, Path, is_path, Representation, StoreValue, found_in}
+use Rattle.coap_store.specs.Prelude.{put_in, place_of, is_dynamic, greatest_version, representation, TakesPut}
+use Rattle.coap_store.specs.Prelude.{IsStore, first_fault, refusal_in, put_refusal, remove_refusal, StoreFault}
+use Rattle.coap_store.specs.Prelude.{NoSuch, TooLarge, Limit, BadPath, VersionsSpent}
 use Rattle.std.proofs.lemmas.Bool.{ltb-false}
-use Rattle.coap_store.specs.Paths.{Path, is_path}
-use Rattle.coap_store.specs.Store.{Representation, StoreValue, found_in, put_in}
-use Rattle.coap_store.specs.State.{place_of, is_dynamic}
-use Rattle.coap_store.specs.Answer.{greatest_version}
-use Rattle.coap_store.specs.ResourceViews.{representation}
-use Rattle.coap_store.specs.Changes.{TakesPut}
-use Rattle.coap_store.specs.Invariant.{IsStore}
-use Rattle.coap_store.specs.Refusals.{first_fault, refusal_in, put_refusal, remove_refusal}
 use Rattle.coap_store.specs.declared.resource.Resource as lent
-use Rattle.coap_store.specs.declared.fault.StoreFault.{StoreFault}
-use Rattle.coap_store.specs.declared.fault.StoreFault.TheVariants.{NoSuch, TooLarge, Limit, BadPath, VersionsSpent}
 use Rattle.coap_store.proofs.AnswerLaws.{place_dynamic, version_fits, has_room}
 use Rattle.coap_store.proofs.StoreLemmas.{store_put, found_kept}
 

@@ -1,10 +1,7 @@
 -- A version tells a representation, though that may be stored no more.
 use Rattle.std.proofs.Common.{◌≡◌, ◌+◌, Some, sym, ap, ◌∙◌, arith}
-use Rattle.coap_store.specs.Paths.{Path}
-use Rattle.coap_store.specs.Store.{Representation, StoreValue, found_in}
-use Rattle.coap_store.specs.Answer.{Change, Nothing, Put, Delete, changed}
-use Rattle.coap_store.specs.Invariant.{IsStore}
-use Rattle.coap_store.specs.Remembering.{WasStored}
+use Rattle.coap_store.specs.Prelude.{Path, Representation, StoreValue, found_in, Change, Nothing, Put, Delete}
+use Rattle.coap_store.specs.Prelude.{changed, IsStore, WasStored}
 use Rattle.coap_store.proofs.StoreLemmas.{one_version, found_kept}
 use Rattle.coap_store.proofs.ChangeLaws.{put_is_stored, other_is_kept_on_put, other_is_kept_on_delete, deleted_is_gone}
 use Rattle.coap_store.proofs.VersionLaws.{by_path}

@@ -1,18 +1,13 @@
 -- The recognised options with one number, and their values.
 use Rattle.std.proofs.Common.{◌≡◌, ℕ, ◌<◌, ◌≤◌, Bool, true, false, ◌&&◌, ◌||◌, cond, ◌==◌, List, [], ◌∷◌, length, map, filter, get_or, Option, Some, None, refl, sym, ap, subst, ◌∙◌, arith}
-use Rattle.std.specs.Prelude.{option_map, nat_le, is_some, IfSome}
-use Rattle.std.specs.Bool.{then_some}
-use Rattle.std.specs.List.{list_any, list_all}
+use Rattle.coap_store.specs.Prelude.{option_map, nat_le, is_some, IfSome, then_some, list_any, list_all, CoapOption}
+use Rattle.coap_store.specs.Prelude.{Message, Placed, placed, once, kind_of, has_kind, is_recognised, known_behind}
+use Rattle.coap_store.specs.Prelude.{known_options, uint_of, bytes_of_uint, OptionKind, same_bytes, Representation}
+use Rattle.coap_store.specs.Prelude.{values_of, has_option, value_of, number_of, is_given, first_or_none}
+use Rattle.coap_store.specs.Prelude.{match_holds, is_digit, digits_mean, is_seconds}
 use Rattle.std.proofs.lemmas.Bool.{and_parts, and_left, and_right, leb-true, le-leb, lt-leb, eqb-true}
 use Rattle.std.proofs.lemmas.List.Folds.{list_all_at}
-use Rattle.coap_wire.specs.Message.{CoapOption, Message}
 use Rattle.coap_wire.specs.OptionNumbers as numbers
-use Rattle.coap_wire.specs.Recognition.{Placed, placed, once, kind_of, has_kind, is_recognised, known_behind, known_options}
-use Rattle.coap_wire.specs.Uint.{uint_of, bytes_of_uint}
-use Rattle.coap_wire.specs.declared.kinds.OptionKind.{OptionKind}
-use Rattle.coap_store.specs.Paths.{same_bytes}
-use Rattle.coap_store.specs.Store.{Representation}
-use Rattle.coap_store.specs.Requests.{values_of, has_option, value_of, number_of, is_given, first_or_none, match_holds, is_digit, digits_mean, is_seconds}
 
 -- ---- in a list of options
 

@@ -1,21 +1,17 @@
 -- What requests and responses say of the state of a path.
 use Rattle.std.proofs.Common.{◌≡◌, ◌≢◌, inl, inr, ℕ, ◌+◌, ◌≤◌, Bool, true, false, List, [], ◌∷◌, ◌++◌, length, map, filter, Option, Some, None, refl, sym, ap, subst, ◌∙◌, arith}
-use Rattle.std.specs.Prelude.{◌==◌}
-use Rattle.std.specs.List.{AllByRecursion}
+use Rattle.coap_store.specs.Prelude.{◌==◌, AllByRecursion, kind_of, is_recognised, known_behind}
+use Rattle.coap_store.specs.Prelude.{first_critical_behind, Message, CoapOption, Path, is_path, written_length}
+use Rattle.coap_store.specs.Prelude.{Representation, StoreValue, found_in, is_dynamic, place_of, key_for, stored_at}
+use Rattle.coap_store.specs.Prelude.{state_at, state_of, Target, target_of, values_of, value_of, has_option}
+use Rattle.coap_store.specs.Prelude.{number_of, match_holds, is_get, path_of, etag_of, Response, Answer, Change}
+use Rattle.coap_store.specs.Prelude.{Nothing, Put, Delete, put_of, etag_at, is_among, stored_under, deletion}
+use Rattle.coap_store.specs.Prelude.{get_answer, method_answer, resource_answer, answer_at, removes_watch, finally}
+use Rattle.coap_store.specs.Prelude.{answer_of, changed, plain_get, IsStoredCode, TellsState, TellsEtag, IsElsewhere}
+use Rattle.coap_store.specs.Prelude.{content_of, put_by, each_at, Place, Root, Time, Async, Listing, Dynamic}
 use Rattle.std.proofs.lemmas.Bool.{leb-true, le-leb, cond-true}
-use Rattle.coap_wire.specs.Recognition.{kind_of, is_recognised, known_behind, first_critical_behind}
-use Rattle.coap_wire.specs.Message.{Message, CoapOption}
 use Rattle.coap_wire.specs.Codes as code
 use Rattle.coap_wire.specs.OptionNumbers as numbers
-use Rattle.coap_store.specs.Paths.{Path, is_path, written_length}
-use Rattle.coap_store.specs.Store.{Representation, StoreValue, found_in}
-use Rattle.coap_store.specs.State.{is_dynamic, place_of, key_for, stored_at, state_at, state_of, Target, target_of}
-use Rattle.coap_store.specs.Requests.{values_of, value_of, has_option, number_of, match_holds, is_get, path_of, etag_of}
-use Rattle.coap_store.specs.Answer.{Response, Answer, Change, Nothing, Put, Delete, put_of, etag_at, is_among, stored_under, deletion, get_answer, method_answer, resource_answer, answer_at, removes_watch, finally, answer_of, changed}
-use Rattle.coap_store.specs.Serving.{plain_get, IsStoredCode, TellsState, TellsEtag, IsElsewhere, content_of, put_by}
-use Rattle.coap_store.specs.Messages.{each_at}
-use Rattle.coap_store.specs.declared.place.Place.{Place}
-use Rattle.coap_store.specs.declared.place.Place.TheVariants.{Root, Time, Async, Listing, Dynamic}
 use Rattle.coap_store.proofs.PathLemmas.{path_fits}
 use Rattle.coap_store.proofs.AnswerLaws.{is_error, OfErrors, get_cases, store_cases, answer_cases, state_dynamic, key_is, place_dynamic, change_finally}
 use Rattle.coap_store.proofs.ChangeLaws.{other_is_kept_on_put, other_is_kept_on_delete, put_is_stored}

@@ -1,12 +1,8 @@
 -- The state of a path by its key.
 use Rattle.std.proofs.Common.{◌≡◌, ℕ, ◌+◌, true, List, Option, Some, None, sym, ap, ◌∙◌}
 use Rattle.std.proofs.lemmas.Bool.{cond-true}
-use Rattle.coap_store.specs.Paths.{Path, is_path}
-use Rattle.coap_store.specs.Store.{StoreValue, found_in, put_in, removed_in}
-use Rattle.coap_store.specs.State.{is_dynamic, place_of, key_for, stored_at, state_at, state_of}
-use Rattle.coap_store.specs.Invariant.{AreDistinct}
-use Rattle.coap_store.specs.declared.place.Place.{Place}
-use Rattle.coap_store.specs.declared.place.Place.TheVariants.{Dynamic}
+use Rattle.coap_store.specs.Prelude.{Path, is_path, StoreValue, found_in, put_in, removed_in, is_dynamic, place_of}
+use Rattle.coap_store.specs.Prelude.{key_for, stored_at, state_at, state_of, AreDistinct, Place, Dynamic}
 use Rattle.coap_store.proofs.AnswerLaws.{state_dynamic}
 use Rattle.coap_store.proofs.ChangeLaws.{put_is_stored, deleted_is_gone}
 

@@ -1,17 +1,12 @@
 -- A store stays one over each change, and what is found in it is kept as it is to be.
 use Rattle.std.proofs.Common.{◌≡◌, ◌≢◌, ℕ, ◌+◌, ◌<◌, ◌≤◌, ◌^◌, true, false, ◌||◌, List, [], ◌∷◌, length, Option, Some, None, refl, sym, ap, subst, ◌∙◌, arith, nat_lt}
-use Rattle.std.specs.Prelude.{IfSome, option_map, if◌then◌else◌}
+use Rattle.coap_store.specs.Prelude.{IfSome, option_map, if◌then◌else◌, Bor, AllByRecursion, Path, same_path}
+use Rattle.coap_store.specs.Prelude.{Representation, StoreValue, found_in, put_at, removed_at, put_in, removed_in}
+use Rattle.coap_store.specs.Prelude.{listing, representation, Change, Nothing, Put, Delete, changed, TakesPut}
+use Rattle.coap_store.specs.Prelude.{TakesChange, HasSmallFormat, HaveOwnVersions, IsKept, IsStore}
 use Rattle.std.specs.Option.{is_some}
-use Rattle.std.specs.Borrow.{Bor}
-use Rattle.std.specs.List.{AllByRecursion}
 use Rattle.std.proofs.lemmas.Bool.{ltb-true}
-use Rattle.coap_store.specs.Paths.{Path, same_path}
-use Rattle.coap_store.specs.Store.{Representation, Resource, StoreValue, found_in, put_at, removed_at, put_in, removed_in}
-use Rattle.coap_store.specs.Listing.{listing}
-use Rattle.coap_store.specs.ResourceViews.{representation}
-use Rattle.coap_store.specs.Answer.{Change, Nothing, Put, Delete, changed}
-use Rattle.coap_store.specs.Changes.{TakesPut, TakesChange, HasSmallFormat}
-use Rattle.coap_store.specs.Invariant.{HaveOwnVersions, IsKept, IsStore}
+use Rattle.coap_store.specs.Store.{Resource}
 use Rattle.coap_store.specs.declared.resource.Resource as lent
 use Rattle.coap_store.proofs.PathLemmas.{same_path_sound}
 use Rattle.coap_store.proofs.ListingLemmas.{CanBeListed, listing_bound}

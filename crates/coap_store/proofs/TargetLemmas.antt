@@ -2,12 +2,10 @@
 use Rattle.std.proofs.Common.{◌≡◌, ◌≢◌, ℕ, ◌<◌, true, false, [], length, Option, Some, None, refl, sym, ap, ◌∙◌}
 use Rattle.std.proofs.lemmas.Bool.{cond-false, cond_both, false_from_ne_true, true_from_ne_false, both_ways, lt-leb}
 use Rattle.std.proofs.lemmas.Option.{none-some}
-use Rattle.std.specs.Prelude.{unwrap_or, if◌then◌else◌}
-use Rattle.coap_store.specs.Paths.{Path, same_path, is_path}
-use Rattle.coap_store.specs.Store.{Representation, StoreValue, found_in}
-use Rattle.coap_store.specs.State.{key_for, place_of, root_path, time_path, async_path, listing_path, is_dynamic, state_at, state_of, Target, target_of}
-use Rattle.coap_store.specs.declared.place.Place.{Place}
-use Rattle.coap_store.specs.declared.place.Place.TheVariants.{Root, Time, Async, Listing, Dynamic}
+use Rattle.coap_store.specs.Prelude.{unwrap_or, if◌then◌else◌, Path, same_path, is_path, Representation, StoreValue}
+use Rattle.coap_store.specs.Prelude.{found_in, key_for, place_of, root_path, time_path, async_path, listing_path}
+use Rattle.coap_store.specs.Prelude.{is_dynamic, state_at, state_of, Target, target_of, Place, Root, Time, Async}
+use Rattle.coap_store.specs.Prelude.{Listing, Dynamic}
 use Rattle.coap_store.proofs.PathLemmas.{same_path_sound}
 use Rattle.coap_store.proofs.StateLemmas.{own_key}
 

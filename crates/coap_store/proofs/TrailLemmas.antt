@@ -1,14 +1,10 @@
 -- Where all segments of a path lead is the place that it names.
 use Rattle.std.proofs.Common.{◌≡◌, ℕ, Bool, true, false, ◌&&◌, List, [], ◌∷◌, refl, ap, ◌∙◌}
-use Rattle.std.specs.Prelude.{codes, if◌then◌else◌}
+use Rattle.coap_store.specs.Prelude.{codes, if◌then◌else◌, Path, same_bytes, place_of, trail_with, trail_behind}
+use Rattle.coap_store.specs.Prelude.{place_at, Place, Trail, WellKnown, Elsewhere}
 use lib.Pointwise.{bytes_decides}
-use Rattle.coap_store.specs.Paths.{Path, same_bytes}
-use Rattle.coap_store.specs.State.{place_of}
-use Rattle.coap_store.specs.Trails.{trail_with, trail_behind, place_at}
-use Rattle.coap_store.specs.declared.place.Place.{Place}
 use Rattle.coap_store.specs.declared.place.Place.TheVariants as place
-use Rattle.coap_store.specs.declared.trail.Trail.{Trail}
-use Rattle.coap_store.specs.declared.trail.Trail.TheVariants.{Root, Time, Async, WellKnown, Listing, Elsewhere}
+use Rattle.coap_store.specs.declared.trail.Trail.TheVariants.{Root, Time, Async, Listing}
 
 -- nothing built in lies behind this
 elsewhere_stays : (path : Path) → trail_behind Elsewhere path ≡ Elsewhere

@@ -1,8 +1,7 @@
 -- The segments of a request's path, one after the other.
 use Rattle.std.proofs.Common.{◌≡◌, Bool, false, cond, List, ◌∷◌, map, filter, ap, ◌∙◌, ne_eqb}
-use Rattle.coap_wire.specs.Message.{CoapOption}
+use Rattle.coap_store.specs.Prelude.{CoapOption, segments_told}
 use Rattle.coap_wire.specs.OptionNumbers as numbers
-use Rattle.coap_store.specs.UriPaths.{segments_told}
 use Rattle.coap_store.proofs.RequestLemmas.{has_number}
 
 -- the front option is a segment, or is passed over

@@ -1,19 +1,14 @@
 -- What holds where a request asks that an observer is entered.
 use Rattle.std.proofs.Common.{◌≡◌, ℕ, Bool, true, false, ◌&&◌, Option, Some, None, refl, sym, ap, ◌∙◌, inl, inr}
-use Rattle.std.specs.Prelude.{◌⊎◌, if◌then◌else◌}
+use Rattle.coap_store.specs.Prelude.{◌⊎◌, if◌then◌else◌, Message, Path, same_path, is_path, Representation}
+use Rattle.coap_store.specs.Prelude.{StoreValue, time_path, is_observable, place_of, key_for, stored_at, state_at}
+use Rattle.coap_store.specs.Prelude.{state_of, target_of, path_of, number_of, Answer, Response, is_number, watch_of}
+use Rattle.coap_store.specs.Prelude.{watched, stored_under, answer_at, removes_watch, finally, answer_of, unheld_by}
+use Rattle.coap_store.specs.Prelude.{prompt_answer, MayWatch, Place, Root, Time, Async, Listing, Dynamic}
 use Rattle.std.proofs.lemmas.Bool.{cond-true}
-use Rattle.coap_wire.specs.Message.{Message}
 use Rattle.coap_wire.specs.Codes as code
 use Rattle.coap_wire.specs.OptionNumbers as numbers
-use Rattle.coap_store.specs.Paths.{Path, same_path, is_path}
-use Rattle.coap_store.specs.Store.{Representation, StoreValue}
-use Rattle.coap_store.specs.State.{time_path, is_observable, place_of, key_for, stored_at, state_at, state_of, target_of}
-use Rattle.coap_store.specs.Requests.{path_of, number_of}
-use Rattle.coap_store.specs.Answer.{Answer, Response, is_number, watch_of, watched, stored_under, answer_at, removes_watch, finally, answer_of, unheld_by, prompt_answer}
-use Rattle.coap_store.specs.Watching.{MayWatch}
 use Rattle.coap_store.specs.declared.plan.Watch.TheVariants as watch
-use Rattle.coap_store.specs.declared.place.Place.{Place}
-use Rattle.coap_store.specs.declared.place.Place.TheVariants.{Root, Time, Async, Listing, Dynamic}
 use Rattle.coap_store.proofs.PathLemmas.{same_path_sound}
 use Rattle.coap_store.proofs.AnswerLaws.{answer_cases, get_cases, store_cases, key_is}
 use Rattle.coap_store.proofs.TargetLemmas.{is_time}

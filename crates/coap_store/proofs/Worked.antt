@@ -1,19 +1,13 @@
 -- Worked values of the definitions: requests, their answers, and the stores after them.
 use Rattle.std.proofs.Common.{◌≡◌, ℕ, List, [], ◌∷◌, refl}
-use Rattle.std.specs.Prelude.{codes}
-use Rattle.coap_wire.specs.Message.{CoapOption, Message}
+use Rattle.coap_store.specs.Prelude.{codes, CoapOption, Message, spelling, bytes_of_uint, kind_of, is_recognised}
+use Rattle.coap_store.specs.Prelude.{known_behind, first_critical_behind, is_path, StoreValue, found_in, put_at}
+use Rattle.coap_store.specs.Prelude.{removed_at, encoded_byte, path_bytes, entry_bytes, listing, place_of, key_for}
+use Rattle.coap_store.specs.Prelude.{state_at, values_of, has_option, value_of, number_of, match_holds, is_seconds}
+use Rattle.coap_store.specs.Prelude.{get_answer, store_answer, method_answer, resource_answer, answer_at, answer_of}
+use Rattle.coap_store.specs.Prelude.{changed, response_message}
 use Rattle.coap_wire.specs.Codes as code
 use Rattle.coap_wire.specs.OptionNumbers as numbers
-use Rattle.coap_wire.specs.Spelling.{spelling}
-use Rattle.coap_wire.specs.Uint.{bytes_of_uint}
-use Rattle.coap_wire.specs.Recognition.{kind_of, is_recognised, known_behind, first_critical_behind}
-use Rattle.coap_store.specs.Paths.{is_path}
-use Rattle.coap_store.specs.Store.{StoreValue, found_in, put_at, removed_at}
-use Rattle.coap_store.specs.Listing.{encoded_byte, path_bytes, entry_bytes, listing}
-use Rattle.coap_store.specs.State.{place_of, key_for, state_at}
-use Rattle.coap_store.specs.Requests.{values_of, has_option, value_of, number_of, match_holds, is_seconds}
-use Rattle.coap_store.specs.Answer.{get_answer, store_answer, method_answer, resource_answer, answer_at, answer_of, changed}
-use Rattle.coap_store.specs.Messages.{response_message}
 
 abbrev empty_store : ℕ → StoreValue
 empty_store most = record { dynamic_max = most; rep_max = 65000; resources = []; versions = 0 }

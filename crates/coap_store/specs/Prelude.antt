@@ -1,40 +1,87 @@
--- What the contracts of the crate name, passed on from one place. Declares nothing.
+-- What the contracts and the proofs of the crate name, passed on from one place. Declares nothing.
 
 -- ---- std and the kit's crates
+pub use Rattle.arrayvec.specs.declared.array_vec.ArrayVec.{ArrayVec}
+pub use Rattle.indexmap.specs.IndexMap.{insert_entry, shift_remove_entry}
+unfoldable pub use Rattle.percent_encoding.specs.AsciiSet.{should_percent_encode}
+pub use Rattle.percent_encoding.specs.Percent.{encode_byte}
+unfoldable pub use Rattle.percent_encoding.specs.Percent.{percent_encode, percent_encode_byte}
+pub use Rattle.std.specs.Bool.{then_some}
+pub use Rattle.std.specs.Borrow.{Bor}
+pub use Rattle.std.specs.Fmt.{decimal}
 pub use Rattle.std.specs.Iterator.{YieldsFirstBy, item_count}
-pub use Rattle.std.specs.List.{list_any}
+pub use Rattle.std.specs.List.{list_any, AllByRecursion, flat_map, list_all}
+pub use Rattle.std.specs.Map.{lookup, set_value}
+pub use Rattle.std.specs.Option.{option_eq}
+pub use Rattle.std.specs.Prelude.{IfSome, codes, if◌then◌else◌, is_none, is_some, nat_eq, nat_le, nat_lt, not}
+pub use Rattle.std.specs.Prelude.{option_copied, option_map, unwrap_or, ◌%◌, ◌/◌, ◌==◌, ◌⊎◌}
+pub use Rattle.std.specs.String.{string_bytes}
+pub use Rattle.std.specs.Vec.{vec_capacity}
 -- ---- coap_wire
-pub use Rattle.coap_wire.specs.Message.{Message}
-pub use Rattle.coap_wire.specs.Recognition.{known_options, first_critical}
+pub use Rattle.coap_wire.specs.Message.{Message, CoapOption}
+pub use Rattle.coap_wire.specs.Recognition.{known_options, first_critical, Placed, has_kind, once, placed}
+unfoldable pub use Rattle.coap_wire.specs.Recognition.{first_critical_behind, is_recognised, kind_of, known_behind}
 pub use Rattle.coap_wire.specs.Refusal.{RefusedBy}
+unfoldable pub use Rattle.coap_wire.specs.Spelling.{spelling}
 pub use Rattle.coap_wire.specs.Uint.{uint_of}
+unfoldable pub use Rattle.coap_wire.specs.Uint.{bytes_of_uint}
 pub use Rattle.coap_wire.specs.Views.{coap_option}
+pub use Rattle.coap_wire.specs.declared.kinds.OptionKind.{OptionKind}
 -- ---- coap_store
-pub use Rattle.coap_store.specs.Answer.{get_answer, read_answer, etag_at, max_age_at, is_accepted, is_among, watch_of}
-pub use Rattle.coap_store.specs.Answer.{removes_watch, stored, delete_answer, answer_of, answer_at, resource_answer}
-pub use Rattle.coap_store.specs.Answer.{store_answer, needs_resource, says, held_response, Change, Nothing, Put, Delete}
-pub use Rattle.coap_store.specs.Answer.{only, asks_late, prompt_answer, changed, unheld, greatest_version}
+pub use Rattle.coap_store.specs.Answer.{read_answer, etag_at, max_age_at, is_accepted, is_among, watch_of}
+pub use Rattle.coap_store.specs.Answer.{removes_watch, stored, delete_answer, needs_resource, says, held_response}
+pub use Rattle.coap_store.specs.Answer.{Change, Nothing, Put, Delete, only, asks_late, changed, unheld}
+pub use Rattle.coap_store.specs.Answer.{greatest_version, Answer, Response, content, deletion, finally, first_of}
+pub use Rattle.coap_store.specs.Answer.{is_number, late, put_of, refuse, stored_under, too_large, unheld_by, valid}
+pub use Rattle.coap_store.specs.Answer.{watched, when}
+unfoldable pub use Rattle.coap_store.specs.Answer.{get_answer, answer_of, answer_at, resource_answer, store_answer}
+unfoldable pub use Rattle.coap_store.specs.Answer.{prompt_answer, method_answer}
 pub use Rattle.coap_store.specs.Changes.{TakesChange, changes, says_change, HasSmallFormat, changed_by, TakesChanges}
 pub use Rattle.coap_store.specs.Changes.{TakesPut, IsPut}
-pub use Rattle.coap_store.specs.Invariant.{IsStore, AreDistinct}
-pub use Rattle.coap_store.specs.Listing.{listing, entry_bytes, slash, encoded_byte, path_bytes, format_bytes}
+pub use Rattle.coap_store.specs.Invariant.{IsStore, AreDistinct, HaveOwnVersions, IsKept}
+pub use Rattle.coap_store.specs.Listing.{slash, format_bytes, built_in_bytes, hex_digit, is_unreserved}
+unfoldable pub use Rattle.coap_store.specs.Listing.{listing, entry_bytes, encoded_byte, path_bytes}
+pub use Rattle.coap_store.specs.Messages.{each_at, response_message}
 pub use Rattle.coap_store.specs.Notifications.{notification_of}
-pub use Rattle.coap_store.specs.Noting.{first_given, nothing, noted, notes_value, all_noted}
-pub use Rattle.coap_store.specs.PathViews.{segment_list, written}
-pub use Rattle.coap_store.specs.Paths.{is_path, Path, is_dots, is_one_empty, written_length, same_bytes}
+unfoldable pub use Rattle.coap_store.specs.Notifications.{notification_at}
+pub use Rattle.coap_store.specs.Noting.{first_given, nothing, notes_value, all_noted, AreNotesOf, Notes, led}
+unfoldable pub use Rattle.coap_store.specs.Noting.{noted}
+pub use Rattle.coap_store.specs.PathViews.{segment_list, IsWritten}
+unfoldable pub use Rattle.coap_store.specs.PathViews.{written, segments_at, segments_by}
+pub use Rattle.coap_store.specs.Paths.{Path, is_dots, is_one_empty, written_length, same_bytes, same_path}
+unfoldable pub use Rattle.coap_store.specs.Paths.{is_path}
 pub use Rattle.coap_store.specs.PlanViews.{bytes_in, change_value, effect_value, IsAtPath, IsToldNamed, path_or_root}
 pub use Rattle.coap_store.specs.PlanViews.{location_in}
-pub use Rattle.coap_store.specs.Refusals.{put_refusal, RefusedOrMemory, remove_refusal}
+pub use Rattle.coap_store.specs.Refusals.{RefusedOrMemory, first_fault, refusal_in}
+unfoldable pub use Rattle.coap_store.specs.Refusals.{put_refusal, remove_refusal}
 pub use Rattle.coap_store.specs.Remembering.{WasStored}
-pub use Rattle.coap_store.specs.Requests.{path_of, values_of, is_method, preconditions_hold, is_get, etag_of}
-pub use Rattle.coap_store.specs.Requests.{digits_mean}
-pub use Rattle.coap_store.specs.ResourceViews.{resources_in, has_format, AreListed, IsListed, representation}
+pub use Rattle.coap_store.specs.Requests.{path_of, is_method, preconditions_hold, is_get, etag_of, digits_mean}
+pub use Rattle.coap_store.specs.Requests.{first_or_none, is_delete, is_digit, is_given, is_good_query, seconds_of}
+unfoldable pub use Rattle.coap_store.specs.Requests.{values_of, has_option, is_seconds, match_holds, number_of}
+unfoldable pub use Rattle.coap_store.specs.Requests.{value_of}
+pub use Rattle.coap_store.specs.ResourceViews.{has_format, AreListed, IsListed, representation, resource_at}
+unfoldable pub use Rattle.coap_store.specs.ResourceViews.{resources_in}
 pub use Rattle.coap_store.specs.Serving.{plain_get, IsStoredCode, TellsState, TellsEtag, IsElsewhere, content_of}
 pub use Rattle.coap_store.specs.Serving.{put_by}
-pub use Rattle.coap_store.specs.State.{place_of, target_of, state_at, state_of, is_dynamic, is_async, is_observable}
-pub use Rattle.coap_store.specs.State.{key_for, built}
+pub use Rattle.coap_store.specs.State.{target_of, state_of, is_dynamic, is_async, is_observable, built, Target}
+pub use Rattle.coap_store.specs.State.{async_path, listing_path, root_path, stored_at, time_path}
+unfoldable pub use Rattle.coap_store.specs.State.{place_of, state_at, key_for}
 pub use Rattle.coap_store.specs.StateViews.{state_value}
-pub use Rattle.coap_store.specs.Store.{Representation, found_in, put_at, removed_at, StoreValue, put_in, removed_in}
+pub use Rattle.coap_store.specs.Store.{Representation, StoreValue, put_in, removed_in}
+unfoldable pub use Rattle.coap_store.specs.Store.{found_in, put_at, removed_at}
+pub use Rattle.coap_store.specs.StoreViews.{store_value}
 pub use Rattle.coap_store.specs.TargetViews.{found_value, target_value}
-pub use Rattle.coap_store.specs.Trails.{first_trail, trail_with, place_at}
+pub use Rattle.coap_store.specs.Trails.{first_trail, trail_with, place_at, trail_behind}
+pub use Rattle.coap_store.specs.UriPaths.{segments_told}
 pub use Rattle.coap_store.specs.Watching.{MayWatch}
+-- ---- coap_store, declared
+pub use Rattle.coap_store.specs.declared.fault.StoreFault.{StoreFault}
+pub use Rattle.coap_store.specs.declared.fault.StoreFault.TheVariants.{BadPath, Limit, NoSuch, TooLarge}
+pub use Rattle.coap_store.specs.declared.fault.StoreFault.TheVariants.{VersionsSpent}
+pub use Rattle.coap_store.specs.declared.place.Place.{Place}
+pub use Rattle.coap_store.specs.declared.place.Place.TheVariants.{Async, Dynamic, Listing, Root, Time}
+pub use Rattle.coap_store.specs.declared.plan.Watch.TheVariants.{Add, Drop}
+pub use Rattle.coap_store.specs.declared.resource.Resource.{Resource}
+pub use Rattle.coap_store.specs.declared.resource.TheConstants.{ESCAPED}
+pub use Rattle.coap_store.specs.declared.trail.Trail.{Trail}
+pub use Rattle.coap_store.specs.declared.trail.Trail.TheVariants.{Elsewhere, WellKnown}

@@ -2,12 +2,10 @@
 use Rattle.std.proofs.Common.{◌≡◌, ◌≢◌, ℕ, zero, suc, ◌+◌, ◌*◌, ◌/◌, ◌%◌, ◌<◌, ◌≤◌, Bool, true, false, cond, ltb, List, [], ◌∷◌, ◌++◌, length, take, drop, Result, Ok, Err, ◌⊎◌, inl, inr, refl, sym, ap, subst, ◌∙◌, arith}
 use Rattle.std.proofs.lemmas.Bool.{eq-eqb, ne_eqb, ltb-false, lt-ltb, le-ltb, cases_eq}
 use Rattle.std.proofs.lemmas.List.{append-nil, length-take, length-append, take-append-drop, take_at, drop_at}
-use Rattle.coap_wire.specs.Message.{CoapOption, AreOrdered, last_number, AreBytes}
-use Rattle.coap_wire.specs.Forms.{IsOptionForm}
-use Rattle.coap_wire.specs.Spelling.{IsOptionHead, IsOneOption, IsOptionBytes, payload_bytes}
-use Rattle.coap_wire.specs.declared.fault.FormatFault.{FormatFault}
-use Rattle.coap_wire.specs.declared.fault.FormatFault.TheVariants.{OptionDelta, OptionLength, OptionCut, OptionNumber, EmptyPayload}
-use Rattle.coap_wire.specs.Reading.{◌>>=◌, option_number_at, or_cut, both_at, option_head_at, value_at, option_at, body_at}
+use Rattle.coap_wire.specs.Prelude.{CoapOption, AreOrdered, last_number, AreBytes, IsOptionForm, IsOptionHead}
+use Rattle.coap_wire.specs.Prelude.{IsOneOption, IsOptionBytes, payload_bytes, FormatFault, OptionDelta}
+use Rattle.coap_wire.specs.Prelude.{OptionLength, OptionCut, OptionNumber, EmptyPayload, ◌>>=◌, option_number_at}
+use Rattle.coap_wire.specs.Prelude.{or_cut, both_at, option_head_at, value_at, option_at, body_at}
 use Rattle.coap_wire.proofs.BodyLemmas.{with_front}
 use Rattle.coap_wire.proofs.BodySteps.{bind_ok, ok_is, or_cut_ok, option_shorter, body_end, body_marker, body_empty_payload, body_option, body_fault}
 use Rattle.coap_wire.proofs.NumberLaws.{AreBytes-rest, AreBytes-tail, option_number_again, option_form_nibble, option_number_takes}

@@ -1,10 +1,7 @@
 -- Reading the options of a body one after the other, as a loop does.
-use Rattle.std.specs.Prelude.{IsOk, is_ok}
+use Rattle.coap_wire.specs.Prelude.{IsOk, is_ok, CoapOption, FormatFault, EmptyPayload, ◌>>=◌, option_at, body_at}
+use Rattle.coap_wire.specs.Prelude.{options_read, options_in}
 use Rattle.std.proofs.Common.{true, false, ◌≡◌, ℕ, ◌<◌, List, [], ◌∷◌, ◌++◌, length, Result, Ok, Err, refl, sym, ap, ◌∙◌, append_assoc, arith}
-use Rattle.coap_wire.specs.Message.{CoapOption}
-use Rattle.coap_wire.specs.declared.fault.FormatFault.{FormatFault}
-use Rattle.coap_wire.specs.declared.fault.FormatFault.TheVariants.{EmptyPayload}
-use Rattle.coap_wire.specs.Reading.{◌>>=◌, option_at, body_at, options_read, options_in}
 use Rattle.coap_wire.proofs.BodySteps.{body_end, body_marker, body_empty_payload, body_option, body_fault, option_shorter}
 
 -- what was read before, and what is still read

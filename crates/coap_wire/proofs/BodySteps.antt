@@ -1,12 +1,11 @@
 -- Reading a body step by step: the end, the marker, an option, a fault.
 use Rattle.std.proofs.Common.{◌≡◌, ℕ, zero, suc, ◌+◌, ◌/◌, ◌%◌, ◌≤◌, Bool, true, false, cond, eqb, ltb, List, [], ◌∷◌, length, take, drop, Option, Some, None, Result, Ok, Err, refl, ap, subst, ◌∙◌, arith}
-use Rattle.std.specs.Int.{w16, from_be_bytes}
+use Rattle.coap_wire.specs.Prelude.{w16, from_be_bytes, CoapOption, FormatFault, OptionDelta, OptionLength}
+use Rattle.coap_wire.specs.Prelude.{OptionCut, OptionNumber, EmptyPayload, ◌>>=◌, one_byte_at, two_bytes_at, plus}
+use Rattle.coap_wire.specs.Prelude.{option_number_at, or_cut, both_at, option_head_at, value_at, option_at}
+use Rattle.coap_wire.specs.Prelude.{body_within, body_at}
 use Rattle.std.proofs.lemmas.Bool.{eq-eqb, ne_eqb}
 use Rattle.std.proofs.lemmas.List.{length-drop}
-use Rattle.coap_wire.specs.Message.{CoapOption}
-use Rattle.coap_wire.specs.declared.fault.FormatFault.{FormatFault}
-use Rattle.coap_wire.specs.declared.fault.FormatFault.TheVariants.{OptionDelta, OptionLength, OptionCut, OptionNumber, EmptyPayload}
-use Rattle.coap_wire.specs.Reading.{◌>>=◌, one_byte_at, two_bytes_at, plus, option_number_at, or_cut, both_at, option_head_at, value_at, option_at, body_within, body_at}
 
 -- the value of a step that did not fail
 pub bind_ok : {A B : Type 0} (r : Result A FormatFault) (f : A → Result B FormatFault) (y : B) → (r >>= f) ≡ Ok y → (x : A) × (r ≡ Ok x) × (f x ≡ Ok y)

@@ -1,12 +1,9 @@
 -- What a builder holds, and the parts that it writes.
 use Rattle.std.proofs.Common.{◌≡◌, ℕ, ◌+◌, ◌*◌, ◌≤◌, ◌<◌, List, [], ◌∷◌, ◌++◌, length, sym, ap, subst, ◌∙◌, append_assoc, arith}
-use Rattle.std.specs.List.{AllByRecursion}
+use Rattle.coap_wire.specs.Prelude.{AllByRecursion, OptionRef, Message, AreOrdered, last_number, length_form}
+use Rattle.coap_wire.specs.Prelude.{token_form, HasOptionForm, options_spelling, payload_bytes, body_spelling}
+use Rattle.coap_wire.specs.Prelude.{head_spelling, spelling, coap_option, coap_options, CanBeBuilt}
 use Rattle.std.proofs.lemmas.List.{map_push, length-append, length-map}
-use Rattle.coap_wire.specs.declared.options.OptionRef.{OptionRef}
-use Rattle.coap_wire.specs.Message.{Message, AreOrdered, last_number}
-use Rattle.coap_wire.specs.Forms.{length_form, token_form}
-use Rattle.coap_wire.specs.Spelling.{HasOptionForm, options_spelling, payload_bytes, body_spelling, head_spelling, spelling}
-use Rattle.coap_wire.specs.Views.{coap_option, coap_options, CanBeBuilt}
 use Rattle.coap_wire.proofs.OptionLists.{ordered-push, forms-push}
 
 -- with one option more, a builder still holds what it can hold

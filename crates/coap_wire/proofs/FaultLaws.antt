@@ -1,13 +1,10 @@
 -- The fault that reading meets is the first one, and where it stands reading meets it.
 use Rattle.std.proofs.Common.{◌≡◌, ◌≢◌, ℕ, ◌+◌, ◌/◌, ◌%◌, ◌<◌, List, [], ◌∷◌, length, drop, take, None, Result, Ok, Err, inl, inr, refl, sym, ap, subst, ◌∙◌, arith}
 use Rattle.std.proofs.lemmas.Bool.{cases_lt, cases_eq}
-use Rattle.coap_wire.specs.Message.{CoapOption, last_number, AreBytes}
-use Rattle.coap_wire.specs.Spelling.{IsOptionHead, IsOptionBytes}
-use Rattle.coap_wire.specs.Forms.{option_extension}
-use Rattle.coap_wire.specs.Faults.{IsOptionHeadCut, IsOptionFault}
-use Rattle.coap_wire.specs.declared.fault.FormatFault.{FormatFault}
-use Rattle.coap_wire.specs.declared.fault.FormatFault.TheVariants.{TokenLength, OptionDelta, OptionLength, OptionCut, OptionNumber, EmptyPayload, NotOneFrame}
-use Rattle.coap_wire.specs.Reading.{◌>>=◌, option_number_at, both_at, option_head_at, value_at, option_at, body_at}
+use Rattle.coap_wire.specs.Prelude.{CoapOption, last_number, AreBytes, IsOptionHead, IsOptionBytes, option_extension}
+use Rattle.coap_wire.specs.Prelude.{IsOptionHeadCut, IsOptionFault, FormatFault, TokenLength, OptionDelta}
+use Rattle.coap_wire.specs.Prelude.{OptionLength, OptionCut, OptionNumber, EmptyPayload, NotOneFrame, ◌>>=◌}
+use Rattle.coap_wire.specs.Prelude.{option_number_at, both_at, option_head_at, value_at, option_at, body_at}
 use Rattle.coap_wire.proofs.BodyLemmas.{with_front}
 use Rattle.coap_wire.proofs.BodySteps.{body_empty_payload, body_fault}
 use Rattle.coap_wire.proofs.NumberLaws.{option_number_short, option_number_cut, option_cases, option_number_length}

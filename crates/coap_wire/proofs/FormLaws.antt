@@ -1,11 +1,10 @@
 -- The one form of a number is its only form.
 use Rattle.std.proofs.Common.{◌≡◌, ℕ, zero, suc, ◌-◌, ◌<◌, ◌≤◌, List, [], ◌∷◌, length, get_or, refl, sym, ap, subst, ◌∙◌, arith, inl, inr, le-ltb, lt-ltb}
-use Rattle.std.specs.Int.{w16, w32, to_be_bytes, from_be_bytes}
+use Rattle.coap_wire.specs.Prelude.{w16, w32, to_be_bytes, from_be_bytes, AllByRecursion, IsByte, IsLengthForm}
+use Rattle.coap_wire.specs.Prelude.{length_form, greatest_length, IsOptionForm, option_form, greatest_option_form}
+use Rattle.coap_wire.specs.Prelude.{option_extension, greatest_token, IsTokenForm, token_form}
 use Rattle.std.proofs.lemmas.Bool.{cases_lt, cases_eq, ne_eqb}
 use Rattle.std.proofs.lemmas.Nat.{be_bytes_2, be_bytes_4, from_be_bytes-to_be_bytes_2, from_be_bytes-to_be_bytes_4}
-use Rattle.std.specs.List.{AllByRecursion}
-use Rattle.coap_wire.specs.Message.{IsByte}
-use Rattle.coap_wire.specs.Forms.{IsLengthForm, length_form, greatest_length, IsOptionForm, option_form, greatest_option_form, option_extension, greatest_token, IsTokenForm, token_form}
 
 -- ---- what the forms share
 

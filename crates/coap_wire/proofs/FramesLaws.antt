@@ -1,12 +1,11 @@
 -- The laws of a stream's frames: bytes have one list of them, wherever they are cut.
 use Rattle.std.proofs.Common.{◌≡◌, ℕ, ◌+◌, ◌≤◌, List, [], ◌∷◌, ◌++◌, length, drop, Option, Some, None, refl, sym, ap, subst, ◌∙◌, arith}
-use Rattle.std.specs.List.{concat}
+use Rattle.coap_wire.specs.Prelude.{concat, AreBytes, IsFrame, FrameFault, IsFrameFault, IsUnfinished, Beginning}
+use Rattle.coap_wire.specs.Prelude.{Unfinished, Whole, Faulty, beginning, size_bytes, fault_bytes, Frames, Sizes}
+use Rattle.coap_wire.specs.Prelude.{sizes_behind, size_for, size_behind, sizes_of_rest, AreFrames, AreAtMost}
+use Rattle.coap_wire.specs.Prelude.{FramesEndWith, StandsBehind, FramedAs, with_frame, sized_frames, frames_gone_on}
+use Rattle.coap_wire.specs.Prelude.{frames_on}
 use Rattle.std.proofs.lemmas.List.{append-nil, append_assoc, take-append-drop, length-append, length-take}
-use Rattle.coap_wire.specs.Message.{AreBytes}
-use Rattle.coap_wire.specs.Size.{IsFrame}
-use Rattle.coap_wire.specs.declared.fault.FrameFault.{FrameFault}
-use Rattle.coap_wire.specs.Beginning.{IsFrameFault, IsUnfinished, Beginning, Unfinished, Whole, Faulty, beginning, size_bytes, fault_bytes}
-use Rattle.coap_wire.specs.Frames.{Frames, Sizes, sizes_behind, size_for, size_behind, sizes_of_rest, AreFrames, AreAtMost, FramesEndWith, StandsBehind, FramedAs, with_frame, sized_frames, frames_gone_on, frames_on}
 use Rattle.coap_wire.proofs.NumberLaws.{AreBytes-tail}
 use Rattle.coap_wire.proofs.StreamSteps.{whole_parts, fault_bytes_more, rest_behind, rest_is_all, sized_faulty_more, sized_whole_more, Holding, HoldsBehind, frames_from, frames_unfinished, frames_faulty, frames_whole, by_frames}
 use Rattle.coap_wire.proofs.StreamLaws.{AreBytes-front, whole_frame, fault_found, fault_bytes_again, fault_at_front, frame_at_front, size_behind_none, size_behind_one, size_for_fault, size_for_whole, unfinished_is, unfinished_again}

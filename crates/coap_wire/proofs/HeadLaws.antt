@@ -2,16 +2,12 @@
 use Rattle.std.proofs.Common.{◌≡◌, ◌≢◌, ℕ, ◌+◌, ◌-◌, ◌*◌, ◌/◌, ◌%◌, ◌<◌, ◌≤◌, List, [], ◌∷◌, ◌++◌, length, take, drop, Some, None, Ok, Err, ◌⊎◌, inl, inr, refl, sym, ap, subst, ◌∙◌, append_assoc, arith}
 use Rattle.std.proofs.lemmas.Bool.{eq-eqb, ne_eqb, lt-ltb, le-ltb, cases_lt, cases_eq}
 use Rattle.std.proofs.lemmas.List.{length-take, length-drop, length-append, take-append-drop, take_at, drop_at}
-use Rattle.coap_wire.specs.Message.{AreBytes}
-use Rattle.coap_wire.specs.Forms.{IsLengthForm, extension_of, IsOptionForm, option_extension, greatest_token}
-use Rattle.coap_wire.specs.Size.{code_and_extension, StatesLengths, IsDeclaredSize, IsFrame, HasBadToken, Declares}
-use Rattle.coap_wire.specs.Spelling.{IsHeadAndBody}
-use Rattle.coap_wire.specs.Faults.{IsFirstFault}
-use Rattle.coap_wire.specs.declared.frame.Declared.{Declared}
-use Rattle.coap_wire.specs.declared.frame.Declared.TheVariants.{Unknown, Size, BadToken}
-use Rattle.coap_wire.specs.declared.fault.FormatFault.{FormatFault}
-use Rattle.coap_wire.specs.declared.fault.FormatFault.TheVariants.{TokenLength, NotOneFrame}
-use Rattle.coap_wire.specs.Reading.{length_at, option_number_at, size_with, size_from, declared_of, Head, head_with, head_behind, head_from, head_at}
+use Rattle.coap_wire.specs.Prelude.{AreBytes, IsLengthForm, extension_of, IsOptionForm, option_extension}
+use Rattle.coap_wire.specs.Prelude.{greatest_token, code_and_extension, StatesLengths, IsDeclaredSize, IsFrame}
+use Rattle.coap_wire.specs.Prelude.{HasBadToken, Declares, IsHeadAndBody, IsFirstFault, Declared, Unknown, Size}
+use Rattle.coap_wire.specs.Prelude.{BadToken, FormatFault, TokenLength, NotOneFrame, length_at, option_number_at}
+use Rattle.coap_wire.specs.Prelude.{size_with, size_from, declared_of, Head, head_with, head_behind, head_from}
+use Rattle.coap_wire.specs.Prelude.{head_at}
 use Rattle.coap_wire.proofs.FormLaws.{option_form_width, option_extension_some}
 use Rattle.coap_wire.proofs.NumberLaws.{option_cases, AreBytes-tail, AreBytes-drop, length_again, option_number_none, option_number_again, option_form_nibble, length_takes, option_number_takes, length_at_taken, option_number_length}
 use Rattle.coap_wire.proofs.BodySteps.{some_is, ok_is}

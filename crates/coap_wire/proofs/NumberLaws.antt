@@ -1,13 +1,12 @@
 -- A number that is read behind a nibble is spelled so, and what is spelled so is read.
 use Rattle.std.proofs.Common.{◌≡◌, ℕ, suc, ◌+◌, ◌<◌, ◌≤◌, Bool, true, false, cond, eqb, ltb, List, [], ◌∷◌, ◌++◌, length, take, drop, Option, Some, None, refl, sym, ap, subst, ◌∙◌, arith, ◌⊎◌, inl, inr}
-use Rattle.std.specs.Int.{w16, w32, from_be_bytes}
+use Rattle.coap_wire.specs.Prelude.{w16, w32, from_be_bytes, IsLengthForm, extension_of, IsOptionForm}
+use Rattle.coap_wire.specs.Prelude.{option_extension, one_byte_at, two_bytes_at, four_bytes_at, plus, length_at}
+use Rattle.coap_wire.specs.Prelude.{option_number_at, AreBytes}
 use Rattle.std.proofs.lemmas.Bool.{ne_eqb, lt-ltb, le-ltb, cases_lt}
 use Rattle.std.proofs.lemmas.List.{get_or-drop, length-append, length-drop, take-append-le, drop-append-le}
-use Rattle.coap_wire.specs.Forms.{IsLengthForm, extension_of, IsOptionForm, option_extension}
-use Rattle.coap_wire.specs.Reading.{one_byte_at, two_bytes_at, four_bytes_at, plus, length_at, option_number_at}
 use Rattle.coap_wire.proofs.BodySteps.{some_is}
 use Rattle.coap_wire.proofs.FormLaws.{option_extension_none, option_extension_one, option_extension_two}
-use Rattle.coap_wire.specs.Message.{AreBytes}
 
 -- what stands behind n bytes are bytes
 pub AreBytes-drop : (n : ℕ) (bytes : List ℕ) → AreBytes bytes → AreBytes (drop n bytes)

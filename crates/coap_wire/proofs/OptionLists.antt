@@ -1,12 +1,8 @@
 -- The options of a list one after the other.
-use Rattle.std.specs.Prelude.{slice_get}
+use Rattle.coap_wire.specs.Prelude.{slice_get, AllByRecursion, OptionRef, CoapOption, AreOrdered, last_number}
+use Rattle.coap_wire.specs.Prelude.{HasOptionForm, option_spelling, options_spelling, coap_option, coap_options}
 use Rattle.std.proofs.Common.{◌≡◌, Some, ℕ, zero, suc, ◌+◌, ◌-◌, ◌≤◌, ◌<◌, List, [], ◌∷◌, ◌++◌, length, get_or, take, refl, sym, ap, ◌∙◌, append_assoc, arith}
-use Rattle.std.specs.List.{AllByRecursion}
 use Rattle.std.proofs.lemmas.List.{append-nil, take_more, map_push, length-append}
-use Rattle.coap_wire.specs.declared.options.OptionRef.{OptionRef}
-use Rattle.coap_wire.specs.Message.{CoapOption, AreOrdered, last_number}
-use Rattle.coap_wire.specs.Spelling.{HasOptionForm, option_spelling, options_spelling}
-use Rattle.coap_wire.specs.Views.{coap_option, coap_options}
 
 -- the spelling of options, and then of more
 pub options_spelling-append : (base : ℕ) (os ps : List CoapOption) → options_spelling base (os ++ ps) ≡ options_spelling base os ++ options_spelling (last_number base os) ps

@@ -1,11 +1,6 @@
 -- What was read, by cases on the result.
 use Rattle.std.proofs.Common.{◌≡◌, ℕ, List, Result, Ok, Err, refl, sym, ◌∙◌}
-use Rattle.std.specs.Prelude.{IfOk, IfErr}
-use Rattle.coap_wire.specs.Message.{Message, AreBytes}
-use Rattle.coap_wire.specs.Spelling.{Spells}
-use Rattle.coap_wire.specs.Faults.{IsFirstFault}
-use Rattle.coap_wire.specs.Reading.{message_of}
-use Rattle.coap_wire.specs.declared.fault.FormatFault.{FormatFault}
+use Rattle.coap_wire.specs.Prelude.{IfOk, IfErr, Message, AreBytes, Spells, IsFirstFault, message_of, FormatFault}
 use Rattle.coap_wire.proofs.FaultLaws.{err_is}
 use Rattle.coap_wire.proofs.ReadingLaws.{message_spelled, message_again, fault_is_first, first_fault_again}
 

@@ -1,12 +1,8 @@
 -- The laws of reading: what is read is spelled so, what is spelled so is read, and the fault that is told is the first one.
 use Rattle.std.proofs.Common.{◌≡◌, ℕ, List, Result, Ok, Err, inl, inr, refl, sym, subst, ◌∙◌}
-use Rattle.coap_wire.specs.Message.{CoapOption, Message, AreBytes}
-use Rattle.coap_wire.specs.Spelling.{Spells}
-use Rattle.coap_wire.specs.Size.{IsFrame, HasBadToken}
-use Rattle.coap_wire.specs.Faults.{HasOptionFault, IsFirstFault}
-use Rattle.coap_wire.specs.declared.fault.FormatFault.{FormatFault}
-use Rattle.coap_wire.specs.declared.fault.FormatFault.TheVariants.{TokenLength, OptionDelta, OptionLength, OptionCut, OptionNumber, EmptyPayload, NotOneFrame}
-use Rattle.coap_wire.specs.Reading.{◌>>=◌, body_at, head_at, message_of}
+use Rattle.coap_wire.specs.Prelude.{CoapOption, Message, AreBytes, Spells, IsFrame, HasBadToken, HasOptionFault}
+use Rattle.coap_wire.specs.Prelude.{IsFirstFault, FormatFault, TokenLength, OptionDelta, OptionLength, OptionCut}
+use Rattle.coap_wire.specs.Prelude.{OptionNumber, EmptyPayload, NotOneFrame, ◌>>=◌, body_at, head_at, message_of}
 use Rattle.coap_wire.proofs.BodySteps.{bind_ok, ok_is}
 use Rattle.coap_wire.proofs.BodyLaws.{result_cases, body_takes, body_again}
 use Rattle.coap_wire.proofs.HeadLaws.{head_takes, head_again, head_is_wrong, bad_token_read, head_frame}

@@ -1,14 +1,14 @@
 -- Recognised options: what the tests mean, and why a look at the option before is enough.
-use Rattle.std.specs.Prelude.{All, IsTrue, ◌↔◌, unwrap_or, not, ◌||◌, ◌&&◌, ◌==◌}
+use Rattle.coap_wire.specs.Prelude.{All, IsTrue, ◌↔◌, unwrap_or, not, ◌||◌, ◌&&◌, ◌==◌, CoapOption, AreOrdered}
+use Rattle.coap_wire.specs.Prelude.{kind_of, IsFirstWithNumber, IsRecognised, is_first_with_number, has_kind}
+use Rattle.coap_wire.specs.Prelude.{is_recognised, known_behind, is_critical, first_critical_behind, option_before}
+use Rattle.coap_wire.specs.Prelude.{OptionKind}
 use Rattle.std.proofs.Common.{◌≡◌, ◌≢◌, ℕ, ◌%◌, ◌≤◌, List, [], ◌∷◌, ◌++◌, length, Bool, true, false, Option, Some, None, refl, sym, ap, subst, ◌∙◌, arith}
 use Rattle.std.proofs.lemmas.Bool.{and_parts, and_from, and_left, and_right, leb-true, le-leb, eqb-false, eq-eqb, ne_eqb, not-true}
 use Rattle.std.proofs.lemmas.Bool.Decides.{nat_tests}
 use Rattle.std.proofs.lemmas.List.Elements.{All-nil, All-push, All-weaker, All-contains, Contains-push, All-cons}
 use Rattle.std.proofs.lemmas.List.Folds.{list_all-append}
 use Rattle.std.proofs.lemmas.List.Sums.{AllPass-from_list_all, list_all-from_AllPass}
-use Rattle.coap_wire.specs.Message.{CoapOption, AreOrdered}
-use Rattle.coap_wire.specs.Recognition.{kind_of, IsFirstWithNumber, IsRecognised, is_first_with_number, has_kind, is_recognised, known_behind, is_critical, first_critical_behind, option_before}
-use Rattle.coap_wire.specs.declared.kinds.OptionKind.{OptionKind}
 
 -- ---- the first with its number
 

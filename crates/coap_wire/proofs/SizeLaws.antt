@@ -1,10 +1,7 @@
 -- A size that is declared is the only one, stays declared, and is the size of each frame that begins so.
 use Rattle.std.proofs.Common.{◌≡◌, ℕ, List, [], ◌++◌, length, sym, ap, ◌∙◌, append_assoc, length-append, arith}
 use Rattle.std.proofs.lemmas.List.{nil_from_length}
-use Rattle.coap_wire.specs.Message.{Message}
-use Rattle.coap_wire.specs.Spelling.{Spells}
-use Rattle.coap_wire.specs.Size.{IsDeclaredSize, IsFrame}
-use Rattle.coap_wire.specs.declared.frame.Declared.TheVariants.{Size}
+use Rattle.coap_wire.specs.Prelude.{Message, Spells, IsDeclaredSize, IsFrame, Size}
 use Rattle.coap_wire.proofs.HeadLaws.{size_declared, head_frame}
 
 -- Bytes declare one size.

@@ -1,9 +1,8 @@
 -- A stream that goes on while another size is in force.
 use Rattle.std.proofs.Common.{◌≡◌, ℕ, ◌+◌, ◌-◌, ◌<◌, ◌≤◌, List, ◌++◌, length, Option, Some, None, refl, sym, ap, ◌∙◌, arith, inl, inr}
 use Rattle.std.proofs.lemmas.Bool.{cases_lt, lt-ltb, le-ltb}
-use Rattle.coap_wire.specs.Beginning.{Unfinished, beginning}
-use Rattle.coap_wire.specs.Frames.{Sizes, always, sizes_first, sizes_behind, size_for, sizes_of_rest}
-use Rattle.coap_wire.specs.Stream.{StreamFault, Stream, sized_split, split, gone_on, split_on}
+use Rattle.coap_wire.specs.Prelude.{Unfinished, beginning, Sizes, always, sizes_first, sizes_behind, size_for}
+use Rattle.coap_wire.specs.Prelude.{sizes_of_rest, StreamFault, Stream, sized_split, split, gone_on, split_on}
 use Rattle.coap_wire.proofs.StreamSteps.{AreAlikeBehind, split_alike, split_is, sized_goes_on, sized_rest, rest_within, unfinished_larger}
 
 -- ---- a size at the time of so many bytes

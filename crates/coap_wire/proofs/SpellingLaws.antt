@@ -1,9 +1,10 @@
 -- A message that has a spelling has one, and no other.
 use Rattle.std.proofs.Common.{◌≡◌, ℕ, ◌+◌, ◌-◌, ◌*◌, ◌≤◌, List, [], ◌∷◌, ◌++◌, length, refl, sym, ap, subst, ◌∙◌, append_assoc, arith}
-use Rattle.std.specs.List.{AllByRecursion}
-use Rattle.coap_wire.specs.Message.{CoapOption, Message, AreOrdered}
-use Rattle.coap_wire.specs.Forms.{length_form, greatest_token, token_form, greatest_length, IsOptionForm, option_form}
-use Rattle.coap_wire.specs.Spelling.{IsOneOption, IsOptionBytes, payload_bytes, IsHeadAndBody, Spells, option_spelling, options_spelling, body_spelling, head_spelling, spelling, HasOptionForm, HasSpelling}
+use Rattle.coap_wire.specs.Prelude.{AllByRecursion, CoapOption, Message, AreOrdered, length_form, greatest_token}
+use Rattle.coap_wire.specs.Prelude.{token_form, greatest_length, IsOptionForm, option_form, IsOneOption}
+use Rattle.coap_wire.specs.Prelude.{IsOptionBytes, payload_bytes, IsHeadAndBody, Spells, option_spelling}
+use Rattle.coap_wire.specs.Prelude.{options_spelling, body_spelling, head_spelling, spelling, HasOptionForm}
+use Rattle.coap_wire.specs.Prelude.{HasSpelling}
 use Rattle.coap_wire.proofs.FormLaws.{length_form_is, length_form_only, length_form_bound, option_form_is, option_form_only, option_form_bound, token_form_has, token_form_only}
 
 -- ---- one option

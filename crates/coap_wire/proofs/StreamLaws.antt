@@ -1,19 +1,15 @@
 -- The laws of a stream: what it spells as a relation and as a function are one.
 use Rattle.std.proofs.Common.{◌≡◌, ℕ, ◌<◌, ◌≤◌, List, [], ◌∷◌, ◌++◌, length, take, drop, Option, Some, None, Err, inl, inr, refl, sym, ap, subst, ◌∙◌, arith}
-use Rattle.std.specs.List.{concat}
+use Rattle.coap_wire.specs.Prelude.{concat, Message, AreBytes, Spells, IsTokenLengthFault, IsSizeHead}
+use Rattle.coap_wire.specs.Prelude.{IsDeclaredSize, IsFrame, HasBadToken, Declares, Size, BadToken, FormatFault}
+use Rattle.coap_wire.specs.Prelude.{declared_of, message_of, FrameFault, TooLarge, IsTooLarge, IsFrameFault}
+use Rattle.coap_wire.specs.Prelude.{IsUnfinished, Beginning, Unfinished, Whole, Faulty, beginning, size_bytes}
+use Rattle.coap_wire.specs.Prelude.{fault_bytes, Sizes, sizes_behind, size_for, AreAtMost, StandsBehind, size_behind}
+use Rattle.coap_wire.specs.Prelude.{StreamFault, OfFrame, Format, IsFormatFault, EndsWith, SpellEach, Splits, Stream}
+use Rattle.coap_wire.specs.Prelude.{with_message, sized_split, SplitsAs}
 use Rattle.std.proofs.lemmas.Bool.{cases_lt}
 use Rattle.std.proofs.lemmas.List.{append-nil, append_assoc, get_or_append_left, get_or_past, length-append, length-take, take-append-drop, take_at, take-append-le, take_all, drop_all}
-use Rattle.coap_wire.specs.Message.{Message, AreBytes}
-use Rattle.coap_wire.specs.Spelling.{Spells}
-use Rattle.coap_wire.specs.Size.{IsTokenLengthFault, IsSizeHead, IsDeclaredSize, IsFrame, HasBadToken, Declares}
-use Rattle.coap_wire.specs.declared.frame.Declared.TheVariants.{Size, BadToken}
-use Rattle.coap_wire.specs.declared.fault.FormatFault.{FormatFault}
-use Rattle.coap_wire.specs.Reading.{declared_of, message_of}
-use Rattle.coap_wire.specs.declared.fault.FrameFault.{FrameFault}
-use Rattle.coap_wire.specs.declared.fault.FrameFault.TheVariants.{TokenLength, TooLarge}
-use Rattle.coap_wire.specs.Beginning.{IsTooLarge, IsFrameFault, IsUnfinished, Beginning, Unfinished, Whole, Faulty, beginning, size_bytes, fault_bytes}
-use Rattle.coap_wire.specs.Frames.{Sizes, sizes_behind, size_for, AreAtMost, StandsBehind, size_behind}
-use Rattle.coap_wire.specs.Stream.{StreamFault, OfFrame, Format, IsFormatFault, EndsWith, SpellEach, Splits, Stream, with_message, sized_split, SplitsAs}
+use Rattle.coap_wire.specs.declared.fault.FrameFault.TheVariants.{TokenLength}
 use Rattle.coap_wire.proofs.NumberLaws.{AreBytes-tail}
 use Rattle.coap_wire.proofs.BodyLaws.{result_cases, ok_or_err}
 use Rattle.coap_wire.proofs.HeadLaws.{bad_token_declared, size_declared, declares}

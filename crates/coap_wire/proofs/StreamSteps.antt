@@ -2,18 +2,15 @@
 use Rattle.std.proofs.Common.{◌≡◌, ◌≢◌, ℕ, zero, suc, ◌+◌, ◌-◌, ◌/◌, ◌%◌, ◌<◌, ◌≤◌, Bool, true, false, cond, eqb, ltb, List, [], ◌∷◌, ◌++◌, length, take, drop, Option, Some, None, Result, Ok, Err, ◌⊎◌, inl, inr, refl, sym, ap, subst, ◌∙◌, arith}
 use Rattle.std.proofs.lemmas.Bool.{eq-eqb, ne_eqb, lt-ltb, le-ltb, cases_lt, cases_eq}
 use Rattle.std.proofs.lemmas.List.{length-append, length-drop, length-take, length-take-le, take-append-drop, take-append-le, drop-append-le, take_all, drop_all}
-use Rattle.coap_wire.specs.Message.{Message}
-use Rattle.coap_wire.specs.Forms.{extension_of, option_extension, greatest_token}
-use Rattle.coap_wire.specs.Size.{code_and_extension, StatesLengths}
-use Rattle.coap_wire.specs.declared.frame.Declared.{Declared}
-use Rattle.coap_wire.specs.declared.frame.Declared.TheVariants.{Unknown, Size, BadToken}
-use Rattle.coap_wire.specs.declared.fault.FormatFault.{FormatFault}
-use Rattle.coap_wire.specs.Reading.{one_byte_at, two_bytes_at, plus, option_number_at, declared_of, message_of}
-use Rattle.coap_wire.specs.declared.fault.FrameFault.{FrameFault}
-use Rattle.coap_wire.specs.declared.fault.FrameFault.TheVariants.{TokenLength, TooLarge}
-use Rattle.coap_wire.specs.Beginning.{Beginning, Unfinished, Whole, Faulty, begins_with, beginning, token_bytes, size_bytes, fault_bytes}
-use Rattle.coap_wire.specs.Frames.{Frames, Sizes, always, sizes_behind, size_for, sizes_of_rest, with_frame, frames_then, frames_within, sized_frames}
-use Rattle.coap_wire.specs.Stream.{StreamFault, OfFrame, Format, Stream, with_message, frame_then, read_found, sized_split, split, stream_then, gone_on, sized_split_on, split_on}
+use Rattle.coap_wire.specs.Prelude.{Message, extension_of, option_extension, greatest_token, code_and_extension}
+use Rattle.coap_wire.specs.Prelude.{StatesLengths, Declared, Unknown, Size, BadToken, FormatFault, one_byte_at}
+use Rattle.coap_wire.specs.Prelude.{two_bytes_at, plus, option_number_at, declared_of, message_of, FrameFault}
+use Rattle.coap_wire.specs.Prelude.{TooLarge, Beginning, Unfinished, Whole, Faulty, begins_with, beginning}
+use Rattle.coap_wire.specs.Prelude.{token_bytes, size_bytes, fault_bytes, Frames, Sizes, always, sizes_behind}
+use Rattle.coap_wire.specs.Prelude.{size_for, sizes_of_rest, with_frame, frames_then, frames_within, sized_frames}
+use Rattle.coap_wire.specs.Prelude.{StreamFault, OfFrame, Format, Stream, with_message, frame_then, read_found}
+use Rattle.coap_wire.specs.Prelude.{sized_split, split, stream_then, gone_on, sized_split_on, split_on}
+use Rattle.coap_wire.specs.declared.fault.FrameFault.TheVariants.{TokenLength}
 use Rattle.coap_wire.proofs.BodySteps.{some_is}
 use Rattle.coap_wire.proofs.FormLaws.{option_extension_none, option_extension_some}
 use Rattle.coap_wire.proofs.NumberLaws.{option_number_none, option_number_one, option_number_two, none_or_some, option_number_more, option_number_length, option_number_short, length_at_more, length_at_taken, length_at_missing}

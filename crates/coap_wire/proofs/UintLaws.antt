@@ -1,8 +1,7 @@
 -- The bytes of a number mean that number.
 use Rattle.std.proofs.Common.{◌≡◌, ℕ, zero, suc, ◌<◌, ◌^◌, List, [], ◌∷◌, refl, sym, ap, ◌∙◌, arith}
 use Rattle.std.proofs.lemmas.Nat.{from_be_bytes-to_be_bytes_8}
-use Rattle.std.specs.Int.{w64, to_be_bytes}
-use Rattle.coap_wire.specs.Uint.{uint_of, without_leading_zeros, bytes_of_uint}
+use Rattle.coap_wire.specs.Prelude.{w64, to_be_bytes, uint_of, without_leading_zeros, bytes_of_uint}
 
 -- leading zero bytes mean nothing
 zeros_mean_nothing : (bytes : List ℕ) → uint_of (without_leading_zeros bytes) ≡ uint_of bytes

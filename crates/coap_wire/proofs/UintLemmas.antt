@@ -1,6 +1,6 @@
 -- Leading zero bytes.
 use Rattle.std.proofs.Common.{◌≡◌, ℕ, zero, suc, List, ◌∷◌, refl}
-use Rattle.coap_wire.specs.Uint.{without_leading_zeros}
+use Rattle.coap_wire.specs.Prelude.{without_leading_zeros}
 
 pub stays : (b : ℕ) (s rest : List ℕ) → rest ≡ b ∷ s → (b ≡ 0 → ⊥) → rest ≡ without_leading_zeros rest
 stays zero s rest e h = absurd (h refl)

@@ -1,11 +1,10 @@
 -- Worked values of the definitions.
 use Rattle.std.proofs.Common.{◌≡◌, [], ◌∷◌, refl, Ok, Err}
-use Rattle.coap_wire.specs.Forms.{length_form}
-use Rattle.coap_wire.specs.Spelling.{spelling, option_spelling}
-use Rattle.coap_wire.specs.Uint.{bytes_of_uint}
-use Rattle.coap_wire.specs.Reading.{declared_of, message_of, one_byte_at, two_bytes_at, four_bytes_at, length_at, option_number_at, head_at, option_head_at, option_at, body_within, body_at}
-use Rattle.coap_wire.specs.declared.frame.Declared.TheVariants.{Unknown, Size, BadToken}
-use Rattle.coap_wire.specs.declared.fault.FormatFault.TheVariants.{TokenLength, OptionDelta, OptionLength, OptionCut, OptionNumber, EmptyPayload, NotOneFrame}
+use Rattle.coap_wire.specs.Prelude.{length_form, spelling, option_spelling, bytes_of_uint, declared_of, message_of}
+use Rattle.coap_wire.specs.Prelude.{one_byte_at, two_bytes_at, four_bytes_at, length_at, option_number_at, head_at}
+use Rattle.coap_wire.specs.Prelude.{option_head_at, option_at, body_within, body_at, Unknown, Size, BadToken}
+use Rattle.coap_wire.specs.Prelude.{TokenLength, OptionDelta, OptionLength, OptionCut, OptionNumber, EmptyPayload}
+use Rattle.coap_wire.specs.Prelude.{NotOneFrame}
 
 -- a length of 1,147 is Len 14 with 03 6E
 length_1147 : length_form 1147 ≡ (14, 0x03 ∷ 0x6e ∷ [])

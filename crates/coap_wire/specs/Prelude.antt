@@ -1,31 +1,58 @@
--- What the contracts of the crate name, passed on from one place. Declares nothing.
+-- What the contracts and the proofs of the crate name, passed on from one place. Declares nothing.
 
 -- ---- std and the kit's crates
 pub use Rattle.std.specs.Cmp.Lexicographic.{pointwise}
+pub use Rattle.std.specs.Int.{from_be_bytes, to_be_bytes, w16, w32, w64}
 pub use Rattle.std.specs.Iterator.{YieldsFirstBy, item_count}
-pub use Rattle.std.specs.List.{AllByRecursion}
+pub use Rattle.std.specs.List.{AllByRecursion, concat}
+pub use Rattle.std.specs.Prelude.{All, IfErr, IfOk, IsOk, IsTrue, is_ok, not, slice_get, unwrap_or, ◌&&◌, ◌==◌, ◌||◌}
+pub use Rattle.std.specs.Prelude.{◌↔◌}
 -- ---- coap_wire
-pub use Rattle.coap_wire.specs.Beginning.{IsFrameFault, IsUnfinished, Unfinished, Whole, Faulty, beginning, fault_bytes}
-pub use Rattle.coap_wire.specs.Faults.{IsFirstFault}
+pub use Rattle.coap_wire.specs.Beginning.{IsFrameFault, IsUnfinished, Unfinished, Whole, Faulty, fault_bytes}
+pub use Rattle.coap_wire.specs.Beginning.{Beginning, IsTooLarge, begins_with, size_bytes, token_bytes}
+unfoldable pub use Rattle.coap_wire.specs.Beginning.{beginning}
+pub use Rattle.coap_wire.specs.BuilderViews.{built_message}
+pub use Rattle.coap_wire.specs.Faults.{IsFirstFault, HasOptionFault, IsOptionFault, IsOptionHeadCut}
 pub use Rattle.coap_wire.specs.Forms.{length_form, option_form, greatest_length, greatest_option_form, IsLengthForm}
-pub use Rattle.coap_wire.specs.Forms.{IsOptionForm, IsTokenForm, token_form, greatest_token}
+pub use Rattle.coap_wire.specs.Forms.{IsOptionForm, IsTokenForm, token_form, greatest_token, extension_of}
+pub use Rattle.coap_wire.specs.Forms.{option_extension}
 pub use Rattle.coap_wire.specs.Frames.{Frames, Sizes, FramedAs, always, size_for, sizes_behind, sizes_of_rest}
-pub use Rattle.coap_wire.specs.Frames.{sized_frames, frames_on}
-pub use Rattle.coap_wire.specs.Message.{last_number, Message, CoapOption, AreBytes, AreOrdered}
-pub use Rattle.coap_wire.specs.Reading.{declared_of, message_of, body_at, options_in, one_byte_at, two_bytes_at}
-pub use Rattle.coap_wire.specs.Reading.{four_bytes_at, length_at, option_number_at, token_length_at, head_at}
-pub use Rattle.coap_wire.specs.Reading.{option_head_at, option_at}
-pub use Rattle.coap_wire.specs.Recognition.{kind_of, once, repeated, IsFirstWithNumber, IsRecognised, is_recognised}
-pub use Rattle.coap_wire.specs.Recognition.{known_options, first_critical, option_before}
+pub use Rattle.coap_wire.specs.Frames.{frames_on, AreAtMost, AreFrames, FramesEndWith, StandsBehind, frames_gone_on}
+pub use Rattle.coap_wire.specs.Frames.{frames_then, size_behind, sizes_first, with_frame}
+unfoldable pub use Rattle.coap_wire.specs.Frames.{sized_frames, frames_within}
+pub use Rattle.coap_wire.specs.Message.{last_number, Message, CoapOption, AreBytes, AreOrdered, IsByte}
+pub use Rattle.coap_wire.specs.Reading.{options_in, token_length_at, Head, both_at, head_behind, head_from, head_with}
+pub use Rattle.coap_wire.specs.Reading.{options_read, or_cut, plus, size_from, size_with, value_at, ◌>>=◌}
+unfoldable pub use Rattle.coap_wire.specs.Reading.{declared_of, message_of, body_at, one_byte_at, two_bytes_at}
+unfoldable pub use Rattle.coap_wire.specs.Reading.{four_bytes_at, length_at, option_number_at, head_at}
+unfoldable pub use Rattle.coap_wire.specs.Reading.{option_head_at, option_at, body_within}
+pub use Rattle.coap_wire.specs.Recognition.{kind_of, once, repeated, IsFirstWithNumber, IsRecognised, known_options}
+pub use Rattle.coap_wire.specs.Recognition.{first_critical, option_before, has_kind, is_critical}
+pub use Rattle.coap_wire.specs.Recognition.{is_first_with_number}
+unfoldable pub use Rattle.coap_wire.specs.Recognition.{is_recognised, first_critical_behind, known_behind}
 pub use Rattle.coap_wire.specs.Refusal.{RefusedBy}
-pub use Rattle.coap_wire.specs.Size.{IsDeclaredSize, IsFrame, Declares}
-pub use Rattle.coap_wire.specs.Spelling.{Spells, spelling, body_spelling, HasSpelling, HasOptionForm, option_spelling}
-pub use Rattle.coap_wire.specs.Spelling.{options_spelling, payload_bytes, head_spelling}
-pub use Rattle.coap_wire.specs.Stream.{Stream, SplitsAs, sized_split, split, stream_then, sized_split_on, split_on}
-pub use Rattle.coap_wire.specs.Uint.{uint_of, bytes_of_uint, without_leading_zeros}
+pub use Rattle.coap_wire.specs.Size.{IsDeclaredSize, IsFrame, Declares, HasBadToken, IsSizeHead, IsTokenLengthFault}
+pub use Rattle.coap_wire.specs.Size.{StatesLengths, code_and_extension}
+pub use Rattle.coap_wire.specs.Spelling.{Spells, body_spelling, HasSpelling, HasOptionForm, option_spelling}
+pub use Rattle.coap_wire.specs.Spelling.{options_spelling, payload_bytes, head_spelling, IsHeadAndBody, IsOneOption}
+pub use Rattle.coap_wire.specs.Spelling.{IsOptionBytes, IsOptionHead}
+unfoldable pub use Rattle.coap_wire.specs.Spelling.{spelling}
+pub use Rattle.coap_wire.specs.Stream.{Stream, SplitsAs, stream_then, sized_split_on, split_on, EndsWith, Format}
+pub use Rattle.coap_wire.specs.Stream.{IsFormatFault, OfFrame, SpellEach, Splits, StreamFault, frame_then, gone_on}
+pub use Rattle.coap_wire.specs.Stream.{read_found, with_message}
+unfoldable pub use Rattle.coap_wire.specs.Stream.{sized_split, split}
+pub use Rattle.coap_wire.specs.Uint.{uint_of, without_leading_zeros}
+unfoldable pub use Rattle.coap_wire.specs.Uint.{bytes_of_uint}
 pub use Rattle.coap_wire.specs.Views.{coap_options, CanBeBuilt, option_refusal, payload_refusal, with_option}
 pub use Rattle.coap_wire.specs.Views.{coap_option, Gives, GivesPayload, most_options}
 -- ---- coap_wire, declared
 pub use Rattle.coap_wire.specs.declared.fault.FormatFault.{FormatFault}
+pub use Rattle.coap_wire.specs.declared.fault.FormatFault.TheVariants.{EmptyPayload, NotOneFrame, OptionCut}
+pub use Rattle.coap_wire.specs.declared.fault.FormatFault.TheVariants.{OptionDelta, OptionLength, OptionNumber}
+pub use Rattle.coap_wire.specs.declared.fault.FormatFault.TheVariants.{TokenLength}
 pub use Rattle.coap_wire.specs.declared.fault.FrameFault.{FrameFault}
+pub use Rattle.coap_wire.specs.declared.fault.FrameFault.TheVariants.{TooLarge}
 pub use Rattle.coap_wire.specs.declared.frame.Declared.{Declared}
+pub use Rattle.coap_wire.specs.declared.frame.Declared.TheVariants.{BadToken, Size, Unknown}
+pub use Rattle.coap_wire.specs.declared.kinds.OptionKind.{OptionKind}
+pub use Rattle.coap_wire.specs.declared.options.OptionRef.{OptionRef}

@@ -1,7 +1,6 @@
 use Rattle.std.proofs.Common.{Some, ap, ◌∙◌}
-use Rattle.coap_wire.specs.Recognition.{first_critical}
-use Rattle.coap_conn.specs.LinkValue.{standing_in}
-use Rattle.coap_client.specs.ClientValues.{Pong, answer_told, event_told}
+use Rattle.coap_client.specs.Prelude.{first_critical, standing_in, answer_told, event_told}
+use Rattle.coap_client.specs.ClientValues.{Pong}
 use Rattle.coap_client.proofs.TakeLemmas.{answer_token, pong_token}
 use Rattle.coap_client.proofs.client.hear.Goals as goal
 

@@ -1,10 +1,6 @@
 use Rattle.std.proofs.Common.{ℕ, take, Ok, sym, ap, ◌∙◌}
-use Rattle.coap_wire.specs.Reading.{message_of}
-use Rattle.coap_frame.specs.Framing.{FramerValue, frame_back, framer_after}
-use Rattle.coap_frame.specs.FramedViews.{finding_read}
-use Rattle.coap_conn.specs.Rejects.{reject_reason}
-use Rattle.coap_conn.specs.declared.phase.Reject.{Reject}
-use Rattle.coap_client.specs.EventViews.{heard_value}
+use Rattle.coap_client.specs.Prelude.{message_of, FramerValue, frame_back, framer_after, finding_read, reject_reason}
+use Rattle.coap_client.specs.Prelude.{Reject, heard_value}
 use Rattle.coap_client.specs.declared.client.Heard.TheVariants as heard
 use Rattle.coap_client.proofs.TakingLemmas.{told_nothing, told_fault, told_bad, told_message}
 use Rattle.coap_client.proofs.client.take_in.Goals as goal

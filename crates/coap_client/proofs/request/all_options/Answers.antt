@@ -1,6 +1,5 @@
 use Rattle.std.proofs.Common.{ap}
-use Rattle.std.specs.Prelude.{option_map}
-use Rattle.coap_client.specs.RequestViews.{given_option, extras_value}
+use Rattle.coap_client.specs.Prelude.{option_map, given_option, extras_value}
 use Rattle.coap_client.proofs.RequestLemmas.{short_extra}
 use Rattle.coap_client.proofs.request.all_options.Goals as goal
 

@@ -1,5 +1,5 @@
 use Rattle.std.proofs.Common.{ap}
-use Rattle.coap_wire.specs.Message.{Message, last_number}
+use Rattle.coap_client.specs.Prelude.{Message, last_number}
 use Rattle.coap_wire.proofs.OptionLists.{ordered_at, form_at}
 use Rattle.coap_client.proofs.request.built.Goals as goal
 

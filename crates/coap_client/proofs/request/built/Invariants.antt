@@ -1,5 +1,5 @@
 use Rattle.std.proofs.Common.{◌≡◌, [], take}
-use Rattle.coap_wire.specs.Views.{coap_options}
+use Rattle.coap_client.specs.Prelude.{coap_options}
 use Rattle.coap_client.proofs.request.built.Given as goal
 
 -- the options so far

@@ -1,6 +1,5 @@
 use Rattle.std.proofs.Common.{sym, ap, ◌∙◌}
-use Rattle.coap_wire.specs.Views.{coap_options}
-use Rattle.coap_client.specs.RequestViews.{extras_value}
+use Rattle.coap_client.specs.Prelude.{coap_options, extras_value}
 use Rattle.coap_client.proofs.RequestLemmas.{cancel_is_made}
 use Rattle.coap_client.proofs.request.cancellation.Goals as goal
 

@@ -1,7 +1,7 @@
 use Rattle.std.proofs.Common.{ltb, sym, subst, arith, rules, tests}
 use Rattle.std.proofs.lemmas.Iterator.{YieldsList-from_slice}
 use Rattle.std.proofs.lemmas.Iterator.Search.{position_from_yields_List}
-use Rattle.coap_client.specs.RequestViews.{IsRow}
+use Rattle.coap_client.specs.Prelude.{IsRow}
 use Rattle.coap_client.proofs.RequestLemmas.{place_found, is_inserted, row_inserted}
 use Rattle.coap_client.proofs.request.insert.Goals as goal
 

@@ -1,11 +1,7 @@
 use Rattle.std.proofs.Common.{◌++◌, List, ap, ◌∙◌}
-use Rattle.std.specs.Prelude.{option_copied}
-use Rattle.coap_wire.specs.Message.{CoapOption}
+use Rattle.coap_client.specs.Prelude.{option_copied, CoapOption, coap_options, option_with, options_with}
+use Rattle.coap_client.specs.Prelude.{extras_value, byte_lists}
 use Rattle.coap_wire.specs.OptionNumbers as numbers
-use Rattle.coap_wire.specs.Views.{coap_options}
-use Rattle.coap_client.specs.Requests.{option_with, options_with}
-use Rattle.coap_client.specs.RequestViews.{extras_value}
-use Rattle.coap_client.specs.TargetViews.{byte_lists}
 use Rattle.coap_client.proofs.RequestLemmas.{own_added}
 use Rattle.coap_client.proofs.request.own_options.Goals as goal
 

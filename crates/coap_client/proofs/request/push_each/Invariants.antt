@@ -1,8 +1,5 @@
 use Rattle.std.proofs.Common.{◌≡◌, ◌+◌, ◌++◌, length, take}
-use Rattle.coap_wire.specs.Views.{coap_options}
-use Rattle.coap_client.specs.Requests.{options_with}
-use Rattle.coap_client.specs.RequestViews.{IsRow}
-use Rattle.coap_client.specs.TargetViews.{byte_lists}
+use Rattle.coap_client.specs.Prelude.{coap_options, options_with, IsRow, byte_lists}
 use Rattle.coap_client.proofs.request.push_each.Given as goal
 
 -- the options of the values so far stand behind those that were there

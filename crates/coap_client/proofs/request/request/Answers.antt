@@ -1,9 +1,6 @@
 use Rattle.std.proofs.Common.{ℕ, List, [], sym, ap, ◌∙◌}
-use Rattle.std.specs.Prelude.{Option}
-use Rattle.coap_wire.specs.Message.{CoapOption, Message}
-use Rattle.coap_wire.specs.Views.{coap_options}
-use Rattle.coap_client.specs.Requests.{with_extra, own_options}
-use Rattle.coap_client.specs.RequestViews.{extras_value}
+use Rattle.coap_client.specs.Prelude.{Option, CoapOption, Message, coap_options, with_extra, own_options}
+use Rattle.coap_client.specs.Prelude.{extras_value}
 use Rattle.coap_client.proofs.RequestLemmas.{not_too_long, payload_taken, requested}
 use Rattle.coap_client.proofs.request.request.Goals as goal
 

@@ -1,6 +1,5 @@
 use Rattle.std.proofs.Common.{◌≡◌, refl, inl, inr, ap, subst, ◌∙◌, ◌+◌, ℕ, arith}
-use Rattle.coap_client.specs.RunCourse.{Begins, Turns, turns_in}
-use Rattle.coap_client.specs.ClientRun.{seen, LeadsOn, IsFlushed, most_turns}
+use Rattle.coap_client.specs.Prelude.{Begins, Turns, turns_in, seen, LeadsOn, IsFlushed, most_turns}
 use Rattle.coap_client.proofs.RunLemmas.{neither_first, neither_second, began, turn_made, few_turns, turns_are, run_of, as_many}
 use Rattle.coap_client.proofs.run.run_client.Goals as goal
 

@@ -1,5 +1,5 @@
 use Rattle.std.proofs.Common.{◌≡◌, None, false}
-use Rattle.coap_client.specs.ClientRun.{seen, LeadsOn, IsFlushed}
+use Rattle.coap_client.specs.Prelude.{seen, LeadsOn, IsFlushed}
 use Rattle.coap_client.proofs.run.run_client.Given as goal
 
 -- no outlet has failed, and the run goes on, with as many turns as were counted

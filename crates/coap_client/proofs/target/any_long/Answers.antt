@@ -1,7 +1,7 @@
 use Rattle.std.proofs.Common.{sym, ◌∙◌, rules, tests}
 use Rattle.std.proofs.lemmas.Iterator.{YieldsList-from_slice}
 use Rattle.std.proofs.lemmas.Iterator.Search.{any_from_yields_List}
-use Rattle.coap_client.specs.Targets.{is_long}
+use Rattle.coap_client.specs.Prelude.{is_long}
 use Rattle.coap_client.proofs.TargetLemmas.{any_part}
 use Rattle.coap_client.proofs.target.any_long.Goals as goal
 

@@ -1,7 +1,5 @@
 use Rattle.std.proofs.Common.{◌≡◌, ◌++◌, ◌==◌, length, map}
-use Rattle.std.specs.List.{slice_split}
-use Rattle.percent_encoding.specs.Percent.{percent_decode}
-use Rattle.coap_client.specs.TargetViews.{byte_lists}
+use Rattle.coap_client.specs.Prelude.{slice_split, percent_decode, byte_lists}
 use Rattle.coap_client.proofs.target.decoded_parts.Given as goal
 
 -- the parts so far, and then those of what is left

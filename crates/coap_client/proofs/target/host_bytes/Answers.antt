@@ -1,5 +1,5 @@
 use Rattle.std.proofs.Common.{◌≡◌, ℕ, List, subst, sym, ap, ◌∙◌, IfOk}
-use Rattle.url.specs.Host.{host_text}
+use Rattle.coap_client.specs.Prelude.{host_text}
 use Rattle.coap_client.proofs.TargetLemmas.{domain_host, ipv4_host, ipv6_host}
 use Rattle.coap_client.proofs.target.host_bytes.Goals as goal
 

@@ -1,5 +1,5 @@
 use Rattle.std.proofs.Common.{ℕ, List, length, ap, ◌∙◌, arith}
-use Rattle.coap_client.specs.Targets.{host_named}
+use Rattle.coap_client.specs.Prelude.{host_named}
 use Rattle.coap_client.proofs.TargetLemmas.{some_host}
 use Rattle.coap_client.proofs.target.named_by.Goals as goal
 

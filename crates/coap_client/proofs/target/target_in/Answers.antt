@@ -1,6 +1,5 @@
 use Rattle.std.proofs.Common.{◌≡◌, None, inr, sym, ◌∙◌}
-use Rattle.coap_client.specs.Targets.{form_refusal}
-use Rattle.coap_client.specs.TargetViews.{named_value}
+use Rattle.coap_client.specs.Prelude.{form_refusal, named_value}
 use Rattle.coap_client.proofs.TargetLemmas.{long_part, many_parts, is_named, named_is_target}
 use Rattle.coap_client.proofs.target.target_in.Goals as goal
 

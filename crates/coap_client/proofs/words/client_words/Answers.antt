@@ -1,5 +1,5 @@
 use Rattle.std.proofs.Common.{map}
-use Rattle.clap.specs.Words.{app_of, found_of, rows_of}
+use Rattle.coap_client.specs.Prelude.{app_of, found_of, rows_of}
 use Rattle.coap_client.proofs.PlanLemmas.{client_refused, client_told}
 use Rattle.coap_client.proofs.words.client_words.Goals as goal
 

@@ -1,6 +1,6 @@
 use Rattle.std.proofs.Common.{◌<◌, length, map, arith}
 use Rattle.std.proofs.lemmas.List.{length-map, length-set}
-use Rattle.coap_conn.specs.OutstandingViews.{outstanding_value}
+use Rattle.coap_conn.specs.Prelude.{outstanding_value}
 use Rattle.coap_conn.proofs.AskedLemmas.{cancelled_more}
 use Rattle.coap_conn.proofs.asked.cancel_in.Goals as goal
 

@@ -1,7 +1,5 @@
 use Rattle.std.proofs.Common.{◌≡◌, length, map, ◌++◌, take, drop}
-use Rattle.std.specs.Vec.{vec_capacity}
-use Rattle.coap_conn.specs.Outstanding.{with_cancelled}
-use Rattle.coap_conn.specs.OutstandingViews.{outstanding_value}
+use Rattle.coap_conn.specs.Prelude.{vec_capacity, with_cancelled, outstanding_value}
 use Rattle.coap_conn.proofs.asked.cancel_in.Given as goal
 
 abbrev pub invariant-loop-index : goal.invariant-loop-index

@@ -1,7 +1,6 @@
 use Rattle.std.proofs.Common.{map, not, ap, ◌∙◌, rules, tests}
 use Rattle.std.proofs.lemmas.Fn.{filter_same}
-use Rattle.coap_conn.specs.Outstanding.{is_pinged}
-use Rattle.coap_conn.specs.OutstandingViews.{outstanding_value}
+use Rattle.coap_conn.specs.Prelude.{is_pinged, outstanding_value}
 use Rattle.coap_conn.proofs.AskedLemmas.{values_filtered}
 use Rattle.coap_conn.proofs.asked.forget_pinged_in.Goals as goal
 

@@ -1,9 +1,7 @@
 use Rattle.std.proofs.Common.{◌≡◌, Some, None, map, rules, tests, ap, sym, ◌∙◌}
-use Rattle.std.specs.Prelude.{find, option_map}
+use Rattle.coap_conn.specs.Prelude.{find, option_map, is_asked, is_last, outstanding_value}
 use Rattle.std.proofs.lemmas.Iterator.{YieldsList-from_slice}
 use Rattle.std.proofs.lemmas.Iterator.Search.{find_from_yields_List}
-use Rattle.coap_conn.specs.Outstanding.{is_asked, is_last}
-use Rattle.coap_conn.specs.OutstandingViews.{outstanding_value}
 use Rattle.coap_conn.proofs.AskedLemmas.{found_of}
 use Rattle.coap_conn.proofs.asked.last_in.Goals as goal
 

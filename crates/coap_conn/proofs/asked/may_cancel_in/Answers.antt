@@ -1,8 +1,7 @@
 use Rattle.std.proofs.Common.{◌∙◌, rules, tests}
 use Rattle.std.proofs.lemmas.Iterator.{YieldsList-from_slice}
 use Rattle.std.proofs.lemmas.Iterator.Search.{any_from_yields_List}
-use Rattle.coap_conn.specs.Outstanding.{may_cancel}
-use Rattle.coap_conn.specs.OutstandingViews.{outstanding_value}
+use Rattle.coap_conn.specs.Prelude.{may_cancel, outstanding_value}
 use Rattle.coap_conn.proofs.AskedLemmas.{any_of}
 use Rattle.coap_conn.proofs.asked.may_cancel_in.Goals as goal
 

@@ -1,8 +1,5 @@
 use Rattle.std.proofs.Common.{◌≡◌, Bool, Some, rules, tests, sym, ap, ◌∙◌}
-use Rattle.std.specs.Prelude.{find, option_map, is_none}
-use Rattle.coap_wire.specs.Message.{CoapOption}
-use Rattle.coap_wire.specs.Views.{coap_option}
-use Rattle.coap_conn.specs.Announced.{is_bad, first_size}
+use Rattle.coap_conn.specs.Prelude.{find, option_map, is_none, CoapOption, coap_option, is_bad, first_size}
 use Rattle.coap_conn.proofs.CsmLemmas.{announced_is}
 use Rattle.coap_conn.proofs.csm.announced_size.Goals as goal
 

@@ -1,8 +1,7 @@
 use Rattle.std.proofs.Common.{◌==◌, ◌&&◌, length, rules, tests}
 use Rattle.std.proofs.lemmas.Iterator.Consumers.{YieldsList-from_first}
 use Rattle.std.proofs.lemmas.Iterator.Search.{any_from_yields_List}
-use Rattle.coap_wire.specs.Message.{CoapOption}
-use Rattle.coap_wire.specs.Views.{coap_option}
+use Rattle.coap_conn.specs.Prelude.{CoapOption, coap_option}
 use Rattle.coap_conn.proofs.csm.asks_custody.Goals as goal
 
 pub returns : goal.returns

@@ -1,10 +1,7 @@
 use Rattle.std.proofs.Common.{◌≡◌, Some, None, rules, tests, sym, ap, ◌∙◌}
-use Rattle.std.specs.Prelude.{find, option_map}
+use Rattle.coap_conn.specs.Prelude.{find, option_map, CoapOption, coap_option, is_bad}
 use Rattle.std.proofs.lemmas.Iterator.Consumers.{YieldsList-from_first}
 use Rattle.std.proofs.lemmas.Iterator.Search.{find_from_yields_List}
-use Rattle.coap_wire.specs.Message.{CoapOption}
-use Rattle.coap_wire.specs.Views.{coap_option}
-use Rattle.coap_conn.specs.Announced.{is_bad}
 use Rattle.coap_conn.proofs.csm.bad_option.Goals as goal
 
 pub returns-in_err-bad : goal.returns-in_err-bad

@@ -1,4 +1,4 @@
-use Rattle.coap_conn.specs.Outstanding.{is_asked}
+use Rattle.coap_conn.specs.Prelude.{is_asked}
 use Rattle.coap_conn.proofs.AskedLaws.{answers_asked, last_ends, none_left, notified_stays, request_ended, pong_ends, stranger_stays, response_told, pong_told_of}
 use Rattle.coap_conn.proofs.laws.answers_end_what_was_asked.Goals as goal
 

@@ -1,5 +1,5 @@
 use Rattle.std.proofs.Common.{[], refl}
-use Rattle.coap_conn.specs.Phases.{answers}
+use Rattle.coap_conn.specs.Prelude.{answers}
 use Rattle.coap_conn.proofs.FirstLaws.{first_stays, guarded_first, call_first}
 use Rattle.coap_conn.proofs.laws.own_announcement_comes_first.Goals as goal
 

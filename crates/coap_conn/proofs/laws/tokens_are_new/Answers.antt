@@ -1,6 +1,5 @@
 use Rattle.std.proofs.Common.{◌+◌, cond, [], ◌∷◌, ◌++◌, Option, ap}
-use Rattle.std.specs.Prelude.{is_none}
-use Rattle.coap_conn.specs.declared.phase.RequestFault.{RequestFault}
+use Rattle.coap_conn.specs.Prelude.{is_none, RequestFault}
 use Rattle.coap_conn.proofs.AskedLaws.{tokens_differ, token_left, tokens_stay}
 use Rattle.coap_conn.proofs.laws.tokens_are_new.Goals as goal
 

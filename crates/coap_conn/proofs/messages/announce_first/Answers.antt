@@ -1,7 +1,5 @@
 use Rattle.std.proofs.Common.{rules, ◌≡◌, length, ap, arith}
-use Rattle.coap_wire.specs.Message.{Message}
-use Rattle.coap_wire.specs.Spelling.{spelling}
-use Rattle.coap_conn.specs.LinkValue.{first_csm}
+use Rattle.coap_conn.specs.Prelude.{Message, spelling, first_csm}
 use Rattle.coap_conn.proofs.SmallLemmas.{first_csm_small, first_csm_bytes_small}
 use Rattle.coap_conn.proofs.messages.announce_first.Goals as goal
 

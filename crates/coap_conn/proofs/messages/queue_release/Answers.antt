@@ -1,7 +1,5 @@
 use Rattle.std.proofs.Common.{rules, ◌≡◌, length, ap, arith}
-use Rattle.coap_wire.specs.Message.{Message}
-use Rattle.coap_wire.specs.Spelling.{spelling}
-use Rattle.coap_conn.specs.Calls.{release}
+use Rattle.coap_conn.specs.Prelude.{Message, spelling, release}
 use Rattle.coap_conn.proofs.SmallLemmas.{release_small, release_bytes_small}
 use Rattle.coap_conn.proofs.messages.queue_release.Goals as goal
 

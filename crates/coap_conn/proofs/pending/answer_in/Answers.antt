@@ -1,8 +1,7 @@
 use Rattle.std.proofs.Common.{ℕ, map, Option, sym, ap, ◌∙◌, rules, tests}
 use Rattle.std.proofs.lemmas.Iterator.{YieldsList-from_slice}
 use Rattle.std.proofs.lemmas.Iterator.Search.{position_from_yields_List}
-use Rattle.coap_conn.specs.Held.{is_answer_at, answer_index}
-use Rattle.coap_conn.specs.HeldViews.{held_value}
+use Rattle.coap_conn.specs.Prelude.{is_answer_at, answer_index, held_value}
 use Rattle.coap_conn.proofs.PendingLemmas.{place_of}
 use Rattle.coap_conn.proofs.pending.answer_in.Goals as goal
 

@@ -1,5 +1,5 @@
 use Rattle.std.proofs.Common.{rules}
-use Rattle.coap_conn.specs.Held.{due_index}
+use Rattle.coap_conn.specs.Prelude.{due_index}
 use Rattle.coap_conn.proofs.pending.due_in.Goals as goal
 
 pub returns-in-Some : goal.returns-in-Some

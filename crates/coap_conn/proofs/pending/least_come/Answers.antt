@@ -1,10 +1,8 @@
 use Rattle.std.proofs.Common.{sym, ap, ◌∙◌, min, rules, tests}
-use Rattle.std.specs.List.{reduce}
+use Rattle.coap_conn.specs.Prelude.{reduce, come, held_value}
 use Rattle.std.proofs.lemmas.Iterator.{YieldsList-from_slice}
 use Rattle.std.proofs.lemmas.Iterator.Adapters.{option_map_id}
 use Rattle.std.proofs.lemmas.Iterator.Consumers.{YieldsList-from_filter_map, min_from_yields_List}
-use Rattle.coap_conn.specs.Held.{come}
-use Rattle.coap_conn.specs.HeldViews.{held_value}
 use Rattle.coap_conn.proofs.PendingLemmas.{moments_of}
 use Rattle.coap_conn.proofs.pending.least_come.Goals as goal
 

@@ -1,5 +1,5 @@
 use Rattle.std.proofs.Common.{rules, ◌≡◌, arith, sym, ◌∙◌}
-use Rattle.coap_wire.specs.declared.frame.Declared.TheVariants.{Unknown}
+use Rattle.coap_frame.specs.Prelude.{Unknown}
 use Rattle.coap_wire.proofs.StreamSteps.{unknown_small}
 use Rattle.coap_frame.proofs.filling.fill_head.Goals as goal
 

@@ -1,6 +1,5 @@
 use Rattle.std.proofs.Common.{◌≤◌, ◌-◌, length}
-use Rattle.std.specs.Vec.{vec_capacity}
-use Rattle.coap_frame.specs.Filling.{IsTakenTo}
+use Rattle.coap_frame.specs.Prelude.{vec_capacity, IsTakenTo}
 use Rattle.coap_frame.proofs.filling.fill_head.Given as goal
 
 abbrev pub invariant-loop-size : goal.invariant-loop-size

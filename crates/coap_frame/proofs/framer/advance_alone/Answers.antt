@@ -1,9 +1,6 @@
 use Rattle.std.proofs.Common.{List, ℕ, [], ◌++◌, length, take, sym, ap, subst, ◌∙◌, arith}
 use Rattle.coap_wire.proofs.StreamSteps.{unfinished_below}
-use Rattle.coap_frame.specs.Framing.{Framing}
-use Rattle.coap_frame.specs.Filling.{IsFilled}
-use Rattle.coap_frame.specs.BufferViews.{finding_in, framer_of}
-use Rattle.coap_frame.specs.declared.filling.Standing.{Standing}
+use Rattle.coap_frame.specs.Prelude.{Framing, IsFilled, finding_in, framer_of, Standing}
 use Rattle.coap_frame.specs.declared.framer.Held.TheVariants as held
 use Rattle.coap_frame.proofs.FramingLemmas.{framing_unfinished, framing_whole, framing_fault, alone_more, alone_frame, alone_fault}
 use Rattle.coap_frame.proofs.framer.advance_alone.Goals as goal

@@ -1,9 +1,7 @@
 use Rattle.std.proofs.Common.{◌≡◌, true, sym, ap, ◌∙◌, refl}
+use Rattle.coap_store.specs.Prelude.{values_of, value_of, is_good_query, is_accepted, is_among, found_value}
 use Rattle.std.specs.Option.{option_map}
 use Rattle.coap_wire.specs.OptionNumbers as numbers
-use Rattle.coap_store.specs.Requests.{values_of, value_of, is_good_query}
-use Rattle.coap_store.specs.Answer.{is_accepted, is_among}
-use Rattle.coap_store.specs.TargetViews.{found_value}
 use Rattle.coap_store.proofs.GetLemmas.{get_valid, get_late, get_content, etag_lent}
 use Rattle.coap_store.proofs.answer.get.Goals as goal
 use Rattle.coap_store.proofs.answer.get.Goals.{else-is_async-via-then-is_async+else-not-has_good_query, else-is_async-via-else-is_async}

@@ -1,5 +1,5 @@
 use Rattle.std.proofs.Common.{◌≡◌, ap, ◌∙◌}
-use Rattle.indexmap.specs.IndexMap.{insert_entry}
+use Rattle.coap_store.specs.Prelude.{insert_entry}
 use Rattle.coap_store.proofs.CatalogueLemmas.{key_test, stored_list, stored_listed, bytes_of_created}
 use Rattle.coap_store.proofs.catalogue.create.Goals as goal
 

@@ -1,7 +1,6 @@
 use Rattle.std.proofs.Common.{◌≡◌, Some, None, refl, sym, ap, subst, ◌∙◌}
 use Rattle.std.proofs.lemmas.Map.Steps.{set_value_same}
-use Rattle.coap_store.specs.Store.{put_at}
-use Rattle.coap_store.specs.ResourceViews.{AreListed, resources_in}
+use Rattle.coap_store.specs.Prelude.{put_at, AreListed, resources_in}
 use Rattle.coap_store.proofs.CatalogueLemmas.{key_test, format_found, false_by_not, affirmed, same_format, written_list, written_are_listed, bytes_of_written}
 use Rattle.coap_store.proofs.catalogue.replace_alike.Goals as goal
 

@@ -1,4 +1,4 @@
-use Rattle.coap_store.specs.Answer.{Put, Delete}
+use Rattle.coap_store.specs.Prelude.{Put, Delete}
 use Rattle.coap_store.proofs.ServingLaws.{state_elsewhere}
 use Rattle.coap_store.proofs.StateLemmas.{state_put, state_removed}
 use Rattle.coap_store.proofs.laws.what_is_put_is_the_state.Goals as goal

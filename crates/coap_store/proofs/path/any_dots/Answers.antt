@@ -1,7 +1,7 @@
 use Rattle.std.proofs.Common.{sym, ◌∙◌, rules, tests}
 use Rattle.std.proofs.lemmas.Iterator.{YieldsList-from_slice}
 use Rattle.std.proofs.lemmas.Iterator.Search.{any_from_yields_List}
-use Rattle.coap_store.specs.Paths.{is_dots}
+use Rattle.coap_store.specs.Prelude.{is_dots}
 use Rattle.coap_store.proofs.PathLemmas.{any_segment}
 use Rattle.coap_store.proofs.path.any_dots.Goals as goal
 

@@ -1,5 +1,5 @@
 use Rattle.std.proofs.Common.{ℕ, List, [], arith, rules}
-use Rattle.std.specs.Borrow.{Bor}
+use Rattle.coap_store.specs.Prelude.{Bor}
 use Rattle.coap_store.proofs.PathLemmas.{segment_has_room, path_goes_on, all_kept}
 use Rattle.coap_store.proofs.path.bytes_of.Goals as goal
 

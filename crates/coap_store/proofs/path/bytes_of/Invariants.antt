@@ -1,5 +1,5 @@
 use Rattle.std.proofs.Common.{◌≡◌, ◌++◌, drop}
-use Rattle.coap_store.specs.PathViews.{segment_list, written}
+use Rattle.coap_store.specs.Prelude.{segment_list, written}
 use Rattle.coap_store.proofs.path.bytes_of.Given as goal
 
 -- the segments that are left go behind the bytes so far

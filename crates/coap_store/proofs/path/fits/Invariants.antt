@@ -1,6 +1,5 @@
 use Rattle.std.proofs.Common.{◌≡◌, ◌≤◌, ◌+◌, drop}
-use Rattle.coap_store.specs.Paths.{written_length}
-use Rattle.coap_store.specs.PathViews.{segment_list}
+use Rattle.coap_store.specs.Prelude.{written_length, segment_list}
 use Rattle.coap_store.proofs.path.fits.Given as goal
 
 -- the room that is left is as much less as the segments that are left

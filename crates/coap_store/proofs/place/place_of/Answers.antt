@@ -1,6 +1,6 @@
 use Rattle.std.proofs.Common.{rules}
 use Rattle.coap_store.proofs.PlaceLemmas.{at_listing, elsewhere}
-use Rattle.coap_store.specs.PathViews.{written}
+use Rattle.coap_store.specs.Prelude.{written}
 use Rattle.coap_store.proofs.place.place_of.Goals as goal
 
 pub returns-then-eq-3 : goal.returns-then-eq-3

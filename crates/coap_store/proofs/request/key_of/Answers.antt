@@ -1,8 +1,6 @@
 use Rattle.std.proofs.Common.{Some, None, ap, ◌∙◌}
+use Rattle.coap_store.specs.Prelude.{is_path, segment_list, key_for}
 use Rattle.std.specs.Bool.{if◌then◌else◌}
-use Rattle.coap_store.specs.Paths.{is_path}
-use Rattle.coap_store.specs.PathViews.{segment_list}
-use Rattle.coap_store.specs.State.{key_for}
 use Rattle.coap_store.proofs.TargetLemmas.{too_many}
 use Rattle.coap_store.proofs.request.key_of.Goals as goal
 

@@ -1,5 +1,5 @@
 use Rattle.std.proofs.Common.{sym, ap, ◌∙◌}
-use Rattle.coap_store.specs.Noting.{all_noted, notes_value}
+use Rattle.coap_store.specs.Prelude.{all_noted, notes_value}
 use Rattle.coap_store.proofs.request.notes_of.Goals as goal
 
 pub loop-option-preserved : goal.loop-option-preserved

@@ -1,6 +1,5 @@
 use Rattle.std.proofs.Common.{◌≡◌}
-use Rattle.coap_wire.specs.Recognition.{known_options}
-use Rattle.coap_store.specs.Noting.{nothing, all_noted, notes_value}
+use Rattle.coap_store.specs.Prelude.{known_options, nothing, all_noted, notes_value}
 use Rattle.coap_store.proofs.request.notes_of.Given as goal
 
 -- what is noted so far, with what is left, is all

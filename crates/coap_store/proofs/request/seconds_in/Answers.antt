@@ -1,9 +1,7 @@
 use Rattle.std.proofs.Common.{◌≡◌, ℕ, ◌≤◌, length, take, sym, ap, ◌∙◌, arith}
-use Rattle.std.specs.Prelude.{nat_le, is_some}
+use Rattle.coap_store.specs.Prelude.{nat_le, is_some, list_all, is_digit, digits_mean}
 use Rattle.std.proofs.lemmas.Bool.{eqb-true, eqb-false}
 use Rattle.std.proofs.lemmas.List.{take_all}
-use Rattle.std.specs.List.{list_all}
-use Rattle.coap_store.specs.Requests.{is_digit, digits_mean}
 use Rattle.coap_store.proofs.RequestLemmas.{no_seconds_empty, no_seconds_long, no_seconds_at, seconds_of_digits, is_some-then_some, if_then_some}
 use Rattle.coap_store.proofs.request.seconds_in.Goals as goal
 use Rattle.coap_store.proofs.request.seconds_in.Goals.{then-is_empty-via-then-is_empty, then-is_empty-via-else-is_empty+then-bytes-gt-MAX_DIGITS}

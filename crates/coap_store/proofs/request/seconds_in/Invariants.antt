@@ -1,6 +1,5 @@
 use Rattle.std.proofs.Common.{◌≡◌, ◌≤◌, true, take}
-use Rattle.std.specs.List.{list_all}
-use Rattle.coap_store.specs.Requests.{is_digit, digits_mean}
+use Rattle.coap_store.specs.Prelude.{list_all, is_digit, digits_mean}
 use Rattle.coap_store.proofs.request.seconds_in.Given as goal
 
 -- the bytes so far are digits of this number

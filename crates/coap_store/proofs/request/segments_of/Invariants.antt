@@ -1,6 +1,5 @@
 use Rattle.std.proofs.Common.{◌≡◌, ◌++◌}
-use Rattle.coap_store.specs.PathViews.{segment_list}
-use Rattle.coap_store.specs.Requests.{path_of}
+use Rattle.coap_store.specs.Prelude.{segment_list, path_of}
 use Rattle.coap_store.proofs.request.segments_of.Given as goal
 
 -- the segments so far, with those that are left, are all

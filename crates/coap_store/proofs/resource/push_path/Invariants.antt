@@ -1,7 +1,6 @@
 -- What is written, and what the segments that are left still write, is the whole text.
 use Rattle.std.proofs.Common.{◌≡◌, ◌++◌}
-use Rattle.std.specs.String.{string_bytes}
-use Rattle.coap_store.specs.Listing.{path_bytes}
+use Rattle.coap_store.specs.Prelude.{string_bytes, path_bytes}
 use Rattle.coap_store.proofs.resource.push_path.Given as goal
 
 abbrev pub invariant-loop-segment : goal.invariant-loop-segment

@@ -1,9 +1,7 @@
 -- The slash, and then the bytes as they are escaped.
 use Rattle.std.proofs.Common.{ℕ, List, [], ◌∷◌, ◌++◌, ap, ◌∙◌, append_assoc, arith}
-use Rattle.std.specs.List.{flat_map}
-use Rattle.std.specs.String.{string_bytes}
+use Rattle.coap_store.specs.Prelude.{flat_map, string_bytes, encoded_byte}
 use Rattle.std.proofs.lemmas.Result.{IfOk-equal}
-use Rattle.coap_store.specs.Listing.{encoded_byte}
 use Rattle.coap_store.proofs.EscapeLemmas.{segment_is}
 use Rattle.coap_store.proofs.resource.push_segment.Goals as goal
 

@@ -1,8 +1,6 @@
 -- There is room for the text of the built-in resources, which comes first.
 use Rattle.std.proofs.Common.{ℕ, List, ◌++◌, sym, ap, ◌∙◌, arith}
-use Rattle.coap_store.specs.Listing.{built_in_bytes}
-use Rattle.coap_store.specs.ResourceViews.{resources_in}
-use Rattle.coap_store.specs.declared.resource.Resource.{Resource}
+use Rattle.coap_store.specs.Prelude.{built_in_bytes, resources_in, Resource}
 use Rattle.coap_store.proofs.ListingLemmas.{listed_bytes, listing_front, listing_listed}
 use Rattle.coap_store.proofs.resource.write_listing.Goals as goal
 

@@ -1,8 +1,6 @@
 -- What is written, and what the values that are left still write, is the listing, for which there is room.
 use Rattle.std.proofs.Common.{◌≡◌, ◌≤◌, ◌++◌, length}
-use Rattle.std.specs.Vec.{vec_capacity}
-use Rattle.coap_store.specs.Listing.{listing}
-use Rattle.coap_store.specs.ResourceViews.{resources_in}
+use Rattle.coap_store.specs.Prelude.{vec_capacity, listing, resources_in}
 use Rattle.coap_store.proofs.ListingLemmas.{listed_bytes}
 use Rattle.coap_store.proofs.resource.write_listing.Given as goal
 

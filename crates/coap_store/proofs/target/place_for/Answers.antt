@@ -1,6 +1,6 @@
 use Rattle.std.proofs.Common.{sym, ap, ◌∙◌}
+use Rattle.coap_store.specs.Prelude.{place_of}
 use Rattle.std.specs.Option.{option_map}
-use Rattle.coap_store.specs.State.{place_of}
 use Rattle.coap_store.proofs.TargetLemmas.{key_is_path, no_key_elsewhere}
 use Rattle.coap_store.proofs.target.place_for.Goals as goal
 

@@ -1,6 +1,5 @@
 use Rattle.std.proofs.Common.{◌≡◌, ℕ, List, subst}
-use Rattle.coap_wire.specs.Beginning.{Unfinished, beginning}
-use Rattle.coap_wire.specs.Frames.{size_for, sizes_of_rest}
+use Rattle.coap_wire.specs.Prelude.{Unfinished, beginning, size_for, sizes_of_rest}
 use Rattle.coap_wire.proofs.StreamSteps.{sized_step, sized_rest, split_step, split_rest}
 use Rattle.coap_wire.proofs.laws.stream_is_read_from_its_front.Goals as goal
 

@@ -1,8 +1,7 @@
 use Rattle.std.proofs.Common.{sym, ◌∙◌}
 use Rattle.std.proofs.lemmas.Bool.{eqb-true, eqb-false}
 use Rattle.std.proofs.lemmas.Result.{err_from_is_err_and}
-use Rattle.coap_wire.specs.Views.{coap_option}
-use Rattle.coap_wire.specs.Reading.{body_at}
+use Rattle.coap_wire.specs.Prelude.{coap_option, body_at}
 use Rattle.coap_wire.proofs.BodyLemmas.{ends, ends_at_marker, ends_at_empty_payload, ends_at_fault, goes_on, falls}
 use Rattle.coap_wire.proofs.reading.payload_of.Goals as goal
 

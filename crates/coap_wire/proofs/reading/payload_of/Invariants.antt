@@ -1,6 +1,5 @@
 use Rattle.std.proofs.Common.{◌≡◌, List, length}
-use Rattle.coap_wire.specs.Message.{CoapOption}
-use Rattle.coap_wire.specs.Reading.{body_at}
+use Rattle.coap_wire.specs.Prelude.{CoapOption, body_at}
 use Rattle.coap_wire.proofs.BodyLemmas.{with_front}
 use Rattle.coap_wire.proofs.reading.payload_of.Given as goal
 

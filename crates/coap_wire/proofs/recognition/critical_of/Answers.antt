@@ -1,6 +1,5 @@
 use Rattle.std.proofs.Common.{sym, ap, ◌∙◌}
-use Rattle.coap_wire.specs.Views.{coap_option}
-use Rattle.coap_wire.specs.Recognition.{first_critical_behind, option_before}
+use Rattle.coap_wire.specs.Prelude.{coap_option, first_critical_behind, option_before}
 use Rattle.coap_wire.proofs.RecognitionLaws.{critical_end, stops_at, goes_past_recognised, goes_past_elective, stays_ordered}
 use Rattle.coap_wire.proofs.recognition.critical_of.Goals as goal
 use Rattle.coap_wire.proofs.recognition.critical_of.Goals.{else-option-eq1-via-then-option-eq1+else-not-recognises, else-option-eq1-via-else-option-eq1}

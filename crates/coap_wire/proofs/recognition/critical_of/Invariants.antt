@@ -1,7 +1,5 @@
 use Rattle.std.proofs.Common.{◌≡◌}
-use Rattle.std.specs.Prelude.{unwrap_or}
-use Rattle.coap_wire.specs.Message.{AreOrdered}
-use Rattle.coap_wire.specs.Recognition.{first_critical, first_critical_behind, option_before}
+use Rattle.coap_wire.specs.Prelude.{unwrap_or, AreOrdered, first_critical, first_critical_behind, option_before}
 use Rattle.coap_wire.proofs.recognition.critical_of.Given as goal
 
 -- no critical option that is not recognised was passed over

@@ -1,5 +1,5 @@
 use Rattle.std.proofs.Common.{arith, sym, subst}
-use Rattle.coap_wire.specs.Size.{Declares}
+use Rattle.coap_wire.specs.Prelude.{Declares}
 use Rattle.coap_wire.proofs.HeadLaws.{declares}
 use Rattle.coap_wire.proofs.size.declared.Goals as goal
 

@@ -1,5 +1,5 @@
 use Rattle.std.proofs.Common.{◌≡◌, ◌≤◌, length}
-use Rattle.coap_wire.specs.Uint.{without_leading_zeros, uint_of}
+use Rattle.coap_wire.specs.Prelude.{without_leading_zeros, uint_of}
 use Rattle.coap_wire.proofs.uint.significant_bytes.Given as goal
 
 abbrev pub invariant-loop-first : goal.invariant-loop-first

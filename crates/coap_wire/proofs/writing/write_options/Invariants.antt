@@ -1,7 +1,5 @@
 use Rattle.std.proofs.Common.{◌≡◌, ◌+◌, ◌++◌, length, take}
-use Rattle.coap_wire.specs.Message.{last_number}
-use Rattle.coap_wire.specs.Spelling.{options_spelling}
-use Rattle.coap_wire.specs.Views.{coap_options}
+use Rattle.coap_wire.specs.Prelude.{last_number, options_spelling, coap_options}
 use Rattle.coap_wire.proofs.writing.write_options.Given as goal
 
 abbrev pub invariant-loop-option : goal.invariant-loop-option

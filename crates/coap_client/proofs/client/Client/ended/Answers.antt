@@ -1,12 +1,8 @@
 use Rattle.std.proofs.Common.{ℕ, refl, ap, subst, sym, ◌∙◌}
-use Rattle.std.specs.Prelude.{[], nat_lt}
-use Rattle.coap_frame.specs.Framing.{FramerValue, IsFramer}
+use Rattle.coap_client.specs.Prelude.{[], nat_lt, FramerValue, IsFramer, LimitValues, LinkValue, link_after}
+use Rattle.coap_client.specs.Prelude.{client_ended}
 use Rattle.coap_frame.proofs.FramingLemmas.{empty_framer}
-use Rattle.coap_conn.specs.Limits.{LimitValues}
-use Rattle.coap_conn.specs.LinkValue.{LinkValue}
-use Rattle.coap_conn.specs.Calls.{link_after}
 use Rattle.coap_conn.specs.Calls as call
-use Rattle.coap_client.specs.ClientValues.{client_ended}
 use Rattle.coap_client.proofs.ClientShown.{ended_shown}
 use Rattle.coap_client.proofs.TakingLemmas.{is_still}
 use Rattle.coap_client.proofs.client.Client.ended.Goals as goal

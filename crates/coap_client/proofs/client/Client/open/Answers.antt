@@ -1,6 +1,5 @@
 use Rattle.std.proofs.Common.{Ok, [], ap, ◌∙◌}
-use Rattle.coap_frame.specs.Framing.{FramerValue}
-use Rattle.coap_conn.specs.LinkValue.{LinkValue}
+use Rattle.coap_client.specs.Prelude.{FramerValue, LinkValue}
 use Rattle.coap_client.proofs.ClientShown.{opened_shown}
 use Rattle.coap_client.proofs.client.Client.open.Goals as goal
 

@@ -1,5 +1,5 @@
 use Rattle.std.proofs.Common.{sym, ◌∙◌}
-use Rattle.coap_client.specs.RequestViews.{extras_value}
+use Rattle.coap_client.specs.Prelude.{extras_value}
 use Rattle.coap_client.proofs.ClientShown.{sent_made}
 use Rattle.coap_client.proofs.client.Client.send.Goals as goal
 

@@ -1,8 +1,5 @@
 use Rattle.std.proofs.Common.{None, take, refl, sym, ap, ◌∙◌, arith}
-use Rattle.coap_wire.specs.Reading.{message_of}
-use Rattle.coap_frame.specs.Framing.{frame_back}
-use Rattle.coap_client.specs.ClientValues.{Taking, client_takes}
-use Rattle.coap_client.specs.EventViews.{heard_value}
+use Rattle.coap_client.specs.Prelude.{message_of, frame_back, Taking, client_takes, heard_value}
 use Rattle.coap_client.proofs.ClientShown.{took_takes, took_told, took_shown}
 use Rattle.coap_client.proofs.TakingLemmas.{framed_count, takes_none, takes_framed, took_is, took_client}
 use Rattle.coap_client.proofs.client.Client.take.Goals as goal

@@ -1,6 +1,5 @@
 use Rattle.std.proofs.Common.{ap, ◌∙◌}
-use Rattle.coap_conn.specs.LinkValue.{LinkValue}
-use Rattle.coap_client.specs.ClientValues.{ClientValue, client_written}
+use Rattle.coap_client.specs.Prelude.{LinkValue, ClientValue, client_written}
 use Rattle.coap_client.proofs.ClientShown.{wrote_shown}
 use Rattle.coap_client.proofs.client.Client.written.Goals as goal
 

@@ -1,6 +1,5 @@
 use Rattle.std.proofs.Common.{refl, ◌∙◌}
-use Rattle.coap_client.specs.RunCourse.{turns_in}
-use Rattle.coap_client.specs.ClientRun.{with_outlets, IsTaken, IsFinished, LeadsOn}
+use Rattle.coap_client.specs.Prelude.{turns_in, with_outlets, IsTaken, IsFinished, LeadsOn}
 use Rattle.coap_client.proofs.RunLemmas.{answers_so, asked_next, asked_then, finished_after_taking, as_many, watched_so}
 use Rattle.coap_client.proofs.run.Run.go_on.Goals as goal
 

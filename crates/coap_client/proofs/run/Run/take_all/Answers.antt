@@ -1,6 +1,5 @@
 use Rattle.std.proofs.Common.{Some, None, refl, sym, ap, ◌∙◌, length, List, ℕ, arith}
-use Rattle.coap_client.specs.RunCourse.{turns_in}
-use Rattle.coap_client.specs.ClientRun.{with_outlets}
+use Rattle.coap_client.specs.Prelude.{turns_in, with_outlets}
 use Rattle.coap_client.proofs.RunLemmas.{neither_first, took_ends, took_asked, ended_taken, all_that_may_is_taken, all_gone, takes_one, fewer_left}
 use Rattle.coap_client.proofs.run.Run.take_all.Goals as goal
 

@@ -1,6 +1,6 @@
 use Rattle.std.proofs.Common.{◌≡◌, ◌+◌, ◌≤◌, None, false, length}
-use Rattle.coap_client.specs.RunCourse.{Course, status_in, turns_in}
-use Rattle.coap_client.specs.ClientRun.{Seen, with_outlets, Stands, LeadsOn, IsReady, IsAsked}
+use Rattle.coap_client.specs.Prelude.{Course, status_in, turns_in, Seen, with_outlets, Stands, LeadsOn, IsReady}
+use Rattle.coap_client.specs.Prelude.{IsAsked}
 use Rattle.coap_client.proofs.run.Run.take_all.Given as goal
 
 -- no outlet has failed, the run goes on, and as much was taken as was counted

@@ -1,7 +1,5 @@
 use Rattle.std.proofs.Common.{subst, ◌∙◌, ℕ}
-use Rattle.std.specs.Prelude.{IfOk}
-use Rattle.coap_client.specs.RunCourse.{turns_in}
-use Rattle.coap_client.specs.ClientRun.{with_all, IsFlushed, LeadsOn}
+use Rattle.coap_client.specs.Prelude.{IfOk, turns_in, with_all, IsFlushed, LeadsOn}
 use Rattle.coap_client.proofs.RunLemmas.{heard_then}
 use Rattle.coap_client.proofs.run.Run.turn.Goals as goal
 

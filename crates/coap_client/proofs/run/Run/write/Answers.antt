@@ -1,5 +1,5 @@
 use Rattle.coap_serve.proofs.streams.NextPartLemmas.{few_written, part_written}
-use Rattle.coap_serve.specs.declared.wire.Got.TheVariants.{Bytes}
+use Rattle.coap_client.specs.Prelude.{Bytes}
 use Rattle.coap_client.proofs.run.Run.write.Goals as goal
 
 pub written-requires : goal.written-requires

@@ -1,7 +1,6 @@
 use Rattle.std.proofs.Common.{codes}
 use Rattle.std.proofs.lemmas.Result.{IfOk-weaker}
-use Rattle.clap.specs.Words.{app_of}
-use Rattle.coap_client.specs.CommandLines.{bare_app, letter_option, word_flag, word_option}
+use Rattle.coap_client.specs.Prelude.{app_of, bare_app, letter_option, word_flag, word_option}
 use Rattle.coap_client.proofs.WordLemmas.{shape_with_rule}
 use Rattle.coap_client.proofs.words.commands.server_command.Goals as goal
 

@@ -1,10 +1,7 @@
 use Rattle.std.proofs.Common.{◌≡◌, ℕ, true, List, ap, ◌∙◌, rules, tests}
 use Rattle.std.proofs.lemmas.Result.{err_from_is_err_and}
-use Rattle.coap_conn.specs.Phases.{is_open}
-use Rattle.coap_conn.specs.Outstanding.{AskedValue, with_cancelled}
-use Rattle.coap_conn.specs.Asking.{has_observation}
-use Rattle.coap_conn.specs.LinkValue.{LinkValue, asking_in}
-use Rattle.coap_conn.specs.LinkViews.{link_value}
+use Rattle.coap_conn.specs.Prelude.{is_open, AskedValue, with_cancelled, has_observation, LinkValue, asking_in}
+use Rattle.coap_conn.specs.Prelude.{link_value}
 use Rattle.coap_conn.specs.Calls as call
 use Rattle.coap_conn.proofs.LinkLemmas.{shows}
 use Rattle.coap_conn.proofs.AskedLemmas.{size_decides_cancel, cancel_after}

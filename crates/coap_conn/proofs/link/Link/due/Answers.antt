@@ -1,9 +1,7 @@
 use Rattle.std.proofs.Common.{ℕ, List, sym, ap, ◌∙◌}
-use Rattle.coap_conn.specs.Held.{Answer, Pong, PendingValue, due_told, first_due}
-use Rattle.coap_conn.specs.LinkValue.{LinkValue}
-use Rattle.coap_conn.specs.Calls.{link_after}
+use Rattle.coap_conn.specs.Prelude.{Answer, Pong, PendingValue, due_told, first_due, LinkValue, link_after}
+use Rattle.coap_conn.specs.Prelude.{link_value}
 use Rattle.coap_conn.specs.Calls as call
-use Rattle.coap_conn.specs.LinkViews.{link_value}
 use Rattle.coap_conn.proofs.LinkLemmas.{shows}
 use Rattle.coap_conn.proofs.PendingLemmas.{first_at_index, nothing_first, nothing_due, answer_due, pong_due, link_sent}
 use Rattle.coap_conn.proofs.link.Link.due.Goals as goal

@@ -1,7 +1,5 @@
 use Rattle.std.proofs.Common.{sym, ap, subst, ◌∙◌}
-use Rattle.coap_conn.specs.Reaction.{Reaction}
-use Rattle.coap_conn.specs.LinkValue.{LinkValue, IsReady, standing_in}
-use Rattle.coap_conn.specs.Phases.{IsAnswering}
+use Rattle.coap_conn.specs.Prelude.{Reaction, LinkValue, IsReady, standing_in, IsAnswering}
 use Rattle.coap_conn.specs.Calls as call
 use Rattle.coap_conn.proofs.LinkLemmas.{shows}
 use Rattle.coap_conn.proofs.RequestLemmas.{react_live, handled_is, request_stays, request_answering}

@@ -1,6 +1,5 @@
 use Rattle.std.proofs.Common.{not, length, ◌≤◌, ap, ◌∙◌, arith}
-use Rattle.coap_conn.specs.Outstanding.{AskedValue, is_asked}
-use Rattle.coap_conn.specs.LinkViews.{link_value}
+use Rattle.coap_conn.specs.Prelude.{AskedValue, is_asked, link_value}
 use Rattle.coap_conn.proofs.AskedLemmas.{count_left, link_left}
 use Rattle.coap_conn.proofs.link.Link.on_response.Goals as goal
 

@@ -1,8 +1,6 @@
 use Rattle.std.proofs.Common.{◌<◌, length, sym, ap, ◌∙◌, subst}
 use Rattle.std.proofs.lemmas.Result.{err_from_is_err_and}
-use Rattle.coap_conn.specs.Outstanding.{Ping}
-use Rattle.coap_conn.specs.Asking.{next_token, ping_with}
-use Rattle.coap_conn.specs.LinkValue.{LinkValue, asking_in}
+use Rattle.coap_conn.specs.Prelude.{Ping, next_token, ping_with, LinkValue, asking_in}
 use Rattle.coap_conn.specs.Calls as call
 use Rattle.coap_conn.proofs.LinkLemmas.{shows}
 use Rattle.coap_conn.proofs.AskedLemmas.{new_room, new_number, refused_new, refused_size, asked_after}

@@ -1,9 +1,7 @@
 use Rattle.std.proofs.Common.{◌≡◌, ◌<◌, length, Bool, false, List, ℕ, sym, ap, ◌∙◌, subst}
 use Rattle.std.proofs.lemmas.Result.{err_from_is_err_and}
 use Rattle.coap_conn.specs.Outstanding as value
-use Rattle.coap_conn.specs.OutstandingViews.{outstanding_value}
-use Rattle.coap_conn.specs.Asking.{next_token, with_token, entry_of}
-use Rattle.coap_conn.specs.LinkValue.{LinkValue, asking_in}
+use Rattle.coap_conn.specs.Prelude.{outstanding_value, next_token, with_token, entry_of, LinkValue, asking_in}
 use Rattle.coap_conn.specs.Calls as call
 use Rattle.coap_conn.proofs.LinkLemmas.{shows}
 use Rattle.coap_conn.proofs.AskedLemmas.{new_room, new_number, refused_new, refused_size, asked_after}

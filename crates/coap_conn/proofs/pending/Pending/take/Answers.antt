@@ -1,8 +1,7 @@
 use Rattle.std.proofs.Common.{◌<◌, List, length, slice_get, map, remove, refl, sym, ap, ◌∙◌, arith}
 use Rattle.std.proofs.lemmas.List.{length-map}
 use Rattle.std.proofs.lemmas.Option.{slice_get_read}
-use Rattle.coap_conn.specs.Held.{HeldValue, PendingValue}
-use Rattle.coap_conn.specs.HeldViews.{held_value}
+use Rattle.coap_conn.specs.Prelude.{HeldValue, PendingValue, held_value}
 use Rattle.coap_conn.proofs.PendingLemmas.{held_without, held_at_index}
 use Rattle.coap_conn.proofs.pending.Pending.take.Goals as goal
 

@@ -1,8 +1,5 @@
 use Rattle.std.proofs.Common.{◌≡◌, length, ap, arith}
-use Rattle.coap_frame.specs.Framing.{FramerValue}
-use Rattle.coap_frame.specs.BufferViews.{kept_in}
-use Rattle.coap_frame.specs.FramerViews.{framer_value}
-use Rattle.coap_frame.specs.declared.framer.Held.{Held}
+use Rattle.coap_frame.specs.Prelude.{FramerValue, kept_in, framer_value, Held}
 use Rattle.coap_frame.proofs.FramingLemmas.{kept_below}
 use Rattle.coap_frame.proofs.framer.Framer.kept.Goals as goal
 

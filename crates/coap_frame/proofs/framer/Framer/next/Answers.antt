@@ -1,8 +1,6 @@
 use Rattle.std.proofs.Common.{◌≡◌, refl, sym, ap, subst, ◌∙◌}
-use Rattle.coap_frame.specs.Framing.{FramerValue, IsFramer, framing_of, framer_after}
-use Rattle.coap_frame.specs.FramerViews.{framer_value}
-use Rattle.coap_frame.specs.FramedViews.{IsFramed, finding_of, lent_of}
-use Rattle.coap_frame.specs.Framing.{AFrame}
+use Rattle.coap_frame.specs.Prelude.{FramerValue, IsFramer, framing_of, framer_after, framer_value, IsFramed}
+use Rattle.coap_frame.specs.Prelude.{finding_of, lent_of, AFrame}
 use Rattle.coap_frame.proofs.FramingLemmas.{framing_is_framer}
 use Rattle.coap_frame.proofs.FoundLemmas.{given_more, given_fault, given_whole, given_split}
 use Rattle.coap_frame.proofs.framer.Framer.next.Goals.{in-Unfinished, in-Fault, in-Whole+in-Beginning, in-Whole+in-Split}

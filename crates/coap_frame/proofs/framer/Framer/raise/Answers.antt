@@ -1,5 +1,5 @@
 use Rattle.std.proofs.Common.{ap, ◌∙◌, arith}
-use Rattle.coap_frame.specs.BufferViews.{kept_in}
+use Rattle.coap_frame.specs.Prelude.{kept_in}
 use Rattle.coap_frame.proofs.RaiseLemmas.{raised_holds}
 use Rattle.coap_frame.proofs.framer.Framer.raise.Goals as goal
 

@@ -1,5 +1,5 @@
 use Rattle.std.proofs.Common.{ap, ◌∙◌}
-use Rattle.coap_store.specs.Store.{found_in}
+use Rattle.coap_store.specs.Prelude.{found_in}
 use Rattle.coap_store.proofs.CatalogueLemmas.{found_at}
 use Rattle.coap_store.proofs.catalogue.Catalogue.get.Goals as goal
 

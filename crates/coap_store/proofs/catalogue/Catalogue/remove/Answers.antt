@@ -1,5 +1,5 @@
 use Rattle.std.proofs.Common.{arith, length, ap, ◌∙◌}
-use Rattle.coap_store.specs.Store.{removed_at}
+use Rattle.coap_store.specs.Prelude.{removed_at}
 use Rattle.coap_store.proofs.CatalogueLemmas.{removed_list, removed_are_listed, bytes_of_removed_fit}
 use Rattle.coap_store.proofs.catalogue.Catalogue.remove.Goals as goal
 

@@ -1,7 +1,5 @@
-use Rattle.coap_store.specs.Noting.{noted}
+use Rattle.coap_store.specs.Prelude.{noted, coap_option, notes_value}
 use Rattle.std.proofs.Common.{rules}
-use Rattle.coap_wire.specs.Views.{coap_option}
-use Rattle.coap_store.specs.Noting.{notes_value}
 use Rattle.coap_store.proofs.NotingLemmas.{or_none_more, or_one, not_given, nothing_noted}
 use Rattle.coap_store.proofs.notes.Notes.note.Goals as goal
 

@@ -1,5 +1,5 @@
 use Rattle.std.proofs.Common.{sym}
-use Rattle.coap_store.specs.PathViews.{segment_list}
+use Rattle.coap_store.specs.Prelude.{segment_list}
 use Rattle.coap_store.proofs.PathLemmas.{path_fits, key_of_path, key_of_written}
 use Rattle.coap_store.proofs.path.PathKey.from_segments.Goals as goal
 

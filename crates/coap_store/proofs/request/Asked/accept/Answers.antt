@@ -1,8 +1,6 @@
 use Rattle.std.proofs.Common.{Some, refl, sym, ap, ◌∙◌}
-use Rattle.std.specs.Prelude.{option_copied}
+use Rattle.coap_store.specs.Prelude.{option_copied, once, kind_of, number_of}
 use Rattle.coap_wire.specs.OptionNumbers as numbers
-use Rattle.coap_wire.specs.Recognition.{once, kind_of}
-use Rattle.coap_store.specs.Requests.{number_of}
 use Rattle.coap_store.proofs.RequestLemmas.{value_fits, no_number, number_found}
 use Rattle.coap_store.proofs.request.Asked.accept.Goals as goal
 

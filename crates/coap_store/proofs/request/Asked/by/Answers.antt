@@ -1,5 +1,5 @@
 use Rattle.std.proofs.Common.{sym, subst}
-use Rattle.coap_store.specs.Noting.{AreNotesOf}
+use Rattle.coap_store.specs.Prelude.{AreNotesOf}
 use Rattle.coap_store.proofs.NotingLemmas as noting
 use Rattle.coap_store.proofs.request.Asked.by.Goals as goal
 

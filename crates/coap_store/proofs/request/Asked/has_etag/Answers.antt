@@ -1,12 +1,8 @@
 use Rattle.std.proofs.Common.{◌≡◌, List, ℕ, false, ◌&&◌, rules, tests, sym, ap, ◌∙◌}
-use Rattle.std.specs.List.{list_any}
+use Rattle.coap_store.specs.Prelude.{list_any, CoapOption, coap_option, same_bytes, values_of}
 use Rattle.std.proofs.lemmas.Iterator.Consumers.{YieldsList-from_first}
 use Rattle.std.proofs.lemmas.Iterator.Search.{any_from_yields_List}
-use Rattle.coap_wire.specs.Message.{CoapOption}
 use Rattle.coap_wire.specs.OptionNumbers as numbers
-use Rattle.coap_wire.specs.Views.{coap_option}
-use Rattle.coap_store.specs.Paths.{same_bytes}
-use Rattle.coap_store.specs.Requests.{values_of}
 use Rattle.coap_store.proofs.RequestLemmas.{has_number, value_passes, none_passes}
 use Rattle.coap_store.proofs.request.Asked.has_etag.Goals as goal
 

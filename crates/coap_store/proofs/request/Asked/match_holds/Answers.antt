@@ -1,10 +1,8 @@
 use Rattle.std.proofs.Common.{◌≡◌, true, false, ◌&&◌, rules, tests, sym, ap, ◌∙◌}
 use Rattle.std.proofs.lemmas.Iterator.Consumers.{YieldsList-from_first}
 use Rattle.std.proofs.lemmas.Iterator.Search.{any_from_yields_List}
-use Rattle.coap_wire.specs.Message.{CoapOption}
+use Rattle.coap_store.specs.Prelude.{CoapOption, coap_option, match_holds}
 use Rattle.coap_wire.specs.OptionNumbers as numbers
-use Rattle.coap_wire.specs.Views.{coap_option}
-use Rattle.coap_store.specs.Requests.{match_holds}
 use Rattle.coap_store.proofs.RequestLemmas.{has_number, is_match, value_passes, match_not_asked, match_of_none, match_of_version}
 use Rattle.coap_store.proofs.request.Asked.match_holds.Goals as goal
 

@@ -1,7 +1,6 @@
 use Rattle.std.proofs.Common.{◌≡◌, Some, sym, ap, ◌∙◌}
-use Rattle.std.specs.Prelude.{option_copied}
+use Rattle.coap_store.specs.Prelude.{option_copied, number_of, value_of}
 use Rattle.coap_wire.specs.OptionNumbers as numbers
-use Rattle.coap_store.specs.Requests.{number_of, value_of}
 use Rattle.coap_store.proofs.RequestLemmas.{observe_fits, no_number, number_found}
 use Rattle.coap_store.proofs.request.Asked.observe.Goals as goal
 

@@ -1,7 +1,5 @@
 use Rattle.std.proofs.Common.{◌≡◌, ◌≤◌, true, length, [], sym, ap, ◌∙◌, subst}
-use Rattle.coap_store.specs.Answer.{Answer, answer_of}
-use Rattle.coap_store.specs.Changes.{TakesChange, changes}
-use Rattle.coap_store.specs.declared.plan.Watch.TheVariants.{Drop}
+use Rattle.coap_store.specs.Prelude.{Answer, answer_of, TakesChange, changes, Drop}
 use Rattle.coap_store.proofs.AnswerLaws.{taken_of, bare_of, short_of}
 use Rattle.coap_store.proofs.StoreLemmas.{listing_short, stored_small}
 use Rattle.coap_store.proofs.AnswerLemmas.{answer_removes, answer_leaves}

@@ -1,6 +1,5 @@
 use Rattle.std.proofs.Common.{subst, sym}
-use Rattle.coap_store.specs.StoreViews.{store_value}
-use Rattle.coap_store.specs.Invariant.{IsStore}
+use Rattle.coap_store.specs.Prelude.{store_value, IsStore}
 use Rattle.coap_store.proofs.StoreLemmas.{store_removed}
 use Rattle.coap_store.proofs.store.Store.delete.Goals as goal
 

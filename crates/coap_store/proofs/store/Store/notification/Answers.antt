@@ -1,8 +1,5 @@
 use Rattle.std.proofs.Common.{◌≡◌, ◌≤◌, length, sym, ap, subst, ◌∙◌, refl}
-use Rattle.coap_store.specs.State.{state_of}
-use Rattle.coap_store.specs.Answer.{says}
-use Rattle.coap_store.specs.Notifications.{notification_at, notification_of}
-use Rattle.coap_store.specs.TargetViews.{found_value}
+use Rattle.coap_store.specs.Prelude.{state_of, says, notification_at, notification_of, found_value}
 use Rattle.coap_store.proofs.StateLemmas.{state_by_key}
 use Rattle.coap_store.proofs.NotificationLaws.{told_absent, told_other, told_content, notification_short}
 use Rattle.coap_store.proofs.store.Store.notification.Goals as goal

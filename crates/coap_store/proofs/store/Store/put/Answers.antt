@@ -1,6 +1,6 @@
 use Rattle.std.proofs.Common.{Some, subst, sym, ap, ◌∙◌}
 use Rattle.std.proofs.lemmas.Result.{err_from_is_err_and}
-use Rattle.coap_store.specs.Changes.{TakesPut}
+use Rattle.coap_store.specs.Prelude.{TakesPut}
 use Rattle.coap_store.proofs.RefusalLemmas.{put_told, takes_put}
 use Rattle.coap_store.proofs.store.Store.put.Goals as goal
 

@@ -1,5 +1,5 @@
 use Rattle.std.proofs.Common.{ap, ◌∙◌}
-use Rattle.std.specs.Prelude.{not}
+use Rattle.coap_store.specs.Prelude.{not}
 use Rattle.coap_store.proofs.RefusalLemmas.{remove_absent, remove_present}
 use Rattle.coap_store.proofs.store.Store.remove.Goals as goal
 

@@ -1,7 +1,5 @@
 use Rattle.std.proofs.Common.{subst, sym, ◌+◌}
-use Rattle.coap_store.specs.StoreViews.{store_value}
-use Rattle.coap_store.specs.Changes.{TakesPut}
-use Rattle.coap_store.specs.Invariant.{IsStore}
+use Rattle.coap_store.specs.Prelude.{store_value, TakesPut, IsStore}
 use Rattle.coap_store.proofs.StoreLemmas.{store_put}
 use Rattle.coap_store.proofs.store.Store.store.Goals as goal
 

@@ -1,5 +1,5 @@
 use Rattle.std.proofs.Common.{sym, ap, ◌∙◌}
-use Rattle.coap_store.specs.State.{is_dynamic}
+use Rattle.coap_store.specs.Prelude.{is_dynamic}
 use Rattle.coap_store.proofs.TargetLemmas.{is_path_by_place, built_target}
 use Rattle.coap_store.proofs.store.Store.target.Goals as goal
 

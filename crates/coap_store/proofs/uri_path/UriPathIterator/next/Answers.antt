@@ -1,5 +1,5 @@
 use Rattle.std.proofs.Common.{sym, ◌∙◌}
-use Rattle.coap_wire.specs.Views.{coap_option}
+use Rattle.coap_store.specs.Prelude.{coap_option}
 use Rattle.coap_store.proofs.UriPathLemmas.{option_passed}
 use Rattle.coap_store.proofs.uri_path.UriPathIterator.next.Goals as goal
 

@@ -1,5 +1,5 @@
 use Rattle.std.proofs.Common.{◌≡◌, length}
-use Rattle.coap_store.specs.UriPaths.{segments_told}
+use Rattle.coap_store.specs.Prelude.{segments_told}
 use Rattle.coap_store.proofs.uri_path.UriPathIterator.next.Given as goal
 
 -- only options that are no segments were passed over

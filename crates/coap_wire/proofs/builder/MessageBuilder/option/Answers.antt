@@ -1,9 +1,6 @@
 use Rattle.std.proofs.Common.{refl, arith, ◌≡◌, List, ◌∙◌, ap}
-use Rattle.coap_wire.specs.declared.options.OptionRef.{OptionRef}
-use Rattle.coap_wire.specs.Message.{last_number}
+use Rattle.coap_wire.specs.Prelude.{OptionRef, last_number, coap_options, built_message}
 use Rattle.coap_wire.proofs.OptionLists.{size_pushed}
-use Rattle.coap_wire.specs.Views.{coap_options}
-use Rattle.coap_wire.specs.BuilderViews.{built_message}
 use Rattle.coap_wire.proofs.BuiltLemmas.{option_added}
 use Rattle.coap_wire.proofs.builder.MessageBuilder.option.Goals as goal
 

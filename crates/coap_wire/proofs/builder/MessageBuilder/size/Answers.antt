@@ -1,5 +1,5 @@
 use Rattle.std.proofs.Common.{ap, length, ◌∙◌}
-use Rattle.coap_wire.specs.BuilderViews.{built_message}
+use Rattle.coap_wire.specs.Prelude.{built_message}
 use Rattle.coap_wire.proofs.BuiltLemmas.{size_is}
 use Rattle.coap_wire.proofs.builder.MessageBuilder.size.Goals as goal
 

@@ -1,8 +1,6 @@
 use Rattle.std.proofs.Common.{◌≤◌, length, arith}
-use Rattle.coap_wire.specs.Forms.{greatest_length}
-use Rattle.coap_wire.specs.Spelling.{body_spelling}
+use Rattle.coap_wire.specs.Prelude.{greatest_length, body_spelling, built_message}
 use Rattle.coap_wire.proofs.SpellingLaws.{spelling_spells}
-use Rattle.coap_wire.specs.BuilderViews.{built_message}
 use Rattle.coap_wire.proofs.BuiltLemmas.{head_room, options_room, payload_room, all_written, all_room}
 use Rattle.coap_wire.proofs.builder.MessageBuilder.write.Goals as goal
 

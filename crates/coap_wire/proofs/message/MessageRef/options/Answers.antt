@@ -1,5 +1,5 @@
 use Rattle.std.proofs.Common.{subst}
-use Rattle.coap_wire.specs.Message.{Message, AreOrdered}
+use Rattle.coap_wire.specs.Prelude.{Message, AreOrdered}
 use Rattle.coap_wire.proofs.BodyLaws.{options_ordered}
 use Rattle.coap_wire.proofs.message.MessageRef.options.Goals as goal
 

@@ -1,5 +1,5 @@
 use Rattle.std.proofs.Common.{rules, sym, ◌∙◌}
-use Rattle.coap_wire.specs.Views.{coap_option}
+use Rattle.coap_wire.specs.Prelude.{coap_option}
 use Rattle.coap_wire.proofs.BodyLemmas.{no_byte_left, at_marker, no_fault, stays_ok, first_option}
 use Rattle.coap_wire.proofs.options.OptionsIterator.next.Goals as goal
 

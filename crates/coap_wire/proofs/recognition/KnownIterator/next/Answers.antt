@@ -1,6 +1,5 @@
 use Rattle.std.proofs.Common.{rules, sym, ap, ◌∙◌}
-use Rattle.coap_wire.specs.Views.{coap_option}
-use Rattle.coap_wire.specs.Recognition.{known_behind, option_before}
+use Rattle.coap_wire.specs.Prelude.{coap_option, known_behind, option_before}
 use Rattle.coap_wire.proofs.RecognitionLaws.{known_end, knows, passes_over, stays_ordered}
 use Rattle.coap_wire.proofs.recognition.KnownIterator.next.Goals as goal
 

@@ -1,7 +1,5 @@
 use Rattle.std.proofs.Common.{◌≡◌, length}
-use Rattle.std.specs.Prelude.{unwrap_or}
-use Rattle.coap_wire.specs.Message.{AreOrdered}
-use Rattle.coap_wire.specs.Recognition.{known_behind, option_before}
+use Rattle.coap_wire.specs.Prelude.{unwrap_or, AreOrdered, known_behind, option_before}
 use Rattle.coap_wire.proofs.recognition.KnownIterator.next.Given as goal
 
 -- only options that are not recognised were passed over
