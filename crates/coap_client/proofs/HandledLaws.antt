@@ -10,13 +10,13 @@ use Rattle.coap_client.specs.Prelude.{ClientCall, ClientStep, Took, Sent, Cancel
 use Rattle.coap_client.specs.Prelude.{Faults, Requests, Cancels, Pings, Writes, Ends, taken_by, stream_in, steps_by}
 use Rattle.coap_client.specs.Prelude.{step, client_after, handles, takes, IsAccepted, AreAccepted, request_of}
 use Rattle.coap_client.specs.Prelude.{cancel_of}
-use Rattle.std.proofs.lemmas.Bool.{and_parts, leb-true}
+use Rattle.std.proofs.lemmas.Bool.{and_parts, leb-true, both_ways}
 use Rattle.std.proofs.lemmas.List.{append-nil, nil_from_length}
 use Rattle.coap_conn.specs.Calls as call
 use Rattle.coap_frame.proofs.FrontLaws.{added_by}
+use Rattle.coap_wire.proofs.NumberLaws.{none_or_some}
 use Rattle.coap_client.proofs.ClientSteps.{stream_stays, stream_first, client_first, client_same, client_step, by_calls, AddsTo, adds_whole, empty_take_steps}
 use Rattle.coap_client.proofs.ClientReached.{accepted_reach}
-use Rattle.coap_serve.proofs.world.HandledLaws.{takes_no_stop, no_fault_and_some}
 
 -- ---- what accepted bytes make
 
@@ -92,7 +92,7 @@ rests_if h k false handled phase = rests_by_itself h
 -- a connection that takes messages has not stopped
 stop_rests : (h : History) (why : Reason) (takes : Bool) → takes_messages h.phase ≡ takes
     → Rests h (cond takes (with_effect h (stop (standing_now h) why [])) h)
-stop_rests h why true is = record { handled = refl; stopped = λ other at. absurd (takes_no_stop h.phase other is at) }
+stop_rests h why true is = record { handled = refl; stopped = λ other at. absurd (both_ways _ (ap takes_messages at) is) }
 stop_rests h why false is = rests_by_itself h
 
 end_rests : (h : History) (cut : Bool) → Rests h (after h (call.End cut))
@@ -121,7 +121,7 @@ heard_by : (u v : Stream) (h : History) (m : Message) (takes : Bool) → takes �
     → AgreesWith v (cond takes (record (with_effect h (react (standing_now h) m).effect) { handled = h.handled ++ m ∷ [] }) h)
 heard_by u v h m true e messages none is = record {
   handled = ap (λ (ms : List Message). ms ++ m ∷ []) is.handled ∙ sym messages;
-  stopped = λ fault at. absurd (no_fault_and_some v fault none at);
+  stopped = λ fault at. absurd (none_or_some fault (sym none ∙ at));
 }
 heard_by u v h m false e messages none is = absurd cc
 
@@ -149,7 +149,7 @@ module _ (limits : LimitValues) (tokens : ℕ) where
       subst (AgreesWith (stream_in limits.max_message [])) (sym (client_first limits tokens)) (record {
         handled = ap (λ (s : Stream). s.messages) (sym (stream_first limits.max_message));
         stopped =
-            λ fault at. absurd (no_fault_and_some (stream_in limits.max_message []) fault (ap (λ (s : Stream). s.fault) (stream_first limits.max_message)) at);
+            λ fault at. absurd (none_or_some fault (sym (ap (λ (s : Stream). s.fault) (stream_first limits.max_message)) ∙ at));
       })
 
   module _ (calls : List ClientCall) (all : AreAccepted limits tokens calls) (is : AgreesWith (stream_in limits.max_message calls) (client_after limits tokens calls)) where
