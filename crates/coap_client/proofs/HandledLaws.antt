@@ -2,7 +2,7 @@
 use Rattle.std.proofs.Common.{◌≡◌, ℕ, Bool, true, false, cond, List, [], ◌∷◌, ◌++◌, length, Some, None, Result, Ok, Err, refl, sym, ap, subst, ◌∙◌}
 use Rattle.coap_client.specs.Prelude.{◌≤◌, nat_le, is_none, Message, message_of, FormatFault, StreamFault, OfFrame}
 use Rattle.coap_client.specs.Prelude.{Format, Stream, frame_then, Finding, Nothing, AFrame, AFault, Framing, framing}
-use Rattle.coap_client.specs.Prelude.{Phase, Stopped, Reason, takes_messages, reject_of, reject_reason, LimitValues}
+use Rattle.coap_client.specs.Prelude.{Stopped, Reason, takes_messages, reject_of, reject_reason, LimitValues}
 use Rattle.coap_client.specs.Prelude.{OutstandingValue, Ping, asking_refusal, cancel_refusal, next_token, with_token}
 use Rattle.coap_client.specs.Prelude.{entry_of, ping_with, stop, abort, react, History, standing_now, asking_now}
 use Rattle.coap_client.specs.Prelude.{with_effect, after, after_asking, link_of, end_reason, free_in, is_cut}

@@ -1,124 +1,287 @@
--- What the contracts of the crate name, passed on from one place. Declares nothing.
+-- What the contracts and the proofs of the crate name, passed on from one place. Declares nothing.
 
 -- ---- std and the kit's crates
 pub use Rattle.arrayvec.specs.ArrayVec.{array_vec_len}
-pub use Rattle.indexmap.specs.IndexMap.{values}
-pub use Rattle.std.specs.Borrow.{sem, follows_so}
+pub use Rattle.hex.specs.Hex.{decode_of}
+unfoldable pub use Rattle.hex.specs.Hex.{decode_pairs}
+pub use Rattle.indexmap.specs.IndexMap.{values, insert_entry, set_value_at}
+unfoldable pub use Rattle.percent_encoding.specs.Percent.{percent_decode}
+pub use Rattle.std.specs.Borrow.{sem, follows_so, Bor}
+pub use Rattle.std.specs.Char.{is_ascii_digit}
+pub use Rattle.std.specs.Cmp.{both_ways, nat_eq_equiv}
 pub use Rattle.std.specs.Cow.{cow_slice_items}
+pub use Rattle.std.specs.Fmt.{decimal}
+unfoldable pub use Rattle.std.specs.Fmt.{digits}
 pub use Rattle.std.specs.Int.{w64, to_be_bytes}
-pub use Rattle.std.specs.List.{AllByRecursion, concat, list_any}
-pub use Rattle.std.specs.Map.{keys_of}
+pub use Rattle.std.specs.Io.KnownBytes.{Consumes, IsAtEnd}
+pub use Rattle.std.specs.List.{AllByRecursion, concat, list_any, All, AllWithin, filter_map, list_all, onto_first}
+pub use Rattle.std.specs.List.{position, position_or_len, reduce, remove}
+unfoldable pub use Rattle.std.specs.List.{IsDistinct}
+pub use Rattle.std.specs.Map.{keys_of, lookup, values_of}
+pub use Rattle.std.specs.Option.{option_eq}
+pub use Rattle.std.specs.Prelude.{List, None, OnErr, OnOk, Option, Some, [], codes, drop, filter, find, if◌then◌else◌}
+pub use Rattle.std.specs.Prelude.{is_none, is_ok, length, map, nat_lt, not, slice_get, suc, take, unwrap_or, zero, ℕ}
+pub use Rattle.std.specs.Prelude.{◌*◌, ◌++◌, ◌+◌, ◌-◌, ◌∷◌, ◌≡◌}
+pub use Rattle.std.specs.Result.{IsErr, result_ok}
+pub use Rattle.std.specs.Str.{all_ascii_digits}
+pub use Rattle.std.specs.Str.Parse.{ParsesUnsigned, digits_value}
+pub use Rattle.std.specs.declared.alloc.AllocError.{AllocError}
 pub use mathlib.Core.Option.{none}
 -- ---- coap_wire
-pub use Rattle.coap_wire.specs.Message.{Message, last_number}
+pub use Rattle.coap_wire.specs.Beginning.{Beginning, Faulty, Unfinished, fault_bytes}
+unfoldable pub use Rattle.coap_wire.specs.Beginning.{beginning}
+pub use Rattle.coap_wire.specs.Codes.{class_of}
+pub use Rattle.coap_wire.specs.Frames.{always, sizes_first}
+unfoldable pub use Rattle.coap_wire.specs.Frames.{frames_within, sized_frames}
+pub use Rattle.coap_wire.specs.Message.{Message, last_number, CoapOption}
+unfoldable pub use Rattle.coap_wire.specs.Reading.{body_at, body_within, declared_of, four_bytes_at, head_at}
+unfoldable pub use Rattle.coap_wire.specs.Reading.{length_at, message_of, one_byte_at, option_head_at}
+unfoldable pub use Rattle.coap_wire.specs.Reading.{option_number_at, two_bytes_at}
+unfoldable pub use Rattle.coap_wire.specs.Recognition.{first_critical_behind, is_recognised, kind_of, known_behind}
 pub use Rattle.coap_wire.specs.Refusal.{RefusedBy}
-pub use Rattle.coap_wire.specs.Stream.{StreamFault}
+unfoldable pub use Rattle.coap_wire.specs.Spelling.{spelling}
+pub use Rattle.coap_wire.specs.Stream.{StreamFault, Format, OfFrame, Stream, behind, frame_then, gone_on, split_on}
+unfoldable pub use Rattle.coap_wire.specs.Stream.{sized_split, split}
+unfoldable pub use Rattle.coap_wire.specs.Uint.{bytes_of_uint}
 pub use Rattle.coap_wire.specs.Views.{with_option}
+pub use Rattle.coap_wire.specs.declared.fault.FormatFault.{FormatFault}
+pub use Rattle.coap_wire.specs.declared.fault.FrameFault.{FrameFault}
+-- ---- coap_frame
+pub use Rattle.coap_frame.specs.FramedViews.{finding_read}
+pub use Rattle.coap_frame.specs.Framing.{AFault, AFrame, Finding, FramerValue, Framing, IsFramer, framer_after}
+pub use Rattle.coap_frame.specs.Framing.{framing_at, framing_of, without_last}
+unfoldable pub use Rattle.coap_frame.specs.Framing.{framing}
+pub use Rattle.coap_frame.specs.Given.{taken_of, unread_after}
+pub use Rattle.coap_frame.specs.Raising.{greatest_size, raise_refusal, with_size}
 -- ---- coap_conn
-pub use Rattle.coap_conn.specs.Calls.{link_after, standing_due, end_reason}
-pub use Rattle.coap_conn.specs.Fit.{AllFit, bare_response, fit}
-pub use Rattle.coap_conn.specs.Held.{HeldValue, first_due, Answer, Pong, without_due}
-pub use Rattle.coap_conn.specs.History.{limit_now, standing_now, after}
+pub use Rattle.coap_conn.specs.Announced.{announcement, bad_csm_option, csm_size, has_critical_option, size_limit}
+pub use Rattle.coap_conn.specs.Announced.{size_unless}
+unfoldable pub use Rattle.coap_conn.specs.Announced.{announced}
+pub use Rattle.coap_conn.specs.Calls.{link_after, standing_due, end_reason, Call, doing, may_announce, release}
+pub use Rattle.coap_conn.specs.Fit.{AllFit, bare_response, fit, abort_fitted, bare_code, fits}
+pub use Rattle.coap_conn.specs.Held.{HeldValue, Answer, Pong, HoldsNothingDue, answer_index, come, else_index}
+pub use Rattle.coap_conn.specs.Held.{held_at, next_moment, pong_index, to_come}
+unfoldable pub use Rattle.coap_conn.specs.Held.{first_due, without_due, due_index}
+pub use Rattle.coap_conn.specs.History.{limit_now, standing_now, after, History, IsHistory, link_of, may_hold}
+pub use Rattle.coap_conn.specs.History.{new_history, with_effect}
 pub use Rattle.coap_conn.specs.Limits.{LimitValues, AreInRange}
-pub use Rattle.coap_conn.specs.LinkValue.{IsReady, can_hold, limit_in, is_finished}
-pub use Rattle.coap_conn.specs.Phases.{IsAnswering, is_open, answers, takes_messages, IsLive}
+pub use Rattle.coap_conn.specs.LinkValue.{IsReady, can_hold, limit_in, is_finished, LinkValue, bytes_of, free_in}
+pub use Rattle.coap_conn.specs.LinkValue.{link_with, new_link, own_csm, standing_in}
+pub use Rattle.coap_conn.specs.LinkViews.{verdict_value}
+pub use Rattle.coap_conn.specs.Outstanding.{OutstandingValue}
+pub use Rattle.coap_conn.specs.Phases.{IsAnswering, is_open, answers, takes_messages, IsLive, is_over, is_waiting}
+pub use Rattle.coap_conn.specs.Phases.{stop_of}
 pub use Rattle.coap_conn.specs.QueueValue.{IsNextPart}
-pub use Rattle.coap_conn.specs.Reaction.{send, pong_with, is_custody_pong}
+pub use Rattle.coap_conn.specs.Reaction.{send, pong_with, is_custody_pong, Effect, Reaction, Standing, abort, aborts}
+pub use Rattle.coap_conn.specs.Reaction.{answered, asks_custody, due_effect, holds, is_method, is_reserved, is_signal}
+pub use Rattle.coap_conn.specs.Reaction.{leaves, minds_critical_options, not_implemented, open_reaction}
+pub use Rattle.coap_conn.specs.Reaction.{ping_reaction, pong_of, reaction_unless, request_reaction, send_as, stay}
+pub use Rattle.coap_conn.specs.Reaction.{stop, tells, told_of}
+unfoldable pub use Rattle.coap_conn.specs.Reaction.{live_reaction, react}
+pub use Rattle.coap_conn.specs.Reasons.{abort_of}
 pub use Rattle.coap_conn.specs.Rejects.{reject_of, reject_reason}
 pub use Rattle.coap_conn.specs.Release.{release_refusal}
+pub use Rattle.coap_conn.specs.Verdicts.{VerdictValue, is_request}
+pub use Rattle.coap_conn.specs.declared.phase.Phase.{Phase}
+pub use Rattle.coap_conn.specs.declared.phase.Reject.{Reject}
+pub use Rattle.coap_conn.specs.declared.phase.Reply.{Reply}
+pub use Rattle.coap_conn.specs.declared.phase.Reply.TheVariants.{Bare, Stopped, Whole}
+pub use Rattle.coap_conn.specs.declared.phase.Role.{Role}
+pub use Rattle.coap_conn.specs.declared.phase.Role.TheVariants.{Client, Server}
+pub use Rattle.coap_conn.specs.declared.phase.SendFault.{SendFault}
+pub use Rattle.coap_conn.specs.declared.phase.Verdict.{Verdict}
+pub use Rattle.coap_conn.specs.declared.reason.Reason.{Reason}
+pub use Rattle.coap_conn.specs.declared.reason.Reason.TheVariants.{PeerTooSmall, ReleasedHere}
 -- ---- coap_store
-pub use Rattle.coap_store.specs.Answer.{changed, unheld, answer_of}
-pub use Rattle.coap_store.specs.Changes.{IsPut, TakesChange}
-pub use Rattle.coap_store.specs.Invariant.{IsStore}
+pub use Rattle.coap_store.specs.Answer.{changed, unheld, Change, Delete, Nothing, Put, Response, content, deletion}
+pub use Rattle.coap_store.specs.Answer.{etag_at, finally, held_response, is_among, only, read_answer, removes_watch}
+pub use Rattle.coap_store.specs.Answer.{says, stored_under, unheld_by, valid}
+unfoldable pub use Rattle.coap_store.specs.Answer.{answer_of, answer_at, get_answer, method_answer, prompt_answer}
+unfoldable pub use Rattle.coap_store.specs.Answer.{resource_answer, store_answer}
+pub use Rattle.coap_store.specs.Changes.{IsPut, TakesChange, changes}
+pub use Rattle.coap_store.specs.Invariant.{IsStore, AreDistinct}
+unfoldable pub use Rattle.coap_store.specs.Listing.{encoded_byte, entry_bytes, listing, path_bytes}
 pub use Rattle.coap_store.specs.Messages.{response_message, response_with_observe, option_at, empty_at, number_at}
 pub use Rattle.coap_store.specs.Messages.{each_at}
-pub use Rattle.coap_store.specs.Paths.{Path, is_path}
+pub use Rattle.coap_store.specs.Notifications.{notification_of}
+unfoldable pub use Rattle.coap_store.specs.Notifications.{notification_at}
+pub use Rattle.coap_store.specs.PathViews.{segment_list}
+pub use Rattle.coap_store.specs.Paths.{Path, same_bytes, written_length}
+unfoldable pub use Rattle.coap_store.specs.Paths.{is_path}
 pub use Rattle.coap_store.specs.PlanViews.{change_value, path_or_root}
-pub use Rattle.coap_store.specs.Refusals.{RefusedOrMemory, put_refusal, remove_refusal, refusal_in}
+pub use Rattle.coap_store.specs.Refusals.{RefusedOrMemory, refusal_in}
+unfoldable pub use Rattle.coap_store.specs.Refusals.{put_refusal, remove_refusal}
 pub use Rattle.coap_store.specs.Requests.{path_of}
-pub use Rattle.coap_store.specs.Store.{StoreValue}
+unfoldable pub use Rattle.coap_store.specs.Requests.{has_option, is_seconds, match_holds, number_of, value_of}
+pub use Rattle.coap_store.specs.State.{Target, built, is_dynamic, is_observable, state_of, stored_at, target_of}
+pub use Rattle.coap_store.specs.State.{text_plain}
+unfoldable pub use Rattle.coap_store.specs.State.{key_for, place_of, state_at}
+pub use Rattle.coap_store.specs.Store.{StoreValue, Representation, Resource, put_in, removed_in}
+unfoldable pub use Rattle.coap_store.specs.Store.{found_in, put_at, removed_at}
 pub use Rattle.coap_store.specs.Watching.{MayWatch}
+pub use Rattle.coap_store.specs.declared.fault.StoreFault.{StoreFault}
+pub use Rattle.coap_store.specs.declared.fault.StoreFault.TheVariants.{NoSuch}
+pub use Rattle.coap_store.specs.declared.place.Place.TheVariants.{Async, Dynamic, Listing, Root, Time}
+pub use Rattle.coap_store.specs.declared.plan.Watch.{Watch}
 -- ---- coap_serve
 pub use Rattle.coap_serve.specs.Configs.{config_of, config_refusal, ConfigValues}
 -- ---- coap_serve, declared
+pub use Rattle.coap_serve.specs.declared.cause.Cause.{Cause}
+pub use Rattle.coap_serve.specs.declared.door.agenda.Agenda.{Agenda}
 pub use Rattle.coap_serve.specs.declared.door.peer.Course.{Course}
+pub use Rattle.coap_serve.specs.declared.door.peer.Course.TheVariants.{Over}
+pub use Rattle.coap_serve.specs.declared.door.peer.Peer.{Peer}
+pub use Rattle.coap_serve.specs.declared.door.wants.Wants.{Wants}
+pub use Rattle.coap_serve.specs.declared.host.Host.{Host}
+pub use Rattle.coap_serve.specs.declared.observers.Stale.{Stale}
+pub use Rattle.coap_serve.specs.declared.path_set.PathSet.{PathSet}
+pub use Rattle.coap_serve.specs.declared.replay.Drained.{Drained}
+pub use Rattle.coap_serve.specs.declared.replay.Line.{Line}
+pub use Rattle.coap_serve.specs.declared.serve.IoFault.{IoFault}
+pub use Rattle.coap_serve.specs.declared.serve.IoFault.TheVariants.{Memory, Read, Turns, Write}
+pub use Rattle.coap_serve.specs.declared.serve.Report.{Report}
+pub use Rattle.coap_serve.specs.declared.serve.Turn.{Turn}
+pub use Rattle.coap_serve.specs.declared.server.AnnounceFault.{AnnounceFault}
+pub use Rattle.coap_serve.specs.declared.server.OpenFault.{OpenFault}
+pub use Rattle.coap_serve.specs.declared.server.Outlook.{Outlook}
 pub use Rattle.coap_serve.specs.declared.server.ReleaseFault.{ReleaseFault}
 pub use Rattle.coap_serve.specs.declared.server.Stamp.{Stamp}
+pub use Rattle.coap_serve.specs.declared.server.TakeFault.{TakeFault}
+pub use Rattle.coap_serve.specs.declared.server.Taken.{Taken}
 pub use Rattle.coap_serve.specs.declared.server.WrittenFault.{WrittenFault}
+pub use Rattle.coap_serve.specs.declared.session.Session.TheInside.{Inside}
 pub use Rattle.coap_serve.specs.declared.wire.Got.{Got}
+pub use Rattle.coap_serve.specs.declared.wire.Got.TheVariants.{Bytes, End, Failed, Later}
+pub use Rattle.coap_serve.specs.declared.wire.Wait.{Wait}
+pub use Rattle.coap_serve.specs.declared.wire.Wait.TheVariants.{Forever, No, Until}
 -- ---- coap_serve, script
-pub use Rattle.coap_serve.specs.script.Cuts.{DifferInCuts, AreInTime, lines_of, other_lines}
+pub use Rattle.coap_serve.specs.script.Cuts.{DifferInCuts, AreInTime, other_lines, IsInTime}
+unfoldable pub use Rattle.coap_serve.specs.script.Cuts.{lines_of, in_before, joined}
 pub use Rattle.coap_serve.specs.script.EventViews.{event_value, IsScript, fault_number, TakesLine}
-pub use Rattle.coap_serve.specs.script.Events.{EventValue}
+pub use Rattle.coap_serve.specs.script.Events.{EventValue, Drain, Drop, In, Open, Release, Remove, Status, Tick}
+unfoldable pub use Rattle.coap_serve.specs.script.Events.{drain_event, event_alone, event_of, event_with_one}
+unfoldable pub use Rattle.coap_serve.specs.script.Events.{event_with_two, in_event, number_event, put_event}
+unfoldable pub use Rattle.coap_serve.specs.script.Events.{remove_event}
+pub use Rattle.coap_serve.specs.script.Lines.{open_line, phase_text, put_line, remove_line, tick_line, word_line}
 pub use Rattle.coap_serve.specs.script.PartlyFed.{IsPartlyFed}
-pub use Rattle.coap_serve.specs.script.Replay.{fed, replayed, event_ran, stop_number, drained}
-pub use Rattle.coap_serve.specs.script.Replayed.{replay_number, IsReplayed, fails_write}
-pub use Rattle.coap_serve.specs.script.Script.{script_of, said_on}
-pub use Rattle.coap_serve.specs.script.Shown.{events_made, ShowsMore, ShowsRun, IsShownReplay, took, ShowsPart}
-pub use Rattle.coap_serve.specs.script.Words.{newline}
+pub use Rattle.coap_serve.specs.script.Replay.{fed, stop_number, drained, Fed, Ran, comes_to, drain_ran, fed_more}
+pub use Rattle.coap_serve.specs.script.Replay.{fed_once, in_ran, on_connection, open_number, release_number}
+pub use Rattle.coap_serve.specs.script.Replay.{status_ran, store_number, tick_refusal, unfed, unless_refused}
+unfoldable pub use Rattle.coap_serve.specs.script.Replay.{replayed, event_ran, fed_turns}
+pub use Rattle.coap_serve.specs.script.Replayed.{replay_number, IsReplayed, fails_write, IsCutAt, IsRefusedAt}
+pub use Rattle.coap_serve.specs.script.Replayed.{IsUnrun}
+pub use Rattle.coap_serve.specs.script.Script.{script_of, said_on, said_behind, said_by_line}
+unfoldable pub use Rattle.coap_serve.specs.script.Script.{event_in, events_in, said_by_parts, says_nothing}
+pub use Rattle.coap_serve.specs.script.Shown.{ShowsMore, ShowsRun, IsShownReplay, took, ShowsPart, IsPartlyMade}
+pub use Rattle.coap_serve.specs.script.Shown.{ShowsRefusedAt, where_there}
+unfoldable pub use Rattle.coap_serve.specs.script.Shown.{events_made, events_ran, took_turns}
+pub use Rattle.coap_serve.specs.script.Words.{newline, is_hyphen, parts, slash, words_of}
+unfoldable pub use Rattle.coap_serve.specs.script.Words.{decimal_value, format_value, hex_value, path_value}
+unfoldable pub use Rattle.coap_serve.specs.script.Words.{payload_value, segments_of}
 -- ---- coap_serve, streams
 pub use Rattle.coap_serve.specs.streams.Device.{Told, HasGiven, pieces_read, AddsBytes, is_failed_write, WritesPart}
-pub use Rattle.coap_serve.specs.streams.DoorRun.{IsDoorRun, waited_behind, moved_to}
+pub use Rattle.coap_serve.specs.streams.Device.{EndsAt, FoundEnd}
+pub use Rattle.coap_serve.specs.streams.DoorRun.{IsDoorRun, waited_behind, moved_to, EndsWith, HasTurnedSo, IsCutRun}
+pub use Rattle.coap_serve.specs.streams.DoorRun.{MayWaitAt, NoneYet, OneMore}
 pub use Rattle.coap_serve.specs.streams.Faults.{is_read_fault, is_write_fault}
-pub use Rattle.coap_serve.specs.streams.Notes.{true_end, AreNoted, IsNoEarlier, KeepsNotes, WhilePassedOver}
-pub use Rattle.coap_serve.specs.streams.Output.{only_id, stream_of, stdio_output}
+pub use Rattle.coap_serve.specs.streams.Notes.{true_end, AreNoted, IsNoEarlier, KeepsNotes, WhilePassedOver, AtFirst}
+pub use Rattle.coap_serve.specs.streams.Notes.{IsNoted, Served}
+pub use Rattle.coap_serve.specs.streams.Output.{only_id, stream_of, stdio_output, Outcome, more_of, outcome_on}
+pub use Rattle.coap_serve.specs.streams.Output.{side_for, steps_for, waiting_of, written_once}
+unfoldable pub use Rattle.coap_serve.specs.streams.Output.{flushed, flushed_after, outcome, world_for, written_times}
 pub use Rattle.coap_serve.specs.streams.Serving.{HasServed, HasTurned, IsAskedOnce, IsTurnOf, HasGoneOn, AreServed}
-pub use Rattle.coap_serve.specs.streams.Serving.{AreOpened, asked_by, is_handed_out}
-pub use Rattle.coap_serve.specs.streams.Standing.{Stands, IsGoing, IsTurn}
-pub use Rattle.coap_serve.specs.streams.StdioRun.{IsStdioRun}
+pub use Rattle.coap_serve.specs.streams.Serving.{AreOpened, asked_by, is_handed_out, HadItsPart, HasOneMore}
+pub use Rattle.coap_serve.specs.streams.Serving.{IsServing, NoMore, PassedOver, opening}
+pub use Rattle.coap_serve.specs.streams.Standing.{Stands, IsGoing, IsTurn, HasRead, IsCut, IsRefused, IsWhole, Says}
+pub use Rattle.coap_serve.specs.streams.StdioRun.{IsStdioRun, AreNotEmpty, EndsRun, GoesOn, IsLastByte}
 pub use Rattle.coap_serve.specs.streams.Telling.{TellsMore, DoorCall, Asked, Waited}
 pub use Rattle.coap_serve.specs.streams.Turns.{end_of, agenda_past, IsAtRest, IsInTurn, agenda_with, wait_of}
 pub use Rattle.coap_serve.specs.streams.Turns.{IsServedOnce, IsLaidOut, is_heard, server_heard, server_wrote}
 pub use Rattle.coap_serve.specs.streams.Turns.{waiting_once, rest_left, is_over_in, has_failed, course_of, wants_of}
-pub use Rattle.coap_serve.specs.streams.Turns.{IsAsked, CanGoOn, IsRestAnswer, MayWait, IsServed, IsAgendaOf, wants_in}
-pub use Rattle.coap_serve.specs.streams.Turns.{ComesToNothing, can_go_on}
+pub use Rattle.coap_serve.specs.streams.Turns.{IsAsked, CanGoOn, IsRestAnswer, MayWait, IsServed, IsAgendaOf}
+pub use Rattle.coap_serve.specs.streams.Turns.{wants_in, ComesToNothing, can_go_on, FarEnd, IsCarriedOn}
+pub use Rattle.coap_serve.specs.streams.Turns.{IsTakenAndWritten, least_with, left_behind}
 pub use Rattle.coap_serve.specs.streams.Wires.{IsMemoryOrTurns, IsWithin, IsMemory, IsOneWrite, bytes_passed}
-pub use Rattle.coap_serve.specs.streams.Wires.{count_passed, IsTold}
+pub use Rattle.coap_serve.specs.streams.Wires.{count_passed, IsTold, Answered}
 -- ---- coap_serve, values
 pub use Rattle.coap_serve.specs.values.Causes.{change_hash, ObservesNone, hash_behind, path_hash, AreSettledUntouched}
-pub use Rattle.coap_serve.specs.values.Causes.{AreOthersSettled, IsUntouched}
+pub use Rattle.coap_serve.specs.values.Causes.{AreOthersSettled, IsUntouched, segments_hash}
 pub use Rattle.coap_serve.specs.values.Dues.{same_stamp, stamp_of, WaitsForWhatIsDue, outlook_of, tells_time, sooner}
-pub use Rattle.coap_serve.specs.values.Dues.{due_on, IsBefore, next_told}
+pub use Rattle.coap_serve.specs.values.Dues.{due_on, IsBefore, next_told, session_outlook}
 pub use Rattle.coap_serve.specs.values.Entries.{IsFirstStale, link_replied, entries_replied, entries_notified}
-pub use Rattle.coap_serve.specs.values.Entries.{first_index, settled_held, framer_on}
+pub use Rattle.coap_serve.specs.values.Entries.{settled_held, framer_on, is_observed, is_sent, response_on}
+unfoldable pub use Rattle.coap_serve.specs.values.Entries.{first_index}
 pub use Rattle.coap_serve.specs.values.Flushes.{IsFlushed, IsPartFlushed, waiting_at, more_at, IsFlushedOnce}
-pub use Rattle.coap_serve.specs.values.Flushes.{IsFlushedAt}
-pub use Rattle.coap_serve.specs.values.ServerAnswers.{stop_on, open_refusal, IsNotTaken, open_refusal_in, release_fault}
-pub use Rattle.coap_serve.specs.values.ServerAnswers.{can_take_on, handled_by, written_refusal, front_of}
+pub use Rattle.coap_serve.specs.values.Flushes.{IsFlushedAt, flush_once, more_in, waiting_in}
+unfoldable pub use Rattle.coap_serve.specs.values.Flushes.{flush_turns}
+pub use Rattle.coap_serve.specs.values.ServerAnswers.{stop_on, open_refusal, IsNotTaken, open_refusal_in}
+pub use Rattle.coap_serve.specs.values.ServerAnswers.{release_fault, can_take_on, written_refusal, front_of}
 pub use Rattle.coap_serve.specs.values.ServerAnswers.{OpenedOrMemory, released_refusal, IsAnnounced, status_of}
-pub use Rattle.coap_serve.specs.values.ServerAnswers.{released_refusal_on, handled_so}
-pub use Rattle.coap_serve.specs.values.Servers.{session_of, new_server, server_put, server_removed, server_ticked}
-pub use Rattle.coap_serve.specs.values.Servers.{AreSettled, server_dropped, new_host, ServerValue, LiesAt}
-pub use Rattle.coap_serve.specs.values.Servers.{server_opened, is_there, count_taken, server_taken, server_written}
-pub use Rattle.coap_serve.specs.values.Servers.{server_ended, server_released, server_announced, changed_at}
-pub use Rattle.coap_serve.specs.values.Servers.{settled_entry}
+pub use Rattle.coap_serve.specs.values.ServerAnswers.{released_refusal_on, handled_so, RefusesPieceOn}
+pub use Rattle.coap_serve.specs.values.ServerAnswers.{announced_refusal_on, handled_on, session_refusal}
+pub use Rattle.coap_serve.specs.values.ServerAnswers.{session_status, written_refusal_on}
+unfoldable pub use Rattle.coap_serve.specs.values.ServerAnswers.{handled_by}
+pub use Rattle.coap_serve.specs.values.Servers.{new_server, server_put, server_removed, server_ticked, AreSettled}
+pub use Rattle.coap_serve.specs.values.Servers.{server_dropped, new_host, ServerValue, LiesAt, server_opened}
+pub use Rattle.coap_serve.specs.values.Servers.{is_there, server_written, server_ended, server_released}
+pub use Rattle.coap_serve.specs.values.Servers.{server_announced, settled_entry, count_on, on_session, server_settled}
+pub use Rattle.coap_serve.specs.values.Servers.{server_taken_on, server_taken_so, session_becomes}
+unfoldable pub use Rattle.coap_serve.specs.values.Servers.{session_of, count_taken, server_taken, changed_at}
 pub use Rattle.coap_serve.specs.values.Sessions.{ObserverValue, answer_on, hold_on, held_in, host_changed, link_sent}
-pub use Rattle.coap_serve.specs.values.Sessions.{new_entry, notification_on, without_entry, mark_at, untold_mark}
-pub use Rattle.coap_serve.specs.values.Sessions.{is_stale, SessionValue, session_written, session_ended}
-pub use Rattle.coap_serve.specs.values.Sessions.{session_released, session_announced, session_settled, change_by}
-pub use Rattle.coap_serve.specs.values.Sessions.{observers_on, session_handled, session_with, sizes_of, new_session}
-pub use Rattle.coap_serve.specs.values.Sessions.{session_takes, next_held_in, next_stale, session_notified}
-pub use Rattle.coap_serve.specs.values.Sessions.{session_settled_once, taking, IsSettled, RefusesPiece}
+pub use Rattle.coap_serve.specs.values.Sessions.{new_entry, notification_on, mark_at, untold_mark, SessionValue}
+pub use Rattle.coap_serve.specs.values.Sessions.{session_written, session_ended, session_released, session_announced}
+pub use Rattle.coap_serve.specs.values.Sessions.{change_by, observers_on, session_with, sizes_of, new_session}
+pub use Rattle.coap_serve.specs.values.Sessions.{session_takes, session_notified, IsSettled, RefusesPiece}
+pub use Rattle.coap_serve.specs.values.Sessions.{ObserversValue, Taking, asks_this, entry_left, frame_on, is_marked}
+pub use Rattle.coap_serve.specs.values.Sessions.{mark_of, session_max, session_raises, session_ready}
+pub use Rattle.coap_serve.specs.values.Sessions.{session_rejected, session_replied, session_settled_so, state_on}
+pub use Rattle.coap_serve.specs.values.Sessions.{taking_found, taking_read}
+unfoldable pub use Rattle.coap_serve.specs.values.Sessions.{without_entry, is_stale, session_settled, session_handled}
+unfoldable pub use Rattle.coap_serve.specs.values.Sessions.{next_held_in, next_stale, session_settled_once, taking}
+unfoldable pub use Rattle.coap_serve.specs.values.Sessions.{session_settled_within}
 -- ---- coap_serve, views
 pub use Rattle.coap_serve.specs.views.ConfigViews.{start_values}
 pub use Rattle.coap_serve.specs.views.LineViews.{line_bytes, IsRun, IsDrainable}
-pub use Rattle.coap_serve.specs.views.ObserverViews.{observer_value}
+pub use Rattle.coap_serve.specs.views.ObserverViews.{observer_value, AreCovered}
 pub use Rattle.coap_serve.specs.views.PathSetViews.{Covers}
+pub use Rattle.coap_serve.specs.views.ServerViews.{IsServer}
+pub use Rattle.coap_serve.specs.views.SessionViews.{IsSession, session_value}
 -- ---- coap_serve, world
-pub use Rattle.coap_serve.specs.world.Answered.{FollowsAnswers}
-pub use Rattle.coap_serve.specs.world.Custody.{StandFor, QueuesCustody, IsFirstHeld, KeepsHeld, KeepsHeldOver}
-pub use Rattle.coap_serve.specs.world.Events.{Event, Ticked, Stored, Removed, Opened, Ended, Took, size_on, stream_on}
-pub use Rattle.coap_serve.specs.world.Events.{steps_of, world_after, AreAccepted, Wrote, takes, Released, Announced}
-pub use Rattle.coap_serve.specs.world.Events.{Dropped}
-pub use Rattle.coap_serve.specs.world.Handling.{count_of, handled_in}
-pub use Rattle.coap_serve.specs.world.Heard.{heard_step, steps_heard, kept_at}
+pub use Rattle.coap_serve.specs.world.Answered.{FollowsAnswers, HasResponse, is_asking}
+unfoldable pub use Rattle.coap_serve.specs.world.Answered.{HaveOwnAnswers}
+pub use Rattle.coap_serve.specs.world.Custody.{QueuesCustody, IsFirstHeld, KeepsHeld, KeepsHeldOver, AddsAsked}
+pub use Rattle.coap_serve.specs.world.Custody.{asks_held}
+unfoldable pub use Rattle.coap_serve.specs.world.Custody.{StandFor}
+pub use Rattle.coap_serve.specs.world.Events.{Event, Ticked, Stored, Removed, Opened, Ended, Took, stream_on}
+pub use Rattle.coap_serve.specs.world.Events.{AreAccepted, Wrote, Released, Announced, Dropped, IfSide, OnSide}
+pub use Rattle.coap_serve.specs.world.Events.{beyond, new_fault, size_by, spelled_on, taken_in, takes_of}
+unfoldable pub use Rattle.coap_serve.specs.world.Events.{size_on, steps_of, world_after, takes, AreAcceptedBehind}
+unfoldable pub use Rattle.coap_serve.specs.world.Events.{IsAccepted, sizes_on, steps_behind, steps_by, taken_on}
+pub use Rattle.coap_serve.specs.world.Handling.{count_of, handled_in, handled_between, message_reason}
+pub use Rattle.coap_serve.specs.world.Heard.{heard_step, kept_at, hears}
+unfoldable pub use Rattle.coap_serve.specs.world.Heard.{steps_heard, heard_steps}
 pub use Rattle.coap_serve.specs.world.Memory.{IsRefusedStored, StoresNothing, IsRefusedFor}
-pub use Rattle.coap_serve.specs.world.Observers.{asks_entry, is_whole}
-pub use Rattle.coap_serve.specs.world.Shows.{Shows, kept_on, server_of, ShowsRefused}
+pub use Rattle.coap_serve.specs.world.Observers.{asks_entry, is_whole, Observer, entry_for, format_of, goes_on}
+pub use Rattle.coap_serve.specs.world.Observers.{has_place, left_of, notification, notification_message, same_state}
+pub use Rattle.coap_serve.specs.world.Observers.{with_entry}
+unfoldable pub use Rattle.coap_serve.specs.world.Observers.{first_becomes, is_due, without_token}
+pub use Rattle.coap_serve.specs.world.Shows.{Shows, kept_on, ShowsRefused, mark_told, observer_shown, place_shown}
+pub use Rattle.coap_serve.specs.world.Shows.{server_shown, session_shown}
+unfoldable pub use Rattle.coap_serve.specs.world.Shows.{server_of}
 pub use Rattle.coap_serve.specs.world.Sides.{Side, waiting_on, HearsAll, handles, asks_answer, held_for, moment_after}
-pub use Rattle.coap_serve.specs.world.Sides.{held_message, next_held, side_after, side_faulted, side_written}
-pub use Rattle.coap_serve.specs.world.Sides.{side_ended, side_released, side_announced, settled_once, is_cut}
-pub use Rattle.coap_serve.specs.world.Told.{WasToldLast, HaveOwnTokens, asked_late}
-pub use Rattle.coap_serve.specs.world.View.{view_of, after_view, AreSeen}
-pub use Rattle.coap_serve.specs.world.ViewEvents.{first_number, view_events}
-pub use Rattle.coap_serve.specs.world.World.{World, Step, new_world, side_of, step, after_steps}
+pub use Rattle.coap_serve.specs.world.Sides.{held_message, next_held, is_cut, after_sent, has_room, kept_open}
+pub use Rattle.coap_serve.specs.world.Sides.{may_raise, new_side, next_due, notified, settled_so, side_answered}
+pub use Rattle.coap_serve.specs.world.Sides.{side_handled, side_replied, side_with, with_history}
+unfoldable pub use Rattle.coap_serve.specs.world.Sides.{side_after, side_faulted, side_written, side_ended}
+unfoldable pub use Rattle.coap_serve.specs.world.Sides.{side_released, side_announced, settled_once, change_after}
+unfoldable pub use Rattle.coap_serve.specs.world.Sides.{settled, settled_within}
+pub use Rattle.coap_serve.specs.world.Told.{WasToldLast, HaveOwnTokens, asked_late, TellsState, etag_of_state}
+pub use Rattle.coap_serve.specs.world.Told.{is_response, responds}
+unfoldable pub use Rattle.coap_serve.specs.world.Told.{last_response}
+pub use Rattle.coap_serve.specs.world.View.{after_view, AreSeen, change_made, change_on, change_steps}
+unfoldable pub use Rattle.coap_serve.specs.world.View.{view_of, concerns, view_step}
+pub use Rattle.coap_serve.specs.world.ViewEvents.{first_number, change_events}
+unfoldable pub use Rattle.coap_serve.specs.world.ViewEvents.{view_events, changes_of, view_behind, view_event}
+pub use Rattle.coap_serve.specs.world.World.{World, Step, new_world, Faulted, Handled, Place, Written, all_settled}
+pub use Rattle.coap_serve.specs.world.World.{on_side, settled_place, stored_after, ticks}
+unfoldable pub use Rattle.coap_serve.specs.world.World.{side_of, step, after_steps, acted}

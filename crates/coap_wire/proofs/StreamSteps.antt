@@ -869,14 +869,6 @@ module _ (M : ℕ) (s : List ℕ) where
   unfolding split
   split_faulty fault e = sized_faulty (always M) s fault e
 
-  pub split_message : (frame rest : List ℕ) (m : Message) → beginning M s ≡ Whole frame rest → message_of frame ≡ Ok m → split M s ≡ with_message m (split M rest)
-  unfolding split
-  split_message frame rest m e is = sized_message (always M) s frame rest m e is
-
-  pub split_bad : (frame rest : List ℕ) (e : FormatFault) → beginning M s ≡ Whole frame rest → message_of frame ≡ Err e → split M s ≡ record { messages = []; rest = frame; fault = Some Format }
-  unfolding split
-  split_bad frame rest e is bad = sized_bad (always M) s frame rest e is bad
-
   pub split_goes_on : (more : List ℕ) → split M (s ++ more) ≡ split_on M (split M s) more
   unfolding split
   split_goes_on more = sized_goes_on (always M) s more

@@ -1,24 +1,24 @@
 -- Scripts that differ only in where `in`s are cut leave the same server, and write the same lines but for those of the `in`s.
-use Rattle.std.proofs.Common.{◌≡◌, ℕ, zero, suc, ◌+◌, ◌<◌, ◌≤◌, ◌^◌, Bool, true, false, ◌==◌, nat_le, not, map, List, [], ◌∷◌, ◌++◌, length, take, drop, Option, Some, None, option_map, codes, refl, sym, ap, subst, ◌∙◌, arith, if◌then◌else◌}
-use Rattle.std.specs.List.{concat}
-use Rattle.std.proofs.lemmas.Bool.{leb-true, leb-false, eqb-true, eqb-false}
-use Rattle.std.proofs.lemmas.List.{length-append, take-append-drop}
-use Rattle.coap_conn.specs.Release.{release_refusal}
-use Rattle.coap_store.specs.Refusals.{put_refusal, remove_refusal}
-use Rattle.coap_serve.specs.script.Events.{EventValue, Open, In, Drain, Tick, Put, Remove, End, Release, Drop, Status}
-use Rattle.coap_serve.specs.script.Replay.{Ran, comes_to, open_number, store_number, release_number, tick_refusal, unless_refused, on_connection, Fed, fed_more, goes_on, fed_turns, fed, in_ran, drained, drain_ran, status_ran, event_ran, replayed}
-use Rattle.coap_serve.specs.script.Lines.{open_line, tick_line, put_line, remove_line, word_line}
-use Rattle.coap_serve.specs.script.Cuts.{in_before, joined, DifferInCuts, is_in, lines_of, other_lines, IsInTime, AreInTime}
-use Rattle.coap_serve.specs.values.Sessions.{SessionValue}
-use Rattle.coap_serve.specs.values.Servers.{ServerValue, session_of, server_opened, server_taken_on, server_taken, server_ticked, server_put, server_removed, server_ended, server_released, server_dropped}
-use Rattle.coap_serve.specs.values.ServerAnswers.{open_refusal, released_refusal_on, released_refusal}
+use Rattle.std.proofs.Common.{◌≡◌, ℕ, ◌+◌, ◌<◌, ◌≤◌, ◌^◌, ◌==◌, nat_le, map, List, [], ◌∷◌, ◌++◌, length, drop, Option, Some, None, option_map, codes, refl, sym, ◌∙◌, arith}
+use Rattle.coap_serve.specs.Prelude.{concat, release_refusal, put_refusal, remove_refusal, EventValue, Open, In}
+use Rattle.coap_serve.specs.Prelude.{Drain, Tick, Remove, Release, Drop, Status, Ran, comes_to, open_number}
+use Rattle.coap_serve.specs.Prelude.{store_number, release_number, tick_refusal, unless_refused, on_connection, fed}
+use Rattle.coap_serve.specs.Prelude.{in_ran, drained, drain_ran, status_ran, event_ran, replayed, open_line}
+use Rattle.coap_serve.specs.Prelude.{tick_line, put_line, remove_line, word_line, in_before, joined, DifferInCuts}
+use Rattle.coap_serve.specs.Prelude.{lines_of, other_lines, IsInTime, AreInTime, SessionValue, ServerValue}
+use Rattle.coap_serve.specs.Prelude.{session_of, server_opened, server_taken, server_ticked, server_put}
+use Rattle.coap_serve.specs.Prelude.{server_removed, server_ended, server_released, server_dropped, open_refusal}
+use Rattle.coap_serve.specs.Prelude.{released_refusal_on, released_refusal, Event, Shows}
+use Rattle.std.proofs.lemmas.Bool.{leb-true, leb-false, eqb-true, eqb-false, true_from_ne_false, cond_both}
+use Rattle.std.proofs.lemmas.List.{length-take}
+use Rattle.coap_serve.specs.script.Events.{Put, End}
 use Rattle.coap_serve.specs.declared.server.OpenFault.TheVariants as opening
-use Rattle.coap_serve.specs.world.Events.{Event}
-use Rattle.coap_serve.specs.world.Shows.{Shows}
 use Rattle.coap_serve.proofs.world.ShowLaws.{shows_opened, shows_taken, shows_written, shows_ticked, shows_put, shows_removed, shows_ended, shows_released, shows_dropped}
-use Rattle.coap_serve.proofs.scripting.CutTakes.{absent_stuck, stuck_turns, fed_in_parts}
+use Rattle.coap_serve.proofs.scripting.CutTakes.{fed_in_parts}
+use Rattle.coap_serve.proofs.scripting.ShownLemmas.{turns_keep, absent_stuck, stuck_turns}
 use Rattle.coap_serve.proofs.world.CallLaws.{not_refused}
 use Rattle.coap_serve.proofs.values.OptionLemmas.{none_made}
+use Rattle.coap_store.proofs.RefusalLemmas.{passed}
 
 -- ---- a server that shows a world shows one after each event of a script
 
@@ -37,47 +37,19 @@ connection_shown v word id does None shown next = shown
 connection_shown v word id does (Some s) shown next = next s refl
 
 -- `open`
-open_shown_by : (v : ServerValue) → IsShown v → (full spent : Bool) → nat_le v.config.connections (length v.sessions) ≡ full → (v.ids == 18446744073709551615) ≡ spent → (if full then Some opening.Full else (if spent then Some opening.IdsSpent else None)) ≡ None → IsShown (server_opened v)
-open_shown_by v shown true spent is_full is_spent none = absurd cc
-open_shown_by v shown false true is_full is_spent none = absurd cc
-open_shown_by v shown false false is_full is_spent none =
-    let room = leb-false v.config.connections (length v.sessions) is_full in
-    let ids = shown.ids in
-    let fits : v.ids + 1 ≤ 18446744073709551615 = omega (arith, eqb-false v.ids 18446744073709551615 is_spent, ids) in
-    record { events = _; shows = shows_opened v shown.events shown.shows fits (omega (arith, room)); ids = omega (arith, fits) }
+open_shown : (v : ServerValue) → IsShown v → open_refusal v ≡ None → IsShown (server_opened v)
+open_shown v shown none =
+    let room = passed (nat_le v.config.connections (length v.sessions)) opening.Full _ none in
+    let left = passed (v.ids == 18446744073709551615) opening.IdsSpent None room.1 in
+    let few = leb-false v.config.connections (length v.sessions) room.0 in
+    let fits : v.ids + 1 ≤ 18446744073709551615 = omega (arith, eqb-false v.ids 18446744073709551615 left.0, shown.ids) in
+    record { events = _; shows = shows_opened v shown.events shown.shows fits (omega (arith, few)); ids = omega (arith, fits) }
 
 -- `in`
-ids_on : (v : ServerValue) (id : ℕ) (piece : List ℕ) (found : Option SessionValue) → (server_taken_on v id piece found).ids ≡ v.ids
-ids_on v id piece None = refl
-ids_on v id piece (Some s) = refl
-
-ids_stay : (v : ServerValue) (id : ℕ) (piece : List ℕ) → (server_taken v id piece).ids ≡ v.ids
-unfolding server_taken
-ids_stay v id piece = ids_on v id piece (session_of id v.sessions)
-
 take_shown_by : (v : ServerValue) (id : ℕ) (piece : List ℕ) (found : Option SessionValue) → session_of id v.sessions ≡ found → IsShown v → IsShown (server_taken v id piece)
 unfolding server_taken
-take_shown_by v id piece None at shown = subst IsShown (sym (ap (server_taken_on v id piece) at)) shown
-take_shown_by v id piece (Some s) at shown = record { events = _; shows = shows_taken v shown.events id piece s shown.shows at; ids = let ids = shown.ids in omega (arith, ids, ids_stay v id piece) }
-
-fed_turn_shown : (id : ℕ) (bytes : List ℕ) (f : Fed) (going : Bool) → IsShown f.server → IsShown (if going then fed_more id (drop f.count bytes) f else f).server
-fed_turn_shown id bytes f true shown = take_shown_by f.server id (drop f.count bytes) (session_of id f.server.sessions) refl shown
-fed_turn_shown id bytes f false shown = shown
-
-turns_shown : (v : ServerValue) (id : ℕ) (bytes : List ℕ) (turns : ℕ) → IsShown v → IsShown (fed_turns turns v id bytes).server
-unfolding fed_turns
-turns_shown v id bytes zero shown = shown
-turns_shown v id bytes (suc turns) shown = fed_turn_shown id bytes (fed_turns turns v id bytes) (goes_on bytes (fed_turns turns v id bytes)) (turns_shown v id bytes turns shown)
-
--- `drain`
-drained_few : (most : Option ℕ) (waiting : List ℕ) → length (drained most waiting) ≤ length waiting
-drained_few None waiting = omega arith
-drained_few (Some most) waiting = omega (arith, ap (λ (bytes : List ℕ). length bytes) (take-append-drop most waiting), length-append (take most waiting) (drop most waiting))
-
--- `tick`
-ticked_by : (v : ServerValue) (now : ℕ) (later : Bool) → nat_le v.host.now now ≡ later → if◌then◌else◌ {A = Option ℕ} later None (Some 1) ≡ None → v.host.now ≤ now
-ticked_by v now true is none = leb-true v.host.now now is
-ticked_by v now false is none = absurd cc
+take_shown_by v id piece None at shown = rw at shown
+take_shown_by v id piece (Some s) at shown = record { events = _; shows = shows_taken v shown.events id piece s shown.shows at; ids = rw at shown.ids }
 
 -- `release`
 release_finds : (v : ServerValue) (id : ℕ) (found : Option SessionValue) → session_of id v.sessions ≡ found → released_refusal_on found ≡ None → (s : SessionValue) × (session_of id v.sessions ≡ Some s) × (release_refusal s.link ≡ None)
@@ -88,15 +60,21 @@ event_shown : (v : ServerValue) (e : EventValue) → IsInTime e → IsShown v �
 unfolding event_ran
 event_shown v Open in_time shown =
     unless_shown v (codes "open") None (comes_to (server_opened v) (open_line (v.ids + 1))) (option_map open_number (open_refusal v)) shown
-    (λ none. open_shown_by v shown (nat_le v.config.connections (length v.sessions)) (v.ids == 18446744073709551615) refl refl (none_made open_number (open_refusal v) none))
+    (λ none. open_shown v shown (none_made open_number (open_refusal v) none))
 event_shown v (In id bytes) in_time shown =
-    connection_shown v (codes "in") id (λ s. in_ran id (fed v id bytes)) (session_of id v.sessions) shown (λ s at. turns_shown v id bytes (length bytes) shown)
+    connection_shown v (codes "in") id (λ s. in_ran id (fed v id bytes)) (session_of id v.sessions) shown (λ s at.
+    turns_keep (λ f. IsShown f.server) id bytes
+    (λ f now. take_shown_by f.server id (drop f.count bytes) (session_of id f.server.sessions) refl now) v shown (length bytes))
 event_shown v (Drain id most) in_time shown =
     connection_shown v (codes "drain") id (λ s. drain_ran v id (drained most s.link.waiting)) (session_of id v.sessions) shown
-    (λ s at. record { events = _; shows = shows_written v shown.events id (length (drained most s.link.waiting)) s shown.shows at (drained_few most s.link.waiting); ids = shown.ids })
+    (λ s at.
+    let few : length (drained most s.link.waiting) ≤ length s.link.waiting = grind (arith, length-take {A = ℕ}) in
+    record { events = _; shows = shows_written v shown.events id (length (drained most s.link.waiting)) s shown.shows at few; ids = shown.ids })
 event_shown v (Tick now) in_time shown =
     unless_shown v (codes "tick") None (comes_to (server_ticked v now) (tick_line now)) (tick_refusal v now) shown
-    (λ none. record { events = _; shows = shows_ticked v shown.events now shown.shows (ticked_by v now (nat_le v.host.now now) refl none) (omega (arith, in_time)); ids = shown.ids })
+    (λ none.
+    let later = leb-true v.host.now now (true_from_ne_false (nat_le v.host.now now) (λ no. let bad = rw no at none in cc)) in
+    record { events = _; shows = shows_ticked v shown.events now shown.shows later (omega (arith, in_time)); ids = shown.ids })
 event_shown v (Put path format bytes) in_time shown =
     unless_shown v (codes "put") None (comes_to (server_put v path format bytes) (put_line (v.host.store.versions + 1))) (option_map store_number (put_refusal v.host.store path bytes)) shown
     (λ none. record { events = _; shows = shows_put v shown.events path format bytes shown.shows (none_made store_number (put_refusal v.host.store path bytes) none); ids = shown.ids })
@@ -127,11 +105,12 @@ unfolding event_ran
 in_server v id bytes = in_by v id bytes (session_of id v.sessions) refl
 
 in_parts : (v : ServerValue) (id : ℕ) (xs ys : List ℕ) → IsShown v → (event_ran (event_ran v (In id xs)).server (In id ys)).server ≡ (event_ran v (In id (xs ++ ys))).server
-in_parts v id xs ys shown =
-    in_server (event_ran v (In id xs)).server id ys
-    ∙ ap (λ (w : ServerValue). (fed w id ys).server) (in_server v id xs)
-    ∙ sym (fed_in_parts v shown.events id xs ys shown.shows).server
-    ∙ sym (in_server v id (xs ++ ys))
+in_parts v id xs ys shown = cc (
+  in_server (event_ran v (In id xs)).server id ys,
+  in_server v id xs,
+  (fed_in_parts v shown.events id xs ys shown.shows).server,
+  in_server v id (xs ++ ys),
+)
 
 -- ---- scripts
 
@@ -142,86 +121,55 @@ record RunAlike (v : ServerValue) (es fs : List EventValue) : Type 0 where
 run_same : (v : ServerValue) (es : List EventValue) → RunAlike v es es
 run_same v es = record { server = refl; lines = refl }
 
-run_then : (v : ServerValue) (es fs gs : List EventValue) → RunAlike v es fs → RunAlike v fs gs → RunAlike v es gs
-run_then v es fs gs one other = record { server = one.server ∙ other.server; lines = one.lines ∙ other.lines }
-
 -- one event, and then others that run alike
-others_behind : (going : Bool) (l : EventValue × List ℕ) (ls ms : List (EventValue × List ℕ)) → ls ≡ ms → (if going then l ∷ ls else ls) ≡ (if going then l ∷ ms else ms)
-others_behind true l ls ms same = ap (λ (ns : List (EventValue × List ℕ)). l ∷ ns) same
-others_behind false l ls ms same = same
-
 run_behind : (v : ServerValue) (e : EventValue) (es fs : List EventValue) → RunAlike (event_ran v e).server es fs → RunAlike v (e ∷ es) (e ∷ fs)
 unfolding replayed lines_of
-run_behind v e es fs alike = record { server = alike.server; lines = others_behind (not (is_in e)) (e, (event_ran v e).text) (other_lines (event_ran v e).server es) (other_lines (event_ran v e).server fs) alike.lines }
+run_behind v e es fs alike = record { server = alike.server; lines = rw alike.lines }
 
 run_joined : (v : ServerValue) (id : ℕ) (bytes more : List ℕ) (es : List EventValue) → IsShown v → RunAlike v (In id bytes ∷ In id more ∷ es) (In id (bytes ++ more) ∷ es)
 unfolding replayed lines_of
 run_joined v id bytes more es shown =
     let same = in_parts v id bytes more shown in
-    record { server = ap (λ (w : ServerValue). (replayed w es).server) same; lines = ap (λ (w : ServerValue). other_lines w es) same }
-
-run_in : (v : ServerValue) (id other : ℕ) (bytes more : List ℕ) (es : List EventValue) (same : Bool) → (other == id) ≡ same → IsShown v → RunAlike v (In id bytes ∷ In other more ∷ es) (if same then In id (bytes ++ more) ∷ es else In id bytes ∷ In other more ∷ es)
-run_in v id other bytes more es true is shown =
-    subst (λ (k : ℕ). RunAlike v (In id bytes ∷ In k more ∷ es) (In id (bytes ++ more) ∷ es)) (sym (eqb-true other id is)) (run_joined v id bytes more es shown)
-run_in v id other bytes more es false is shown = run_same v (In id bytes ∷ In other more ∷ es)
+    record { server = rw same; lines = rw same }
 
 run_before : (v : ServerValue) (id : ℕ) (bytes : List ℕ) (es : List EventValue) → IsShown v → RunAlike v (In id bytes ∷ es) (in_before id bytes es)
 unfolding in_before
-run_before v id bytes [] shown = run_same v (In id bytes ∷ [])
-run_before v id bytes (In other more ∷ es) shown = run_in v id other bytes more es (other == id) refl shown
-run_before v id bytes (Open ∷ es) shown = run_same v (In id bytes ∷ Open ∷ es)
-run_before v id bytes (Drain other most ∷ es) shown = run_same v (In id bytes ∷ Drain other most ∷ es)
-run_before v id bytes (Tick now ∷ es) shown = run_same v (In id bytes ∷ Tick now ∷ es)
-run_before v id bytes (Put path format payload ∷ es) shown = run_same v (In id bytes ∷ Put path format payload ∷ es)
-run_before v id bytes (Remove path text ∷ es) shown = run_same v (In id bytes ∷ Remove path text ∷ es)
-run_before v id bytes (End other ∷ es) shown = run_same v (In id bytes ∷ End other ∷ es)
-run_before v id bytes (Release other ∷ es) shown = run_same v (In id bytes ∷ Release other ∷ es)
-run_before v id bytes (Drop other ∷ es) shown = run_same v (In id bytes ∷ Drop other ∷ es)
-run_before v id bytes (Status other ∷ es) shown = run_same v (In id bytes ∷ Status other ∷ es)
+run_before v id bytes (In other more ∷ es) shown =
+    cond_both (other == id) (In id (bytes ++ more) ∷ es) (In id bytes ∷ In other more ∷ es) (RunAlike v (In id bytes ∷ In other more ∷ es))
+    (λ same. rw (eqb-true other id same) (run_joined v id bytes more es shown))
+    (λ differ. run_same v (In id bytes ∷ In other more ∷ es))
+run_before v id bytes es shown = run_same v (In id bytes ∷ es)
 
 -- a script runs as the one whose `in`s are joined
 joined_alike : (v : ServerValue) (es : List EventValue) → IsShown v → AreInTime es → RunAlike v es (joined es)
 unfolding joined
 joined_alike v [] shown in_time = run_same v []
 joined_alike v (In id bytes ∷ es) shown in_time =
-    run_then v (In id bytes ∷ es) (In id bytes ∷ joined es) (in_before id bytes (joined es))
-    (run_behind v (In id bytes) es (joined es) (joined_alike (event_ran v (In id bytes)).server es (event_shown v (In id bytes) in_time.0 shown) in_time.1))
-    (run_before v id bytes (joined es) shown)
-joined_alike v (Open ∷ es) shown in_time = run_behind v Open es (joined es) (joined_alike (event_ran v Open).server es (event_shown v Open in_time.0 shown) in_time.1)
-joined_alike v (Drain id most ∷ es) shown in_time = run_behind v (Drain id most) es (joined es) (joined_alike (event_ran v (Drain id most)).server es (event_shown v (Drain id most) in_time.0 shown) in_time.1)
-joined_alike v (Tick now ∷ es) shown in_time = run_behind v (Tick now) es (joined es) (joined_alike (event_ran v (Tick now)).server es (event_shown v (Tick now) in_time.0 shown) in_time.1)
-joined_alike v (Put path format bytes ∷ es) shown in_time =
-    run_behind v (Put path format bytes) es (joined es) (joined_alike (event_ran v (Put path format bytes)).server es (event_shown v (Put path format bytes) in_time.0 shown) in_time.1)
-joined_alike v (Remove path text ∷ es) shown in_time = run_behind v (Remove path text) es (joined es) (joined_alike (event_ran v (Remove path text)).server es (event_shown v (Remove path text) in_time.0 shown) in_time.1)
-joined_alike v (End id ∷ es) shown in_time = run_behind v (End id) es (joined es) (joined_alike (event_ran v (End id)).server es (event_shown v (End id) in_time.0 shown) in_time.1)
-joined_alike v (Release id ∷ es) shown in_time = run_behind v (Release id) es (joined es) (joined_alike (event_ran v (Release id)).server es (event_shown v (Release id) in_time.0 shown) in_time.1)
-joined_alike v (Drop id ∷ es) shown in_time = run_behind v (Drop id) es (joined es) (joined_alike (event_ran v (Drop id)).server es (event_shown v (Drop id) in_time.0 shown) in_time.1)
-joined_alike v (Status id ∷ es) shown in_time = run_behind v (Status id) es (joined es) (joined_alike (event_ran v (Status id)).server es (event_shown v (Status id) in_time.0 shown) in_time.1)
+    let then_shown = event_shown v (In id bytes) in_time.0 shown in
+    let behind = run_behind v (In id bytes) es (joined es) (joined_alike (event_ran v (In id bytes)).server es then_shown in_time.1) in
+    let before = run_before v id bytes (joined es) shown in
+    record { server = behind.server ∙ before.server; lines = behind.lines ∙ before.lines }
+joined_alike v (e ∷ es) shown in_time = run_behind v e es (joined es) (joined_alike (event_ran v e).server es (event_shown v e in_time.0 shown) in_time.1)
 
 -- ---- what is written
 
 pub text_of_lines : (v : ServerValue) (es : List EventValue) → concat (map (λ l. l.1) (lines_of v es)) ≡ (replayed v es).text
 unfolding replayed lines_of
 text_of_lines v [] = refl
-text_of_lines v (e ∷ es) = ap (λ (text : List ℕ). (event_ran v e).text ++ text) (text_of_lines (event_ran v e).server es)
+text_of_lines v (e ∷ es) = rw (text_of_lines (event_ran v e).server es)
 
 -- ---- the law
 
 module _ (v : ServerValue) (before : List Event) (es fs : List EventValue) (shows : Shows v before) (ids : v.ids < 2 ^ 64) (one : AreInTime es) (other : AreInTime fs) (alike : DifferInCuts es fs) where
-  shown : IsShown v
-  shown = record { events = before; shows = shows; ids = ids }
-
-  first_runs_alike : RunAlike v es (joined es)
-  first_runs_alike = joined_alike v es shown one
-
-  second_runs_alike : RunAlike v fs (joined fs)
-  second_runs_alike = joined_alike v fs shown other
+  runs_alike : RunAlike v es fs
+  runs_alike =
+      let shown : IsShown v = record { events = before; shows = shows; ids = ids } in
+      let first = joined_alike v es shown one in
+      let second = joined_alike v fs shown other in
+      record { server = cc (first.server, second.server, alike); lines = cc (first.lines, second.lines, alike) }
 
   pub cuts_alike_servers : (replayed v es).server ≡ (replayed v fs).server
-  cuts_alike_servers =
-      first_runs_alike.server
-      ∙ ap (λ (gs : List EventValue). (replayed v gs).server) alike
-      ∙ sym second_runs_alike.server
+  cuts_alike_servers = runs_alike.server
 
   pub same_lines : other_lines v es ≡ other_lines v fs
-  same_lines = first_runs_alike.lines ∙ ap (other_lines v) alike ∙ sym second_runs_alike.lines
+  same_lines = runs_alike.lines

@@ -1,13 +1,9 @@
 -- What is left of the bytes read from a wire.
-use Rattle.std.proofs.Common.{◌≡◌, ℕ, ◌+◌, ◌-◌, ◌≤◌, List, length, take, drop, drop-drop, sym, ap, ◌∙◌, arith}
+use Rattle.std.proofs.Common.{◌≡◌, ℕ, ◌+◌, ◌-◌, ◌≤◌, List, length, take, drop, drop-drop, arith}
 use Rattle.std.proofs.lemmas.List.{drop-take, length-take}
 
 -- the first bytes of those that lie between two places are gone
 pub rest_advanced : (buffer : List ℕ) (from to count : ℕ) → count ≤ length (take (to - from) (drop from buffer)) → take (to - (from + count)) (drop (from + count) buffer) ≡ drop count (take (to - from) (drop from buffer))
 rest_advanced buffer from to count few =
-    let long = length-take (to - from) (drop from buffer) in
-    let split : to - from ≡ count + (to - (from + count)) = omega (arith, few, long) in
-    sym (
-    ap (λ k. drop count (take k (drop from buffer))) split
-    ∙ drop-take count (to - (from + count)) (drop from buffer)
-    ∙ ap (take (to - (from + count))) (drop-drop count from buffer))
+    let split : to - from ≡ count + (to - (from + count)) = omega (arith, length-take (to - from) (drop from buffer)) in
+    rw (split, drop-take, drop-drop)

@@ -1,7 +1,7 @@
 -- Writing what waits, one write after the other.
-use Rattle.std.proofs.Common.{◌≡◌, ℕ, List, ◌++◌, take, drop, Option, sym, ap, ◌∙◌, append_assoc}
+use Rattle.std.proofs.Common.{◌≡◌, ℕ, List, ◌++◌, take, drop, Option, append_assoc}
 use Rattle.std.proofs.lemmas.List.{take-append-drop}
-use Rattle.coap_serve.specs.streams.Device.{AddsBytes}
+use Rattle.coap_serve.specs.Prelude.{AddsBytes}
 use Rattle.coap_serve.proofs.streams.DeviceLemmas.{bytes_then}
 
 -- Of some bytes a front was written, and these are left. The outlet told x, and tells y.
@@ -10,14 +10,10 @@ pub record WritesFront (bytes left : List ℕ) (x y : Option (List ℕ)) : Type 
   pub all : bytes ≡ front ++ left
   pub written : AddsBytes x y front
 
-module _ (bytes left : List ℕ) (x y z : Option (List ℕ)) (so_far : WritesFront bytes left x y) where
-  -- some bytes more were written
-  pub more_written : (count : ℕ) → AddsBytes y z (take count left) → WritesFront bytes (drop count left) x z
-  more_written count wrote = record {
-    front = so_far.front ++ take count left;
-    all =
-        so_far.all
-        ∙ ap (λ (w : List ℕ). so_far.front ++ w) (sym (take-append-drop count left))
-        ∙ sym (append_assoc so_far.front (take count left) (drop count left));
-    written = bytes_then x y z so_far.front (take count left) so_far.written wrote;
-  }
+-- some bytes more were written
+pub more_written : (bytes left : List ℕ) (x y z : Option (List ℕ)) (so_far : WritesFront bytes left x y) (count : ℕ) → AddsBytes y z (take count left) → WritesFront bytes (drop count left) x z
+more_written bytes left x y z so_far count wrote = record {
+  front = so_far.front ++ take count left;
+  all = rw (append_assoc, take-append-drop) so_far.all;
+  written = bytes_then x y z so_far.front (take count left) so_far.written wrote;
+}

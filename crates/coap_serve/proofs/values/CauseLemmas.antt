@@ -1,28 +1,20 @@
 -- What a change of a path, or of the moment, cannot touch stays settled.
-use Rattle.std.proofs.Common.{◌≡◌, ◌≢◌, ℕ, zero, suc, ◌<◌, ◌^◌, true, false, List, [], ◌∷◌, Option, Some, None, is_some, refl, sym, ap, subst, ◌∙◌}
-use Rattle.std.specs.Prelude.{find, map, not, slice_get, if◌then◌else◌}
-use Rattle.std.specs.List.{AllByRecursion}
-use Rattle.std.specs.Map.{values_of}
-use Rattle.indexmap.specs.IndexMap.{set_value_at}
-use Rattle.coap_store.specs.Paths.{Path}
-use Rattle.coap_store.specs.Store.{StoreValue, found_in, put_in, removed_in}
-use Rattle.coap_store.specs.State.{place_of, key_for, state_at}
+use Rattle.std.proofs.Common.{◌≡◌, ◌≢◌, ℕ, zero, suc, ◌<◌, ◌^◌, false, List, [], ◌∷◌, Option, Some, None, is_some, refl, sym, ap, subst, ◌∙◌}
+use Rattle.coap_serve.specs.Prelude.{find, map, not, slice_get, AllByRecursion, values_of, set_value_at, Path}
+use Rattle.coap_serve.specs.Prelude.{StoreValue, found_in, put_in, removed_in, place_of, key_for, state_at, Root}
+use Rattle.coap_serve.specs.Prelude.{Time, Async, Listing, Dynamic, Change, Nothing, Put, Delete, changed, changes}
+use Rattle.coap_serve.specs.Prelude.{IsStore, Host, Cause, ObserverValue, SessionValue, is_marked, is_stale}
+use Rattle.coap_serve.specs.Prelude.{host_changed, session_settled, IsSettled, AreSettled, changed_at, settled_entry}
+use Rattle.coap_serve.specs.Prelude.{path_hash, change_hash, ObservesNone, IsUntouched, AreSettledUntouched}
+use Rattle.coap_serve.specs.Prelude.{AreOthersSettled}
 use Rattle.coap_store.specs.declared.place.Place.{Place}
-use Rattle.coap_store.specs.declared.place.Place.TheVariants.{Root, Time, Async, Listing, Dynamic}
-use Rattle.coap_store.specs.Answer.{Change, Nothing, Put, Delete, changed}
-use Rattle.coap_store.specs.Changes.{changes}
-use Rattle.coap_store.specs.Invariant.{IsStore}
 use Rattle.coap_store.proofs.AnswerLaws.{key_is}
 use Rattle.coap_store.proofs.ChangeLaws.{other_is_kept_on_put, other_is_kept_on_delete}
-use Rattle.coap_serve.specs.declared.host.Host.{Host}
-use Rattle.coap_serve.specs.declared.cause.Cause.{Cause}
 use Rattle.coap_serve.specs.declared.cause.Cause.TheVariants as cause
-use Rattle.coap_serve.specs.values.Sessions.{ObserverValue, SessionValue, is_marked, is_stale, session_ready, host_changed, next_stale, session_settled, IsSettled}
-use Rattle.coap_serve.specs.values.Servers.{AreSettled, changed_at, settled_entry}
-use Rattle.coap_serve.specs.values.Causes.{path_hash, change_hash, ObservesNone, IsUntouched, AreSettledUntouched, AreOthersSettled}
-use Rattle.coap_serve.proofs.values.SettleLemmas.{settled_is_settled, settled_stays}
+use Rattle.coap_serve.proofs.values.SettleLemmas.{settled_is_settled, settled_stays, settled_still}
+use Rattle.coap_serve.proofs.world.EntryLemmas.{none_due}
 use Rattle.coap_serve.proofs.values.ServerLemmas.{Entries, one_of_all, written_at_index, settled_up_to}
-use Rattle.coap_serve.proofs.values.DueLemmas.{at_moment, none_found_first, stays_settled}
+use Rattle.coap_serve.proofs.values.DueLemmas.{at_moment, stays_settled}
 
 -- ---- the hash of a change
 
@@ -34,10 +26,8 @@ hash_where_changed (Delete path) = refl
 -- what is stored at a path with another hash is kept
 kept_elsewhere : (s : StoreValue) (c : Change) (hash : ℕ) → change_hash c ≡ Some hash → (q : Path) → path_hash q ≢ hash → found_in (changed s c).resources q ≡ found_in s.resources q
 kept_elsewhere s Nothing hash is q other = absurd cc
-kept_elsewhere s (Put path format bytes) hash is q other =
-    let same : path_hash path ≡ hash = cc in other_is_kept_on_put s path q format bytes (λ e. other (ap path_hash e ∙ same))
-kept_elsewhere s (Delete path) hash is q other =
-    let same : path_hash path ≡ hash = cc in other_is_kept_on_delete s path q (λ e. other (ap path_hash e ∙ same))
+kept_elsewhere s (Put path format bytes) hash is q other = other_is_kept_on_put s path q format bytes (λ e. other cc)
+kept_elsewhere s (Delete path) hash is q other = other_is_kept_on_delete s path q (λ e. other cc)
 
 -- ---- a state that did not change
 
@@ -57,21 +47,13 @@ stale_elsewhere host c hash o is other =
     ap not (sym (marked_alike host.store (changed host.store c) host.now o.mark (key_for o.path) (place_of o.path)
     (λ q e. kept_elsewhere host.store c hash is q (λ same. other (ap path_hash (key_is o.path q e).1 ∙ same)))))
 
-none_elsewhere : (host : Host) (c : Change) (hash : ℕ) (os : List ObserverValue) → change_hash c ≡ Some hash → ObservesNone hash os → find (is_stale host) os ≡ None → find (is_stale (host_changed host c)) os ≡ None
+none_elsewhere : (host : Host) (c : Change) (hash : ℕ) (os : List ObserverValue) → change_hash c ≡ Some hash → ObservesNone hash os → AllByRecursion (λ o. is_stale host o ≡ false) os → find (is_stale (host_changed host c)) os ≡ None
 none_elsewhere host c hash [] is others none = refl
-none_elsewhere host c hash (o ∷ os) is others none =
-    let found = none_found_first (is_stale host) o os none in
-    rw (sym (stale_elsewhere host c hash o is others.0) ∙ found.0) (none_elsewhere host c hash os is others.1 found.1)
+none_elsewhere host c hash (o ∷ os) is others none = rw (sym (stale_elsewhere host c hash o is others.0) ∙ none.0) (none_elsewhere host c hash os is others.1 none.1)
 
 settled_elsewhere : (host : Host) (c : Change) (hash : ℕ) (v : SessionValue) → change_hash c ≡ Some hash → ObservesNone hash v.observers → IsSettled host v → IsSettled (host_changed host c) v
-unfolding next_stale
-settled_elsewhere host c hash v is others settled = (
-  settled.0,
-  elim (session_ready v) as (λ b. (if b then find (is_stale host) v.observers else None) ≡ None → (if b then find (is_stale (host_changed host c)) v.observers else None) ≡ None) [
-    | true ↦ λ none. none_elsewhere host c hash v.observers is others none
-    | false ↦ λ none. refl
-  ] settled.1,
-)
+settled_elsewhere host c hash v is others =
+    settled_still host (host_changed host c) v (λ none. none) (λ fresh. none_elsewhere host c hash v.observers is others (none_due (is_stale host) v.observers fresh))
 
 -- ---- all connections
 
@@ -85,14 +67,10 @@ untouched_by_moment host later (e ∷ es) store more fits settled = (λ before. 
 
 -- the same after calls: a representation was put, a resource was removed, the moment moved on
 pub untouched_by_put : (host : Host) (path : Path) (format : Option ℕ) (bytes : List ℕ) (hash : ℕ) (es : Entries) (store : StoreValue) → store ≡ put_in host.store path format bytes → hash ≡ path_hash path → AreSettled host es → AreSettledUntouched (cause.Path hash) (record host { store = store }) es
-untouched_by_put host path format bytes hash es store is same settled =
-    subst (λ (s : StoreValue). AreSettledUntouched (cause.Path hash) (record host { store = s }) es) (sym is)
-    (untouched_by_change host (Put path format bytes) hash es (ap Some (sym same)) settled)
+untouched_by_put host path format bytes hash es store is same settled = rw is (untouched_by_change host (Put path format bytes) hash es (ap Some (sym same)) settled)
 
 pub untouched_by_removal : (host : Host) (path : Path) (hash : ℕ) (es : Entries) (store : StoreValue) → store ≡ removed_in host.store path → hash ≡ path_hash path → AreSettled host es → AreSettledUntouched (cause.Path hash) (record host { store = store }) es
-untouched_by_removal host path hash es store is same settled =
-    subst (λ (s : StoreValue). AreSettledUntouched (cause.Path hash) (record host { store = s }) es) (sym is)
-    (untouched_by_change host (Delete path) hash es (ap Some (sym same)) settled)
+untouched_by_removal host path hash es store is same settled = rw is (untouched_by_change host (Delete path) hash es (ap Some (sym same)) settled)
 
 -- ---- the loop over them
 
@@ -114,9 +92,7 @@ next_untouched why n host es now s is all at untouched =
 settled_first : (host : Host) (i : ℕ) (es : Entries) (s : SessionValue) → slice_get (values_of es) i ≡ Some s → map (settled_entry host) (changed_at i (λ _. session_settled host s) es) ≡ map (settled_entry host) es
 unfolding changed_at
 settled_first host i [] s at = absurd cc
-settled_first host zero (e ∷ es) s at =
-    let is : s ≡ e.1 = cc in
-    ap (λ (v : SessionValue). (e.0, v) ∷ map (settled_entry host) es) (settled_stays host (session_settled host s) (settled_is_settled host s) ∙ ap (session_settled host) is)
+settled_first host zero (e ∷ es) s at = cc (settled_stays host (session_settled host s) (settled_is_settled host s))
 settled_first host (suc i) (e ∷ es) s at = ap (λ (rest : Entries). settled_entry host e ∷ rest) (settled_first host i es s at)
 
 module _ (host : Host) (i hash : ℕ) (es : Entries) (s after : SessionValue) (at : slice_get (values_of es) i ≡ Some s) (settles : after ≡ session_settled host s) where

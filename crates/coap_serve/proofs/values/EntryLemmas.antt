@@ -1,18 +1,14 @@
 -- Entries by their index, and what becomes of the first one that is stale.
-use Rattle.std.proofs.Common.{◌≡◌, ℕ, zero, suc, ◌+◌, ◌<◌, Bool, true, false, List, [], ◌∷◌, length, map, set, get_or, Option, Some, None, refl, sym, ap, subst, ◌∙◌, arith, inl, inr, ◌||◌, find, filter, not, option_map, slice_get, slice_set, if◌then◌else◌}
-use Rattle.std.specs.List.{remove, list_any}
-use Rattle.std.proofs.lemmas.Bool.{cases_lt, cond-true, cond-false}
+use Rattle.std.proofs.Common.{◌≡◌, ℕ, zero, suc, ◌<◌, ◌≤◌, Bool, true, false, List, [], ◌∷◌, length, map, set, get_or, Some, None, refl, ap, subst, ◌∙◌, arith, ◌||◌, find, filter, not, option_map, slice_get, slice_set, if◌then◌else◌}
+use Rattle.coap_serve.specs.Prelude.{AllByRecursion, AllWithin, remove, list_any, same_bytes, Host, Stale}
+use Rattle.coap_serve.specs.Prelude.{first_becomes, ObserverValue, mark_of, state_on, untold_mark, is_stale}
+use Rattle.coap_serve.specs.Prelude.{without_entry, IsFirstStale, first_index, observer_value}
+use Rattle.std.proofs.lemmas.List.Elements.{recursion_from_All}
 use Rattle.std.proofs.lemmas.List.{length-map, map-set}
 use Rattle.std.proofs.lemmas.Option.{slice_get_read, slice_get-map}
-use Rattle.coap_store.specs.Paths.{same_bytes}
-use Rattle.coap_serve.specs.declared.host.Host.{Host}
 use Rattle.coap_serve.specs.declared.observers.Observer.{Observer}
-use Rattle.coap_serve.specs.declared.observers.Stale.{Stale}
-use Rattle.coap_serve.specs.world.Observers.{first_becomes}
-use Rattle.coap_serve.specs.values.Sessions.{ObserverValue, ObserversValue, mark_of, is_marked, state_on, untold_mark, is_stale, without_entry}
-use Rattle.coap_serve.specs.values.Entries.{IsFirstStale, first_index}
-use Rattle.coap_serve.specs.views.ObserverViews.{observer_value}
-use Rattle.coap_serve.proofs.values.OptionLemmas.{none_made, one_made, same_there}
+use Rattle.coap_serve.proofs.values.OptionLemmas.{none_made, one_made}
+use Rattle.coap_serve.proofs.world.EntryLemmas.{all_map}
 
 -- ---- the first index
 
@@ -23,97 +19,77 @@ pub record IsFirst {O : Type 0} (due : O → Bool) (os : List O) (i : ℕ) : Typ
   pub becomes : (o : O) → slice_set os i o ≡ first_becomes due (o ∷ []) os
   pub goes : remove os i ≡ first_becomes due [] os
 
-is_first_at : {O : Type 0} (due : O → Bool) (o : O) (os : List O) (i : ℕ) → ((k : ℕ) → first_index due os ≡ Some k → IsFirst due os k) → (if due o then Some 0 else option_map (λ k. suc k) (first_index due os)) ≡ Some i → IsFirst due (o ∷ os) i
-unfolding first_becomes
-is_first_at due o os i later e =
+pub is_first : {O : Type 0} (due : O → Bool) (os : List O) (i : ℕ) → first_index due os ≡ Some i → IsFirst due os i
+unfolding first_index first_becomes
+is_first due [] i e = absurd cc
+is_first due (o ∷ os) i e =
     elim (due o) as (λ b. due o ≡ b → (if b then Some 0 else option_map (λ k. suc k) (first_index due os)) ≡ Some i → IsFirst due (o ∷ os) i) [
       | true ↦ λ here first. (
           let zero_is : 0 ≡ i = cc in
-          subst (IsFirst due (o ∷ os)) zero_is (record {
-            within = omega arith;
-            found = cond-true (due o) (Some o) (find due os) here;
-            becomes = λ p. sym (cond-true (due o) _ _ here);
-            goes = sym (cond-true (due o) _ _ here);
-          }))
+          subst (IsFirst due (o ∷ os)) zero_is (record { within = omega arith; found = rw here; becomes = λ p. rw here; goes = rw here }))
       | false ↦ λ other first. (
           let behind = one_made (λ k. suc k) (first_index due os) i first in
-          let is = later behind.0 behind.1 in
-          subst (IsFirst due (o ∷ os)) behind.2 (record {
-            within = omega (arith, is.within);
-            found = cond-false (due o) (Some o) (find due os) other ∙ is.found;
-            becomes = λ p. ap (λ (l : List _). o ∷ l) (is.becomes p) ∙ sym (cond-false (due o) _ _ other);
-            goes = ap (λ (l : List _). o ∷ l) is.goes ∙ sym (cond-false (due o) _ _ other);
-          }))
+          let is = is_first due os behind.0 behind.1 in
+          subst (IsFirst due (o ∷ os)) behind.2 (record { within = omega (arith, is.within); found = cc; becomes = λ p. cc (is.becomes p); goes = cc }))
     ] refl e
 
-pub is_first : {O : Type 0} (due : O → Bool) (os : List O) (i : ℕ) → first_index due os ≡ Some i → IsFirst due os i
+pub none_at_index : {O : Type 0} (due : O → Bool) (os : List O) → first_index due os ≡ None → find due os ≡ None
 unfolding first_index
-is_first due [] i e = absurd cc
-is_first due (o ∷ os) i e = is_first_at due o os i (λ k first. is_first due os k first) e
-
-pub none_found : {O : Type 0} (due : O → Bool) (os : List O) → first_index due os ≡ None → find due os ≡ None
-unfolding first_index
-none_found due [] e = refl
-none_found due (o ∷ os) e =
+none_at_index due [] e = refl
+none_at_index due (o ∷ os) e =
     elim (due o) as (λ b. (if b then Some 0 else option_map (λ k. suc k) (first_index due os)) ≡ None → (if b then Some o else find due os) ≡ None) [
       | true ↦ λ none. absurd cc
-      | false ↦ λ none. none_found due os (none_made (λ k. suc k) (first_index due os) none)
+      | false ↦ λ none. none_at_index due os (none_made (λ k. suc k) (first_index due os) none)
     ] e
 
--- ---- a loop that looks for it
+pub none_in : {O : Type 0} (due : O → Bool) (os : List O) → AllByRecursion (λ o. due o ≡ false) os → find due os ≡ None
+none_in due [] none = refl
+none_in due (o ∷ os) none = rw none.0 (none_in due os none.1)
 
--- none before an index
-abbrev pub NoneBefore : {O : Type 0} → (O → Bool) → List O → ℕ → Type 0
-NoneBefore {O} due os i = (k : ℕ) (o : O) → k < i → slice_get os k ≡ Some o → due o ≡ false
+-- ---- a loop that looks for it, in what is seen of elements
 
-pub none_more : {O : Type 0} (due : O → Bool) (os : List O) (i : ℕ) (o : O) → slice_get os i ≡ Some o → due o ≡ false → NoneBefore due os i → NoneBefore due os (i + 1)
-none_more due os i o at is none k p below there =
-    elim (cases_lt k i) [
-      | inl less ↦ none k p less there
-      | inr more ↦ (
-          let same : k ≡ i = omega arith in
-          let found : o ≡ p = same_there _ _ (sym at ∙ ap (slice_get os) (sym same) ∙ there) in
-          ap due (sym found) ∙ is)
-    ]
+-- what holds of each element up to the end holds of each that is seen
+pub all_seen : {X O : Type 0} (P : O → Type 0) (seen : X → O) (xs : List X) (end : ℕ) → AllWithin (λ x. P (seen x)) xs 0 end → length xs ≤ end → AllByRecursion P (map seen xs)
+all_seen P seen xs end before all =
+    all_map (λ x. P (seen x)) P seen (λ x is. is) xs (recursion_from_All (λ x. P (seen x)) xs (λ k d below. before k d (omega arith) (omega arith)))
 
-pub none_at_all : {O : Type 0} (due : O → Bool) (os : List O) → NoneBefore due os (length os) → None ≡ first_index due os
+pub none_at_all : {O : Type 0} (due : O → Bool) (os : List O) → AllByRecursion (λ o. due o ≡ false) os → first_index due os ≡ None
 unfolding first_index
 none_at_all due [] none = refl
-none_at_all due (o ∷ os) none =
-    let rest = none_at_all due os (λ k p below at. none (suc k) p (omega arith) at) in
-    ap (λ (f : Option ℕ). option_map (λ k. suc k) f) rest ∙ sym (cond-false (due o) _ _ (none 0 o (omega arith) refl))
+none_at_all due (o ∷ os) none = cc (none.0, none_at_all due os none.1)
 
-pub first_at : {O : Type 0} (due : O → Bool) (os : List O) (i : ℕ) (o : O) → slice_get os i ≡ Some o → due o ≡ true → NoneBefore due os i → Some i ≡ first_index due os
+first_at : {X O : Type 0} (due : O → Bool) (seen : X → O) (xs : List X) (i : ℕ) (x : X) → i < length xs → x ≡ get_or xs i x → due (seen x) ≡ true → AllWithin (λ y. due (seen y) ≡ false) xs 0 i → first_index due (map seen xs) ≡ Some i
 unfolding first_index
-first_at due [] i o at is none = absurd cc
-first_at due (p ∷ os) zero o at is none = let same : p ≡ o = cc in sym (cond-true (due p) _ _ (ap due same ∙ is))
-first_at due (p ∷ os) (suc i) o at is none =
-    let rest = first_at due os i o at is (λ k q below there. none (suc k) q (omega arith) there) in
-    ap (λ (f : Option ℕ). option_map (λ k. suc k) f) rest ∙ sym (cond-false (due p) _ _ (none 0 p (omega arith) refl))
+first_at due seen [] i x within read is none = absurd (omega arith)
+first_at due seen (y ∷ xs) zero x within read is none = cc
+first_at due seen (y ∷ xs) (suc i) x within read is none =
+    cc (none 0 y (omega arith) (omega arith), first_at due seen xs i x (omega arith) read is (λ k d low below. none (suc k) d (omega arith) (omega arith)))
 
 -- ---- what was told
 
 -- where no other mark is found, the state now was told
 pub is_told : (host : Host) (o : ObserverValue) → untold_mark host o.path o.mark ≡ None → is_stale host o ≡ false
 unfolding is_stale
-is_told host o =
-    let there = state_on host o.path in
-    elim (is_marked host.now o.mark there) as (λ b. (if b then None else Some (mark_of host.now there)) ≡ None → not b ≡ false) [ true ↦ λ none. refl | false ↦ λ none. absurd cc ]
+is_told host o none = grind arith
 
 -- where one is found, another one was told, and it is that of the state now
-pub is_untold : (host : Host) (o : ObserverValue) (mark : ℕ) → untold_mark host o.path o.mark ≡ Some mark → (is_stale host o ≡ true) × (mark ≡ mark_of host.now (state_on host o.path))
+is_untold : (host : Host) (o : ObserverValue) (mark : ℕ) → untold_mark host o.path o.mark ≡ Some mark → (is_stale host o ≡ true) × (mark ≡ mark_of host.now (state_on host o.path))
 unfolding is_stale
-is_untold host o mark =
-    let there = state_on host o.path in
-    elim (is_marked host.now o.mark there) as (λ b. (if b then None else Some (mark_of host.now there)) ≡ Some mark → (not b ≡ true) × (mark ≡ mark_of host.now there)) [ true ↦ λ found. absurd cc | false ↦ λ found. (refl, cc) ]
+is_untold host o mark found = grind arith
+
+-- the entry that is read is the one that is seen
+pub read_at : (xs : List Observer) (i : ℕ) (x : Observer) → i < length xs → x ≡ get_or xs i x → slice_get (map observer_value xs) i ≡ Some (observer_value x)
+read_at xs i x within read = slice_get-map observer_value xs i ∙ ap (option_map observer_value) (slice_get_read xs (length xs) i x refl within read)
 
 -- the first one for which it is found
-pub first_untold : (host : Host) (os : List ObserverValue) (found : Stale) (o : ObserverValue) → slice_get os found.index ≡ Some o → untold_mark host o.path o.mark ≡ Some found.mark → NoneBefore (is_stale host) os found.index → IsFirstStale host os found
-first_untold host os found o at untold none =
-    let is = is_untold host o found.mark untold in
+pub first_untold : (host : Host) (xs : List Observer) (found : Stale) (x : Observer) → found.index < length xs → x ≡ get_or xs found.index x → untold_mark host x.path x.mark ≡ Some found.mark
+    → AllWithin (λ y. is_stale host (observer_value y) ≡ false) xs 0 found.index → IsFirstStale host (map observer_value xs) found
+first_untold host xs found x within read untold none =
+    let is = is_untold host (observer_value x) found.mark untold in
     record {
-      first = sym (first_at (is_stale host) os found.index o at is.0 none);
-      mark = λ p there. let same : o ≡ p = cc in is.1 ∙ ap (λ (q : ObserverValue). mark_of host.now (state_on host q.path)) same;
+      first = first_at (is_stale host) observer_value xs found.index x within read is.0 none;
+      mark =
+          λ o at. let same : observer_value x ≡ o = cc (read_at xs found.index x within read) in is.1 ∙ ap (λ (p : ObserverValue). mark_of host.now (state_on host p.path)) same;
     }
 
 -- ---- a filter of what is seen
@@ -123,31 +99,14 @@ unfolding without_entry
 others_seen token [] = refl
 others_seen token (o ∷ os) =
     let rest = others_seen token os in
-    elim (not (same_bytes o.token.items token)) as (λ b. map observer_value (if b then o ∷ filter (λ p. not (same_bytes p.token.items token)) os else filter (λ p. not (same_bytes p.token.items token)) os) ≡ (if b then observer_value o ∷ without_entry token (map observer_value os) else without_entry token (map observer_value os))) [
-      | true ↦ ap (λ (l : List ObserverValue). observer_value o ∷ l) rest
-      | false ↦ rest
-    ]
+    elim (not (same_bytes o.token.items token)) as (λ b. map observer_value (if b then o ∷ filter (λ p. not (same_bytes p.token.items token)) os else filter (λ p. not (same_bytes p.token.items token)) os) ≡ (if b then observer_value o ∷ without_entry token (map observer_value os) else without_entry token (map observer_value os))) [ true ↦ cc | false ↦ rest ]
 
 -- ---- a write of a mark
 
--- the entry that is read is the one that is seen
-pub seen_at : (xs : List Observer) (os : List ObserverValue) (i : ℕ) (x : Observer) → map observer_value xs ≡ os → i < length os → x ≡ get_or xs i x → slice_get os i ≡ Some (observer_value x)
-seen_at xs os i x seen within read =
-    let there : slice_get xs i ≡ Some x = slice_get_read xs (length xs) i x refl (omega (arith, within, sym (length-map xs observer_value), ap (λ (l : List ObserverValue). length l) seen)) read in
-    ap (λ (l : List ObserverValue). slice_get l i) (sym seen) ∙ slice_get-map observer_value xs i ∙ ap (option_map observer_value) there
-
-pub told_seen : (xs : List Observer) (v : ObserversValue) (room i mark : ℕ) (x : Observer) (o : ObserverValue) → record { room = room; entries = map observer_value xs } ≡ v → i < length v.entries → x ≡ get_or xs i x → slice_get v.entries i ≡ Some o
-    → record { room = room; entries = map observer_value (set xs i (record x { mark = mark })) } ≡ record v { entries = set v.entries i (record o { mark = mark }) }
-told_seen xs v room i mark x o seen within read at =
-    let entries = ap (λ (w : ObserversValue). w.entries) seen in
-    let told = seen_at xs v.entries i x entries within read in
-    let same : observer_value x ≡ o = cc in
-    ap (λ (l : List ObserverValue). record { room = room; entries = l }) (map-set observer_value xs i (record x { mark = mark }) ∙ ap (λ (p : ObserverValue). set (map observer_value xs) i (record p { mark = mark })) same)
-    ∙ ap (λ (w : ObserversValue). record w { entries = set w.entries i (record o { mark = mark }) }) seen
-
--- the entry that a loop reads
-pub read_at : (xs : List Observer) (i : ℕ) (x : Observer) → i < length xs → x ≡ get_or xs i x → slice_get (map observer_value xs) i ≡ Some (observer_value x)
-read_at xs i x within read = seen_at xs (map observer_value xs) i x refl (omega (arith, within, length-map xs observer_value)) read
+pub told_seen : (xs : List Observer) (i mark : ℕ) (x : Observer) (o : ObserverValue) → i < length (map observer_value xs) → x ≡ get_or xs i x → slice_get (map observer_value xs) i ≡ Some o → map observer_value (set xs i (record x { mark = mark })) ≡ set (map observer_value xs) i (record o { mark = mark })
+told_seen xs i mark x o within read at =
+    let there = read_at xs i x (omega (arith, within, length-map xs observer_value)) read in
+    cc (map-set observer_value xs i (record x { mark = mark }))
 
 -- ---- some
 

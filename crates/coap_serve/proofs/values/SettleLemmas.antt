@@ -1,26 +1,20 @@
 -- What settling leaves: nothing that is held is due and no observer is stale, or there is no room.
-use Rattle.std.proofs.Common.{◌≡◌, ℕ, zero, suc, ◌+◌, ◌≤◌, Bool, true, false, ◌&&◌, List, [], length, Option, Some, None, refl, sym, ap, subst, ◌∙◌, arith, ◌||◌, find, is_some, not, if◌then◌else◌}
-use Rattle.std.proofs.lemmas.Bool.{eq-eqb, eqb-true, cond-false}
-use Rattle.coap_wire.specs.Message.{Message}
+use Rattle.std.proofs.Common.{◌≡◌, ℕ, zero, suc, ◌+◌, ◌≤◌, Bool, true, false, ◌&&◌, List, [], length, Option, Some, None, refl, sym, ap, ◌∙◌, arith, ◌||◌, find, is_some, if◌then◌else◌}
+use Rattle.std.proofs.lemmas.Bool.{eq-eqb, eqb-true, and_parts, or_parts, cond_both, false_from_ne_true}
+use Rattle.coap_serve.specs.Prelude.{Message, Reply, Whole, answers, is_open, fit, bare_response, HeldValue, Answer}
+use Rattle.coap_serve.specs.Prelude.{Pong, first_due, without_due, Standing, send, send_as, due_effect, pong_with}
+use Rattle.coap_serve.specs.Prelude.{standing_due, link_after, LinkValue, limit_in, standing_in, link_with}
+use Rattle.coap_serve.specs.Prelude.{Representation, Response, notification_of, Host, held_message, goes_on}
+use Rattle.coap_serve.specs.Prelude.{is_whole, first_becomes, ObserverValue, SessionValue, mark_at, mark_of}
+use Rattle.coap_serve.specs.Prelude.{state_on, is_stale, session_ready, session_with, observers_on, entry_left}
+use Rattle.coap_serve.specs.Prelude.{notification_on, session_notified, next_held_in, next_stale, link_sent}
+use Rattle.coap_serve.specs.Prelude.{session_settled_so, session_settled_once, session_settled_within}
+use Rattle.coap_serve.specs.Prelude.{session_settled, session_written, IsSettled}
 use Rattle.coap_wire.specs.Codes as code
-use Rattle.coap_conn.specs.declared.phase.Reply.{Reply}
-use Rattle.coap_conn.specs.declared.phase.Reply.TheVariants.{Whole}
-use Rattle.coap_conn.specs.Phases.{answers, is_open}
-use Rattle.coap_conn.specs.Fit.{fit, bare_response}
-use Rattle.coap_conn.specs.Held.{HeldValue, Answer, Pong, first_due, without_due}
-use Rattle.coap_conn.specs.Reaction.{Standing, send, send_as, due_effect, pong_with}
-use Rattle.coap_conn.specs.Calls.{standing_due, link_after}
 use Rattle.coap_conn.specs.Calls as call
-use Rattle.coap_conn.specs.LinkValue.{LinkValue, limit_in, standing_in, link_with}
 use Rattle.coap_conn.proofs.HeldLaws.{due_fewer}
-use Rattle.coap_store.specs.Store.{Representation}
-use Rattle.coap_store.specs.Answer.{Response}
-use Rattle.coap_store.specs.Notifications.{notification_of}
 use Rattle.coap_store.proofs.NotificationLaws.{notification_tells}
-use Rattle.coap_serve.specs.declared.host.Host.{Host}
-use Rattle.coap_serve.specs.world.Sides.{held_message}
-use Rattle.coap_serve.specs.world.Observers.{goes_on, is_whole, first_becomes}
-use Rattle.coap_serve.specs.values.Sessions.{ObserverValue, SessionValue, mark_at, mark_of, is_marked, state_on, is_stale, session_ready, session_with, observers_on, entry_left, notification_on, session_notified, next_held_in, next_stale, link_sent, session_settled_so, session_settled_once, session_settled_within, session_settled, session_written, IsSettled}
+use Rattle.coap_serve.proofs.values.OptionLemmas.{there_is_none, none_made_where, some_where, there_is}
 use Rattle.coap_serve.proofs.world.EntryLemmas.{count_due, count_within, none_counted, count_less}
 
 -- ---- how much is held
@@ -32,8 +26,8 @@ send_held s m less other = omega arith
 
 reply_held : (l : LinkValue) (m : Message) → length (link_after l (call.Reply m)).held ≤ length l.held
 reply_held l m =
-    let sent = send_held (standing_in l) m (bare_response m) (fit (limit_in l) m (bare_response m)) in
-    elim (answers l.phase) as (λ b. length (if b then link_with l (send (standing_in l) m (bare_response m)) else l).held ≤ length l.held) [ true ↦ sent | false ↦ omega arith ]
+    cond_both (answers l.phase) (link_with l (send (standing_in l) m (bare_response m))) l (λ k. length k.held ≤ length l.held)
+    (λ _. send_held (standing_in l) m (bare_response m) (fit (limit_in l) m (bare_response m))) (λ _. omega arith)
 
 -- what was due first is held no more
 pub due_held : (s : Standing) (e : Option HeldValue) → length (due_effect s e).held ≤ length s.held
@@ -54,26 +48,18 @@ fewer_held l now e found =
 -- ---- one turn
 
 -- an observer that was told the state now is not stale
-marked_now : (host : Host) (o : ObserverValue) (r : Representation) → state_on host o.path ≡ Some r → is_stale host (record o { mark = mark_of host.now (state_on host o.path) }) ≡ false
+pub marked_now : (host : Host) (o : ObserverValue) (r : Representation) → state_on host o.path ≡ Some r → is_stale host (record o { mark = mark_of host.now (state_on host o.path) }) ≡ false
 unfolding is_stale
-marked_now host o r there =
-    ap (λ (s : Option Representation). not (is_marked host.now (mark_of host.now s) s)) there
-    ∙ ap not (eq-eqb (mark_at host.now r) (mark_at host.now r) refl)
+marked_now host o r there = rw (there, eq-eqb (mark_at host.now r) (mark_at host.now r) refl) refl
 
 -- what stays of an observer is not stale: a notification that goes on tells a state that is there
-left_is_told : (host : Host) (o : ObserverValue) (whole : Bool) → count_due (is_stale host) (entry_left host o (goes_on (notification_of host.store host.now o.path o.format) && whole)) ≡ 0
+left_is_told : (host : Host) (o : ObserverValue) (whole stays : Bool) → stays ≡ (goes_on (notification_of host.store host.now o.path o.format) && whole) → count_due (is_stale host) (entry_left host o stays) ≡ 0
 unfolding count_due
-left_is_told host o whole =
+left_is_told host o whole true is =
     let told : Response = notification_of host.store host.now o.path o.format in
-    elim (goes_on told) as (λ b. goes_on told ≡ b → count_due (is_stale host) (entry_left host o (b && whole)) ≡ 0) [
-      | true ↦ λ goes. (
-          let tells = notification_tells host.store host.now o.path o.format (eqb-true told.code code.content goes) in
-          elim whole as (λ w. count_due (is_stale host) (entry_left host o w) ≡ 0) [
-            | true ↦ cond-false (is_stale host (record o { mark = mark_of host.now (state_on host o.path) })) _ _ (marked_now host o tells.representation tells.there)
-            | false ↦ refl
-          ])
-      | false ↦ λ ends. refl
-    ] refl
+    let tells = notification_tells host.store host.now o.path o.format (eqb-true told.code code.content (and_parts (goes_on told) whole (sym is)).0) in
+    rw (marked_now host o tells.representation tells.there) refl
+left_is_told host o whole false is = refl
 
 -- the observers of a connection that is open, or none
 fewer_open : (host : Host) (l : LinkValue) (os : List ObserverValue) → count_due (is_stale host) (observers_on l os) ≤ count_due (is_stale host) os
@@ -86,19 +72,9 @@ fewer_stale host v o first =
     let m : Message = notification_on host o in
     let whole : Bool = is_whole (fit (limit_in v.link) m (bare_response m)) in
     let left = entry_left host o (goes_on (notification_of host.store host.now o.path o.format) && whole) in
-    omega (arith, count_less (is_stale host) v.observers o left (left_is_told host o whole) first, fewer_open host (link_after v.link (call.Reply m)) (first_becomes (is_stale host) left v.observers))
+    omega (arith, count_less (is_stale host) v.observers o left (left_is_told host o whole _ refl) first, fewer_open host (link_after v.link (call.Reply m)) (first_becomes (is_stale host) left v.observers))
 
 -- ---- all turns
-
--- what a turn does, by what is held and due first
-pub session_settled_cases : (host : Host) (v : SessionValue) (P : SessionValue → Type 0) → ((e : HeldValue) → next_held_in host.now v ≡ Some e → P (session_with v.frame (link_sent v.link host.now e) v.observers))
-    → (next_held_in host.now v ≡ None → P (session_notified host v (next_stale host v))) → P (session_settled_once host v)
-unfolding session_settled_once
-session_settled_cases host v P sends tells =
-    elim (next_held_in host.now v) as (λ next. next_held_in host.now v ≡ next → P (session_settled_so host v next)) [
-      | None ↦ tells
-      | Some e ↦ sends e
-    ] refl
 
 -- where nothing is left to settle, a turn does nothing
 pub stays_once : (host : Host) (v : SessionValue) → IsSettled host v → session_settled_once host v ≡ v
@@ -115,68 +91,63 @@ pub settled_stays : (host : Host) (v : SessionValue) → IsSettled host v → se
 unfolding session_settled
 settled_stays host v settled = stays_within host v (length v.link.held + length v.observers) settled
 
--- where there was room, nothing is due, and so nothing is behind what was written
-pub settled_where_room : (host : Host) (v : SessionValue) (n : ℕ) → session_ready v ≡ true → IsSettled host v → IsSettled host (session_written v n)
+-- ---- what is settled
+
+-- where nothing that is held is due and no observer is stale
+pub settled_quiet : (host : Host) (v : SessionValue) → first_due host.now v.link.held ≡ None → find (is_stale host) v.observers ≡ None → IsSettled host v
 unfolding next_held_in next_stale
-settled_where_room host v n room settled =
-    let w = session_written v n in
-    let none_due : first_due host.now v.link.held ≡ None = sym (ap (λ b. if b then first_due host.now v.link.held else None) room) ∙ settled.0 in
-    let none_stale : find (is_stale host) v.observers ≡ None = sym (ap (λ b. if b then find (is_stale host) v.observers else None) room) ∙ settled.1 in (
-      elim (session_ready w) as (λ b. (if b then first_due host.now v.link.held else None) ≡ None) [ true ↦ none_due | false ↦ refl ],
-      elim (session_ready w) as (λ b. (if b then find (is_stale host) v.observers else None) ≡ None) [ true ↦ none_stale | false ↦ refl ],
-    )
+settled_quiet host v none fresh = (none_made_where (session_ready v) _ none, none_made_where (session_ready v) _ fresh)
 
--- what is found where there is room is held and due, or a stale observer
-pub found_held : (now : ℕ) (v : SessionValue) (e : HeldValue) → next_held_in now v ≡ Some e → (session_ready v ≡ true) × (first_due now v.link.held ≡ Some e)
-unfolding next_held_in
-found_held now v e first =
-    elim (session_ready v) as (λ b. (if b then first_due now v.link.held else None) ≡ Some e → (b ≡ true) × (first_due now v.link.held ≡ Some e)) [ true ↦ λ found. (refl, found) | false ↦ λ found. absurd cc ] first
+-- where there is no room
+pub settled_unready : (host : Host) (v : SessionValue) → session_ready v ≡ false → IsSettled host v
+unfolding next_held_in next_stale
+settled_unready host v full = rw full (refl, refl)
 
-found_stale : (host : Host) (v : SessionValue) (o : ObserverValue) → next_stale host v ≡ Some o → find (is_stale host) v.observers ≡ Some o
-unfolding next_stale
-found_stale host v o first =
-    elim (session_ready v) as (λ b. (if b then find (is_stale host) v.observers else None) ≡ Some o → find (is_stale host) v.observers ≡ Some o) [ true ↦ λ e. e | false ↦ λ e. absurd cc ] first
+-- where there is room, what is due first and who is stale first are found
+pub found_ready : (host : Host) (v : SessionValue) → session_ready v ≡ true → (next_held_in host.now v ≡ first_due host.now v.link.held) × (next_stale host v ≡ find (is_stale host) v.observers)
+unfolding next_held_in next_stale
+found_ready host v ready = rw ready (refl, refl)
 
--- where nothing is held, nothing is due
-none_held : (now : ℕ) (held : List HeldValue) → length held ≤ 0 → first_due now held ≡ None
-none_held now held few =
-    elim (first_due now held) as (λ first. first_due now held ≡ first → first ≡ None) [
-      | None ↦ λ is. refl
-      | Some e ↦ λ is. absurd (omega (arith, few, due_fewer now held e is))
+-- on another host, where what was quiet is so still
+pub settled_still : (host after : Host) (v : SessionValue) → (first_due host.now v.link.held ≡ None → first_due after.now v.link.held ≡ None)
+    → (find (is_stale host) v.observers ≡ None → find (is_stale after) v.observers ≡ None) → IsSettled host v → IsSettled after v
+settled_still host after v none fresh settled =
+    elim (session_ready v) as (λ b. session_ready v ≡ b → IsSettled after v) [
+      | true ↦ λ ready. settled_quiet after v (none (sym (found_ready host v ready).0 ∙ settled.0)) (fresh (sym (found_ready host v ready).1 ∙ settled.1))
+      | false ↦ λ full. settled_unready after v full
     ] refl
 
-pub no_held_due : (now : ℕ) (v : SessionValue) → length v.link.held ≤ 0 → next_held_in now v ≡ None
-unfolding next_held_in
-no_held_due now v few =
-    elim (session_ready v) as (λ b. (if b then first_due now v.link.held else None) ≡ None) [ true ↦ none_held now v.link.held few | false ↦ refl ]
+-- where there was room, nothing is due, and so nothing is behind what was written
+pub settled_where_room : (host : Host) (v : SessionValue) (n : ℕ) → session_ready v ≡ true → IsSettled host v → IsSettled host (session_written v n)
+settled_where_room host v n ready settled =
+    settled_quiet host (session_written v n) (sym (found_ready host v ready).0 ∙ settled.0) (sym (found_ready host v ready).1 ∙ settled.1)
 
-no_stale_due : (host : Host) (v : SessionValue) → count_due (is_stale host) v.observers ≤ 0 → next_stale host v ≡ None
-unfolding next_stale
-no_stale_due host v none =
-    elim (session_ready v) as (λ b. (if b then find (is_stale host) v.observers else None) ≡ None) [ true ↦ none_counted (is_stale host) v.observers (omega (arith, none)) | false ↦ refl ]
+-- where nothing is held, nothing is due
+pub none_held : (now : ℕ) (held : List HeldValue) → length held ≤ 0 → first_due now held ≡ None
+none_held now held few =
+    let fewer = λ (some : is_some (first_due now held) ≡ true). due_fewer now held _ (there_is (first_due now held) some).1 in
+    there_is_none (first_due now held) (false_from_ne_true (is_some (first_due now held)) (λ some. omega (arith, few, fewer some)))
 
--- what is left to settle: what is held, and the observers that are stale
-abbrev left_to_settle : Host → SessionValue → ℕ
-left_to_settle host v = length v.link.held + count_due (is_stale host) v.observers
+-- ---- as many turns as there is to settle
 
--- each turn that finds any leaves less
-less_held : (host : Host) (v : SessionValue) (e : HeldValue) (n : ℕ) → next_held_in host.now v ≡ Some e → left_to_settle host v ≤ suc n → left_to_settle host (session_with v.frame (link_sent v.link host.now e) v.observers) ≤ n
-less_held host v e n found many =
-    let fewer = fewer_held v.link host.now e (found_held host.now v e found).1 in
-    let told = fewer_open host (link_sent v.link host.now e) v.observers in
-    omega (arith, fewer, told, many)
-
--- as many turns as there are of both leave nothing to settle
-enough_turns : (host : Host) (turns : ℕ) (v : SessionValue) → left_to_settle host v ≤ turns → IsSettled host (session_settled_within turns host v)
-unfolding session_settled_within
-enough_turns host zero v many = (no_held_due host.now v (omega (arith, many)), no_stale_due host v (omega (arith, many)))
+-- as many turns as there are of both leave nothing to settle: each turn that finds any leaves less
+enough_turns : (host : Host) (turns : ℕ) (v : SessionValue) → length v.link.held + count_due (is_stale host) v.observers ≤ turns → IsSettled host (session_settled_within turns host v)
+unfolding session_settled_within session_settled_once next_held_in next_stale
+enough_turns host zero v many =
+    settled_quiet host v (none_held host.now v.link.held (omega (arith, many))) (none_counted (is_stale host) v.observers (omega (arith, many)))
 enough_turns host (suc turns) v many =
-    session_settled_cases host v (λ w. IsSettled host (session_settled_within turns host w))
-    (λ e found. enough_turns host turns (session_with v.frame (link_sent v.link host.now e) v.observers) (less_held host v e turns found many))
-    (λ silent. elim (next_stale host v) as (λ next. next_stale host v ≡ next → IsSettled host (session_settled_within turns host (session_notified host v next))) [
-      | None ↦ λ told. subst (IsSettled host) (sym (stays_within host v turns (silent, told))) (silent, told)
-      | Some o ↦ λ found. enough_turns host turns (session_notified host v (Some o)) (omega (arith, fewer_stale host v o (found_stale host v o found), reply_held v.link (notification_on host o), many))
-    ] refl)
+    elim (next_held_in host.now v) as (λ due. next_held_in host.now v ≡ due → IsSettled host (session_settled_within turns host (session_settled_so host v due))) [
+      | Some e ↦ λ found.
+          let fewer = fewer_held v.link host.now e (some_where (session_ready v) _ e found) in
+          enough_turns host turns (session_with v.frame (link_sent v.link host.now e) v.observers)
+          (omega (arith, fewer, fewer_open host (link_sent v.link host.now e) v.observers, many))
+      | None ↦ λ silent. (elim (next_stale host v) as (λ next. next_stale host v ≡ next → IsSettled host (session_settled_within turns host (session_notified host v next))) [
+        | None ↦ λ told. rw (stays_within host v turns (silent, told)) (silent, told)
+        | Some o ↦ λ found.
+            enough_turns host turns (session_notified host v (Some o))
+            (omega (arith, fewer_stale host v o (some_where (session_ready v) _ o found), reply_held v.link (notification_on host o), many))
+      ] refl)
+    ] refl
 
 -- settling leaves nothing to settle
 pub settled_is_settled : (host : Host) (v : SessionValue) → IsSettled host (session_settled host v)
@@ -185,25 +156,9 @@ settled_is_settled host v = enough_turns host (length v.link.held + length v.obs
 
 -- ---- a loop of turns
 
-pub turn_taken : (host : Host) (turns less : ℕ) (v : SessionValue) → turns ≡ suc less → session_settled_within turns host v ≡ session_settled_within less host (session_settled_once host v)
-unfolding session_settled_within
-turn_taken host turns less v e = ap (λ (n : ℕ). session_settled_within n host v) e
-
-pub all_turns : (host : Host) (v w : SessionValue) (turns : ℕ) → turns ≡ length v.link.held + length v.observers → v ≡ w → session_settled_within turns host w ≡ session_settled host w
-unfolding session_settled
-all_turns host v w turns e same = ap (λ (n : ℕ). session_settled_within n host w) (e ∙ ap (λ (u : SessionValue). length u.link.held + length u.observers) same)
-
-pub no_turns : (host : Host) (v : SessionValue) (turns : ℕ) → turns ≡ 0 → session_settled_within turns host v ≡ v
-unfolding session_settled_within
-no_turns host v turns e = ap (λ (n : ℕ). session_settled_within n host v) e
-
-none_of : {A B : Type 0} (a : Option A) (b : Option B) → false ≡ (is_some a || is_some b) → (a ≡ None) × (b ≡ None)
-none_of None None e = (refl, refl)
-none_of None (Some y) e = absurd cc
-none_of (Some x) b e = absurd cc
-
 -- where a turn finds nothing, all turns have done what they do
 pub last_turn : (host : Host) (v after : SessionValue) (turns : ℕ) → after ≡ session_settled_once host v → false ≡ (is_some (next_held_in host.now v) || is_some (next_stale host v)) → after ≡ session_settled_within turns host v
 last_turn host v after turns is none =
-    let settled : IsSettled host v = none_of (next_held_in host.now v) (next_stale host v) none in
+    let parts = or_parts (is_some (next_held_in host.now v)) (is_some (next_stale host v)) (sym none) in
+    let settled : IsSettled host v = (there_is_none (next_held_in host.now v) parts.0, there_is_none (next_stale host v) parts.1) in
     is ∙ stays_once host v settled ∙ sym (stays_within host v turns settled)

@@ -1,11 +1,10 @@
--- Lists of observers: what holds of each, which is the first that is due, and the values that show them.
-use Rattle.std.proofs.Common.{◌≡◌, ℕ, ◌+◌, ◌≤◌, Bool, true, false, List, [], ◌∷◌, ◌++◌, length, map, Some, None, refl, sym, ap, subst, ◌∙◌, arith, filter, find, not, option_map, if◌then◌else◌}
-use Rattle.std.specs.List.{AllByRecursion}
+-- Lists, of observers and of others: what holds of each, which is the first that is due, and the values that show them.
+use Rattle.std.proofs.Common.{◌≡◌, ℕ, ◌+◌, ◌≤◌, Bool, true, false, List, [], ◌∷◌, ◌++◌, length, map, Some, None, refl, ap, subst, ◌∙◌, arith, filter, find, not, option_map, if◌then◌else◌, inl, inr}
+use Rattle.coap_serve.specs.Prelude.{AllByRecursion, same_bytes, ObserverValue, without_entry, Observer}
+use Rattle.coap_serve.specs.Prelude.{without_token, with_entry, first_becomes, observer_shown}
+use Rattle.std.proofs.lemmas.Bool.{cases_Bool, cond_both}
 use Rattle.std.proofs.lemmas.List.{map-append}
-use Rattle.coap_store.specs.Paths.{same_bytes}
-use Rattle.coap_serve.specs.values.Sessions.{ObserverValue, without_entry}
-use Rattle.coap_serve.specs.world.Observers.{Observer, without_token, with_entry, first_becomes}
-use Rattle.coap_serve.specs.world.Shows.{observer_shown}
+use Rattle.coap_serve.proofs.values.OptionLemmas.{same_there}
 
 -- ---- what holds of each
 
@@ -19,16 +18,14 @@ all_append P (o ∷ os) ps all more = (all.0, all_append P os ps all.1 more)
 
 pub all_filter : {O : Type 0} (P : O → Type 0) (test : O → Bool) (os : List O) → AllByRecursion P os → AllByRecursion P (filter test os)
 all_filter P test [] all = tt
-all_filter P test (o ∷ os) all =
-    elim (test o) as (λ b. AllByRecursion P (if b then o ∷ filter test os else filter test os)) [ true ↦ (all.0, all_filter P test os all.1) | false ↦ all_filter P test os all.1 ]
+all_filter P test (o ∷ os) all = elim (cases_Bool (test o)) [ inl is ↦ rw is (all.0, all_filter P test os all.1) | inr is ↦ rw is (all_filter P test os all.1) ]
 
 pub all_map : {O R : Type 0} (P : O → Type 0) (Q : R → Type 0) (f : O → R) → ((o : O) → P o → Q (f o)) → (os : List O) → AllByRecursion P os → AllByRecursion Q (map f os)
 all_map P Q f to [] all = tt
 all_map P Q f to (o ∷ os) all = (to o all.0, all_map P Q f to os all.1)
 
 pub all_if : {O : Type 0} (P : O → Type 0) (b : Bool) (os : List O) → AllByRecursion P os → AllByRecursion P (if b then os else [])
-all_if P true os all = all
-all_if P false os all = tt
+all_if P b os all = cond_both b os [] (AllByRecursion P) (λ is. all) (λ is. tt)
 
 pub all_entered : {O : Type 0} (P : O → Type 0) (enters : Bool) (os : List O) (o : O) → AllByRecursion P os → (enters ≡ true → P o) → AllByRecursion P (with_entry enters os o)
 all_entered P true os o all new = all_append P os (o ∷ []) all (new refl, tt)
@@ -40,23 +37,35 @@ all_become P due after [] all new = tt
 all_become P due after (o ∷ os) all new =
     elim (due o) as (λ b. AllByRecursion P (if b then after ++ os else o ∷ first_becomes due after os)) [ true ↦ all_append P after os new all.1 | false ↦ (all.0, all_become P due after os all.1 new) ]
 
+-- ---- lists that functions make
+
+pub maps_alike : {A B C D : Type 0} (f : A → B) (g : B → D) (h : A → C) (k : C → D) (xs : List A) → AllByRecursion (λ x. g (f x) ≡ k (h x)) xs → map g (map f xs) ≡ map k (map h xs)
+maps_alike f g h k [] same = refl
+maps_alike f g h k (x ∷ xs) same = cc (same.0, maps_alike f g h k xs same.1)
+
+pub all_stay : {A : Type 0} (f : A → A) (xs : List A) → AllByRecursion (λ x. f x ≡ x) xs → map f xs ≡ xs
+all_stay f [] same = refl
+all_stay f (x ∷ xs) same = cc (same.0, all_stay f xs same.1)
+
+pub mapped_filter : {A B : Type 0} (f : A → B) (test : B → Bool) (xs : List A) → map f (filter (λ x. test (f x)) xs) ≡ filter test (map f xs)
+mapped_filter f test [] = refl
+mapped_filter f test (x ∷ xs) = grind (arith, mapped_filter f test xs)
+
 -- ---- the first that is due
 
 pub found_all : {O : Type 0} (P : O → Type 0) (due : O → Bool) (os : List O) (o : O) → AllByRecursion P os → find due os ≡ Some o → P o
 found_all P due [] o all e = absurd cc
 found_all P due (p ∷ os) o all e =
-    elim (due p) as (λ b. (if b then Some p else find due os) ≡ Some o → P o) [
-      | true ↦ λ is. (let same : p ≡ o = cc in subst P same all.0)
-      | false ↦ λ is. found_all P due os o all.1 is
-    ] e
+    cond_both (due p) (Some p) (find due os) (λ found. found ≡ Some o → P o)
+    (λ is first. subst P (same_there p o first) all.0) (λ is later. found_all P due os o all.1 later) e
 
 pub none_due : {O : Type 0} (due : O → Bool) (os : List O) → find due os ≡ None → AllByRecursion (λ o. due o ≡ false) os
 none_due due [] e = tt
-none_due due (o ∷ os) e =
-    elim (due o) as (λ b. due o ≡ b → (if b then Some o else find due os) ≡ None → AllByRecursion (λ o. due o ≡ false) (o ∷ os)) [
-      | true ↦ λ is found. absurd cc
-      | false ↦ λ is found. (is, none_due due os found)
-    ] refl e
+none_due due (o ∷ os) e = elim (cases_Bool (due o)) [ inl is ↦ absurd cc | inr is ↦ (is, none_due due os (rw is at e)) ]
+
+pub none_found : {O : Type 0} (due : O → Bool) (os : List O) → AllByRecursion (λ o. due o ≡ false) os → find due os ≡ None
+none_found due [] quiet = refl
+none_found due (o ∷ os) quiet = rw quiet.0 (none_found due os quiet.1)
 
 -- how many are due
 unfoldable pub count_due : {O : Type 0} → (O → Bool) → List O → ℕ
@@ -66,49 +75,30 @@ count_due due (o ∷ os) = if due o then count_due due os + 1 else count_due due
 pub count_within : {O : Type 0} (due : O → Bool) (os : List O) → count_due due os ≤ length os
 unfolding count_due
 count_within due [] = omega arith
-count_within due (o ∷ os) =
-    let more = count_within due os in
-    elim (due o) as (λ b. (if b then count_due due os + 1 else count_due due os) ≤ length (o ∷ os)) [ true ↦ omega arith | false ↦ omega arith ]
+count_within due (o ∷ os) = grind (arith, count_within due os)
 
 -- where none is counted, none is found
 pub none_counted : {O : Type 0} (due : O → Bool) (os : List O) → count_due due os ≡ 0 → find due os ≡ None
 unfolding count_due
 none_counted due [] e = refl
-none_counted due (o ∷ os) e =
-    elim (due o) as (λ b. (if b then count_due due os + 1 else count_due due os) ≡ 0 → (if b then Some o else find due os) ≡ None) [
-      | true ↦ λ is. absurd (omega arith)
-      | false ↦ λ is. none_counted due os is
-    ] e
+none_counted due (o ∷ os) e = grind (arith, none_counted due os)
 
 count_behind : {O : Type 0} (due : O → Bool) (front os : List O) → count_due due front ≡ 0 → count_due due (front ++ os) ≡ count_due due os
 unfolding count_due
 count_behind due [] os none = refl
-count_behind due (q ∷ front) os none =
-    elim (due q) as (λ b. (if b then count_due due front + 1 else count_due due front) ≡ 0 → (if b then count_due due (front ++ os) + 1 else count_due due (front ++ os)) ≡ count_due due os) [
-      | true ↦ λ is. absurd (omega arith)
-      | false ↦ λ is. count_behind due front os is
-    ] none
+count_behind due (q ∷ front) os none = grind (arith, count_behind due front os)
 
 -- one that is not due in the place of the first that is due, or none
 pub count_less : {O : Type 0} (due : O → Bool) (os : List O) (o : O) (after : List O) → count_due due after ≡ 0 → find due os ≡ Some o → count_due due (first_becomes due after os) + 1 ≡ count_due due os
 unfolding count_due first_becomes
 count_less due [] o after quiet e = absurd cc
-count_less due (p ∷ os) o after quiet e =
-    elim (due p) as (λ b. due p ≡ b → (if b then Some p else find due os) ≡ Some o → count_due due (if b then after ++ os else p ∷ first_becomes due after os) + 1 ≡ (if b then count_due due os + 1 else count_due due os)) [
-      | true ↦ λ is found. ap (λ (n : ℕ). n + 1) (count_behind due after os quiet)
-      | false ↦ λ is found. rw is (count_less due os o after quiet found)
-    ] refl e
+count_less due (p ∷ os) o after quiet e = grind (arith, count_behind due after os quiet, count_less due os o after quiet)
 
 -- ---- the values that show them
 
 pub without_shown : (token : List ℕ) (os : List Observer) → map observer_shown (without_token token os) ≡ without_entry token (map observer_shown os)
 unfolding without_token without_entry
-without_shown token [] = refl
-without_shown token (o ∷ os) =
-    elim (not (same_bytes o.token token)) as (λ b. map observer_shown (if b then o ∷ without_token token os else without_token token os) ≡ (if b then observer_shown o ∷ without_entry token (map observer_shown os) else without_entry token (map observer_shown os))) [
-      | true ↦ ap (λ vs. observer_shown o ∷ vs) (without_shown token os)
-      | false ↦ without_shown token os
-    ]
+without_shown token os = mapped_filter observer_shown (λ (v : ObserverValue). not (same_bytes v.token token)) os
 
 pub entered_shown : (enters : Bool) (os : List Observer) (o : Observer) (v : ObserverValue) → (enters ≡ true → observer_shown o ≡ v) → map observer_shown (with_entry enters os o) ≡ with_entry enters (map observer_shown os) v
 entered_shown true os o v same = map-append observer_shown os (o ∷ []) ∙ ap (λ w. map observer_shown os ++ w ∷ []) (same refl)
@@ -120,17 +110,9 @@ TellTheSame due stale os = AllByRecursion (λ o. due o ≡ stale (observer_shown
 
 pub found_shown : (due : Observer → Bool) (stale : ObserverValue → Bool) (os : List Observer) → TellTheSame due stale os → option_map observer_shown (find due os) ≡ find stale (map observer_shown os)
 found_shown due stale [] same = refl
-found_shown due stale (o ∷ os) same =
-    rw (sym same.0) (elim (due o) as (λ b. option_map observer_shown (if b then Some o else find due os) ≡ (if b then Some (observer_shown o) else find stale (map observer_shown os))) [
-      | true ↦ refl
-      | false ↦ found_shown due stale os same.1
-    ])
+found_shown due stale (o ∷ os) same = grind (arith, same.0, found_shown due stale os same.1)
 
 pub become_shown : (due : Observer → Bool) (stale : ObserverValue → Bool) (after os : List Observer) → TellTheSame due stale os → map observer_shown (first_becomes due after os) ≡ first_becomes stale (map observer_shown after) (map observer_shown os)
 unfolding first_becomes
 become_shown due stale after [] same = refl
-become_shown due stale after (o ∷ os) same =
-    rw (sym same.0) (elim (due o) as (λ b. map observer_shown (if b then after ++ os else o ∷ first_becomes due after os) ≡ (if b then map observer_shown after ++ map observer_shown os else observer_shown o ∷ first_becomes stale (map observer_shown after) (map observer_shown os))) [
-      | true ↦ map-append observer_shown after os
-      | false ↦ ap (λ vs. observer_shown o ∷ vs) (become_shown due stale after os same.1)
-    ])
+become_shown due stale after (o ∷ os) same = grind (arith, same.0, map-append observer_shown after os, become_shown due stale after os same.1)

@@ -1,76 +1,46 @@
 -- The limits of a server hold: after any events of the bytes that wait on a connection, of what it holds and of its observers, and
 -- after accepted events of the bytes that are kept of an unfinished frame.
-use Rattle.std.proofs.Common.{◌≡◌, ℕ, ◌+◌, ◌<◌, ◌≤◌, Bool, true, false, cond, List, [], ◌∷◌, ◌++◌, length, drop, Option, Some, None, refl, ap, ◌∙◌, arith, nat_lt, filter, ◌&&◌, sym, subst, append_assoc, inl, inr, ◌==◌}
+use Rattle.std.proofs.Common.{◌≡◌, ℕ, ◌+◌, ◌<◌, ◌≤◌, Bool, true, false, cond, List, [], ◌∷◌, ◌++◌, length, drop, Some, None, refl, ap, ◌∙◌, arith, sym, subst, append_assoc, inl, inr, ◌==◌}
 use Rattle.std.proofs.Math.Nat.{min-le_left}
-use Rattle.std.proofs.lemmas.Bool.{cond_both, leb-true, ltb-true, and_parts, both_ways, eqb-true}
+use Rattle.std.proofs.lemmas.Bool.{cond_both, leb-true, ltb-true, eqb-true}
 use Rattle.std.proofs.lemmas.List.{length-append, length-drop, append-nil}
-use Rattle.coap_wire.specs.Message.{Message}
-use Rattle.coap_wire.specs.Spelling.{spelling}
+use Rattle.std.proofs.lemmas.List.Sums.{length-filter, count_by-le-length}
+use Rattle.coap_serve.specs.Prelude.{same_bytes, not, Message, spelling, Reply, Whole, LimitValues, AreInRange}
+use Rattle.coap_serve.specs.Prelude.{takes_messages, stop_of, announced, bad_csm_option, size_unless, csm_size}
+use Rattle.coap_serve.specs.Prelude.{announcement, size_limit, AllFit, fit, bare_response, HeldValue, Answer}
+use Rattle.coap_serve.specs.Prelude.{first_due, Standing, send_as, send, react, pong_with, Effect, stop}
+use Rattle.coap_serve.specs.Prelude.{reaction_unless, live_reaction, reject_reason, History, IsHistory, limit_now}
+use Rattle.coap_serve.specs.Prelude.{standing_now, after, link_of, with_effect, bytes_of, own_csm, free_in, release}
+use Rattle.coap_serve.specs.Prelude.{end_reason, StoreValue, response_with_observe, ConfigValues, Observer, is_due}
+use Rattle.coap_serve.specs.Prelude.{without_token, entry_for, left_of, first_becomes, Side, new_side, waiting_on}
+use Rattle.coap_serve.specs.Prelude.{settled_once, settled, side_of, World, Step, Event, stream_on, world_after}
+use Rattle.coap_serve.specs.Prelude.{AreAccepted, size_on, kept_on, unwrap_or, Server}
+use Rattle.coap_serve.proofs.values.SettleLemmas.{send_held}
+use Rattle.coap_serve.proofs.world.SideLaws.{observers_after, observers_settled}
 use Rattle.coap_wire.proofs.StreamSteps.{unfinished_below}
-use Rattle.coap_conn.specs.declared.phase.Reply.{Reply}
-use Rattle.coap_conn.specs.declared.phase.Reply.TheVariants.{Whole, Bare, Stopped}
-use Rattle.coap_conn.specs.Limits.{LimitValues, AreInRange}
-use Rattle.coap_conn.specs.Phases.{takes_messages, is_open, stop_of, is_waiting}
-use Rattle.coap_conn.specs.Reasons.{abort_of}
-use Rattle.coap_conn.specs.Announced.{announced, bad_csm_option, size_unless, csm_size, announcement, size_limit}
-use Rattle.coap_conn.specs.Fit.{AllFit, fit, abort_fitted, bare_response}
-use Rattle.coap_conn.specs.Held.{HeldValue, Answer, first_due, without_due}
-use Rattle.coap_conn.specs.Reaction.{Standing, send_as, send, react, pong_with, Effect, Reaction, stop, abort, aborts, reaction_unless, live_reaction, open_reaction, csm_reaction, is_reserved}
-use Rattle.coap_conn.specs.Rejects.{reject_reason}
-use Rattle.coap_conn.specs.History.{History, IsHistory, limit_now, standing_now, after, link_of, with_effect}
-use Rattle.coap_conn.specs.LinkValue.{bytes_of, own_csm, free_in}
-use Rattle.coap_conn.specs.Calls.{release, end_reason}
 use Rattle.coap_conn.proofs.LinkLemmas.{waiting_more, announced_more}
 use Rattle.coap_conn.proofs.SmallLemmas.{first_csm_bytes_small, release_bytes_small}
 use Rattle.coap_conn.proofs.HeldLaws.{due_nothing, due_fewer, held_few}
 use Rattle.coap_conn.proofs.HistoryLaws.{reaction_fits, sent_fits, stopped_fits, new_fits, released_fits}
-use Rattle.coap_store.specs.Store.{StoreValue}
-use Rattle.coap_store.specs.Answer.{answer_of, prompt_answer}
-use Rattle.coap_store.specs.Messages.{response_with_observe}
-use Rattle.coap_serve.specs.Configs.{ConfigValues}
-use Rattle.coap_serve.specs.world.Observers.{Observer, is_due, without_token, has_place, asks_entry, entry_for, is_whole, with_entry, goes_on, notification, notification_message, left_of, first_becomes}
-use Rattle.coap_serve.specs.world.Sides.{Side, new_side, waiting_on, handles, kept_open, with_history, side_answered, moment_after, held_for, side_replied, asks_answer, side_handled, side_after, next_due, notified, next_held, after_sent, settled_so, settled_once}
-use Rattle.coap_serve.specs.world.World.{side_of, World, Step}
-use Rattle.coap_serve.specs.world.Events.{Event, stream_on, world_after, AreAccepted, size_on}
-use Rattle.coap_serve.specs.world.Shows.{kept_on}
-use Rattle.coap_serve.proofs.world.WalkLaws.{observers_faulted, observers_written, observers_ended, observers_released, observers_announced, release_fits, room_in, heard, sent, without_first, holding, Hears, Replies, Pongs, Between, once_between, after_between, faulted_between, written_between, ended_between, released_between, announced_between}
-use Rattle.coap_serve.proofs.world.AcrossLaws.{KeepsAll, keeping_composes, kept_history, HoldsFrom, HoldsOf, step_across}
-use Rattle.coap_serve.proofs.world.GoingOn.{GoesOn, all_go_on, sent_goes_so, message_goes_on, IsSide, side_is, Keeps, kept_after}
+use Rattle.coap_serve.proofs.world.WalkLaws.{there_or_not, there_where, settled_keeps, observers_kept, release_fits, room_in, sent, without_first, Hears, Replies, Between, once_between, after_between, faulted_between, written_between, ended_between, released_between, announced_between}
+use Rattle.coap_serve.proofs.world.AcrossLaws.{KeepsAll, keeping_composes, kept_history, HoldsOf, step_across, opened_there}
+use Rattle.coap_serve.proofs.world.GoingOn.{GoesOn, all_go_on, call_goes_on, side_is, Keeps, kept_after}
 use Rattle.coap_serve.proofs.world.ToldMessages.{abort_one, react_so}
 use Rattle.coap_serve.proofs.world.ReachedLaws.{accepted_is, IsReached}
 use Rattle.coap_serve.proofs.world.StepLaws.{rest_unfinished, size_grows}
-use Rattle.std.specs.Prelude.{unwrap_or}
-use Rattle.coap_conn.specs.declared.phase.Role.TheVariants.{Server}
-use Rattle.coap_conn.specs.declared.reason.Reason.{Reason}
 use Rattle.coap_serve.proofs.world.EntryLemmas.{all_append}
 use Rattle.coap_serve.proofs.values.OptionLemmas.{same_there}
 use Rattle.coap_wire.proofs.NumberLaws.{none_or_some}
 use Rattle.coap_conn.specs.Calls as call
-use Rattle.coap_store.specs.Answer as answer
 use Rattle.coap_wire.specs.Codes as code
 use Rattle.coap_conn.specs.declared.reason.Reason.TheVariants as reason
 use Rattle.coap_serve.specs.world.World as world
 
 -- ---- observers
 
-open_fewer : (h : History) (os : List Observer) → length (kept_open h os) ≤ length os
-open_fewer h os = cond_both (is_open h.phase) os [] (λ ps. length ps ≤ length os) (λ e. omega arith) (λ e. omega arith)
-
-test_fewer : (o : Observer) (os qs : List Observer) (stays : Bool) → length qs ≤ length os → length (cond stays (o ∷ qs) qs) ≤ length (o ∷ os)
-test_fewer o os qs true h = omega (arith, h)
-test_fewer o os qs false h = omega (arith, h)
-
-filter_fewer : (p : Observer → Bool) (os : List Observer) → length (filter p os) ≤ length os
-filter_fewer p [] = omega arith
-filter_fewer p (o ∷ os) = test_fewer o os (filter p os) (p o) (filter_fewer p os)
-
 token_fewer : (token : List ℕ) (os : List Observer) → length (without_token token os) ≤ length os
 unfolding without_token
-token_fewer token os = filter_fewer _ os
-
-entry_few : (most : ℕ) (os : List Observer) (o : Observer) (enters : Bool) → (enters ≡ true → length os < most) → length os ≤ most → length (with_entry enters os o) ≤ most
-entry_few most os o true place h = omega (arith, place refl, length-append os (o ∷ []))
-entry_few most os o false place h = h
+token_fewer token os = let other : Observer → Bool = λ o. not (same_bytes o.token token) in omega (arith, length-filter other os, count_by-le-length other os)
 
 becomes_fewer : (due : Observer → Bool) (after : List Observer) (os : List Observer) → length after ≤ 1 → length (first_becomes due after os) ≤ length os
 unfolding first_becomes
@@ -83,59 +53,25 @@ left_one : (store : StoreValue) (now : ℕ) (o : Observer) (stays : Bool) → le
 left_one store now o true = omega arith
 left_one store now o false = omega arith
 
-if_few : (most : ℕ) (does : Bool) (s t : Side) → length s.observers ≤ most → length t.observers ≤ most → length (cond does t s).observers ≤ most
-if_few most true s t h then = then
-if_few most false s t h then = h
-
--- an entry is made where there is a place for it
-answered_few : (most : ℕ) (store : StoreValue) (now : ℕ) (h : History) (os : List Observer) (m : Message) (a : answer.Answer) → h.limits.observers ≡ most → length os ≤ most → length (side_answered store now h os m a).observers ≤ most
-answered_few most store now h os m a same few =
-    let observes : Bool = has_place h.limits.observers os a.watch in
-    let response : Message = response_with_observe m.token observes a.response in
-    let whole : Bool = is_whole (fit (limit_now h) response (bare_response response)) in
-    let place : (observes && whole) ≡ true → length os < most =
-    λ e. omega (arith, same, ltb-true (length os) h.limits.observers (and_parts (asks_entry a.watch) (nat_lt (length os) h.limits.observers) (and_parts observes whole e).0).1) in
-    let entered : List Observer = with_entry (observes && whole) os (entry_for store now m) in
-    omega (arith, open_fewer (after h (call.Reply response)) entered, entry_few most os (entry_for store now m) (observes && whole) place few)
-
-replied_few : (most : ℕ) (store : StoreValue) (now : ℕ) (h : History) (os : List Observer) (m : Message) (hold : Option ℕ) → h.limits.observers ≡ most → length os ≤ most → length (side_replied store now h os m hold).observers ≤ most
-replied_few most store now h os m None same few = answered_few most store now h os m (prompt_answer store now m) same few
-replied_few most store now h os m (Some seconds) same few = omega (arith, few, open_fewer (after h (call.Hold m.token (moment_after now seconds))) os)
-
-observers_after_few : (limits : LimitValues) (store : StoreValue) (now : ℕ) (s : Side) (m : Message) → IsSide limits s → length s.observers ≤ limits.observers → length (side_after store now s m).observers ≤ limits.observers
-unfolding side_after
-observers_after_few limits store now s m is few =
-    let h : History = after s.history (call.Handle m) in
-    let same : h.limits.observers ≡ limits.observers = ap (λ (l : LimitValues). l.observers) ((message_goes_on s.history m).limits ∙ is.same_limits) in
-    let hold : Option ℕ = held_for h (answer_of store now m).hold in
-    if_few limits.observers (handles s) s (side_handled store now s m) few
-    (if_few limits.observers (asks_answer s m) (with_history s h) (side_replied store now h (without_token m.token s.observers) m hold) (omega (arith, open_fewer h s.observers, few))
-    (replied_few limits.observers store now h (without_token m.token s.observers) m hold same (omega (arith, token_fewer m.token s.observers, few))))
-
-notified_few : (most : ℕ) (store : StoreValue) (now : ℕ) (s : Side) (due : Option Observer) → length s.observers ≤ most → length (notified store now s due).observers ≤ most
-notified_few most store now s None few = few
-notified_few most store now s (Some o) few =
-    let m : Message = notification_message o.token (notification store now o) in
-    let left : List Observer = left_of store now o (goes_on (notification store now o) && is_whole (fit (limit_now s.history) m (bare_response m))) in
-    let one : length left ≤ 1 = left_one store now o (goes_on (notification store now o) && is_whole (fit (limit_now s.history) m (bare_response m))) in
-    omega (arith, few, open_fewer (after s.history (call.Reply m)) (first_becomes (is_due store now) left s.observers), becomes_fewer (is_due store now) left s.observers one)
-
-once_few : (most : ℕ) (store : StoreValue) (now : ℕ) (s : Side) (e : Option HeldValue) → length s.observers ≤ most → length (settled_so store now s e).observers ≤ most
-once_few most store now s None few = notified_few most store now s (next_due store now s) few
-once_few most store now s (Some e) few = omega (arith, few, open_fewer (after_sent s.history now e) s.observers)
-
 few_keeps : (limits : LimitValues) → Keeps limits (λ s. length s.observers ≤ limits.observers)
-unfolding settled_once
-few_keeps limits = let few : List Observer → Type 0 = λ os. length os ≤ limits.observers in record {
-  first = omega arith;
-  handled = observers_after_few limits;
-  faulted = observers_faulted few (omega arith);
-  written = observers_written few (omega arith);
-  ended = observers_ended few (omega arith);
-  released = observers_released few (omega arith);
-  announced = observers_announced few (omega arith);
-  told = λ store now s few. once_few limits.observers store now s (next_held now s) few;
-}
+few_keeps limits =
+    let Few : List Observer → Type 0 = λ os. length os ≤ limits.observers in
+    let kept = observers_kept Few (omega arith) in
+    record {
+      first = omega arith;
+      -- an entry is made where there is a place for it
+      handled = λ store now s m is few. observers_after Few store now s m (omega arith) few (omega (arith, few, token_fewer m.token s.observers)) (λ asked place. (
+          let same : (after s.history (call.Handle m)).limits.observers ≡ limits.observers =
+          ap (λ (l : LimitValues). l.observers) ((call_goes_on s.history (call.Handle m) tt).limits ∙ is.same_limits) in
+          omega (arith, place, same, length-append (without_token m.token s.observers) (entry_for store now m ∷ []))));
+      faulted = kept.faulted;
+      written = kept.written;
+      ended = kept.ended;
+      released = kept.released;
+      announced = kept.announced;
+      told = λ store now s few. observers_settled Few store now s (omega arith) few
+          (λ o stays due on. omega (arith, few, becomes_fewer (is_due store now) (left_of store now o stays) s.observers (left_one store now o stays)));
+    }
 
 -- no more observers than the limits allow
 pub observers_within : (c : ConfigValues) (es : List Event) (id : ℕ) (s : Side) → side_of id (world_after c es).sides ≡ Some s → length s.observers ≤ c.limits.observers
@@ -147,21 +83,13 @@ abbrev HoldsFew : History → Type 0
 HoldsFew h = length h.held ≤ h.limits.pending
 
 -- what is sent adds nothing to it
-sent_holds : (most : ℕ) (s : Standing) (m less : Message) (r : Reply) → length s.held ≤ most → length (send_as s m less r).held ≤ most
-sent_holds most s m less Whole few = few
-sent_holds most s m less Bare few = few
-sent_holds most s m less Stopped few = omega arith
-
 sent_few : (h : History) (m less : Message) → HoldsFew h → HoldsFew (sent h m less)
-sent_few h m less few = sent_holds h.limits.pending (standing_now h) m less (fit (limit_now h) m less) few
+sent_few h m less few = omega (arith, few, send_held (standing_now h) m less (fit (limit_now h) m less))
 
 -- what is due is taken out
-fewer_by : (now : ℕ) (held : List HeldValue) (e : Option HeldValue) → first_due now held ≡ e → length (without_due now held) ≤ length held
-fewer_by now held None is = omega (arith, ap (λ (es : List HeldValue). length es) (due_nothing now held is).1)
-fewer_by now held (Some e) is = omega (arith, due_fewer now held e is)
-
 taken_few : (h : History) (now : ℕ) → HoldsFew h → HoldsFew (without_first h now)
-taken_few h now few = omega (arith, few, fewer_by now h.held (first_due now h.held) refl)
+taken_few h now few = there_or_not (first_due now h.held) (λ due. HoldsFew (without_first h now))
+    (λ none. omega (arith, few, ap (λ (es : List HeldValue). length es) (due_nothing now h.held none).1)) (λ e is. omega (arith, few, due_fewer now h.held e is))
 
 -- an answer is held where there is room, and a stop gives up what is held
 all_hold_few : KeepsAll (λ h k. HoldsFew h → HoldsFew k)
@@ -182,11 +110,8 @@ all_hold_few = record {
 -- no more is held than the limits allow
 pub held_within : (c : ConfigValues) (es : List Event) (id : ℕ) (s : Side) → side_of id (world_after c es).sides ≡ Some s → length s.history.held ≤ c.limits.pending
 held_within c es id s there =
-    omega (
-      arith,
-      kept_history c HoldsFew (omega arith) all_hold_few es id s there,
-      ap (λ (l : LimitValues). l.pending) (side_is c es id s there).same_limits,
-    )
+    let few : HoldsFew s.history = kept_history c HoldsFew (omega arith) all_hold_few es id s there in
+    omega (arith, few, ap (λ (l : LimitValues). l.pending) (side_is c es id s there).same_limits)
 
 -- ---- the bytes that wait
 
@@ -223,9 +148,6 @@ limit_within h = min-le_left h.limits.max_sent (announced h.handled)
 pub queued_waits : (h : History) (ms : List Message) → IsHistory h → length (drop h.written (bytes_of (h.queued ++ ms))) ≡ wait h + size ms
 queued_waits h ms is = ap (λ (bs : List ℕ). length bs) (waiting_more h ms is) ∙ length-append (drop h.written (bytes_of h.queued)) (bytes_of ms)
 
-written_frees : (h : History) (n : ℕ) → wait (after h (call.Written n)) ≤ wait h
-written_frees h n = omega (arith, length-drop h.written (bytes_of h.queued), length-drop (h.written + n) (bytes_of h.queued))
-
 -- no more bytes wait than the queue holds
 record Waits (h : History) : Type 0 where
   is : IsHistory h
@@ -235,43 +157,39 @@ waits_by : (h k : History) → GoesOn h k → (Waits h → wait k ≤ h.limits.q
 waits_by h k goes less w = record { is = goes.history w.is; few = omega (arith, less w, ap (λ (l : LimitValues). l.queue) goes.limits) }
 
 -- where there is room, a message that fits is queued
-added_fits : (h : History) (ms : List Message) → room_in h ≡ true → length ms ≤ 1 → AllFit (limit_now h) ms → Waits h → wait (record h { queued = h.queued ++ ms }) ≤ h.limits.queue
-added_fits h ms room one each w =
-    omega (arith, w.few, queued_waits h ms w.is, one_small (limit_now h) ms one each, limit_within h, leb-true h.limits.max_sent (free_in (link_of h)) room)
-
-sent_waits : (h : History) (m less : Message) → room_in h ≡ true → GoesOn h (sent h m less) → Waits h → Waits (sent h m less)
-sent_waits h m less room goes =
-    waits_by h (sent h m less) goes (added_fits h (send (standing_now h) m less).queued room (sent_one (standing_now h) m less (fit (limit_now h) m less)) (sent_fits h m less))
+added_waits : (h k : History) (ms : List Message) → GoesOn h k → wait k ≡ wait (record h { queued = h.queued ++ ms }) → room_in h ≡ true → length ms ≤ 1 → AllFit (limit_now h) ms → Waits h → Waits k
+added_waits h k ms goes same room one each = waits_by h k goes (λ w.
+    omega (arith, same, w.few, queued_waits h ms w.is, one_small (limit_now h) ms one each, limit_within h, leb-true h.limits.max_sent (free_in (link_of h)) room))
 
 all_wait : KeepsAll (λ h k. Waits h → Waits k)
 all_wait = record {
   composes = keeping_composes Waits;
-  hears = λ h m takes room.
-      waits_by h (heard h m) (all_go_on.hears h m takes room) (added_fits h (react (standing_now h) m).effect.queued room (message_one (standing_now h) m) (reaction_fits h m));
+  hears = λ h m takes room. added_waits h _ _ (all_go_on.hears h m takes room) refl room (message_one (standing_now h) m) (reaction_fits h m);
   replies = λ h token observe r does room.
-      (let m = response_with_observe token observe r in sent_waits h m (bare_response m) room (all_go_on.replies h token observe r does room));
+      (let m = response_with_observe token observe r in
+      added_waits h _ _ (all_go_on.replies h token observe r does room) refl room (sent_one (standing_now h) m (bare_response m) _) (sent_fits h m (bare_response m)));
   holds = λ h token moment opened may. waits_by h _ (all_go_on.holds h token moment opened may) (λ w. w.few);
   lets_go = λ h now. waits_by h _ (all_go_on.lets_go h now) (λ w. w.few);
-  pongs = λ h now token due room w.
+  pongs = λ h now token due room.
       (let k = without_first h now in
-      sent_waits k (pong_with true token) (pong_with false token) room (sent_goes_so k (pong_with true token) (pong_with false token)) (record { is = w.is; few = w.few }));
+      let m = pong_with true token in
+      let less = pong_with false token in
+      added_waits h _ _ (all_go_on.pongs h now token due room) refl room (sent_one (standing_now k) m less _) (sent_fits k m less));
   rejects = λ h fault takes room.
-      (let why = reject_reason fault in
-      waits_by h _ (all_go_on.rejects h fault takes room) (added_fits h (abort_fitted (limit_now h) (abort_of why)) room (abort_one (limit_now h) (abort_of why)) (stopped_fits h why)));
+      added_waits h _ _ (all_go_on.rejects h fault takes room) refl room (abort_one (limit_now h) _) (stopped_fits h (reject_reason fault));
   ends = λ h cut takes. waits_by h _ (all_go_on.ends h cut takes) (λ w. omega (arith, w.few, queued_waits h [] w.is));
   releases = λ h opened none.
       waits_by h _ (all_go_on.releases h opened none) (λ w. omega (arith, w.few, queued_waits h (release ∷ []) w.is, release_bytes_small, (release_fits (link_of h) none).0));
   announces = λ h size opened room fit.
-      waits_by h _ (all_go_on.announces h size opened room fit) (added_fits h (own_csm size ∷ []) room (omega arith) (leb-true (length (spelling (own_csm size))) (limit_now h) fit, tt));
-  writes = λ h n within. waits_by h _ (all_go_on.writes h n within) (λ w. omega (arith, w.few, written_frees h n));
+      added_waits h _ _ (all_go_on.announces h size opened room fit) refl room (omega arith) (leb-true (length (spelling (own_csm size))) (limit_now h) fit, tt);
+  writes = λ h n within.
+      waits_by h _ (all_go_on.writes h n within) (λ w. omega (arith, w.few, length-drop h.written (bytes_of h.queued), length-drop (h.written + n) (bytes_of h.queued)));
 }
-
-new_wait : (limits : LimitValues) → AreInRange limits → length (waiting_on (new_side limits)) ≤ limits.queue
-new_wait limits ranges = omega (arith, first_csm_bytes_small limits.max_message, ranges.sent_low, ranges.queue_low)
 
 pub waiting_within : (c : ConfigValues) (es : List Event) (id : ℕ) (s : Side) → AreInRange c.limits → side_of id (world_after c es).sides ≡ Some s → length (waiting_on s) ≤ c.limits.queue
 waiting_within c es id s ranges there =
-    let waits : Waits s.history = kept_history c Waits (record { is = omega arith; few = new_wait c.limits ranges }) all_wait es id s there in
+    let new : length (waiting_on (new_side c.limits)) ≤ c.limits.queue = omega (arith, first_csm_bytes_small c.limits.max_message, ranges.sent_low, ranges.queue_low) in
+    let waits : Waits s.history = kept_history c Waits (record { is = omega arith; few = new }) all_wait es id s there in
     omega (arith, waits.few, ap (λ (l : LimitValues). l.queue) (side_is c es id s there).same_limits)
 
 -- ---- the bytes that are kept of an unfinished frame
@@ -287,46 +205,25 @@ kept_within c es id s ranges accepted there =
     let N : ℕ = size_on M id es in
     let is : IsReached c es = accepted_is c es accepted in
     let low : 1152 ≤ N = omega (arith, ranges.message_low, size_grows M id es) in
-    omega (
-      arith,
-      is.sizes id s there,
-      kept_small_by N (stream_on M id es).rest (takes_messages s.history.phase) (omega (arith, low))
-          (λ takes. unfinished_below N (stream_on M id es).rest (omega (arith, low)) (rest_unfinished M id es (is.goes_on id s there takes))),
-    )
+    let rest : List ℕ = (stream_on M id es).rest in
+    let few : takes_messages s.history.phase ≡ true → length rest < N =
+    λ takes. unfinished_below N rest (omega (arith, low)) (rest_unfinished M id es (is.goes_on id s there takes)) in
+    omega (arith, is.sizes id s there, kept_small_by N rest (takes_messages s.history.phase) (omega (arith, low)) few)
 
 -- ---- a message that announces a size queues nothing
 
-no_bad_option_by_size : (m : Message) (bad : Option ℕ) (n : ℕ) → bad_csm_option m ≡ bad → size_unless bad m ≡ Some n → bad_csm_option m ≡ None
-no_bad_option_by_size m None n is e = is
-no_bad_option_by_size m (Some number) n is e = absurd cc
-
-announces_by : (m : Message) (is_csm : Bool) (n : ℕ) → (m.code == code.csm) ≡ is_csm → cond is_csm (csm_size m) None ≡ Some n → (m.code ≡ code.csm) × (bad_csm_option m ≡ None)
-announces_by m true n is e = (eqb-true m.code code.csm is, no_bad_option_by_size m (bad_csm_option m) n refl e)
-announces_by m false n is e = absurd cc
-
 -- it is Capabilities and Settings whose options may all be there
 announces : (m : Message) (n : ℕ) → announcement m ≡ Some n → (m.code ≡ code.csm) × (bad_csm_option m ≡ None)
-announces m n e = announces_by m (m.code == code.csm) n refl e
+announces m n e =
+    let is = there_where (m.code == code.csm) (csm_size m) n e in
+    let no_bad = there_or_not (bad_csm_option m) (λ bad. size_unless bad m ≡ Some n → bad_csm_option m ≡ None) (λ none said. none) (λ number bad said. absurd cc) in
+    (eqb-true m.code code.csm is.0, no_bad is.1)
 
-abbrev AnnouncesQuietly : Message → Reaction → Type 0
-AnnouncesQuietly m r = (n : ℕ) → announcement m ≡ Some n → r.effect.queued ≡ []
-
--- a message with another code announces nothing
-quiet_by_code : (m : Message) (r : Reaction) (test : ℕ → Bool) → test m.code ≡ true → test code.csm ≡ false → AnnouncesQuietly m r
-quiet_by_code m r test here there n e = absurd (both_ways (test code.csm) there (ap test (sym (announces m n e).0) ∙ here))
-
-no_csm : (m : Message) (r : Reaction) → (m.code == code.csm) ≡ false → AnnouncesQuietly m r
-no_csm m r is n e = absurd (both_ways (m.code == code.csm) is (ap (λ (k : ℕ). k == code.csm) (announces m n e).0))
-
-unless_quiet : (s : Standing) (m : Message) (over : Option Reason) → AnnouncesQuietly m (reaction_unless s m over)
-unfolding live_reaction
-unless_quiet s m None =
-    cond_both (is_reserved m.code) _ _ (AnnouncesQuietly m) (λ e. quiet_by_code m (aborts s reason.ReservedCode) is_reserved e refl)
-    (λ e. cond_both (m.code == code.empty) _ _ (AnnouncesQuietly m) (λ e n is. refl)
-    (λ e. cond_both (m.code == code.abort) _ _ (AnnouncesQuietly m) (λ e. quiet_by_code m (aborts s reason.PeerAbort) (λ k. k == code.abort) e refl)
-    (λ e. cond_both (m.code == code.csm) _ _ (AnnouncesQuietly m) (λ e n is. ap (λ (bad : Option ℕ). (csm_reaction s bad).effect.queued) (announces m n is).1)
-    (λ no. cond_both (is_waiting s.phase) _ _ (AnnouncesQuietly m) (λ e. no_csm m (aborts s reason.CsmExpected) no) (λ e. no_csm m (open_reaction s m) no)))))
-unless_quiet s m (Some why) = λ n e. refl
+announcing_quiet : (s : Standing) (m : Message) (n : ℕ) → announcement m ≡ Some n → (react s m).effect.queued ≡ []
+unfolding react live_reaction
+announcing_quiet s m n e =
+    let is = announces m n e in
+    elim (stop_of s.phase) as (λ over. (reaction_unless s m over).effect.queued ≡ []) [ None ↦ rw (is.0, is.1) refl | Some why ↦ refl ]
 
 -- ---- what is queued
 
@@ -341,14 +238,18 @@ pub record GrowsEvenly (h k : History) : Type 0 where
   pub grows : GrowsFitting h k
   pub same : limit_now k ≡ limit_now h
 
+-- nothing was queued
+same_evenly : (h k : History) → k.queued ≡ h.queued → limit_now k ≡ limit_now h → GrowsEvenly h k
+same_evenly h k queued limits = record { grows = record { more = []; queued = queued ∙ sym (append-nil h.queued); fit = tt }; same = limits }
+
 evenly_self : (h : History) → GrowsEvenly h h
-evenly_self h = record { grows = record { more = []; queued = sym (append-nil h.queued); fit = tt }; same = refl }
+evenly_self h = same_evenly h h refl refl
 
 grows_fitting_then : (h k g : History) → GrowsFitting h k → GrowsEvenly k g → GrowsFitting h g
 grows_fitting_then h k g p q = record {
   more = p.more ++ q.grows.more;
-  queued = q.grows.queued ∙ ap (λ (ms : List Message). ms ++ q.grows.more) p.queued ∙ append_assoc h.queued p.more q.grows.more;
-  fit = all_append _ p.more q.grows.more (subst (λ (n : ℕ). AllFit n p.more) (sym q.same) p.fit) q.grows.fit;
+  queued = cc (append_assoc h.queued p.more q.grows.more);
+  fit = all_append _ p.more q.grows.more (rw q.same p.fit) q.grows.fit;
 }
 
 evenly_then : (h k g : History) → GrowsEvenly h k → GrowsEvenly k g → GrowsEvenly h g
@@ -357,88 +258,59 @@ evenly_then h k g p q = record { grows = grows_fitting_then h k g p.grows q; sam
 effect_evenly : (h : History) (e : Effect) → AllFit (limit_now h) e.queued → GrowsEvenly h (with_effect h e)
 effect_evenly h e fit = record { grows = record { more = e.queued; queued = refl; fit = fit }; same = refl }
 
--- what is held counts nowhere
-holding_evenly : (h : History) (held : List HeldValue) → GrowsEvenly h (holding h held)
-holding_evenly h held = record { grows = record { more = []; queued = sym (append-nil h.queued); fit = tt }; same = refl }
-
 reply_evenly : Replies GrowsEvenly
 reply_evenly h token observe r does room =
-    let m : Message = response_with_observe token observe r in
-    effect_evenly h (send (standing_now h) m (bare_response m)) (sent_fits h m (bare_response m))
-
-pong_evenly : Pongs GrowsEvenly
-pong_evenly h now token due room =
-    let k : History = without_first h now in
-    evenly_then h k _ (holding_evenly h (without_due now h.held)) (effect_evenly k (send (standing_now k) (pong_with true token) (pong_with false token)) (sent_fits k (pong_with true token) (pong_with false token)))
+    let m : Message = response_with_observe token observe r in effect_evenly h (send (standing_now h) m (bare_response m)) (sent_fits h m (bare_response m))
 
 -- a message: where it announces another size, it queues nothing
-heard_fits : (h : History) (m : Message) (said : Option ℕ) → announcement m ≡ said → AllFit (size_limit h.limits.max_sent (unwrap_or said (announced h.handled))) (react (standing_now h) m).effect.queued
-unfolding react
-heard_fits h m None is = reaction_fits h m
-heard_fits h m (Some n) is = subst (AllFit (size_limit h.limits.max_sent n)) (sym ((unless_quiet (standing_now h) m (stop_of (standing_now h).phase)) n is)) tt
-
 message_grows : Hears GrowsFitting
-message_grows h m takes room = record {
-  more = (react (standing_now h) m).effect.queued;
-  queued = refl;
-  fit = subst (λ (n : ℕ). AllFit (size_limit h.limits.max_sent n) (react (standing_now h) m).effect.queued) (sym (announced_more h.handled m)) (heard_fits h m (announcement m) refl);
-}
+message_grows h m takes room =
+    let more : List Message = (react (standing_now h) m).effect.queued in record {
+      more = more;
+      queued = refl;
+      fit = rw (announced_more h.handled m) (there_or_not (announcement m) (λ said. AllFit (size_limit h.limits.max_sent (unwrap_or said (announced h.handled))) more)
+          (λ none. reaction_fits h m) (λ n is. rw (announcing_quiet (standing_now h) m n is) tt));
+    }
 
 -- ---- a step
 
 once_evenly : (store : StoreValue) (now : ℕ) (s : Side) → Between GrowsEvenly s (settled_once store now s)
-once_evenly = once_between GrowsEvenly GrowsEvenly evenly_self evenly_then reply_evenly (λ h now. holding_evenly h _) pong_evenly
-
--- one that is no message of the connection
-evenly_of : (w : World) (st : Step) (id : ℕ) → ((m : Message) → st ≡ world.Handled id m → ⊥) → HoldsOf (Between GrowsEvenly) w st id
-evenly_of w st id none = record {
-  same = λ s. evenly_self s.history;
-  handled = λ m is s. absurd (none m is);
-  faulted = λ fault is s. faulted_between GrowsEvenly evenly_self (λ h r takes room. effect_evenly h (abort (standing_now h) (reject_reason r)) (stopped_fits h (reject_reason r))) s fault;
-  written = written_between GrowsEvenly evenly_self (λ h n within. record { grows = record { more = []; queued = sym (append-nil h.queued); fit = tt }; same = refl });
-  ended = ended_between GrowsEvenly evenly_self (λ h cut takes. effect_evenly h (stop (standing_now h) (end_reason cut) []) tt);
-  released = released_between GrowsEvenly evenly_self (λ h opened none. effect_evenly h (stop (standing_now h) reason.ReleasedHere (release ∷ [])) (released_fits h (release_fits (link_of h) none).1));
-  announced = λ size is s.
-      announced_between GrowsEvenly evenly_self
-      (λ h n opened room fit. record { grows = record { more = own_csm n ∷ []; queued = refl; fit = (leb-true (length (spelling (own_csm n))) (limit_now h) fit, tt) }; same = refl }) s size;
-  told = λ store now s t is. evenly_then s.history t.history _ is (once_evenly store now t);
-}
+once_evenly =
+    once_between GrowsEvenly GrowsEvenly evenly_self evenly_then reply_evenly (λ h now. same_evenly h _ refl refl)
+    (λ h now token due room. effect_evenly h _ (sent_fits (without_first h now) (pong_with true token) (pong_with false token)))
 
 grows_of : (w : World) (st : Step) (id : ℕ) → HoldsOf (Between GrowsFitting) w st id
-grows_of w st id = record {
-  same = λ s. (evenly_self s.history).grows;
+grows_of w st id = let same : (h : History) → GrowsFitting h h = λ h. (evenly_self h).grows in record {
+  same = λ s. same s.history;
   handled = λ m is s.
-      after_between GrowsFitting GrowsEvenly (λ h. (evenly_self h).grows) grows_fitting_then message_grows evenly_self reply_evenly (λ h token moment opened may. holding_evenly h _) w.store w.now s m;
-  faulted = λ fault is s. ((evenly_of w (world.Faulted id fault) id (λ m other. cc)).faulted fault refl s).grows;
-  written = λ s n. ((evenly_of w (world.Written id n) id (λ m other. cc)).written s n).grows;
-  ended = λ s cut. ((evenly_of w (world.Ended id cut) id (λ m other. cc)).ended s cut).grows;
-  released = λ s. ((evenly_of w (world.Released id) id (λ m other. cc)).released s).grows;
-  announced = λ size is s. ((evenly_of w (world.Announced id size) id (λ m other. cc)).announced size refl s).grows;
+      after_between GrowsFitting GrowsEvenly same grows_fitting_then message_grows evenly_self reply_evenly
+      (λ h token moment opened may. same_evenly h _ refl refl) w.store w.now s m;
+  faulted = λ fault is s. faulted_between GrowsFitting same (λ h r takes room. (effect_evenly h _ (stopped_fits h (reject_reason r))).grows) s fault;
+  written = written_between GrowsFitting same (λ h n within. (same_evenly h _ refl refl).grows);
+  ended = ended_between GrowsFitting same (λ h cut takes. (effect_evenly h (stop (standing_now h) (end_reason cut) []) tt).grows);
+  released = released_between GrowsFitting same (λ h opened none.
+      (effect_evenly h (stop (standing_now h) reason.ReleasedHere (release ∷ [])) (released_fits h (release_fits (link_of h) none).1)).grows);
+  announced = λ size is s. announced_between GrowsFitting same
+      (λ h n opened room fit. record { more = own_csm n ∷ []; queued = refl; fit = (leb-true (length (spelling (own_csm n))) (limit_now h) fit, tt) }) s size;
   told = λ store now s t is. grows_fitting_then s.history t.history _ is (once_evenly store now t);
 }
-
-grows_from : (limits : LimitValues) (w : World) (st : Step) (id : ℕ) (s t : Side) → side_of id w.sides ≡ Some s → HoldsFrom (Between GrowsFitting) limits w st id t → Between GrowsFitting s t
-grows_from limits w st id s t there (inl old) = subst (λ (u : Side). Between GrowsFitting u t) (same_there old.0 s (sym old.1 ∙ there)) old.2
-grows_from limits w st id s t there (inr new) = absurd (none_or_some s (sym new.0 ∙ there))
 
 -- each step only adds to what a connection has queued, and what it adds fits
 pub step_fits : (limits : LimitValues) (w : World) (st : Step) (id : ℕ) (s t : Side) → side_of id w.sides ≡ Some s → side_of id (world.step limits w st).sides ≡ Some t
     → (more : List Message) × (t.history.queued ≡ s.history.queued ++ more) × AllFit (limit_now t.history) more
 step_fits limits w st id s t there then =
-    let grows = grows_from limits w st id s t there (step_across (Between GrowsFitting) limits w st id (grows_of w st id) t then) in
+    let grows : Between GrowsFitting s t = elim (step_across (Between GrowsFitting) limits w st id (grows_of w st id) t then) [
+      | inl old ↦ subst (λ (u : Side). Between GrowsFitting u t) (same_there old.0 s (sym old.1 ∙ there)) old.2
+      | inr new ↦ absurd (none_or_some s (sym new.0 ∙ there))
+    ] in
     (grows.more, grows.queued, grows.fit)
-
-opened_fits : (limits : LimitValues) (t : Side) → AreInRange limits → Between GrowsEvenly (new_side limits) t → AllFit (limit_now t.history) t.history.queued
-opened_fits limits t ranges evenly =
-    let new : List Message = (new_side limits).history.queued in
-    let first : AllFit (limit_now t.history) new = subst (λ (n : ℕ). AllFit n new) (sym evenly.same) (new_fits Server limits 0 ranges) in
-    subst (AllFit (limit_now t.history)) (sym evenly.grows.queued) (all_append _ new evenly.grows.more first evenly.grows.fit)
-
-new_from : (limits : LimitValues) (w : World) (st : Step) (id : ℕ) (t : Side) → AreInRange limits → side_of id w.sides ≡ None → HoldsFrom (Between GrowsEvenly) limits w st id t → AllFit (limit_now t.history) t.history.queued
-new_from limits w st id t ranges none (inl old) = absurd (none_or_some old.0 (sym none ∙ old.1))
-new_from limits w st id t ranges none (inr new) = opened_fits limits t ranges new.2
 
 -- all that a connection has queued fits, where the step opened it
 pub opening_fits : (limits : LimitValues) (w : World) (id : ℕ) (t : Side) → AreInRange limits → side_of id w.sides ≡ None → side_of id (world.step limits w (world.Opened id)).sides ≡ Some t → AllFit (limit_now t.history) t.history.queued
 opening_fits limits w id t ranges none then =
-    new_from limits w (world.Opened id) id t ranges none (step_across (Between GrowsEvenly) limits w (world.Opened id) id (evenly_of w (world.Opened id) id (λ m is. cc)) t then)
+    let new : History = (new_side limits).history in
+    let is : settled w.store w.now (new_side limits) ≡ t = same_there _ t (sym (opened_there limits w id none) ∙ then) in
+    let evenly : GrowsEvenly new t.history = subst (λ (u : Side). GrowsEvenly new u.history) is
+    (settled_keeps (λ u. GrowsEvenly new u.history) w.store w.now (λ u grown. evenly_then new u.history _ grown (once_evenly w.store w.now u))
+    (new_side limits) (evenly_self new)) in
+    rw evenly.grows.queued (all_append _ new.queued evenly.grows.more (rw evenly.same (new_fits Server limits 0 ranges)) evenly.grows.fit)

@@ -1,33 +1,24 @@
 -- Rows of calls, and what each of them tells, as the tests of a server have them: the form in which values of the definitions
 -- of specs/world are worked out.
-use Rattle.std.specs.Prelude.{◌≡◌, ℕ, zero, suc, ◌+◌, ◌-◌, ◌*◌, List, [], ◌∷◌, ◌++◌, length, map, take, drop, Option, Some, None, nat_lt, codes, if◌then◌else◌}
+use Rattle.coap_serve.specs.Prelude.{◌≡◌, ℕ, zero, suc, ◌+◌, ◌-◌, ◌*◌, List, [], ◌∷◌, ◌++◌, length, map, take, drop}
+use Rattle.coap_serve.specs.Prelude.{Option, Some, None, nat_lt, codes, if◌then◌else◌, digits, spelling}
+use Rattle.coap_serve.specs.Prelude.{bytes_of_uint, declared_of, message_of, one_byte_at, two_bytes_at}
+use Rattle.coap_serve.specs.Prelude.{four_bytes_at, length_at, option_number_at, head_at, option_head_at}
+use Rattle.coap_serve.specs.Prelude.{body_within, body_at, kind_of, is_recognised, known_behind}
+use Rattle.coap_serve.specs.Prelude.{first_critical_behind, beginning, sized_frames, frames_within, sized_split}
+use Rattle.coap_serve.specs.Prelude.{split, framing, announced, due_index, first_due, without_due, react}
+use Rattle.coap_serve.specs.Prelude.{live_reaction, Phase, Path, is_path, found_in, put_at, removed_at, encoded_byte}
+use Rattle.coap_serve.specs.Prelude.{path_bytes, entry_bytes, listing, place_of, key_for, state_at, has_option}
+use Rattle.coap_serve.specs.Prelude.{value_of, number_of, match_holds, is_seconds, get_answer, store_answer}
+use Rattle.coap_serve.specs.Prelude.{method_answer, resource_answer, answer_at, answer_of, prompt_answer}
+use Rattle.coap_serve.specs.Prelude.{notification_at, put_refusal, ConfigValues, is_due, without_token}
+use Rattle.coap_serve.specs.Prelude.{first_becomes, Side, waiting_on, side_after, change_after, side_faulted}
+use Rattle.coap_serve.specs.Prelude.{side_written, side_ended, side_released, settled_once, settled_within, settled}
+use Rattle.coap_serve.specs.Prelude.{side_announced, side_of, acted, step, after_steps, Event, taken_on, size_on}
+use Rattle.coap_serve.specs.Prelude.{sizes_on, stream_on, steps_by, steps_behind, steps_of, world_after, takes}
 use Prim.Native.String.{String}
-use Rattle.std.specs.Fmt.{digits}
-use Rattle.coap_wire.specs.Spelling.{spelling}
-use Rattle.coap_wire.specs.Uint.{bytes_of_uint}
-use Rattle.coap_wire.specs.Reading.{declared_of, message_of, one_byte_at, two_bytes_at, four_bytes_at, length_at, option_number_at, head_at, option_head_at, option_at, body_within, body_at}
-use Rattle.coap_wire.specs.Recognition.{kind_of, is_recognised, known_behind, first_critical_behind}
-use Rattle.coap_wire.specs.Beginning.{beginning}
-use Rattle.coap_wire.specs.Frames.{sized_frames, frames_within}
-use Rattle.coap_wire.specs.Stream.{sized_split, split}
-use Rattle.coap_frame.specs.Framing.{framing}
-use Rattle.coap_conn.specs.Announced.{announced}
-use Rattle.coap_conn.specs.Held.{due_index, first_due, without_due}
-use Rattle.coap_conn.specs.Reaction.{react, live_reaction}
-use Rattle.coap_conn.specs.declared.phase.Phase.{Phase}
-use Rattle.coap_store.specs.Paths.{Path, is_path}
-use Rattle.coap_store.specs.Store.{found_in, put_at, removed_at}
-use Rattle.coap_store.specs.Listing.{encoded_byte, path_bytes, entry_bytes, listing}
-use Rattle.coap_store.specs.State.{place_of, key_for, state_at}
-use Rattle.coap_store.specs.Requests.{values_of, has_option, value_of, number_of, match_holds, is_seconds}
-use Rattle.coap_store.specs.Answer.{get_answer, store_answer, method_answer, resource_answer, answer_at, answer_of, prompt_answer}
-use Rattle.coap_store.specs.Notifications.{notification_at}
-use Rattle.coap_store.specs.Refusals.{put_refusal}
-use Rattle.coap_serve.specs.Configs.{ConfigValues}
-use Rattle.coap_serve.specs.world.Observers.{is_due, without_token, first_becomes}
-use Rattle.coap_serve.specs.world.Sides.{Side, waiting_on, side_after, change_after, side_faulted, side_written, side_ended, side_released, settled_once, settled_within, settled, side_announced}
-use Rattle.coap_serve.specs.world.World.{side_of, acted, step, after_steps}
-use Rattle.coap_serve.specs.world.Events.{Event, taken_on, size_on, sizes_on, stream_on, steps_by, steps_behind, steps_of, world_after, takes}
+use Rattle.coap_wire.specs.Reading.{option_at}
+use Rattle.coap_store.specs.Requests.{values_of}
 use Rattle.coap_serve.specs.world.Events as event
 
 -- ---- bytes by their hexadecimal digits

@@ -1,23 +1,23 @@
 -- A connection sees the others through the store alone: after the steps that it sees, it is as it is after all steps.
-use Rattle.std.proofs.Common.{◌≡◌, ◌≢◌, ℕ, ◌+◌, Bool, true, false, ◌&&◌, cond, List, [], ◌∷◌, length, map, Option, Some, None, refl, sym, ap, subst, ◌∙◌, is_none, nat_le, option_map, ◌==◌, if◌then◌else◌}
-use Rattle.std.proofs.lemmas.Bool.{eqb-true, eqb-false}
-use Rattle.coap_wire.specs.Message.{Message}
-use Rattle.coap_conn.specs.Limits.{LimitValues}
-use Rattle.coap_store.specs.Paths.{Path}
-use Rattle.coap_store.specs.Store.{Representation, StoreValue, found_in, put_in, removed_in}
-use Rattle.coap_store.specs.State.{is_dynamic, place_of, key_for, stored_at, state_at, target_of}
-use Rattle.coap_store.specs.Requests.{path_of}
-use Rattle.coap_store.specs.Answer.{Answer, Change, Nothing, Put, Delete, changed, stored_under, deletion, answer_at, removes_watch, answer_of, prompt_answer}
-use Rattle.coap_store.specs.Refusals.{put_refusal, remove_refusal}
+use Rattle.std.proofs.Common.{◌≡◌, ℕ, ◌+◌, true, false, ◌&&◌, List, [], ◌∷◌, length, map, Option, Some, None, refl, sym, ap, subst, ◌∙◌, is_none, option_map, ◌==◌, inl, inr, arith}
+use Rattle.std.proofs.lemmas.Bool.Decides.{nat_tests}
+use Rattle.std.proofs.lemmas.Bool.{eqb-false, cases_Bool, cond_both}
+use Rattle.coap_serve.specs.Prelude.{Message, LimitValues, Path, Representation, StoreValue, put_in, removed_in}
+use Rattle.coap_serve.specs.Prelude.{is_dynamic, place_of, key_for, state_at, target_of, path_of, Change, Nothing}
+use Rattle.coap_serve.specs.Prelude.{Put, Delete, changed, stored_under, deletion, answer_at, removes_watch}
+use Rattle.coap_serve.specs.Prelude.{answer_of, prompt_answer, put_refusal, remove_refusal, ConfigValues, Side}
+use Rattle.coap_serve.specs.Prelude.{new_side, handles, asks_answer, side_after, change_after, side_faulted}
+use Rattle.coap_serve.specs.Prelude.{side_written, side_ended, side_released, side_announced, settled, World, Step}
+use Rattle.coap_serve.specs.Prelude.{new_world, side_of, stored_after, acted, after_steps, Event, steps_of}
+use Rattle.coap_serve.specs.Prelude.{world_after, change_steps, change_on, concerns, view_step, view_of, after_view}
+use Rattle.coap_serve.specs.Prelude.{AreSeen}
+use Rattle.coap_store.specs.Answer.{Answer}
 use Rattle.coap_store.proofs.AnswerLaws.{answer_cases, get_cases, store_cases, CanStore, key_is, state_dynamic, change_finally, change_unheld}
-use Rattle.coap_serve.specs.Configs.{ConfigValues}
-use Rattle.coap_serve.specs.world.Sides.{Side, new_side, handles, asks_answer, side_after, change_after, side_faulted, side_written, side_ended, side_released, side_announced, settled}
-use Rattle.coap_serve.specs.world.World.{World, Step, new_world, side_of, changed_at, stored_after, ticks, acted, after_steps}
+use Rattle.coap_serve.specs.world.World.{changed_at}
 use Rattle.coap_serve.specs.world.World as world
-use Rattle.coap_serve.specs.world.Events.{Event, steps_of, world_after}
-use Rattle.coap_serve.specs.world.View.{change_steps, change_on, change_made, change_by, concerns, view_step, view_of, after_view, AreSeen}
+use Rattle.coap_serve.specs.world.View.{change_by}
 use Rattle.coap_serve.proofs.world.StepLaws.{steps_then}
-use Rattle.coap_serve.proofs.world.PlaceLaws.{first_there, later_there, nobody, all_there, changed_here, changed_elsewhere, still_there, new_there, dropped_here, dropped_elsewhere}
+use Rattle.coap_serve.proofs.world.PlaceLaws.{first_there, nobody, all_there, changed_here, changed_elsewhere, new_there, other_more, dropped_here, dropped_elsewhere}
 use Rattle.coap_serve.proofs.world.AcrossLaws.{opened_world}
 use Rattle.coap_serve.proofs.world.EntryLemmas.{all_append}
 use Rattle.coap_serve.proofs.world.SideLaws.{at_rest, settled_rests}
@@ -35,13 +35,7 @@ IsNotRefused s (Delete path) = remove_refusal s path ≡ None
 put_passes : (s : StoreValue) (now : ℕ) (path q : Path) (m : Message) → is_dynamic (place_of path) ≡ true → CanStore s (target_of s now path) m → key_for path ≡ Some q → put_refusal s q m.payload ≡ None
 unfolding put_refusal
 put_passes s now path q m dynamic can key =
-    let same : path ≡ q = (key_is path q key).1 in
-    let place : is_dynamic (place_of q) ≡ true = sym (ap (λ (p : Path). is_dynamic (place_of p)) same) ∙ dynamic in
-    let state : state_at s now (key_for path) (place_of path) ≡ found_in s.resources q =
-    state_dynamic s now (key_for path) (place_of path) dynamic ∙ ap (stored_at s) key in
-    let room : (is_none (found_in s.resources q) && nat_le s.dynamic_max (length s.resources)) ≡ false =
-    sym (ap (λ (r : Option Representation). is_none r && nat_le s.dynamic_max (length s.resources)) state) ∙ can.room in
-    rw (can.small, place, room, can.version_left) refl
+    grind (arith, nat_tests, key_is path q key, state_dynamic s now (key_for path) (place_of path) dynamic, can.small, can.room, can.version_left)
 
 stored_passes : (s : StoreValue) (key : Option Path) (state : Option Representation) (m : Message) → ((q : Path) → key ≡ Some q → put_refusal s q m.payload ≡ None) → IsNotRefused s (stored_under key state m).change
 stored_passes s None state m passes = tt
@@ -50,12 +44,9 @@ stored_passes s (Some path) (Some r) m passes = passes path refl
 
 deletion_by : (s : StoreValue) (now : ℕ) (path : Path) (key : Option Path) (state : Option Representation) → is_dynamic (place_of path) ≡ true → key_for path ≡ key → state_at s now (key_for path) (place_of path) ≡ state → IsNotRefused s (deletion key state)
 unfolding remove_refusal
-deletion_by s now path None state dynamic key found = tt
-deletion_by s now path (Some q) None dynamic key found = tt
 deletion_by s now path (Some q) (Some r) dynamic key found =
-    let place : is_dynamic (place_of q) ≡ true = sym (ap (λ (p : Path). is_dynamic (place_of p)) (key_is path q key).1) ∙ dynamic in
-    let there : found_in s.resources q ≡ Some r = sym (state_dynamic s now (key_for path) (place_of path) dynamic ∙ ap (stored_at s) key) ∙ found in
-    rw (place, there) refl
+    grind (arith, key_is path q key, state_dynamic s now (key_for path) (place_of path) dynamic)
+deletion_by s now path key state dynamic is found = tt
 
 answer_passes : (s : StoreValue) (now : ℕ) (path : Path) (m : Message) → IsNotRefused s (answer_at s (target_of s now path) m).change
 answer_passes s now path m =
@@ -74,14 +65,12 @@ prompt_passes s now m =
     let a = answer_of s now m in
     subst (IsNotRefused s) (sym (change_unheld a.hold a ∙ change_finally (removes_watch m) at)) (answer_passes s now (path_of m) m)
 
-after_passes : (s : StoreValue) (now : ℕ) (side : Side) (m : Message) → IsNotRefused s (change_after s now side m)
-unfolding change_after
-after_passes s now side m =
-    elim (handles side && asks_answer side m) as (λ b. IsNotRefused s (if b then (prompt_answer s now m).change else Nothing)) [ true ↦ prompt_passes s now m | false ↦ tt ]
-
 on_passes : (w : World) (m : Message) (there : Option Side) → IsNotRefused w.store (change_on w m there)
+unfolding change_after
 on_passes w m None = tt
-on_passes w m (Some s) = after_passes w.store w.now s m
+on_passes w m (Some s) =
+    cond_both (handles s && asks_answer s m) (prompt_answer w.store w.now m).change Nothing (IsNotRefused w.store)
+    (λ asks. prompt_passes w.store w.now m) (λ other. tt)
 
 pub by_passes : (w : World) (s : Step) → IsNotRefused w.store (change_by w s)
 by_passes w (world.Handled id m) = on_passes w m (side_of id w.sides)
@@ -100,15 +89,6 @@ share store now side = record { store = store; now = now; side = side }
 
 abbrev pub share_of : ℕ → World → Share
 share_of id w = share w.store w.now (side_of id w.sides)
-
--- a test that says which of two worlds it is
-share_if : (id : ℕ) (b : Bool) (v w : World) (x y : Share) → (b ≡ true → share_of id v ≡ x) → share_of id w ≡ y → share_of id (cond b v w) ≡ cond b x y
-share_if id true v w x y first last = first refl
-share_if id false v w x y first last = last
-
-share_either : (id : ℕ) (b : Bool) (v w : World) (x : Share) → share_of id v ≡ x → share_of id w ≡ x → share_of id (cond b v w) ≡ x
-share_either id true v w x first last = first
-share_either id false v w x first last = last
 
 -- ---- settling
 
@@ -137,86 +117,73 @@ step_rests limits id w s =
 
 -- ---- a step that the connection sees as it is
 
-abbrev with_side : (Side → Side) → Share → Share
-with_side f x = record x { side = option_map f x.side }
+-- a step of a connection, with another number
+abbrev pub renamed : ℕ → Step → Step
+renamed n (world.Opened id) = world.Opened n
+renamed n (world.Handled id m) = world.Handled n m
+renamed n (world.Faulted id fault) = world.Faulted n fault
+renamed n (world.Written id k) = world.Written n k
+renamed n (world.Ended id cut) = world.Ended n cut
+renamed n (world.Released id) = world.Released n
+renamed n (world.Announced id size) = world.Announced n size
+renamed n (world.Dropped id) = world.Dropped n
+renamed n other = other
 
--- what a message leaves of the store
-abbrev stored_on : Share → Message → Option Side → StoreValue
-stored_on x m None = x.store
-stored_on x m (Some s) = changed x.store (change_after x.store x.now s m)
+own_number : (id : ℕ) (s : Step) → concerns id s ≡ true → renamed id s ≡ s
+unfolding concerns
+own_number id s own = grind (arith, nat_tests)
 
--- what it makes of what the connection has of a world
-abbrev pub did : LimitValues → Step → Share → Share
-did limits (world.Opened id) x = cond (is_none x.side) (record x { side = Some (new_side limits) }) x
-did limits (world.Handled id m) x = record (with_side (λ s. side_after x.store x.now s m) x) { store = stored_on x m x.side }
-did limits (world.Faulted id fault) x = with_side (λ s. side_faulted s fault) x
-did limits (world.Written id n) x = with_side (λ s. side_written s n) x
-did limits (world.Ticked now) x = cond (ticks x.now now) (record x { now = now }) x
-did limits (world.Stored path format bytes) x = cond (is_none (put_refusal x.store path bytes)) (record x { store = put_in x.store path format bytes }) x
-did limits (world.Removed path) x = record x { store = removed_in x.store path }
-did limits (world.Ended id cut) x = with_side (λ s. side_ended s cut) x
-did limits (world.Released id) x = with_side side_released x
-did limits (world.Announced id size) x = with_side (λ s. side_announced s size) x
-did limits (world.Dropped id) x = record x { side = None }
+-- of two worlds of which two connections have the same
+module _ (limits : LimitValues) (id n : ℕ) (w v : World) (alike : share_of id w ≡ share_of n v) where
+  -- a change of the connection and of the store
+  changed_alike : (store : Share → StoreValue) (f : Share → Side → Side)
+      → share (store (share_of id w)) w.now (side_of id (map (changed_at id (f (share_of id w))) w.sides)) ≡ share (store (share_of n v)) v.now (side_of n (map (changed_at n (f (share_of n v))) v.sides))
+  changed_alike store f =
+      rw (changed_here id (f (share_of id w)) w.sides, changed_here n (f (share_of n v)) v.sides)
+      (ap (λ (x : Share). share (store x) x.now (option_map (f x) x.side)) alike)
 
-abbrev DidSo : LimitValues → ℕ → World → Step → Type 0
-DidSo limits id w s = share_of id (acted limits w s) ≡ did limits s (share_of id w)
+  opened_here : (m : ℕ) (u : World) → is_none (side_of m u.sides) ≡ true → share_of m (opened_world limits u m) ≡ record (share_of m u) { side = Some (new_side limits) }
+  opened_here m u free =
+      let new : world.Place = record { id = m; side = new_side limits } in
+      ap (share u.store u.now) (new_there m u.sides (new ∷ []) (none_where (side_of m u.sides) free) ∙ first_there m new [] refl)
 
-side_where_opened : (limits : LimitValues) (id : ℕ) (w : World) → side_of id w.sides ≡ None → side_of id (opened_world limits w id).sides ≡ Some (new_side limits)
-side_where_opened limits id w none =
-    let new : world.Place = record { id = id; side = new_side limits } in
-    new_there id w.sides (new ∷ []) none ∙ first_there id new [] refl
+  acted_alike : (s : Step) → share_of id (acted limits w (renamed id s)) ≡ share_of n (acted limits v (renamed n s))
+  unfolding acted
+  acted_alike (world.Opened k) = grind (arith, alike, opened_here id w, opened_here n v)
+  acted_alike (world.Handled k m) =
+      changed_alike (λ x. stored_after (record { sides = []; ids = 0; store = x.store; now = x.now }) m x.side) (λ x s. side_after x.store x.now s m)
+  acted_alike (world.Faulted k fault) = changed_alike (λ x. x.store) (λ x s. side_faulted s fault)
+  acted_alike (world.Written k bytes) = changed_alike (λ x. x.store) (λ x s. side_written s bytes)
+  acted_alike (world.Ticked now) = grind (arith, alike)
+  acted_alike (world.Stored path format bytes) = grind (arith, alike)
+  acted_alike (world.Removed path) = ap (λ (x : Share). record x { store = removed_in x.store path }) alike
+  acted_alike (world.Ended k cut) = changed_alike (λ x. x.store) (λ x s. side_ended s cut)
+  acted_alike (world.Released k) = changed_alike (λ x. x.store) (λ x. side_released)
+  acted_alike (world.Announced k size) = changed_alike (λ x. x.store) (λ x s. side_announced s size)
+  acted_alike (world.Dropped k) = rw (dropped_here id w.sides, dropped_here n v.sides) (ap (λ (x : Share). record x { side = None }) alike)
 
-opened_so : (limits : LimitValues) (id : ℕ) (w : World) → DidSo limits id w (world.Opened id)
-unfolding acted
-opened_so limits id w =
-    share_if id (is_none (side_of id w.sides)) (opened_world limits w id) w _ (share_of id w)
-    (λ none. ap (share w.store w.now) (side_where_opened limits id w (none_where (side_of id w.sides) none))) refl
+  -- a step of the connection, or of none
+  pub own_alike : (s : Step) → concerns id s ≡ true → share_of id (world.step limits w s) ≡ share_of n (world.step limits v (renamed n s))
+  own_alike s own =
+      step_share limits id w s
+      ∙ ap settled_share (ap (λ (t : Step). share_of id (acted limits w t)) (sym (own_number id s own)) ∙ acted_alike s)
+      ∙ sym (step_share limits n v (renamed n s))
 
-stored_so : (w : World) (m : Message) (there : Option Side) → stored_after w m there ≡ stored_on (share w.store w.now there) m there
-stored_so w m None = refl
-stored_so w m (Some s) = refl
-
-handled_so : (limits : LimitValues) (id : ℕ) (w : World) (m : Message) → DidSo limits id w (world.Handled id m)
-unfolding acted
-handled_so limits id w m =
-    ap (λ (store : StoreValue). share store w.now (side_of id (map (changed_at id (λ s. side_after w.store w.now s m)) w.sides))) (stored_so w m (side_of id w.sides))
-    ∙ ap (share (stored_on (share_of id w) m (side_of id w.sides)) w.now) (changed_here id (λ s. side_after w.store w.now s m) w.sides)
-
-changed_so : (id : ℕ) (w : World) (f : Side → Side) → share w.store w.now (side_of id (map (changed_at id f) w.sides)) ≡ with_side f (share_of id w)
-changed_so id w f = ap (share w.store w.now) (changed_here id f w.sides)
-
--- a number that is the connection's
-holds_of_own_number : (P : ℕ → Type 0) (other id : ℕ) → (other == id) ≡ true → P id → P other
-holds_of_own_number P other id same here = subst P (sym (eqb-true other id same)) here
-
-pub own_did : (limits : LimitValues) (id : ℕ) (w : World) (s : Step) → concerns id s ≡ true → DidSo limits id w s
-unfolding concerns acted
-own_did limits id w (world.Opened other) same = holds_of_own_number (λ n. DidSo limits id w (world.Opened n)) other id same (opened_so limits id w)
-own_did limits id w (world.Handled other m) same = holds_of_own_number (λ n. DidSo limits id w (world.Handled n m)) other id same (handled_so limits id w m)
-own_did limits id w (world.Faulted other fault) same = holds_of_own_number (λ n. DidSo limits id w (world.Faulted n fault)) other id same (changed_so id w (λ s. side_faulted s fault))
-own_did limits id w (world.Written other n) same = holds_of_own_number (λ k. DidSo limits id w (world.Written k n)) other id same (changed_so id w (λ s. side_written s n))
-own_did limits id w (world.Ticked now) same = share_if id (ticks w.now now) (record w { now = now }) w _ (share_of id w) (λ e. refl) refl
-own_did limits id w (world.Stored path format bytes) same = share_if id (is_none (put_refusal w.store path bytes)) (record w { store = put_in w.store path format bytes }) w _ (share_of id w) (λ e. refl) refl
-own_did limits id w (world.Removed path) same = refl
-own_did limits id w (world.Ended other cut) same = holds_of_own_number (λ n. DidSo limits id w (world.Ended n cut)) other id same (changed_so id w (λ s. side_ended s cut))
-own_did limits id w (world.Released other) same = holds_of_own_number (λ n. DidSo limits id w (world.Released n)) other id same (changed_so id w side_released)
-own_did limits id w (world.Announced other size) same = holds_of_own_number (λ n. DidSo limits id w (world.Announced n size)) other id same (changed_so id w (λ s. side_announced s size))
-own_did limits id w (world.Dropped other) same = holds_of_own_number (λ n. DidSo limits id w (world.Dropped n)) other id same (ap (share w.store w.now) (dropped_here id w.sides))
+  -- a change of the store that another connection made
+  pub change_alike : (change : Change) → SettlesAlike id w → IsNotRefused w.store change → settled_share (share (changed w.store change) w.now (side_of id w.sides)) ≡ share_of n (after_steps limits v (change_steps change))
+  unfolding after_steps acted concerns
+  change_alike Nothing rests passes = rests ∙ alike
+  change_alike (Put path format bytes) rests passes =
+      let s : Step = world.Stored path format bytes in
+      let did : share (put_in w.store path format bytes) w.now (side_of id w.sides) ≡ share_of id (acted limits w s) = rw passes refl in
+      ap settled_share did ∙ sym (step_share limits id w s) ∙ own_alike s refl
+  change_alike (Delete path) rests passes = sym (step_share limits id w (world.Removed path)) ∙ own_alike (world.Removed path) refl
 
 -- ---- a step of another connection
 
--- a connection more
-opened_elsewhere : (limits : LimitValues) (other id : ℕ) (w : World) (there : Option Side) → side_of id w.sides ≡ there → other ≢ id → side_of id (opened_world limits w other).sides ≡ there
-opened_elsewhere limits other id w None is apart =
-    let new : world.Place = record { id = other; side = new_side limits } in
-    new_there id w.sides (new ∷ []) is ∙ later_there id new [] apart ∙ nobody id
-opened_elsewhere limits other id w (Some s) is apart = still_there id s w.sides (record { id = other; side = new_side limits } ∷ []) is
-
 -- what another connection's message leaves of the store is what its change does
 stored_by_change : (w : World) (m : Message) (there : Option Side) → stored_after w m there ≡ changed w.store (change_on w m there)
-stored_by_change w m None = refl
-stored_by_change w m (Some s) = refl
+stored_by_change w m there = grind arith
 
 changed_apart : (id other : ℕ) (w : World) (f : Side → Side) → (other == id) ≡ false → share w.store w.now (side_of id (map (changed_at other f) w.sides)) ≡ share_of id w
 changed_apart id other w f apart = ap (share w.store w.now) (changed_elsewhere other id f w.sides (eqb-false other id apart))
@@ -225,60 +192,36 @@ changed_apart id other w f apart = ap (share w.store w.now) (changed_elsewhere o
 pub other_did : (limits : LimitValues) (id : ℕ) (w : World) (s : Step) → concerns id s ≡ false → share_of id (acted limits w s) ≡ share (changed w.store (change_by w s)) w.now (side_of id w.sides)
 unfolding concerns acted
 other_did limits id w (world.Opened other) apart =
-    share_either id (is_none (side_of other w.sides)) (opened_world limits w other) w (share_of id w)
-    (ap (share w.store w.now) (opened_elsewhere limits other id w (side_of id w.sides) refl (eqb-false other id apart))) refl
+    cond_both (is_none (side_of other w.sides)) (opened_world limits w other) w (λ v. share_of id v ≡ share_of id w)
+    (λ free. ap (share w.store w.now) (other_more id w.sides (record { id = other; side = new_side limits }) (eqb-false other id apart))) (λ given. refl)
 other_did limits id w (world.Handled other m) apart =
-    ap (λ (store : StoreValue). share store w.now (side_of id (map (changed_at other (λ s. side_after w.store w.now s m)) w.sides))) (stored_by_change w m (side_of other w.sides))
-    ∙ ap (share (changed w.store (change_made w other m)) w.now) (changed_elsewhere other id (λ s. side_after w.store w.now s m) w.sides (eqb-false other id apart))
+    rw (changed_elsewhere other id (λ s. side_after w.store w.now s m) w.sides (eqb-false other id apart), stored_by_change w m (side_of other w.sides)) refl
 other_did limits id w (world.Faulted other fault) apart = changed_apart id other w (λ s. side_faulted s fault) apart
 other_did limits id w (world.Written other n) apart = changed_apart id other w (λ s. side_written s n) apart
-other_did limits id w (world.Ticked now) apart = absurd cc
-other_did limits id w (world.Stored path format bytes) apart = absurd cc
-other_did limits id w (world.Removed path) apart = absurd cc
 other_did limits id w (world.Ended other cut) apart = changed_apart id other w (λ s. side_ended s cut) apart
 other_did limits id w (world.Released other) apart = changed_apart id other w side_released apart
 other_did limits id w (world.Announced other size) apart = changed_apart id other w (λ s. side_announced s size) apart
 other_did limits id w (world.Dropped other) apart = ap (share w.store w.now) (dropped_elsewhere other id w.sides (eqb-false other id apart))
+other_did limits id w s apart = absurd cc
 
 -- ---- what is seen of a step does the same
 
-module _ (limits : LimitValues) (id : ℕ) (w v : World) (alike : share_of id w ≡ share_of id v) where
-  one_step : (s : Step) → after_steps limits v (s ∷ []) ≡ world.step limits v s
-  unfolding after_steps
-  one_step s = refl
-
-  -- a step that the connection sees as it is
-  same_step : (s : Step) (x : Share) → concerns id s ≡ true → did limits s (share_of id w) ≡ x → settled_share x ≡ share_of id (after_steps limits v (s ∷ []))
-  same_step s x same is =
-      ap settled_share (sym is ∙ ap (did limits s) alike ∙ sym (own_did limits id v s same))
-      ∙ sym (step_share limits id v s) ∙ ap (share_of id) (sym (one_step s))
-
-  own_alike : (s : Step) → concerns id s ≡ true → share_of id (world.step limits w s) ≡ share_of id (after_steps limits v (s ∷ []))
-  own_alike s same = step_share limits id w s ∙ same_step s (share_of id (acted limits w s)) same (sym (own_did limits id w s same))
-
-  -- a change of the store that another connection made
-  change_alike : (change : Change) → SettlesAlike id w → IsNotRefused w.store change → settled_share (share (changed w.store change) w.now (side_of id w.sides)) ≡ share_of id (after_steps limits v (change_steps change))
-  unfolding after_steps concerns
-  change_alike Nothing rests passes = rests ∙ alike
-  change_alike (Put path format bytes) rests passes =
-      same_step (world.Stored path format bytes) _ refl
-      (ap (λ (r : Option _). cond (is_none r) (share (put_in w.store path format bytes) w.now (side_of id w.sides)) (share_of id w)) passes)
-  change_alike (Delete path) rests passes = same_step (world.Removed path) _ refl refl
-
-  view_alike : (s : Step) → SettlesAlike id w → share_of id (world.step limits w s) ≡ share_of id (after_steps limits v (view_step id w s))
-  unfolding view_step
-  view_alike s rests =
-      elim (concerns id s) as (λ b. concerns id s ≡ b → share_of id (world.step limits w s) ≡ share_of id (after_steps limits v (if b then s ∷ [] else change_steps (change_by w s)))) [
-        | true ↦ λ same. own_alike s same
-        | false ↦ λ apart. step_share limits id w s ∙ ap settled_share (other_did limits id w s apart) ∙ change_alike (change_by w s) rests (by_passes w s)
-      ] refl
+view_alike : (limits : LimitValues) (id : ℕ) (w v : World) (s : Step) → SettlesAlike id w → share_of id w ≡ share_of id v → share_of id (world.step limits w s) ≡ share_of id (after_steps limits v (view_step id w s))
+unfolding view_step after_steps
+view_alike limits id w v s rests alike =
+    elim (cases_Bool (concerns id s)) [
+      | inl own ↦ rw own (own_alike limits id id w v alike s own ∙ ap (λ (t : Step). share_of id (world.step limits v t)) (own_number id s own))
+      | inr apart ↦
+          rw apart (step_share limits id w s ∙ ap settled_share (other_did limits id w s apart)
+          ∙ change_alike limits id id w v alike (change_by w s) rests (by_passes w s))
+    ]
 
 -- each step in turn, from two worlds of which the connection has the same
 views_alike : (limits : LimitValues) (id : ℕ) (ss : List Step) (w v : World) → SettlesAlike id w → share_of id w ≡ share_of id v → share_of id (after_steps limits w ss) ≡ share_of id (after_steps limits v (view_of limits id w ss))
 unfolding after_steps view_of
 views_alike limits id [] w v rests alike = alike
 views_alike limits id (s ∷ ss) w v rests alike =
-    views_alike limits id ss (world.step limits w s) (after_steps limits v (view_step id w s)) (step_rests limits id w s) (view_alike limits id w v alike s rests)
+    views_alike limits id ss (world.step limits w s) _ (step_rests limits id w s) (view_alike limits id w v s rests alike)
     ∙ ap (share_of id) (sym (steps_then limits v (view_step id w s) (view_of limits id (world.step limits w s) ss)))
 
 -- ---- what is seen is of the connection, or of none
@@ -291,11 +234,7 @@ changes_seen id (Delete path) = (refl, tt)
 
 step_seen : (id : ℕ) (w : World) (s : Step) → AreSeen id (view_step id w s)
 unfolding view_step
-step_seen id w s =
-    elim (concerns id s) as (λ b. concerns id s ≡ b → AreSeen id (if b then s ∷ [] else change_steps (change_by w s))) [
-      | true ↦ λ same. (same, tt)
-      | false ↦ λ apart. changes_seen id (change_by w s)
-    ] refl
+step_seen id w s = cond_both (concerns id s) (s ∷ []) (change_steps (change_by w s)) (AreSeen id) (λ own. (own, tt)) (λ apart. changes_seen id (change_by w s))
 
 pub view_seen : (limits : LimitValues) (id : ℕ) (w : World) (ss : List Step) → AreSeen id (view_of limits id w ss)
 unfolding view_of
@@ -305,9 +244,7 @@ view_seen limits id w (s ∷ ss) = all_append (λ t. concerns id t ≡ true) (vi
 -- ---- from the first world on
 
 pub new_rests : (c : ConfigValues) (id : ℕ) → SettlesAlike id (new_world c)
-new_rests c id =
-    let w : World = new_world c in
-    ap (λ (there : Option Side). share w.store w.now (option_map (settled w.store w.now) there)) (nobody id) ∙ ap (share w.store w.now) (sym (nobody id))
+new_rests c id = rw (nobody id) refl
 
 view_shares : (c : ConfigValues) (id : ℕ) (ss : List Step) → share_of id (after_steps c.limits (new_world c) ss) ≡ share_of id (after_view c id ss)
 view_shares c id ss = views_alike c.limits id ss (new_world c) (new_world c) (new_rests c id) refl

@@ -1,33 +1,25 @@
 -- What happens to a connection, call by call. A relation between histories that composes holds across all that a call of a server
 -- does to a connection, and across settling, where each part of it keeps the relation. One that a part does not keep leaves out the
 -- calls which have that part.
-use Rattle.std.proofs.Common.{◌≡◌, ℕ, ◌≤◌, Bool, true, false, cond, List, [], ◌∷◌, ◌++◌, length, Option, Some, None, refl, sym, ap, subst, ◌∙◌, zero, suc, ◌+◌, ◌&&◌, nat_le, nat_lt, is_none, find}
-use Rattle.std.proofs.lemmas.Bool.{cond_both, and_parts, leb-true, ltb-false}
+use Rattle.std.proofs.Common.{◌≡◌, ℕ, ◌≤◌, Bool, true, false, cond, List, [], ◌∷◌, ◌++◌, length, Option, Some, None, refl, sym, ap, subst, zero, suc, ◌+◌, ◌&&◌, nat_le, is_none, arith}
+use Rattle.std.proofs.lemmas.Bool.{cond_both, and_parts, leb-true}
+use Rattle.std.proofs.lemmas.Bool.Decides.{nat_tests}
 use Rattle.std.proofs.lemmas.List.{append-nil}
-use Rattle.coap_wire.specs.Message.{Message}
-use Rattle.coap_wire.specs.Stream.{StreamFault}
-use Rattle.coap_frame.specs.Raising.{greatest_size}
-use Rattle.coap_conn.specs.declared.phase.Reject.{Reject}
-use Rattle.coap_conn.specs.declared.reason.Reason.TheVariants.{ReleasedHere}
-use Rattle.coap_conn.specs.declared.phase.SendFault.TheVariants as fault
-use Rattle.coap_conn.specs.Phases.{takes_messages, answers, is_open}
-use Rattle.coap_conn.specs.Fit.{fits, bare_response}
-use Rattle.coap_conn.specs.Verdicts.{VerdictValue, is_request}
+use Rattle.coap_serve.specs.Prelude.{Message, StreamFault, greatest_size, Reject, ReleasedHere, takes_messages}
+use Rattle.coap_serve.specs.Prelude.{answers, is_open, fits, bare_response, VerdictValue, is_request, HeldValue}
+use Rattle.coap_serve.specs.Prelude.{Answer, Pong, first_due, without_due, stop, abort, send, react, pong_with}
+use Rattle.coap_serve.specs.Prelude.{due_effect, reject_of, reject_reason, release_refusal, History, standing_now}
+use Rattle.coap_serve.specs.Prelude.{limit_now, with_effect, after, may_hold, link_of, standing_due, end_reason}
+use Rattle.coap_serve.specs.Prelude.{release, may_announce, LinkValue, own_csm, free_in, limit_in, StoreValue}
+use Rattle.coap_serve.specs.Prelude.{Response, held_response, answer_of, prompt_answer, response_with_observe}
+use Rattle.coap_serve.specs.Prelude.{Observer, without_token, has_place, goes_on, notification, Side, waiting_on}
+use Rattle.coap_serve.specs.Prelude.{has_room, handles, kept_open, with_history, moment_after, held_for}
+use Rattle.coap_serve.specs.Prelude.{side_replied, asks_answer, side_handled, side_after, side_faulted, side_written}
+use Rattle.coap_serve.specs.Prelude.{side_ended, side_released, may_raise, side_announced, next_due, notified}
+use Rattle.coap_serve.specs.Prelude.{held_message, after_sent, settled_so, settled_once, settled_within, settled}
 use Rattle.coap_conn.specs.Verdicts as verdict
-use Rattle.coap_conn.specs.Held.{HeldValue, Answer, Pong, first_due, without_due}
-use Rattle.coap_conn.specs.Reaction.{stop, abort, send, react, pong_with, due_effect}
-use Rattle.coap_conn.specs.Rejects.{reject_of, reject_reason}
-use Rattle.coap_conn.specs.Release.{release_refusal}
-use Rattle.coap_conn.specs.History.{History, standing_now, limit_now, with_effect, after, may_hold, link_of}
-use Rattle.coap_conn.specs.Calls.{standing_due, end_reason, release, may_announce}
 use Rattle.coap_conn.specs.Calls as call
-use Rattle.coap_conn.specs.LinkValue.{LinkValue, own_csm, free_in, limit_in}
 use Rattle.coap_conn.proofs.RequestLemmas.{react_asks}
-use Rattle.coap_store.specs.Store.{StoreValue}
-use Rattle.coap_store.specs.Answer.{Response, held_response, answer_of, prompt_answer}
-use Rattle.coap_store.specs.Messages.{response_with_observe}
-use Rattle.coap_serve.specs.world.Observers.{Observer, is_due, without_token, has_place, goes_on, notification}
-use Rattle.coap_serve.specs.world.Sides.{Side, waiting_on, has_room, handles, kept_open, with_history, moment_after, held_for, side_replied, asks_answer, side_handled, side_after, side_faulted, side_written, side_ended, side_released, may_raise, side_announced, notified, held_message, after_sent, settled_so, settled_once, settled_within, settled}
 
 -- ---- the parts
 
@@ -95,6 +87,18 @@ pub record Composes (R : History → History → Type 0) : Type 0 where
 abbrev pub Between : (History → History → Type 0) → Side → Side → Type 0
 Between R s t = R s.history t.history
 
+-- ---- cases
+
+-- what may be there, with what is known of it
+pub there_or_not : {A : Type 0} (o : Option A) (P : Option A → Type 0) → (o ≡ None → P None) → ((x : A) → o ≡ Some x → P (Some x)) → P o
+there_or_not None P none some = none refl
+there_or_not (Some x) P none some = some x refl
+
+-- what is there only where a test says so
+pub there_where : {A : Type 0} (b : Bool) (o : Option A) (x : A) → cond b o None ≡ Some x → (b ≡ true) × (o ≡ Some x)
+there_where true o x e = (refl, e)
+there_where false o x e = absurd cc
+
 -- ---- room
 
 pub said_request : (v : VerdictValue) → is_request v ≡ true → v ≡ verdict.Request
@@ -102,75 +106,66 @@ said_request verdict.Request e = refl
 said_request other e = absurd cc
 
 -- a request queues nothing, so there is as much room behind it
-asked_room : (h : History) (m : Message) → is_request (react (standing_now h) m).verdict ≡ true → room_in (heard h m) ≡ room_in h
-asked_room h m asks =
-    ap (λ (ms : List Message). room_in (record h { queued = ms }))
-    (ap (λ (ms : List Message). h.queued ++ ms) (react_asks (standing_now h) m (said_request (react (standing_now h) m).verdict asks)).nothing ∙ append-nil h.queued)
+asked_room : (h : History) (m : Message) → is_request (react (standing_now h) m).verdict ≡ true → room_in h ≡ true → room_in (after h (call.Handle m)) ≡ true
+asked_room h m asks room =
+    let none = (react_asks (standing_now h) m (said_request (react (standing_now h) m).verdict asks)).nothing in
+    cond_both (takes_messages h.phase) (heard h m) h (λ (k : History). room_in k ≡ true) (λ takes. rw (none, append-nil) room) (λ over. room)
 
 -- the effect of what was found to be due first
 pub due_is : (h : History) (now : ℕ) (found : Option HeldValue) → first_due now h.held ≡ found → after h (call.Due now) ≡ with_effect h (due_effect (standing_due now (standing_now h)) found)
 due_is h now found is = ap (λ (o : Option HeldValue). with_effect h (due_effect (standing_due now (standing_now h)) o)) is
 
-no_more : (h k : History) → record k { queued = h.queued ++ [] } ≡ record k { queued = h.queued }
-no_more h k = ap (λ (ms : List Message). record k { queued = ms }) (append-nil h.queued)
-
 -- what is due first is not held any more, where it is no Pong
 answer_goes : (h : History) (now : ℕ) (token : List ℕ) (moment : ℕ) → first_due now h.held ≡ Some (Answer token moment) → after h (call.Due now) ≡ without_first h now
-answer_goes h now token moment is = due_is h now (Some (Answer token moment)) is ∙ no_more h (without_first h now)
+answer_goes h now token moment is = cc (due_is h now (Some (Answer token moment)) is, append-nil h.queued)
 
 -- ---- settling
 
+-- what each turn keeps, settling keeps
+module _ (P : Side → Type 0) (store : StoreValue) (now : ℕ) (keeps : (s : Side) → P s → P (settled_once store now s)) where
+  within_keeps : (turns : ℕ) (s : Side) → P s → P (settled_within turns store now s)
+  unfolding settled_within
+  within_keeps zero s is = is
+  within_keeps (suc turns) s is = within_keeps turns (settled_once store now s) (keeps s is)
+
+  pub settled_keeps : (s : Side) → P s → P (settled store now s)
+  unfolding settled
+  settled_keeps s = within_keeps (length s.history.held + length s.observers) s
+
 pub if_between : (R : History → History → Type 0) (does : Bool) (h k : History) → R h h → (does ≡ true → R h k) → R h (cond does k h)
-if_between R true h k same goes = goes refl
-if_between R false h k same goes = same
+if_between R does h k same goes = cond_both does k h (R h) goes (λ none. same)
 
 -- What is due may do more than all else: a relation that holds behind it goes on by another one.
 module _ (R E : History → History → Type 0) (same : (h : History) → R h h) (then : (h k g : History) → R h k → E k g → R h g) (replies : Replies E) (lets_go : LetsGo R) (pongs : Pongs R) where
   reply_between : (h k : History) (token : List ℕ) (observe : Bool) (r : Response) → R h k → room_in k ≡ true → R h (after k (call.Reply (response_with_observe token observe r)))
-  reply_between h k token observe r before room = by (answers k.phase) refl
-    where
-      by : (does : Bool) → answers k.phase ≡ does → R h (cond does (sent k (response_with_observe token observe r) (bare_response (response_with_observe token observe r))) k)
-      by true does = then h k _ before (replies k token observe r does room)
-      by false does = before
+  reply_between h k token observe r before room =
+      cond_both (answers k.phase) _ k (R h) (λ does. then h k _ before (replies k token observe r does room)) (λ none. before)
 
   sent_between : (h : History) (now : ℕ) (e : HeldValue) → first_due now h.held ≡ Some e → room_in h ≡ true → R h (after_sent h now e)
   sent_between h now (Answer token moment) is room =
       subst (λ (g : History). R h (after g (call.Reply (held_message token)))) (sym (answer_goes h now token moment is))
       (reply_between h (without_first h now) token false held_response (lets_go h now) room)
-  sent_between h now (Pong token) is room = subst (R h) (sym (due_is h now (Some (Pong token)) is)) (pongs h now token is room)
+  sent_between h now (Pong token) is room = rw (due_is h now (Some (Pong token)) is) (pongs h now token is room)
 
   module _ (store : StoreValue) (now : ℕ) (s : Side) where
-    notified_between : (found : Option Observer) → room_in s.history ≡ true → R s.history (notified store now s found).history
+    notified_between : (found : Option Observer) → has_room s ≡ true → R s.history (notified store now s found).history
     notified_between None room = same s.history
     notified_between (Some o) room = reply_between s.history s.history o.token (goes_on (notification store now o)) (notification store now o) (same s.history) room
 
-    told_between : (room : Bool) → has_room s ≡ room → R s.history (notified store now s (cond room (find (is_due store now) s.observers) None)).history
-    told_between true is = notified_between (find (is_due store now) s.observers) is
-    told_between false is = same s.history
-
-    found_between : (found : Option HeldValue) → first_due now s.history.held ≡ found → has_room s ≡ true → R s.history (settled_so store now s found).history
-    found_between None is room = told_between (has_room s) refl
-    found_between (Some e) is room = sent_between s.history now e is room
-
-    so_between : (room : Bool) → has_room s ≡ room → R s.history (settled_so store now s (cond room (first_due now s.history.held) None)).history
-    so_between true is = found_between (first_due now s.history.held) refl is
-    so_between false is = told_between (has_room s) refl
+    told_between : R s.history (notified store now s (next_due store now s)).history
+    told_between = cond_both (has_room s) _ None (λ o. R s.history (notified store now s o).history) (notified_between _) (λ none. same s.history)
 
     pub once_between : R s.history (settled_once store now s).history
     unfolding settled_once
-    once_between = so_between (has_room s) refl
+    once_between =
+        let So : Option HeldValue → Type 0 = λ found. R s.history (settled_so store now s found).history in
+        cond_both (has_room s) (first_due now s.history.held) None So
+        (λ room. there_or_not (first_due now s.history.held) So (λ none. told_between) (λ e is. sent_between s.history now e is room)) (λ none. told_between)
 
-module _ (R : History → History → Type 0) (composes : Composes R) (replies : Replies R) (lets_go : LetsGo R) (pongs : Pongs R) where
-  within_between : (turns : ℕ) (store : StoreValue) (now : ℕ) (s : Side) → R s.history (settled_within turns store now s).history
-  unfolding settled_within
-  within_between zero store now s = composes.same s.history
-  within_between (suc turns) store now s =
-      let t : Side = settled_once store now s in
-      composes.then s.history t.history _ (once_between R R composes.same composes.then replies lets_go pongs store now s) (within_between turns store now t)
-
-  pub settled_between : (store : StoreValue) (now : ℕ) (s : Side) → R s.history (settled store now s).history
-  unfolding settled
-  settled_between store now s = within_between (length s.history.held + length s.observers) store now s
+pub settled_between : (R : History → History → Type 0) → Composes R → Replies R → LetsGo R → Pongs R → (store : StoreValue) (now : ℕ) (s : Side) → R s.history (settled store now s).history
+settled_between R composes replies lets_go pongs store now s =
+    settled_keeps (Between R s) store now
+    (λ t is. composes.then s.history t.history _ is (once_between R R composes.same composes.then replies lets_go pongs store now t)) s (composes.same s.history)
 
 -- ---- a message
 
@@ -184,55 +179,36 @@ module _ (R E : History → History → Type 0) (same : (h : History) → R h h)
       if_between E (is_open h.phase && may_hold h) h _ (stays h)
       (λ does. (let both = and_parts (is_open h.phase) (may_hold h) does in holds h m.token (moment_after now seconds) both.0 both.1))
 
-  module _ (store : StoreValue) (now : ℕ) (s : Side) (m : Message) where
-    room_behind_message : (takes : Bool) → takes_messages s.history.phase ≡ takes → asks_answer s m ≡ true → room_in s.history ≡ true → room_in (cond takes (heard s.history m) s.history) ≡ true
-    room_behind_message true takes asks room = asked_room s.history m asks ∙ room
-    room_behind_message false takes asks room = room
-
-    message_between : has_room s ≡ true → R s.history (after s.history (call.Handle m))
-    message_between room = if_between R (takes_messages s.history.phase) s.history _ (same s.history) (λ takes. hears s.history m takes room)
-
-    handled_between : (asks : Bool) → asks_answer s m ≡ asks → has_room s ≡ true
-        → R s.history (cond asks (side_replied store now (after s.history (call.Handle m)) (without_token m.token s.observers) m (held_for (after s.history (call.Handle m)) (answer_of store now m).hold)) (with_history s (after s.history (call.Handle m)))).history
-    handled_between true is room =
-        let h : History = after s.history (call.Handle m) in
-        then s.history h _ (message_between room) (replied_between store now h (without_token m.token s.observers) m (held_for h (answer_of store now m).hold) (room_behind_message (takes_messages s.history.phase) refl is room))
-    handled_between false is room = message_between room
-
-    pub after_between : R s.history (side_after store now s m).history
-    unfolding side_after
-    after_between = by (handles s) refl
-      where
-        by : (does : Bool) → handles s ≡ does → R s.history (cond does (side_handled store now s m) s).history
-        by true is = handled_between (asks_answer s m) refl (and_parts (takes_messages s.history.phase) (has_room s) is).1
-        by false is = same s.history
+  pub after_between : (store : StoreValue) (now : ℕ) (s : Side) (m : Message) → R s.history (side_after store now s m).history
+  unfolding side_after
+  after_between store now s m =
+      let h : History = after s.history (call.Handle m) in
+      cond_both (handles s) (side_handled store now s m) s (Between R s) (λ does. (
+      let room = (and_parts (takes_messages s.history.phase) (has_room s) does).1 in
+      let message : R s.history h = if_between R (takes_messages s.history.phase) s.history _ (same s.history) (λ takes. hears s.history m takes room) in
+      cond_both (asks_answer s m) _ (with_history s h) (Between R s)
+      (λ asks. then s.history h _ message
+      (replied_between store now h (without_token m.token s.observers) m (held_for h (answer_of store now m).hold) (asked_room s.history m asks room)))
+      (λ other. message))) (λ none. same s.history)
 
 -- ---- all else
 
 -- a connection that may be released has room for Release, and may be sent it
-may_release : (v : LinkValue) (opened full small : Bool) → nat_lt (free_in v) 2 ≡ full → nat_lt (limit_in v) 2 ≡ small
-    → is_none (cond opened (cond full (Some fault.NoRoom) (cond small (Some fault.PeerTooSmall) None)) (Some fault.NotOpen)) ≡ true → (2 ≤ free_in v) × (2 ≤ limit_in v)
-may_release v true false false full small none = (ltb-false (free_in v) 2 full, ltb-false (limit_in v) 2 small)
-may_release v opened b d full small none = absurd cc
-
 pub release_fits : (v : LinkValue) → is_none (release_refusal v) ≡ true → (2 ≤ free_in v) × (2 ≤ limit_in v)
-release_fits v none = may_release v (is_open v.phase) (nat_lt (free_in v) 2) (nat_lt (limit_in v) 2) refl refl none
+release_fits v none = (grind (arith, nat_tests), grind (arith, nat_tests))
 
 module _ (R : History → History → Type 0) (same : (h : History) → R h h) where
-  if_side : (s t : Side) (does : Bool) → (does ≡ true → R s.history t.history) → R s.history (cond does t s).history
-  if_side s t true goes = goes refl
-  if_side s t false goes = same s.history
-
   pub faulted_between : Rejects R → (s : Side) (fault : StreamFault) → R s.history (side_faulted s fault).history
   unfolding side_faulted
   faulted_between rejects s fault =
-      if_side s (with_history s (after s.history (call.Reject (reject_of fault)))) (handles s)
+      cond_both (handles s) _ s (Between R s)
       (λ does. if_between R (takes_messages s.history.phase) s.history _ (same s.history) (λ takes. rejects s.history (reject_of fault) takes (and_parts (takes_messages s.history.phase) (has_room s) does).1))
+      (λ none. same s.history)
 
   pub written_between : Writes R → (s : Side) (n : ℕ) → R s.history (side_written s n).history
   unfolding side_written
   written_between writes s n =
-      if_side s (record s { history = after s.history (call.Written n) }) (nat_le n (length (waiting_on s))) (λ does. writes s.history n (leb-true n (length (waiting_on s)) does))
+      cond_both (nat_le n (length (waiting_on s))) _ s (Between R s) (λ does. writes s.history n (leb-true n (length (waiting_on s)) does)) (λ none. same s.history)
 
   pub ended_between : Ends R → (s : Side) (cut : Bool) → R s.history (side_ended s cut).history
   unfolding side_ended
@@ -241,47 +217,42 @@ module _ (R : History → History → Type 0) (same : (h : History) → R h h) w
   pub released_between : Releases R → (s : Side) → R s.history (side_released s).history
   unfolding side_released
   released_between releases s =
-      if_side s (with_history s (after s.history call.Release)) (is_none (release_refusal (link_of s.history)))
-      (λ does. if_between R (is_open s.history.phase) s.history _ (same s.history) (λ opened. releases s.history opened does))
+      cond_both (is_none (release_refusal (link_of s.history))) _ s (Between R s)
+      (λ does. if_between R (is_open s.history.phase) s.history _ (same s.history) (λ opened. releases s.history opened does)) (λ none. same s.history)
 
   pub announced_between : Announces R → (s : Side) (size : ℕ) → R s.history (side_announced s size).history
   unfolding side_announced
   announced_between announces s size =
       let h : History = s.history in
       let may : Bool = may_announce (link_of h) size in
-      if_side s (with_history s (after h (call.Announce size))) (may_raise s size)
-      (λ does.
-      (let room = (and_parts (has_room s) may (and_parts (nat_le h.own_max size && nat_le size greatest_size) (has_room s && may) does).1).0 in
-      if_between R may h (announcing h size) (same h)
-      (λ so. (let both = and_parts (is_open h.phase) (fits (limit_now h) (own_csm size)) so in announces h size both.0 room both.1))))
+      cond_both (may_raise s size) _ s (Between R s) (λ does. if_between R may h (announcing h size) (same h) (λ so. (
+      let both = and_parts (is_open h.phase) (fits (limit_now h) (own_csm size)) so in
+      let room = (and_parts (has_room s) may (and_parts (nat_le h.own_max size && nat_le size greatest_size) (has_room s && may) does).1).0 in
+      announces h size both.0 room both.1))) (λ none. same h)
 
 -- ---- observers
 
--- what holds of the observers of a connection, and of none, holds where it may not be open any more
-module _ (P : List Observer → Type 0) (none : P []) where
-  open_or_none : (h : History) (os : List Observer) → P os → P (kept_open h os)
-  open_or_none h os is = cond_both (is_open h.phase) os [] P (λ e. is) (λ e. none)
+-- it holds of a connection and of what becomes of it by all that may happen to it but messages
+pub record HoldsOfCalls (R : Side → Side → Type 0) : Type 0 where
+  pub faulted : (s : Side) (fault : StreamFault) → R s (side_faulted s fault)
+  pub written : (s : Side) (n : ℕ) → R s (side_written s n)
+  pub ended : (s : Side) (cut : Bool) → R s (side_ended s cut)
+  pub released : (s : Side) → R s (side_released s)
+  pub announced : (s : Side) (size : ℕ) → R s (side_announced s size)
 
-  either : (does : Bool) (s t : Side) → P s.observers → P t.observers → P (cond does t s).observers
-  either true s t is then = then
-  either false s t is then = is
+-- what holds of observers, and of none, holds where the connection may not be open any more
+pub kept_open_has : (P : List Observer → Type 0) → P [] → (h : History) (os : List Observer) → P os → P (kept_open h os)
+kept_open_has P none h os is = cond_both (is_open h.phase) os [] P (λ e. is) (λ e. none)
 
-  pub observers_faulted : (s : Side) (fault : StreamFault) → P s.observers → P (side_faulted s fault).observers
-  unfolding side_faulted
-  observers_faulted s fault is = let h : History = after s.history (call.Reject (reject_of fault)) in either (handles s) s (with_history s h) is (open_or_none h s.observers is)
-
-  pub observers_written : (s : Side) (n : ℕ) → P s.observers → P (side_written s n).observers
-  unfolding side_written
-  observers_written s n is = either (nat_le n (length (waiting_on s))) s (record s { history = after s.history (call.Written n) }) is is
-
-  pub observers_ended : (s : Side) (cut : Bool) → P s.observers → P (side_ended s cut).observers
-  unfolding side_ended
-  observers_ended s cut is = open_or_none (after s.history (call.End cut)) s.observers is
-
-  pub observers_released : (s : Side) → P s.observers → P (side_released s).observers
-  unfolding side_released
-  observers_released s is = let h : History = after s.history call.Release in either (is_none (release_refusal (link_of s.history))) s (with_history s h) is (open_or_none h s.observers is)
-
-  pub observers_announced : (s : Side) (size : ℕ) → P s.observers → P (side_announced s size).observers
-  unfolding side_announced
-  observers_announced s size is = let h : History = after s.history (call.Announce size) in either (may_raise s size) s (with_history s h) is (open_or_none h s.observers is)
+pub observers_kept : (P : List Observer → Type 0) → P [] → HoldsOfCalls (λ s t. P s.observers → P t.observers)
+unfolding side_faulted side_written side_ended side_released side_announced
+observers_kept P none =
+    let kept_where : (does : Bool) (s : Side) (h : History) → P s.observers → P (cond does (with_history s h) s).observers =
+    λ does s h is. cond_both does (with_history s h) s (λ t. P t.observers) (λ e. kept_open_has P none h s.observers is) (λ e. is) in
+    record {
+      faulted = λ s fault. kept_where (handles s) s _;
+      written = λ s n is. cond_both (nat_le n (length (waiting_on s))) _ s (λ t. P t.observers) (λ e. is) (λ e. is);
+      ended = λ s cut. kept_open_has P none (after s.history (call.End cut)) s.observers;
+      released = λ s. kept_where (is_none (release_refusal (link_of s.history))) s _;
+      announced = λ s size. kept_where (may_raise s size) s _;
+    }

@@ -1,10 +1,8 @@
 -- Worked values of the definitions of specs/world: what the calls of a server tell, one after the other.
 use Rattle.std.proofs.Common.{ℕ, List, [], ◌∷◌, ◌++◌, Some, refl, codes, replicate}
-use Rattle.coap_conn.specs.Limits.{LimitValues}
+use Rattle.coap_serve.specs.Prelude.{LimitValues, Path, ConfigValues}
 use Rattle.coap_conn.specs.declared.phase.Phase.TheVariants as phase
 use Rattle.coap_conn.specs.declared.reason.Reason.TheVariants as reason
-use Rattle.coap_store.specs.Paths.{Path}
-use Rattle.coap_serve.specs.Configs.{ConfigValues}
 use Rattle.coap_serve.proofs.world.Rows.{hex, Open, In, Drain, Put, Remove, Tick, End, Release, Drop, Look, Done, Taken, Out, Version, Stands, Absent, Row, ◌=>◌, told, Plays}
 
 -- ---- configurations

@@ -1,13 +1,10 @@
 -- Worked values of the definitions of specs/world: which messages ask for what is held, and in which order.
 use Rattle.std.proofs.Common.{◌≡◌, ℕ, true, false, List, [], ◌∷◌, map, refl, sym, codes, inl, inr, true≢false}
-use Rattle.coap_wire.specs.Message.{CoapOption, Message}
+use Rattle.coap_serve.specs.Prelude.{CoapOption, Message, HeldValue, Answer, Pong, is_custody_pong, asked_late}
+use Rattle.coap_serve.specs.Prelude.{asks_held, StandFor}
 use Rattle.coap_wire.specs.Codes as code
 use Rattle.coap_wire.specs.OptionNumbers as numbers
 use Rattle.coap_conn.specs.SignalOptions as option
-use Rattle.coap_conn.specs.Held.{HeldValue, Answer, Pong}
-use Rattle.coap_conn.specs.Reaction.{is_custody_pong}
-use Rattle.coap_serve.specs.world.Told.{asked_late}
-use Rattle.coap_serve.specs.world.Custody.{asks_held, StandFor}
 use Rattle.coap_serve.proofs.world.Rows.{told}
 
 -- ---- messages

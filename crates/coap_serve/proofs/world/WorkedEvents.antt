@@ -1,13 +1,11 @@
 -- Worked values of the definitions of specs/world, by their events: which events calls make, what is taken of a piece, and
 -- worlds that are the same.
 use Rattle.std.proofs.Common.{◌≡◌, List, [], ◌∷◌, ◌++◌, map, refl, codes}
-use Rattle.coap_wire.specs.Message.{Message}
+use Rattle.coap_serve.specs.Prelude.{Message, ConfigValues, step, Event, Opened, Took, Wrote, Dropped, steps_of}
+use Rattle.coap_serve.specs.Prelude.{takes, world_after}
 use Rattle.coap_wire.specs.Codes as code
 use Rattle.coap_wire.specs.OptionNumbers as numbers
-use Rattle.coap_serve.specs.Configs.{ConfigValues}
-use Rattle.coap_serve.specs.world.World.{step}
 use Rattle.coap_serve.specs.world.World as step
-use Rattle.coap_serve.specs.world.Events.{Event, Opened, Took, Wrote, Dropped, steps_of, takes, world_after}
 use Rattle.coap_serve.proofs.world.Rows.{hex, Open, In, Drain, told, events_of}
 use Rattle.coap_serve.proofs.world.Worked.{usual, config_with, narrow_limits}
 

@@ -2,12 +2,10 @@
 -- they are given up.
 use Rattle.std.proofs.Common.{◌≡◌, ℕ, List, [], ◌∷◌, ◌++◌, Some, None, option_map, refl, codes}
 use Prim.Native.String.{String}
-use Rattle.coap_conn.specs.Held.{Answer, Pong}
+use Rattle.coap_serve.specs.Prelude.{Answer, Pong, ConfigValues, side_of, Event, Opened, Took, Wrote, Ticked}
+use Rattle.coap_serve.specs.Prelude.{world_after}
 use Rattle.coap_conn.specs.declared.phase.Phase.TheVariants as phase
 use Rattle.coap_conn.specs.declared.reason.Reason.TheVariants as reason
-use Rattle.coap_serve.specs.Configs.{ConfigValues}
-use Rattle.coap_serve.specs.world.World.{side_of}
-use Rattle.coap_serve.specs.world.Events.{Event, Opened, Took, Wrote, Ticked, world_after}
 use Rattle.coap_serve.proofs.world.Rows.{hex, In, Drain, Put, Tick, End, Release, Look, Done, Taken, Out, Version, Stands, Row, ◌=>◌, told, Plays}
 use Rattle.coap_serve.proofs.world.Worked.{usual, usual_limits, one_resource, narrow_limits, config_with, opened, path_a}
 

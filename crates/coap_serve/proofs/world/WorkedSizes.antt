@@ -2,15 +2,10 @@
 use Rattle.std.proofs.Common.{◌≡◌, ℕ, List, [], ◌∷◌, ◌++◌, map, Option, Some, None, refl}
 use Rattle.coap_conn.specs.declared.phase.Phase.TheVariants as phase
 use Rattle.coap_conn.specs.declared.reason.Reason.TheVariants as reason
-use Rattle.coap_serve.specs.Configs.{ConfigValues}
-use Rattle.coap_serve.specs.values.Sessions.{SessionValue}
-use Rattle.coap_serve.specs.values.ServerAnswers.{announced_refusal_on}
-use Rattle.coap_serve.specs.declared.server.AnnounceFault.{AnnounceFault}
+use Rattle.coap_serve.specs.Prelude.{ConfigValues, SessionValue, announced_refusal_on, AnnounceFault, Side, side_of}
+use Rattle.coap_serve.specs.Prelude.{Event, Opened, Took, Wrote, Announced, size_on, sizes_on, stream_on}
+use Rattle.coap_serve.specs.Prelude.{world_after, session_shown}
 use Rattle.coap_serve.specs.declared.server.AnnounceFault.TheVariants as fault
-use Rattle.coap_serve.specs.world.Sides.{Side}
-use Rattle.coap_serve.specs.world.World.{side_of}
-use Rattle.coap_serve.specs.world.Events.{Event, Opened, Took, Wrote, Announced, size_on, sizes_on, stream_on, world_after}
-use Rattle.coap_serve.specs.world.Shows.{session_shown}
 use Rattle.coap_serve.proofs.world.Rows.{hex, Open, In, Drain, Announce, Look, Done, Taken, Out, Stands, ◌=>◌, told, Plays}
 use Rattle.coap_serve.proofs.world.Worked.{config_with, narrow_limits}
 

@@ -1,11 +1,9 @@
 -- Worked values of the definitions of specs/world: what connections see of one another.
 use Rattle.std.proofs.Common.{◌≡◌, List, [], ◌∷◌, None, refl}
-use Rattle.coap_wire.specs.Message.{Message}
+use Rattle.coap_serve.specs.Prelude.{Message, new_world, Event, Opened, Took, Wrote, Ticked, Dropped, steps_of}
+use Rattle.coap_serve.specs.Prelude.{concerns, view_step, view_of}
 use Rattle.coap_wire.specs.Codes as code
-use Rattle.coap_serve.specs.world.World.{Step, new_world}
 use Rattle.coap_serve.specs.world.World as step
-use Rattle.coap_serve.specs.world.Events.{Event, Opened, Took, Wrote, Ticked, Dropped, steps_of}
-use Rattle.coap_serve.specs.world.View.{concerns, view_step, view_of}
 use Rattle.coap_serve.proofs.world.Rows.{hex, told}
 use Rattle.coap_serve.proofs.world.Worked.{one_resource, path_a}
 

@@ -1,12 +1,22 @@
-use Rattle.std.proofs.Common.{ap, arith, ◌∙◌}
+use Rattle.coap_serve.specs.Prelude.{NoneYet}
+use Rattle.std.proofs.Common.{[], refl, ap, arith, ◌∙◌}
 use Rattle.std.proofs.lemmas.Result.{err_from_is_err_and}
-use Rattle.coap_serve.proofs.streams.DoorLemmas.{has_begun, turned_once_more, cut_in_a_turn, has_ended, ended_by_memory}
+use Rattle.coap_serve.proofs.streams.DoorLemmas.{told_none, turned_once_more, cut_in_a_turn, ended_by_memory}
 use Rattle.coap_serve.proofs.door.serve_door.Goals as goal
 
 pub loop-turn-init : goal.loop-turn-init
-loop-turn-init g c =
-    has_begun g.D.Wire.Ready.readable g.D.Wire.Ready.writable c.args.config (g.C.Clock.moments c.args.clock.now) (g.D.Door.calls c.args.door.now)
-    c.in-Ok.service.server c.in-Ok.service.peers.entries c.in-Ok.service.is_spent c.in-Ok.ensures.value c.in-Ok.ensures.none c.in-Ok.ensures.ready
+loop-turn-init g c = record {
+  turned = record {
+    moments = [];
+    calls = [];
+    turns = rw (c.in-Ok.ensures.value, c.in-Ok.ensures.none) NoneYet;
+    clock_tells = told_none (g.C.Clock.moments c.args.clock.now);
+    door_tells = told_none (g.D.Door.calls c.args.door.now);
+  };
+  counted = refl;
+  may = tt;
+  ready = c.in-Ok.ensures.ready;
+}
 
 pub loop-turn-preserved : goal.loop-turn-preserved
 loop-turn-preserved g c =
@@ -31,7 +41,9 @@ returns-in_err-wait-clause-run g c =
     (c.turn.ensures.asks (c.tick.ensures.spent ∙ c.loop-turn.invariant.ready)) (omega (arith, c.loop-turn-test.true, c.turns-turn-end.ensures.value))))
 
 pub returns-clause-run : goal.returns-clause-run
-returns-clause-run g c =
-    has_ended g.D.Wire.Ready.readable g.D.Wire.Ready.writable c.args.config _ _
-    c.loop-turn.service.server c.loop-turn.service.peers.entries c.loop-turn.service.is_spent c.loop-turn.wait c.loop-turn.turn c.loop-turn.invariant
-    (omega (arith, c.loop-turn-test.false, c.turns-turn-end.ensures.value))
+returns-clause-run g c = record {
+  server = c.loop-turn.service.server;
+  entries = c.loop-turn.service.peers.entries;
+  turned = c.loop-turn.invariant.turned;
+  all = omega (arith, c.loop-turn.invariant.counted, c.loop-turn-test.false, c.turns-turn-end.ensures.value);
+}

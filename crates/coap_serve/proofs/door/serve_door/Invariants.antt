@@ -1,4 +1,4 @@
-use Rattle.coap_serve.specs.streams.Telling.{TellsMore}
+use Rattle.coap_serve.specs.Prelude.{TellsMore}
 use Rattle.coap_serve.proofs.streams.DoorLemmas.{HasRunTo}
 use Rattle.coap_serve.proofs.door.serve_door.Given as goal
 

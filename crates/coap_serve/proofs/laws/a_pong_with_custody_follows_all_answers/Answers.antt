@@ -2,4 +2,4 @@ use Rattle.coap_serve.proofs.world.AnsweredLaws.{pong_follows_answers}
 use Rattle.coap_serve.proofs.laws.a_pong_with_custody_follows_all_answers.Goals as goal
 
 pub returns : goal.returns
-returns c k events id s before pong behind there queued custody = pong_follows_answers k events id s before pong behind there queued custody
+returns c = pong_follows_answers

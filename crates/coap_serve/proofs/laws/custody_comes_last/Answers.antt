@@ -1,12 +1,13 @@
-use Rattle.coap_serve.proofs.world.CustodyLaws.{held_in_order, custody_waits, custody_comes_first, held_when_asked, sent_when_due, plain_queues_no_custody}
+use Rattle.coap_serve.proofs.world.CustodyLaws.{Stands, stands_keeps, custody_waits, custody_comes_first, held_when_asked, sent_when_due, plain_queues_no_custody}
+use Rattle.coap_serve.proofs.world.GoingOn.{kept_after}
 use Rattle.coap_serve.proofs.laws.custody_comes_last.Goals as goal
 use Rattle.coap_serve.proofs.world.WalkLaws.{faulted_between, ended_between, released_between, announced_between, written_between}
-use Rattle.coap_serve.specs.world.Sides.{side_faulted, side_ended, side_released, side_announced, side_written}
+use Rattle.coap_serve.specs.Prelude.{side_faulted, side_ended, side_released, side_announced, side_written}
 use Rattle.coap_serve.proofs.world.ToldMessages.{Queues, IsPlain, queues_none, reject_queues, end_queues, release_queues, announcing_queues, written_queues}
 
 pub returns : goal.returns
 returns c = record {
-  order = held_in_order;
+  order = λ k. kept_after k (λ s. Stands s.history) (stands_keeps k.limits);
   at_once = custody_waits;
   later = custody_comes_first;
   held = held_when_asked;

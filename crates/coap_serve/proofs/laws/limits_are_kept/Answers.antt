@@ -2,9 +2,4 @@ use Rattle.coap_serve.proofs.world.LimitLaws.{waiting_within, observers_within, 
 use Rattle.coap_serve.proofs.laws.limits_are_kept.Goals as goal
 
 pub returns : goal.returns
-returns c = record {
-  waiting = waiting_within;
-  observers = observers_within;
-  held = held_within;
-  kept = kept_within;
-}
+returns c = assumption (waiting_within, observers_within, held_within, kept_within)

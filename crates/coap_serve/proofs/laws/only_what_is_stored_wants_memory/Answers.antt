@@ -2,9 +2,4 @@ use Rattle.coap_serve.proofs.world.RefusedLaws.{refused_is_stored, other_not_ref
 use Rattle.coap_serve.proofs.laws.only_what_is_stored_wants_memory.Goals as goal
 
 pub returns : goal.returns
-returns c = record {
-  stored = refused_is_stored;
-  other = other_not_refused;
-  written = written_faults;
-  released = release_faults;
-}
+returns c = assumption (refused_is_stored, other_not_refused, written_faults, release_faults)

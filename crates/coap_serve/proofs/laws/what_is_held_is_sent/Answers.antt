@@ -1,11 +1,9 @@
 use Rattle.coap_serve.proofs.world.CustodyLaws.{written_same, told_keeps, taken_out, answer_sent, pong_sent, if_over, handled_over, left_kept, Leaves}
 use Rattle.coap_serve.proofs.laws.what_is_held_is_sent.Goals as goal
-use Rattle.coap_serve.specs.world.Sides.{side_after, handles, side_handled, side_faulted, side_ended, side_released, side_announced}
+use Rattle.coap_serve.specs.Prelude.{side_after, handles, side_handled, side_faulted, side_ended, side_released}
+use Rattle.coap_serve.specs.Prelude.{side_announced, reject_reason, end_reason, ReleasedHere}
 use Rattle.coap_serve.proofs.world.WalkLaws.{faulted_between, ended_between, released_between, announced_between}
 use Rattle.std.proofs.Common.{inl, refl, inr}
-use Rattle.coap_conn.specs.Rejects.{reject_reason}
-use Rattle.coap_conn.specs.Calls.{end_reason}
-use Rattle.coap_conn.specs.declared.reason.Reason.TheVariants.{ReleasedHere}
 
 pub returns : goal.returns
 unfolding side_after

@@ -1,12 +1,10 @@
 use Rattle.std.proofs.Common.{◌≡◌, ◌≤◌, ℕ, Bool, List, length, rules, map, ap, arith, ◌∙◌}
-use Rattle.std.specs.Prelude.{filter, not}
+use Rattle.coap_serve.specs.Prelude.{filter, not, same_bytes, observer_value}
 use Rattle.std.proofs.lemmas.Bool.{ltb-false}
 use Rattle.std.proofs.lemmas.Fn.{filter_same}
-use Rattle.coap_store.specs.Paths.{same_bytes}
 use Rattle.coap_serve.specs.declared.observers.Observer.{Observer}
-use Rattle.coap_serve.specs.views.ObserverViews.{observer_value}
 use Rattle.coap_serve.proofs.values.EntryLemmas.{others_seen}
-use Rattle.coap_serve.proofs.values.CoverLemmas.{all_stay}
+use Rattle.coap_serve.proofs.values.CoverLemmas.{all_kept_stay}
 use Rattle.coap_serve.proofs.observers.keep_others.Goals as goal
 
 abbrev keeps : List ℕ → Observer → Bool
@@ -21,4 +19,4 @@ returns-clause-others c = ap (map observer_value) (kept c) ∙ others_seen c.arg
 pub returns-clause-same : goal.returns-clause-same
 returns-clause-same c = λ no_less.
     let many : c.len-before.result ≤ c.len.result = ltb-false c.len.result c.len-before.result no_less in
-    kept c ∙ all_stay (keeps c.args.token.now) c.args.observers.now.items (omega (arith, many, c.len-before.ensures, c.len.ensures, ap length (kept c)))
+    kept c ∙ all_kept_stay (keeps c.args.token.now) c.args.observers.now.items (omega (arith, many, c.len-before.ensures, c.len.ensures, ap length (kept c)))

@@ -1,8 +1,7 @@
 use Rattle.std.proofs.Common.{◌∙◌, rules, tests}
 use Rattle.std.proofs.lemmas.Iterator.{YieldsList-from_slice}
 use Rattle.std.proofs.lemmas.Iterator.Search.{any_from_yields_List}
-use Rattle.coap_serve.specs.values.Dues.{tells_time as observes_time}
-use Rattle.coap_serve.specs.views.ObserverViews.{observer_value}
+use Rattle.coap_serve.specs.Prelude.{tells_time as observes_time, observer_value}
 use Rattle.coap_serve.proofs.values.EntryLemmas.{any_seen}
 use Rattle.coap_serve.proofs.observers.tells_time.Goals as goal
 

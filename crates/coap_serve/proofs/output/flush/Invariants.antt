@@ -1,6 +1,5 @@
 use Rattle.std.proofs.Common.{◌≡◌, ◌+◌, false}
-use Rattle.coap_serve.specs.values.Servers.{session_of}
-use Rattle.coap_serve.specs.values.ServerAnswers.{stop_on}
+use Rattle.coap_serve.specs.Prelude.{session_of, stop_on}
 use Rattle.coap_serve.proofs.values.FlushLemmas.{Flushed}
 use Rattle.coap_serve.proofs.output.flush.Given as goal
 

@@ -1,11 +1,10 @@
-use Rattle.std.proofs.Common.{ℕ, List, subst, sym}
 use Rattle.coap_serve.proofs.scripting.ReplayLemmas.{rest_of}
 use Rattle.coap_serve.proofs.streams.DeviceLemmas.{not_failed_write}
-use Rattle.coap_serve.proofs.streams.WriteLemmas.{WritesFront, more_written}
+use Rattle.coap_serve.proofs.streams.WriteLemmas.{more_written}
 use Rattle.coap_serve.proofs.output.write_all.Goals as goal
 
 pub loop-left-preserved : goal.loop-left-preserved
 loop-left-preserved g c = record {
-  writes = subst (λ (left : List ℕ). WritesFront c.args.bytes.now left (g.W.Outlet.written c.args.writer.now) (g.W.Outlet.written c.write.new.self)) (sym (rest_of c.in-Some.count c.loop-left.left.now)) (more_written _ _ _ _ _ c.loop-left.invariant.writes c.in-Some.count c.in-Some.ensures.taken);
+  writes = rw (rest_of c.in-Some.count c.loop-left.left.now) (more_written _ _ _ _ _ c.loop-left.invariant.writes c.in-Some.count c.in-Some.ensures.taken);
   works = not_failed_write c.in-Some.count c.loop-left.left.now _ _ c.if-count-eq0.false c.loop-left.invariant.works c.in-Some.ensures.failure;
 }

@@ -1,5 +1,5 @@
 use Rattle.std.proofs.Common.{◌≡◌}
-use Rattle.coap_serve.specs.values.Causes.{segments_hash, path_hash}
+use Rattle.coap_serve.specs.Prelude.{segments_hash, path_hash}
 use Rattle.coap_serve.proofs.path_set.hash_of.Given as goal
 
 -- the segments that are left lead to the hash of all

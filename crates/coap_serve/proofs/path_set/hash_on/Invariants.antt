@@ -1,5 +1,5 @@
 use Rattle.std.proofs.Common.{◌≡◌, drop}
-use Rattle.coap_serve.specs.values.Causes.{hash_behind}
+use Rattle.coap_serve.specs.Prelude.{hash_behind}
 use Rattle.coap_serve.proofs.path_set.hash_on.Given as goal
 
 -- the bytes that are left lead to the hash of all

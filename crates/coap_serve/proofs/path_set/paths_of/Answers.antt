@@ -1,18 +1,15 @@
-use Rattle.std.proofs.Common.{map, arith}
-use Rattle.std.proofs.lemmas.List.{length-map}
-use Rattle.coap_serve.specs.views.ObserverViews.{observer_value}
-use Rattle.coap_serve.proofs.values.EntryLemmas.{read_at}
-use Rattle.coap_serve.proofs.values.CoverLemmas.{covered_next, all_covered_before}
+use Rattle.std.proofs.lemmas.List.Elements.{AllWithin-more, at_read}
+use Rattle.coap_serve.specs.Prelude.{ObserverValue, observer_value, Covers}
+use Rattle.coap_serve.specs.declared.observers.Observer.{Observer}
+use Rattle.coap_serve.proofs.values.EntryLemmas.{all_seen}
 use Rattle.coap_serve.proofs.path_set.paths_of.Goals as goal
 
 pub loop-observer-preserved : goal.loop-observer-preserved
 loop-observer-preserved c =
-    let observers = c.args.observers.now in
-    let read = read_at observers c.loop-observer.observer-index c.observer-item.result c.loop-observer-test.true c.observer-item.is in
-    covered_next c.loop-observer.paths c.insert.new.self (map observer_value observers) c.loop-observer.observer-index _ read c.insert.ensures.inserted c.insert.ensures.kept c.loop-observer.invariant
+    let is_in : Observer → Type 0 = λ o. Covers c.insert.new.self o.path in
+    AllWithin-more is_in c.args.observers.now 0 c.loop-observer.observer-index (λ k d low below. c.insert.ensures.kept _ (c.loop-observer.invariant k d low below))
+    (at_read c.args.observers.now is_in c.loop-observer.observer-index c.observer-item.result c.loop-observer-test.true c.observer-item.is c.insert.ensures.inserted)
 
 pub returns : goal.returns
 returns c =
-    let observers = c.args.observers.now in
-    all_covered_before c.loop-observer.paths (map observer_value observers)
-    (λ k o below at. c.loop-observer.invariant k o (omega (arith, below, c.loop-observer-test.false, length-map observers observer_value)) at)
+    all_seen (λ (o : ObserverValue). Covers c.loop-observer.paths o.path) observer_value c.args.observers.now c.loop-observer.observer-index c.loop-observer.invariant c.loop-observer-test.false

@@ -1,8 +1,8 @@
 use Rattle.std.proofs.Common.{ap, length, arith}
 use Rattle.coap_wire.specs.OptionNumbers as numbers
-use Rattle.coap_store.specs.Paths.{Path, written_length}
-use Rattle.coap_store.specs.Messages.{each_at}
-use Rattle.coap_serve.proofs.values.ResponseLemmas.{with_options, short_left, segment_added}
+use Rattle.coap_serve.specs.Prelude.{Path, written_length, each_at}
+use Rattle.coap_store.proofs.PathLemmas.{path_fits}
+use Rattle.coap_serve.proofs.values.ResponseLemmas.{with_options, segment_added}
 use Rattle.coap_serve.proofs.response.add_path.Goals as goal
 
 pub loop-segment-init : goal.loop-segment-init
@@ -15,7 +15,7 @@ loop-segment-init g c =
       order = c.requires.order;
       few = omega (arith, ap (λ (p : Path). length p) same);
       room = c.requires.room;
-      short = short_left _ _ same c.requires.path;
+      short = omega (arith, path_fits c.args.path c.requires.path, ap written_length same);
     }
 
 pub loop-segment-preserved : goal.loop-segment-preserved

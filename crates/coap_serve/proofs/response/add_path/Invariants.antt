@@ -1,8 +1,6 @@
 use Rattle.std.proofs.Common.{◌≡◌, ◌≤◌, ◌+◌, ◌++◌, length}
-use Rattle.coap_wire.specs.Message.{last_number}
+use Rattle.coap_serve.specs.Prelude.{last_number, written_length, each_at}
 use Rattle.coap_wire.specs.OptionNumbers as numbers
-use Rattle.coap_store.specs.Paths.{written_length}
-use Rattle.coap_store.specs.Messages.{each_at}
 use Rattle.coap_serve.proofs.response.add_path.Given as goal
 
 -- the segments that are left are added behind those that were, and there is room for them

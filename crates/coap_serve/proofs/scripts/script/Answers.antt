@@ -1,6 +1,6 @@
 use Rattle.std.proofs.Common.{map, sym, arith}
 use Rattle.std.proofs.lemmas.Bool.{eqb-true, eqb-false}
-use Rattle.coap_serve.specs.script.EventViews.{event_value}
+use Rattle.coap_serve.specs.Prelude.{event_value}
 use Rattle.coap_serve.proofs.scripting.ScriptLemmas.{line_taken, line_refused, all_taken, rest_refused}
 use Rattle.coap_serve.proofs.scripts.script.Goals as goal
 

@@ -1,7 +1,5 @@
 use Rattle.std.proofs.Common.{◌≡◌, ◌+◌, ◌≤◌, length, map}
-use Rattle.coap_serve.specs.script.Words.{parts, newline}
-use Rattle.coap_serve.specs.script.Script.{script_of, said_behind, said_by_parts}
-use Rattle.coap_serve.specs.script.EventViews.{event_value}
+use Rattle.coap_serve.specs.Prelude.{parts, newline, script_of, said_behind, said_by_parts, event_value}
 use Rattle.coap_serve.proofs.scripts.script.Given as goal
 
 -- what the text says is the events so far, and then what is said by what is left of it

@@ -1,5 +1,5 @@
 use Rattle.std.proofs.Common.{ap, ◌∙◌}
-use Rattle.coap_serve.specs.values.Servers.{ServerValue}
+use Rattle.coap_serve.specs.Prelude.{ServerValue}
 use Rattle.coap_serve.proofs.streams.RunLemmas.{end_stops, not_there}
 use Rattle.coap_serve.proofs.serve.end.Goals as goal
 

@@ -22,7 +22,7 @@ returns-in_err-turn-clause-run g c =
 pub returns-in-Some-clause-run : goal.returns-in-Some-clause-run
 returns-in-Some-clause-run g c =
     let so_far = c.loop.invariant.runs in
-    run_ends_at_turn c.args.config.now c.args.id c.loop.counter c.loop.read c.loop.messages c.loop.server c.take_turn.new.server _ _ _ _ _ _ so_far c.in_ok-turn.turn _ (omega (arith, c.loop-test.true, c.turns-end.ensures.value)) (c.in_ok-turn.ensures.turn c.args.config.now _ so_far.goes) refl refl c.in-Some.is
+    run_ends_at_turn c.args.config.now c.args.id c.loop.counter c.loop.read c.loop.messages c.loop.server c.take_turn.new.server _ _ _ _ _ _ so_far c.in_ok-turn.turn _ (omega (arith, c.loop-test.true, c.turns-end.ensures.value)) (c.in_ok-turn.ensures.turn c.args.config.now _ so_far.goes) c.in-Some.is
 
 pub loop-preserved : goal.loop-preserved
 loop-preserved g c =

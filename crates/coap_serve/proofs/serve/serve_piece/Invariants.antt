@@ -1,6 +1,5 @@
 use Rattle.std.proofs.Common.{◌≡◌, ◌≤◌, ◌+◌, ℕ, List, false, length}
-use Rattle.coap_serve.specs.Configs.{ConfigValues}
-use Rattle.coap_serve.specs.streams.Standing.{IsGoing}
+use Rattle.coap_serve.specs.Prelude.{ConfigValues, IsGoing}
 use Rattle.coap_serve.proofs.streams.PieceLemmas.{Serves}
 use Rattle.coap_serve.proofs.serve.serve_piece.Given as goal
 

@@ -1,9 +1,8 @@
-use Rattle.std.proofs.Common.{[], refl, sym, ap, ◌∙◌}
+use Rattle.std.proofs.Common.{[], refl, sym, ap, ◌∙◌, List, ℕ}
 use Rattle.coap_store.specs.Answer as answer
-use Rattle.coap_conn.specs.Verdicts.{is_request}
-use Rattle.coap_serve.specs.values.Sessions.{SessionValue, sizes_of, host_changed, asks_this, answer_on}
-use Rattle.coap_serve.specs.values.Causes.{change_hash}
-use Rattle.coap_serve.proofs.values.LinkLemmas.{message_sizes}
+use Rattle.coap_serve.specs.Prelude.{is_request, SessionValue, sizes_of, host_changed, asks_this, answer_on}
+use Rattle.coap_serve.specs.Prelude.{change_hash, takes_messages}
+use Rattle.coap_serve.proofs.values.LinkLemmas.{stays_so}
 use Rattle.coap_serve.proofs.values.SessionLemmas.{on_request, no_request_told, message_handled}
 use Rattle.coap_serve.proofs.session.handle.Goals as goal
 use Rattle.std.proofs.lemmas.Bool.{cond-false}
@@ -21,14 +20,9 @@ returns-in_default c =
     let m = c.args.message.now in
     let other = ap is_request (sym c.on.ensures.verdict) ∙ no_request_told c.on.result c.in_default.not-Request in
     let same = cond-false (asks_this link m) (answer_on host m).change answer.Nothing other in
-    record {
-      after = λ frame. message_handled host (record { frame = frame; link = link; observers = c.args.observers.now.entries }) m c.on.new.self other c.on.ensures.after;
-      room = refl;
-      sizes = ap sizes_of c.on.ensures.after ∙ message_sizes link m;
-      changed = ap change_hash (sym same);
-      host = ap (host_changed host) (sym same);
-      put = tt;
-      unchanged = tt;
-      silent = tt;
-      kept = tt;
-    }
+    assumption (
+      λ (frame : List ℕ). message_handled host (record { frame = frame; link = link; observers = c.args.observers.now.entries }) m c.on.new.self other c.on.ensures.after,
+      ap sizes_of c.on.ensures.after ∙ stays_so sizes_of (takes_messages link.phase) link _ refl,
+      ap change_hash (sym same),
+      ap (host_changed host) (sym same),
+    )

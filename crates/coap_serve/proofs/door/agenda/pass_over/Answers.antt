@@ -1,8 +1,7 @@
-use Rattle.std.proofs.Common.{◌≡◌, sym, ap, ◌∙◌, arith, rules}
-use Rattle.coap_serve.specs.values.Dues.{sooner}
-use Rattle.coap_serve.specs.streams.Turns.{end_of, IsInTurn}
-use Rattle.coap_serve.proofs.streams.AgendaLemmas.{not_sooner, none_passed, one_more_passed, none_next, one_next}
-use Rattle.coap_serve.proofs.door.agenda.pass_over.Goals.{then-is_some, else-is_some}
+use Rattle.std.proofs.Common.{◌≡◌, ap, arith, rules}
+use Rattle.std.proofs.lemmas.Option.{slice_get_past}
+use Rattle.coap_serve.specs.Prelude.{sooner, end_of}
+use Rattle.coap_serve.proofs.streams.AgendaLemmas.{none_passed, one_more_passed, one_next}
 use Rattle.coap_serve.proofs.door.agenda.pass_over.Goals as goal
 
 pub loop-at-init : goal.loop-at-init
@@ -13,10 +12,7 @@ loop-at-smaller g c = omega (arith, c.loop-at-test.true, c.len.ensures.len)
 
 pub loop-at-preserved : goal.loop-at-preserved
 loop-at-preserved g c =
-    let later : c.if-is_some.due ≡ sooner c.loop-at.due c.index-in-loop-at.result.now.wants.due = elim c.if-is_some.branch [
-      | then-is_some w ↦ w.due-is ∙ w.sooner-due.ensures
-      | else-is_some w ↦ w.due-is ∙ not_sooner c.loop-at.due c.index-in-loop-at.result.now.wants.due (sym c.is_some.ensures ∙ w.if-is_some.false)
-    ] in (
+    let later : c.if-is_some.due ≡ sooner c.loop-at.due c.index-in-loop-at.result.now.wants.due = grind (arith, c.if-is_some.branch, c.is_some.ensures) in (
       omega (arith, c.loop-at.invariant.0),
       omega (arith, c.loop-at-test.true, c.len.ensures.len),
       one_more_passed (end_of g.W.Ready.readable g.W.Ready.writable) c.args.peers.now.entries c.args.seen.at c.loop-at.at c.index-in-loop-at.result.now c.index.result.now c.args.stamp c.args.seen.agenda.due c.loop-at.due c.if-is_some.due
@@ -38,5 +34,5 @@ returns-after-loop-at g c = record {
   within = c.loop-at.invariant.1;
   rest = c.loop-at.invariant.2.rest;
   agenda = ap (λ due. record c.args.seen.agenda { due = due }) c.loop-at.invariant.2.due;
-  next = none_next (λ e. IsInTurn c.args.stamp (end_of g.W.Ready.readable g.W.Ready.writable e.1)) c.args.peers.now.entries c.loop-at.at (omega (arith, c.loop-at-test.false, c.len.ensures.len));
+  next = rw (slice_get_past c.args.peers.now.entries c.loop-at.at (omega (arith, c.loop-at-test.false, c.len.ensures.len))) tt;
 }

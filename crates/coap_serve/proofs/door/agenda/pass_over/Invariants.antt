@@ -1,5 +1,5 @@
 use Rattle.std.proofs.Common.{◌-◌, ◌≤◌, length}
-use Rattle.coap_serve.specs.streams.Turns.{end_of}
+use Rattle.coap_serve.specs.Prelude.{end_of}
 use Rattle.coap_serve.proofs.streams.AgendaLemmas.{ArePassed}
 use Rattle.coap_serve.proofs.door.agenda.pass_over.Given as goal
 

@@ -1,4 +1,4 @@
-use Rattle.coap_serve.specs.world.Events.{Ended}
+use Rattle.coap_serve.specs.Prelude.{Ended}
 use Rattle.coap_serve.proofs.streams.ServingLemmas.{one_served}
 use Rattle.coap_serve.proofs.door.peer.hear.Goals as goal
 

@@ -1,11 +1,7 @@
-use Rattle.std.proofs.Common.{rules, Bool, take, refl, sym, subst}
-use Rattle.coap_serve.specs.streams.Device.{AddsBytes}
-use Rattle.coap_serve.specs.streams.Turns.{waiting_once}
-use Rattle.coap_serve.specs.streams.Wires.{Answered}
-use Rattle.coap_serve.specs.values.Flushes.{waiting_at}
+use Rattle.std.proofs.Common.{rules, refl, sym}
+use Rattle.coap_serve.specs.Prelude.{Answered, waiting_at, Bytes, Later, End, Failed}
 use Rattle.coap_serve.proofs.streams.NextPartLemmas.{none_refused, part_written}
 use Rattle.coap_serve.proofs.streams.ServingLemmas.{written_served}
-use Rattle.coap_serve.specs.declared.wire.Got.TheVariants.{Bytes, Later, End, Failed}
 use Rattle.coap_serve.proofs.door.peer.write_once.Goals as goal
 
 pub unreachable-requires : goal.unreachable-requires
@@ -15,8 +11,7 @@ unreachable-requires g c =
 
 pub returns-in-Ok-clause-wrote : goal.returns-in-Ok-clause-wrote
 returns-in-Ok-clause-wrote g c = λ _.
-    subst (λ (b : Bool). AddsBytes (g.W.Wire.written c.args.wire.now) (g.W.Wire.written c.write.new.self) (take c.in-Bytes.count (waiting_once b c.args.id c.args.server.now)))
-    (sym c.if-not-may_write.false)
+    rw c.if-not-may_write.false
     (part_written (waiting_at c.args.id c.args.server.now) c.in-Some.part.now (Bytes c.in-Bytes.count) (g.W.Wire.written c.args.wire.now) (g.W.Wire.written c.write.new.self)
     c.in-Some.ensures.part c.in-Bytes.ensures.within c.in-Bytes.ensures.wrote)
 

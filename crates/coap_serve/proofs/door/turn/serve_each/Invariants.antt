@@ -1,9 +1,5 @@
 use Rattle.std.proofs.Common.{◌-◌, ◌≤◌, length, map, take, slice_get, IfSome}
-use Rattle.coap_serve.specs.values.Dues.{stamp_of}
-use Rattle.coap_serve.specs.values.Servers.{AreSettled}
-use Rattle.coap_serve.specs.streams.Notes.{AreNoted}
-use Rattle.coap_serve.specs.streams.Turns.{end_of, IsAgendaOf, IsInTurn}
-use Rattle.coap_serve.specs.streams.Serving.{HasServed}
+use Rattle.coap_serve.specs.Prelude.{stamp_of, AreSettled, AreNoted, end_of, IsAgendaOf, IsInTurn, HasServed}
 use Rattle.coap_serve.proofs.streams.AgendaLemmas.{AreServedTo}
 use Rattle.coap_serve.proofs.door.turn.serve_each.Given as goal
 

@@ -1,7 +1,5 @@
 use Rattle.std.proofs.Common.{ap, sym, ◌∙◌}
-use Rattle.std.specs.List.{list_any}
-use Rattle.coap_serve.specs.values.Sessions.{ObserversValue}
-use Rattle.coap_serve.specs.values.Dues.{tells_time as observes_time}
+use Rattle.coap_serve.specs.Prelude.{list_any, ObserversValue, tells_time as observes_time}
 use Rattle.coap_serve.proofs.values.CoverLemmas.{none_tells_time}
 use Rattle.coap_serve.proofs.observers.Observers.may_tell_time.Goals as goal
 

@@ -1,8 +1,6 @@
 use Rattle.std.proofs.Common.{List, map, ap, ◌∙◌}
-use Rattle.std.specs.List.{remove}
+use Rattle.coap_serve.specs.Prelude.{remove, ObserverValue, ObserversValue, observer_value}
 use Rattle.indexmap.proofs.SetLemmas.{map-remove}
-use Rattle.coap_serve.specs.values.Sessions.{ObserverValue, ObserversValue}
-use Rattle.coap_serve.specs.views.ObserverViews.{observer_value}
 use Rattle.coap_serve.proofs.observers.Observers.remove.Goals as goal
 
 pub returns : goal.returns

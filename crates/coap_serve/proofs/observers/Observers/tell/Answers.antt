@@ -1,7 +1,6 @@
-use Rattle.std.proofs.Common.{ap, length, arith}
-use Rattle.std.proofs.lemmas.List.{length-map, length-set}
-use Rattle.coap_serve.specs.values.Sessions.{ObserversValue}
-use Rattle.coap_serve.specs.views.ObserverViews.{observer_value}
+use Rattle.coap_serve.specs.Prelude.{ObserverValue}
+use Rattle.std.proofs.Common.{arith, List, ap}
+use Rattle.std.proofs.lemmas.List.{length-set}
 use Rattle.coap_serve.proofs.values.EntryLemmas.{told_seen}
 use Rattle.coap_serve.proofs.values.CoverLemmas.{told_covered}
 use Rattle.coap_serve.proofs.observers.Observers.tell.Goals as goal
@@ -13,10 +12,12 @@ invariant_of-self c =
     record {
       few = omega (arith, length-set items c.args.index (record old { mark = c.args.mark }), c.self.invariant.few);
       reserved = c.self.invariant.reserved;
-      covered =
-          told_covered c.self.inside.paths items c.args.index c.args.mark old c.index_mut.ensures.value
-          (omega (arith, c.requires, ap (λ (v : ObserversValue). length v.entries) c.self.view_is, length-map items observer_value)) c.self.invariant.covered;
+      covered = told_covered c.self.inside.paths items c.args.index c.args.mark old c.index_mut.ensures.value c.self.invariant.covered;
     }
 
 pub returns : goal.returns
-returns c = λ o at. told_seen c.self.inside.entries.items c.args.self.now c.self.inside.room c.args.index c.args.mark c.index_mut.result.now o c.self.view_is c.requires c.index_mut.ensures.value at
+returns c = λ o at.
+    let told =
+    told_seen c.self.inside.entries.items c.args.index c.args.mark c.index_mut.result.now o (rw (← c.self.view_is) at c.requires) c.index_mut.ensures.value
+    (rw (← c.self.view_is) at at) in
+    rw (← c.self.view_is) (ap (λ (os : List ObserverValue). record { room = c.self.inside.room; entries = os }) told)

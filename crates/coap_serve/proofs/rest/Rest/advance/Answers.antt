@@ -1,9 +1,8 @@
-use Rattle.std.proofs.Common.{◌≤◌, ℕ, List, length, drop, sym, ap, subst, ◌∙◌}
+use Rattle.std.proofs.Common.{drop, ap, ◌∙◌}
 use Rattle.coap_serve.proofs.streams.RestLemmas.{rest_advanced}
 use Rattle.coap_serve.proofs.rest.Rest.advance.Goals as goal
 
 pub returns : goal.returns
 returns c =
     let rest = c.self.inside in
-    rest_advanced rest.buffer.items rest.from rest.to c.args.count (subst (λ (bytes : List ℕ). c.args.count ≤ length bytes) (sym c.self.view_is) c.requires)
-    ∙ ap (drop c.args.count) c.self.view_is
+    rest_advanced rest.buffer.items rest.from rest.to c.args.count (rw c.self.view_is c.requires) ∙ ap (drop c.args.count) c.self.view_is

@@ -1,11 +1,9 @@
 use Rattle.std.proofs.Common.{◌≡◌, Option, subst, sym, ap, ◌∙◌, map, rules, tests, nat_lt, IfOk, option_map}
 use Rattle.std.proofs.lemmas.Iterator.{YieldsList-from_slice}
 use Rattle.std.proofs.lemmas.Iterator.Search.{all_from_yields_List}
-use Rattle.coap_serve.specs.script.Events.{EventValue, event_of}
-use Rattle.coap_serve.specs.script.EventViews.{event_value}
+use Rattle.coap_serve.specs.Prelude.{EventValue, event_of, event_value, words_of}
 use Rattle.coap_serve.proofs.scripting.ScriptLemmas.{event_of_words, too_many_words}
 use Rattle.coap_serve.proofs.scripts.events.event_in.Goals as goal
-use Rattle.coap_serve.specs.script.Words.{words_of}
 
 pub returns-in_default : goal.returns-in_default
 returns-in_default c =

@@ -1,5 +1,5 @@
 use Rattle.std.proofs.Common.{◌++◌, ap, ◌∙◌, codes, decimal, string_bytes}
-use Rattle.coap_serve.specs.script.Lines.{phase_text}
+use Rattle.coap_serve.specs.Prelude.{phase_text}
 use Rattle.coap_serve.proofs.scripting.LineLemmas.{four_counts}
 use Rattle.coap_serve.proofs.scripts.lines.status_line.Goals as goal
 

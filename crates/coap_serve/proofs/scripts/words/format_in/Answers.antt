@@ -1,6 +1,6 @@
 use Rattle.std.proofs.Common.{sym, ◌∙◌, rules, refl}
-use Rattle.coap_serve.specs.script.Words.{format_value}
-use Rattle.coap_serve.proofs.scripting.WordLemmas.{great_format, small_format}
+use Rattle.coap_serve.specs.Prelude.{format_value}
+use Rattle.coap_serve.proofs.scripting.WordLemmas.{format_read}
 use Rattle.coap_serve.proofs.scripts.words.format_in.Goals as goal
 
 pub returns-then-is_hyphen : goal.returns-then-is_hyphen
@@ -13,9 +13,12 @@ returns-in_err-number c = rw c.from_residual.ensures (rw ((sym c.if-is_hyphen.en
 
 pub returns-in_err-format : goal.returns-in_err-format
 returns-in_err-format c =
-    rw c.from_residual-in_err-format.ensures
-    (great_format c.args.word.now c.in_ok-number.number c.try_from.result (sym c.if-is_hyphen.ensures) (sym c.number_in.ensures ∙ c.in_ok-number.was) c.try_from.ensures (sym c.ok.ensures.value ∙ c.in_err-format.was))
+    let is = sym c.number_in.ensures ∙ c.in_ok-number.was in
+    let read = format_read c.args.word.now c.in_ok-number.number c.try_from.result (sym c.if-is_hyphen.ensures) is c.try_from.ensures in
+    rw c.from_residual-in_err-format.ensures (rw (sym c.ok.ensures.value ∙ c.in_err-format.was) at read)
 
 pub returns : goal.returns
 returns c =
-    small_format c.args.word.now c.in_ok-number.number c.in_ok-format.format c.try_from.result (sym c.if-is_hyphen.ensures) (sym c.number_in.ensures ∙ c.in_ok-number.was) c.try_from.ensures (sym c.ok.ensures.value ∙ c.in_ok-format.was)
+    let is = sym c.number_in.ensures ∙ c.in_ok-number.was in
+    let read = format_read c.args.word.now c.in_ok-number.number c.try_from.result (sym c.if-is_hyphen.ensures) is c.try_from.ensures in
+    rw (sym c.ok.ensures.value ∙ c.in_ok-format.was) at read

@@ -1,17 +1,20 @@
 use Rattle.std.proofs.Common.{◌∙◌, ap, rules}
-use Rattle.std.specs.Cow.{cow_slice_items}
+use Rattle.coap_serve.specs.Prelude.{cow_slice_items, segment_list, path_value, slash}
 use Rattle.std.proofs.lemmas.Iterator.{YieldsList-from_slice, YieldsList-from_map_by}
 use Rattle.std.proofs.lemmas.Iterator.Consumers.{map_from_collect}
 use Rattle.std.proofs.lemmas.Result.{IfOk-at_ok}
-use Rattle.coap_store.specs.PathViews.{segment_list}
-use Rattle.coap_serve.proofs.scripting.WordLemmas.{path_read, no_path, no_path_in_nothing}
+use Rattle.coap_serve.proofs.scripting.WordLemmas.{path_read}
 use Rattle.coap_serve.proofs.scripts.words.path_in.Goals as goal
+use Rattle.std.proofs.lemmas.List.{nil_from_length}
+use Rattle.std.proofs.lemmas.Bool.{ne_eqb}
 
 pub returns-in_default : goal.returns-in_default
-returns-in_default c = no_path_in_nothing c.args.word.now c.in_default.ensures.cases
+unfolding path_value
+returns-in_default c = rw (nil_from_length c.args.word.now c.in_default.ensures.cases)
 
 pub returns-then-first-ne47 : goal.returns-then-first-ne47
-returns-then-first-ne47 c = no_path c.args.word.now c.in-Some.text.now c.in-Some.first.now c.in-Some.ensures.cases.0 c.if-first-ne47.true
+unfolding path_value
+returns-then-first-ne47 c = rw (c.in-Some.ensures.cases.0, ne_eqb c.in-Some.first.now slash c.if-first-ne47.true)
 
 pub returns : goal.returns
 returns c =

@@ -1,5 +1,5 @@
 use Rattle.std.proofs.Common.{rules}
-use Rattle.coap_serve.specs.script.Words.{payload_value}
+use Rattle.coap_serve.specs.Prelude.{payload_value}
 use Rattle.coap_serve.proofs.scripts.words.payload_in.Goals as goal
 
 pub returns-then-is_hyphen : goal.returns-then-is_hyphen

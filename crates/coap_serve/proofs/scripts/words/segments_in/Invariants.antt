@@ -1,7 +1,5 @@
 use Rattle.std.proofs.Common.{◌≡◌, ◌++◌, length, map}
-use Rattle.std.specs.Cow.{cow_slice_items}
-use Rattle.percent_encoding.specs.Percent.{percent_decode}
-use Rattle.coap_serve.specs.script.Words.{parts, slash, segments_of}
+use Rattle.coap_serve.specs.Prelude.{cow_slice_items, percent_decode, parts, slash, segments_of}
 use Rattle.coap_serve.proofs.scripts.words.segments_in.Given as goal
 
 -- the segments so far, and then those of what is left

@@ -12,4 +12,4 @@ returns-in_err-at-clause-parts c =
 pub returns-clause-parts : goal.returns-clause-parts
 returns-clause-parts c =
     let place = position_from_yields_List (λ b. b == c.args.separator) _ _ c.position.result c.position.ensures.ran (YieldsList-from_slice c.args.bytes.now cc) (λ x b q k. search (rules, tests)) in
-    (first_part c.args.separator c.args.bytes.now c.in_ok-at.at (sym place ∙ c.in_ok-at.was)).1
+    first_part c.args.separator c.args.bytes.now c.in_ok-at.at (sym place ∙ c.in_ok-at.was)

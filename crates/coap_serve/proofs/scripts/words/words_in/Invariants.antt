@@ -1,5 +1,5 @@
 use Rattle.std.proofs.Common.{◌≡◌, ◌++◌, length, map}
-use Rattle.coap_serve.specs.script.Words.{words_of}
+use Rattle.coap_serve.specs.Prelude.{words_of}
 use Rattle.coap_serve.proofs.scripts.words.words_in.Given as goal
 
 -- the words so far, and then those of what is left

@@ -1,5 +1,5 @@
 use Rattle.std.proofs.Common.{◌≡◌, false, map}
-use Rattle.coap_serve.specs.script.EventViews.{event_value}
+use Rattle.coap_serve.specs.Prelude.{event_value}
 use Rattle.coap_serve.proofs.scripting.ReplayLemmas.{Replays, ShowsFirst}
 use Rattle.coap_serve.proofs.server.Server.replay.Given as goal
 

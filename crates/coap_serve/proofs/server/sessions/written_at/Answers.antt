@@ -1,6 +1,4 @@
-use Rattle.std.proofs.Common.{ap, ◌∙◌}
-use Rattle.indexmap.specs.IndexMap.{set_value_at}
-use Rattle.coap_serve.specs.values.Sessions.{IsSettled, session_settled, session_written}
+use Rattle.coap_serve.specs.Prelude.{IsSettled}
 use Rattle.coap_serve.proofs.values.ServerLemmas.{written_at_index, one_of_all}
 use Rattle.coap_serve.proofs.server.sessions.written_at.Goals as goal
 
@@ -8,6 +6,4 @@ pub written_and_settled-requires-clause-settled : goal.written_and_settled-requi
 written_and_settled-requires-clause-settled c = one_of_all (IsSettled c.args.host.now) c.args.at _ _ c.requires.settled c.index_mut.ensures.value
 
 pub returns : goal.returns
-returns c =
-    ap (set_value_at c.args.sessions.now.entries c.args.at) c.written_and_settled.ensures
-    ∙ written_at_index (λ s. session_settled c.args.host.now (session_written s c.args.count)) _ _ _ c.index_mut.ensures.value
+returns c = rw c.written_and_settled.ensures (written_at_index _ _ _ _ c.index_mut.ensures.value)

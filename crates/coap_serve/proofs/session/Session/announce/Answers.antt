@@ -1,5 +1,5 @@
 use Rattle.std.proofs.Common.{sym, ap, ◌∙◌}
-use Rattle.coap_conn.specs.Phases.{is_open}
+use Rattle.coap_serve.specs.Prelude.{is_open}
 use Rattle.coap_serve.proofs.values.SessionLemmas.{announced_session}
 use Rattle.coap_serve.proofs.session.Session.announce.Goals as goal
 

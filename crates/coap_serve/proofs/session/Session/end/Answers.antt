@@ -1,5 +1,5 @@
 use Rattle.std.proofs.Common.{refl, ap, ◌∙◌}
-use Rattle.coap_serve.specs.values.Sessions.{sizes_of}
+use Rattle.coap_serve.specs.Prelude.{sizes_of}
 use Rattle.coap_serve.proofs.values.LinkLemmas.{end_sizes}
 use Rattle.coap_serve.proofs.values.SessionLemmas.{given_up}
 use Rattle.coap_serve.proofs.session.Session.end.Goals as goal

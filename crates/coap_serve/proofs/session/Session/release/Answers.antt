@@ -1,9 +1,8 @@
 use Rattle.std.proofs.Common.{refl, ap, ◌∙◌}
-use Rattle.coap_serve.specs.values.Sessions.{sizes_of}
+use Rattle.coap_serve.specs.Prelude.{sizes_of, is_open}
 use Rattle.coap_serve.proofs.values.SessionLemmas.{given_up}
 use Rattle.coap_serve.proofs.session.Session.release.Goals as goal
 use Rattle.coap_serve.proofs.values.LinkLemmas.{stays_so}
-use Rattle.coap_conn.specs.Phases.{is_open}
 
 pub invariant_of-self-2 : goal.invariant_of-self-2
 invariant_of-self-2 c =

@@ -1,19 +1,22 @@
-use Rattle.std.proofs.Common.{◌≡◌, ◌+◌, ◌-◌, suc, refl, ap, sym, subst, ◌∙◌, arith}
-use Rattle.coap_serve.specs.values.Sessions.{IsSettled, session_settled_within}
-use Rattle.coap_serve.proofs.values.SettleLemmas.{settled_is_settled, turn_taken, all_turns, no_turns, last_turn}
+use Rattle.std.proofs.Common.{◌≡◌, ◌+◌, ◌-◌, suc, ℕ, sym, ap, subst, ◌∙◌, length, arith}
+use Rattle.coap_serve.specs.Prelude.{IsSettled, session_settled, session_settled_within}
+use Rattle.coap_serve.proofs.values.SettleLemmas.{settled_is_settled, last_turn}
 use Rattle.coap_serve.proofs.session.Session.settle.Goals as goal
 
 pub loop-init : goal.loop-init
-loop-init c = all_turns c.args.host.now c.args.self.now c.args.self.now (c.more-end.result - 0) (omega (arith, c.more-end.ensures)) refl
+unfolding session_settled
+loop-init c =
+    let v = c.args.self.now in
+    let all : c.more-end.result - 0 ≡ length v.link.held + length v.observers = omega (arith, c.more-end.ensures) in
+    ap (λ (n : ℕ). session_settled_within n c.args.host.now v) all
 
 pub loop-preserved : goal.loop-preserved
+unfolding session_settled_within
 loop-preserved c =
     let host = c.args.host.now in
     let less = c.more-end.result - (c.loop.counter + 1) in
     let one : c.more-end.result - c.loop.counter ≡ suc less = omega (arith, c.loop-test.true) in
-    ap (session_settled_within less host) c.settle_once.ensures.after
-    ∙ sym (turn_taken host (c.more-end.result - c.loop.counter) less c.loop.self one)
-    ∙ c.loop.invariant
+    ap (session_settled_within less host) c.settle_once.ensures.after ∙ sym (ap (λ (n : ℕ). session_settled_within n host c.loop.self) one) ∙ c.loop.invariant
 
 pub returns-then-not-settle_once : goal.returns-then-not-settle_once
 returns-then-not-settle_once c =
@@ -22,8 +25,9 @@ returns-then-not-settle_once c =
     record { after = after; settled = subst (IsSettled host) (sym after) (settled_is_settled host c.args.self.now) }
 
 pub returns : goal.returns
+unfolding session_settled_within
 returns c =
     let host = c.args.host.now in
     let none : c.more-end.result - c.loop.counter ≡ 0 = omega (arith, c.loop-test.false) in
-    let after = sym (no_turns host c.loop.self (c.more-end.result - c.loop.counter) none) ∙ c.loop.invariant in
+    let after = sym (ap (λ (n : ℕ). session_settled_within n host c.loop.self) none) ∙ c.loop.invariant in
     record { after = after; settled = subst (IsSettled host) (sym after) (settled_is_settled host c.args.self.now) }

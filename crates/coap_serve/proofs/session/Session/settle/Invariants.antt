@@ -1,5 +1,5 @@
 use Rattle.std.proofs.Common.{◌≡◌, ◌-◌}
-use Rattle.coap_serve.specs.values.Sessions.{session_settled, session_settled_within}
+use Rattle.coap_serve.specs.Prelude.{session_settled, session_settled_within}
 use Rattle.coap_serve.proofs.session.Session.settle.Given as goal
 
 -- the turns that are left lead to where all turns lead

@@ -1,10 +1,9 @@
-use Rattle.std.proofs.Common.{refl, sym, ap, ◌∙◌, ◌||◌, Option, is_some}
-use Rattle.coap_conn.specs.Held.{HeldValue, first_due}
-use Rattle.coap_conn.specs.LinkValue.{LinkValue}
-use Rattle.coap_serve.specs.values.Sessions.{ObserverValue, SessionValue, next_held_in, next_stale, session_ready, session_notified, session_settled_once}
-use Rattle.coap_serve.specs.views.SessionViews.{session_value}
-use Rattle.coap_serve.proofs.values.SettleLemmas.{stays_once}
-use Rattle.coap_serve.proofs.values.SessionLemmas.{given_up, ready_is, settled_unready, held_ready, IsSent, held_found, due_sizes, sent_once, settles_by_notice}
+use Rattle.std.proofs.Common.{◌≡◌, sym, ap, ◌∙◌, ◌||◌, Option, is_some}
+use Rattle.coap_serve.specs.Prelude.{HeldValue, first_due, ObserverValue, SessionValue, next_held_in, next_stale}
+use Rattle.coap_serve.specs.Prelude.{session_ready, session_settled_once, session_settled_so, session_notified}
+use Rattle.coap_serve.specs.Prelude.{session_value}
+use Rattle.coap_serve.proofs.values.SettleLemmas.{stays_once, settled_unready, found_ready}
+use Rattle.coap_serve.proofs.values.SessionLemmas.{ready_is, held_found, sent_session, sent_once}
 use Rattle.coap_serve.proofs.session.Session.settle_once.Goals as goal
 use Rattle.coap_serve.proofs.values.OptionLemmas.{there_is_none}
 
@@ -19,50 +18,41 @@ returns-then-not-ready c =
       found = ap (λ (o : Option ObserverValue). is_some o) (sym settled.1) ∙ ap (λ (e : Option HeldValue). is_some e || is_some (next_stale host v)) (sym settled.0);
     }
 
+-- what is held and due first was sent
+pub invariant_of-self : goal.invariant_of-self
+invariant_of-self c =
+    let ready = ready_is c.self.inside.link c.ready.result c.ready.ensures ∙ c.if-not-ready.false in
+    let some = sym c.send_due.ensures.found ∙ c.if-send_due.true in
+    sent_session c.args.host.now c.self.inside _ ready some c.send_due.ensures.sent c.give_up.new.framer c.give_up.new.observers c.self.invariant c.give_up.ensures.framer c.give_up.ensures.observers
+
 pub returns-then-send_due : goal.returns-then-send_due
 returns-then-send_due c =
     let host = c.args.host.now in
     let s = c.self.inside in
-    let is : IsSent host s c.send_due.new.link = record {
-      ready = ready_is s.link c.ready.result c.ready.ensures ∙ c.if-not-ready.false;
-      some = sym c.send_due.ensures.found ∙ c.if-send_due.true;
-      link = c.send_due.ensures.sent;
-    } in
+    let ready = ready_is s.link c.ready.result c.ready.ensures ∙ c.if-not-ready.false in
+    let some = sym c.send_due.ensures.found ∙ c.if-send_due.true in
     record {
-      after = sent_once host s c.send_due.new.link is c.give_up.new.framer c.give_up.new.observers c.give_up.ensures.framer c.give_up.ensures.observers ∙ ap (session_settled_once host) c.self.view_is;
-      found = held_found host s c.send_due.new.link is ∙ ap (λ (v : SessionValue). is_some (next_held_in host.now v) || is_some (next_stale host v)) c.self.view_is;
+      after =
+          sent_once host s _ ready some c.send_due.ensures.sent c.give_up.new.framer c.give_up.new.observers c.give_up.ensures.framer c.give_up.ensures.observers
+          ∙ ap (session_settled_once host) c.self.view_is;
+      found =
+          held_found host s _ ready some c.send_due.ensures.sent
+          ∙ ap (λ (v : SessionValue). is_some (next_held_in host.now v) || is_some (next_stale host v)) c.self.view_is;
     }
-
-pub invariant_of-self : goal.invariant_of-self
-invariant_of-self c =
-    let host = c.args.host.now in
-    let s = c.self.inside in
-    let is : IsSent host s c.send_due.new.link = record {
-      ready = ready_is s.link c.ready.result c.ready.ensures ∙ c.if-not-ready.false;
-      some = sym c.send_due.ensures.found ∙ c.if-send_due.true;
-      link = c.send_due.ensures.sent;
-    } in
-    given_up s c.send_due.new.link s.framer c.give_up.new.framer s.observers c.give_up.new.observers c.self.invariant (due_sizes host s c.send_due.new.link is) refl c.self.invariant.framer refl c.give_up.ensures.framer c.give_up.ensures.observers
 
 -- nothing that is held is due
 pub returns : goal.returns
+unfolding session_settled_once
 returns c =
     let host = c.args.host.now in
     let s = c.self.inside in
     let v : SessionValue = session_value s in
     let ready = ready_is s.link c.ready.result c.ready.ensures ∙ c.if-not-ready.false in
     let quiet = there_is_none (first_due host.now s.link.held) (sym c.send_due.ensures.found ∙ c.if-send_due.false) in
-    let none = held_ready host.now v ready ∙ quiet in
+    let none = (found_ready host v ready).0 ∙ quiet in
     let same = c.send_due.ensures.silent quiet in
+    let settles : session_settled_once host v ≡ session_notified host v (next_stale host v) = ap (session_settled_so host v) none in
     record {
-      after =
-          c.notify_once.ensures.after
-          ∙ ap (λ (l : LinkValue). session_notified host (record v { link = l }) (next_stale host (record v { link = l }))) same
-          ∙ sym (settles_by_notice host v none)
-          ∙ ap (session_settled_once host) c.self.view_is;
-      found =
-          c.notify_once.ensures.found
-          ∙ ap (λ (l : LinkValue). is_some (next_stale host (record v { link = l }))) same
-          ∙ ap (λ (e : Option HeldValue). is_some e || is_some (next_stale host v)) (sym none)
-          ∙ ap (λ (w : SessionValue). is_some (next_held_in host.now w) || is_some (next_stale host w)) c.self.view_is;
+      after = cc (c.notify_once.ensures.after, same, settles, c.self.view_is);
+      found = rw (← c.self.view_is, none) (rw same at c.notify_once.ensures.found);
     }

@@ -1,5 +1,5 @@
 use Rattle.std.proofs.Common.{sym, ap, ◌∙◌}
-use Rattle.coap_serve.specs.values.Sessions.{session_ready, session_written}
+use Rattle.coap_serve.specs.Prelude.{session_ready, session_written}
 use Rattle.coap_serve.proofs.values.SessionLemmas.{ready_is}
 use Rattle.coap_serve.proofs.values.SettleLemmas.{settled_stays, settled_where_room}
 use Rattle.coap_serve.proofs.session.Session.written_and_settled.Goals as goal

@@ -1,10 +1,12 @@
-use Rattle.coap_serve.specs.streams.Turns.{end_of}
-use Rattle.std.proofs.Common.{nat_eq}
-use Rattle.coap_serve.proofs.streams.AgendaLemmas.{rest_of_another, not_the_same}
+use Rattle.std.proofs.Common.{◌≡◌, false, arith}
+use Rattle.std.proofs.lemmas.Bool.{and_left}
+use Rattle.coap_serve.specs.Prelude.{same_stamp, end_of}
+use Rattle.coap_serve.proofs.streams.AgendaLemmas.{an_answer, can_with}
 use Rattle.coap_serve.proofs.door.peer.Peer.is_at_rest.Goals as goal
 
 pub returns-else-eq : goal.returns-else-eq
 returns-else-eq g c =
-    let noted = c.args.self.now.wants.stamp in
-    rest_of_another c.args.stamp (end_of g.W.Ready.readable g.W.Ready.writable c.args.self.now) c.eq.result
-    (not_the_same (nat_eq noted.moment c.args.stamp.moment) (nat_eq noted.versions c.args.stamp.versions) (nat_eq noted.resources c.args.stamp.resources) c.eq.result c.eq.ensures c.if-eq.false) c.if-eq.false
+    let far = end_of g.W.Ready.readable g.W.Ready.writable c.args.self.now in
+    let asked = an_answer far.wants.read far.readable in
+    let another : same_stamp far.wants.stamp c.args.stamp ≡ false = grind arith in
+    rw c.if-eq.false (record { ready = _; can = can_with far asked.0 asked.1; is = and_left _ _ another })
