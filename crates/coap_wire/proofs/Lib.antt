@@ -9,6 +9,7 @@ pub mod FormLaws
 pub mod SpellingLaws
 pub mod SizeLaws
 pub mod BuiltLemmas
+pub mod CompactLemmas
 pub mod BodyLaws
 pub mod HeadLaws
 pub mod FaultLaws

@@ -8,6 +8,7 @@ pub mod Uint
 pub mod Refusal
 pub mod Views
 pub mod BuilderViews
+pub mod CompactViews
 pub mod Beginning
 pub mod Frames
 pub mod Stream

@@ -36,7 +36,8 @@ pub use Rattle.coap_wire.specs.Size.{StatesLengths, code_and_extension}
 pub use Rattle.coap_wire.specs.Spelling.{Spells, body_spelling, HasSpelling, HasOptionForm, option_spelling}
 pub use Rattle.coap_wire.specs.Spelling.{options_spelling, payload_bytes, head_spelling, IsHeadAndBody, IsOneOption}
 pub use Rattle.coap_wire.specs.Spelling.{IsOptionBytes, IsOptionHead}
-unfoldable pub use Rattle.coap_wire.specs.Spelling.{spelling}
+pub use Rattle.coap_wire.specs.Spelling.{payload_marker}
+unfoldable pub use Rattle.coap_wire.specs.Spelling.{spelling, front_spelling}
 pub use Rattle.coap_wire.specs.Stream.{Stream, SplitsAs, stream_then, sized_split_on, split_on, EndsWith, Format}
 pub use Rattle.coap_wire.specs.Stream.{IsFormatFault, OfFrame, SpellEach, Splits, StreamFault, frame_then, gone_on}
 pub use Rattle.coap_wire.specs.Stream.{read_found, with_message}
@@ -45,6 +46,7 @@ pub use Rattle.coap_wire.specs.Uint.{uint_of, without_leading_zeros}
 unfoldable pub use Rattle.coap_wire.specs.Uint.{bytes_of_uint}
 pub use Rattle.coap_wire.specs.Views.{coap_options, CanBeBuilt, option_refusal, payload_refusal, with_option}
 pub use Rattle.coap_wire.specs.Views.{coap_option, Gives, GivesPayload, most_options}
+pub use Rattle.coap_wire.specs.CompactViews.{compact_message, encoded_size, IsEncoding}
 -- ---- coap_wire, declared
 pub use Rattle.coap_wire.specs.declared.fault.FormatFault.{FormatFault}
 pub use Rattle.coap_wire.specs.declared.fault.FormatFault.TheVariants.{EmptyPayload, NotOneFrame, OptionCut}

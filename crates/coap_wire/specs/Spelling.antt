@@ -70,6 +70,17 @@ head_spelling code token n =
 unfoldable pub spelling : Message → List ℕ
 spelling m = head_spelling m.code m.token (length (body_spelling m)) ++ body_spelling m
 
+-- ---- a message in front of its payload
+
+-- the marker, or nothing if there is no payload
+abbrev pub payload_marker : List ℕ → List ℕ
+payload_marker [] = []
+payload_marker (b ∷ bs) = 255 ∷ []
+
+-- all of the one spelling but the payload at its end
+unfoldable pub front_spelling : Message → List ℕ
+front_spelling m = head_spelling m.code m.token (length (body_spelling m)) ++ (options_spelling 0 m.options ++ payload_marker m.payload)
+
 -- ---- what has a spelling
 
 abbrev pub HasOptionForm : CoapOption → Type 0

@@ -1,15 +1,16 @@
 //! Builds a message and writes its one spelling.
 
 ghost use Rattle.std.specs.Prelude.{◌≡◌, ◌+◌, ◌≤◌, ◌++◌, [], length, OnOk, OnErr};
-ghost use Rattle.coap_wire.specs.Prelude.{last_number as number_of_last, coap_options, Spells, spelling, body_spelling, HasSpelling, RefusedBy, CanBeBuilt, option_refusal, payload_refusal, with_option};
+ghost use Rattle.coap_wire.specs.Prelude.{last_number as number_of_last, coap_options, Spells, spelling, front_spelling, body_spelling, HasSpelling, RefusedBy, CanBeBuilt, option_refusal, payload_refusal, with_option};
 
 use crate::code::Code;
 use crate::fault::BuildFault;
-use crate::form::form_of_length;
 use crate::options::OptionRef;
 use crate::sink::Sink;
 use crate::token::{Token, TokenRef};
-use crate::writing::{extension_size, option_size, write_head, write_options, write_payload};
+use crate::writing::{
+    head_size, marker_size, option_size, write_head, write_marker, write_options,
+};
 use arrayvec::ArrayVec;
 use std::marker::Model;
 
@@ -143,27 +144,55 @@ impl<'a, const N: usize> MessageBuilder<'a, N> {
         }
     }
 
-    /// The length of the spelling in bytes.
+    /// Returns the payload, empty if there is none.
+    pub fn payload_bytes(&self) -> &'a [u8]
+        ensures payload { result.now ≡ self.now.payload }
+        ensures last { spelling self.now ≡ front_spelling self.now ++ self.now.payload }
+    {
+        self.payload
+    }
+
+    /// Returns the length of the encoding in bytes.
     pub fn size(&self) -> u64
         ensures size { result ≡ length (spelling self.now) }
         ensures spelled { HasSpelling self.now }
     {
-        let body = self.body_size();
-        let extension = form_of_length(body).extension.len() as u64;
-        let token = self.token.bytes().len();
-        2 + extension + extension_size(token as u32) + token as u64 + body
+        self.front_size() + self.payload.len() as u64
     }
 
-    /// Appends the one spelling. There must be room for it.
+    /// Returns the length of the encoding in front of the payload, in bytes.
+    pub fn front_size(&self) -> u64
+        ensures size { result ≡ length (front_spelling self.now) }
+        ensures whole { result + length self.now.payload ≡ length (spelling self.now) }
+        ensures bound { result ≤ 2632440 }
+        ensures spelled { HasSpelling self.now }
+    {
+        let token = self.token.bytes().len();
+        head_size(token, self.body_size()) + self.options_size + marker_size(self.payload)
+    }
+
+    /// Appends the one encoding of the message. There must be room for it.
     pub fn write<S: Sink>(&self, out: &mut S)
         requires { length (spelling self.now) ≤ S.space out.old }
         ensures appended { S.contents out.new ≡ S.contents out.old ++ spelling self.now }
         ensures less_room { S.space out.new + length (spelling self.now) ≡ S.space out.old }
         ensures spelled { Spells (spelling self.now) self.now }
     {
+        self.write_front(out);
+        out.append(self.payload);
+    }
+
+    /// Appends the encoding of the message up to its payload, which follows. There must be room for it.
+    pub fn write_front<S: Sink>(&self, out: &mut S)
+        requires { length (front_spelling self.now) ≤ S.space out.old }
+        ensures appended { S.contents out.new ≡ S.contents out.old ++ front_spelling self.now }
+        ensures less_room { S.space out.new + length (front_spelling self.now) ≡ S.space out.old }
+        ensures whole { spelling self.now ≡ front_spelling self.now ++ self.now.payload }
+        ensures spelled { Spells (spelling self.now) self.now }
+    {
         write_head(out, self.code, self.token.bytes(), self.body_size());
         write_options(out, &self.options);
-        write_payload(out, self.payload);
+        write_marker(out, self.payload);
     }
 
     /// The length of the options and the payload.

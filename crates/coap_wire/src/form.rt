@@ -1,58 +1,114 @@
 //! The forms of numbers: a nibble and the bytes that extend it.
 
-ghost use Rattle.std.specs.Prelude.{◌≡◌, ◌≤◌, length};
+ghost use Rattle.std.specs.Prelude.{◌≡◌, ◌+◌, ◌≤◌, ◌++◌, length};
 ghost use Rattle.coap_wire.specs.Prelude.{length_form, option_form, greatest_length, greatest_option_form};
 
-use arrayvec::ArrayVec;
+use crate::sink::Sink;
 
-/// A nibble of a first byte, and the bytes that extend it, at most 4.
-#[derive(Drop)]
-pub(crate) struct Form {
-    pub(crate) nibble: u8,
-    pub(crate) extension: ArrayVec<u8, 4>,
-}
-
-/// The form of this nibble with these bytes.
-fn extended(nibble: u8, bytes: &[u8]) -> Form
-    requires { length bytes.now ≤ 4 }
-    ensures nibble { result.nibble ≡ nibble }
-    ensures extension { result.extension.items ≡ bytes.now }
+/// Returns the nibble of the length of a message's options and payload (RFC 8323 section 3.2).
+#[inline]
+pub(crate) fn length_nibble(count: u64) -> u8
+    requires { count ≤ greatest_length }
+    ensures nibble { result ≡ (length_form count).0 }
+    ensures small { result ≤ 15 }
 {
-    let Ok(extension) = ArrayVec::try_from(bytes) else {
-        unreachable!()
-    };
-    Form { nibble, extension }
+    if count < 13 {
+        return count as u8;
+    }
+    if count < 269 {
+        return 13;
+    }
+    if count < 65805 {
+        return 14;
+    }
+    15
 }
 
-/// The form of the length of a message's options and payload (RFC 8323 section 3.2).
-pub(crate) fn form_of_length(length: u64) -> Form
-    requires { length ≤ greatest_length }
-    ensures nibble { result.nibble ≡ (length_form length).0 }
-    ensures extension { result.extension.items ≡ (length_form length).1 }
+/// Returns the number of bytes that extend the nibble of a length of options and payload.
+#[inline]
+pub(crate) fn length_extension_size(count: u64) -> u64
+    requires { count ≤ greatest_length }
+    ensures size { result ≡ length (length_form count).1 }
+    ensures bound { result ≤ 4 }
 {
-    if length < 13 {
-        return extended(length as u8, &[]);
+    if count < 13 {
+        return 0;
     }
-    if length < 269 {
-        return extended(13, &[(length - 13) as u8]);
+    if count < 269 {
+        return 1;
     }
-    if length < 65805 {
-        return extended(14, &((length - 269) as u16).to_be_bytes());
+    if count < 65805 {
+        return 2;
     }
-    extended(15, &((length - 65805) as u32).to_be_bytes())
+    4
 }
 
-/// The form of an option delta or an option length (RFC 7252 section 3.1).
-pub(crate) fn form_of_option(number: u32) -> Form
+/// Writes the bytes that extend the nibble of a length of options and payload.
+#[inline]
+pub(crate) fn write_length_extension<S: Sink>(out: &mut S, count: u64)
+    requires fits { count ≤ greatest_length }
+    requires room { length (length_form count).1 ≤ S.space out.old }
+    ensures appended { S.contents out.new ≡ S.contents out.old ++ (length_form count).1 }
+    ensures less_room { S.space out.new + length (length_form count).1 ≡ S.space out.old }
+{
+    if count < 13 {
+        return;
+    }
+    if count < 269 {
+        return out.push((count - 13) as u8);
+    }
+    if count < 65805 {
+        return out.append(&((count - 269) as u16).to_be_bytes());
+    }
+    out.append(&((count - 65805) as u32).to_be_bytes())
+}
+
+/// Returns the nibble of an option delta, an option length or a token length (RFC 7252 section 3.1, RFC 8974 section
+/// 2.1).
+#[inline]
+pub(crate) fn option_nibble(number: u32) -> u8
     requires { number ≤ greatest_option_form }
-    ensures nibble { result.nibble ≡ (option_form number).0 }
-    ensures extension { result.extension.items ≡ (option_form number).1 }
+    ensures nibble { result ≡ (option_form number).0 }
+    ensures small { result ≤ 14 }
 {
     if number < 13 {
-        return extended(number as u8, &[]);
+        return number as u8;
     }
     if number < 269 {
-        return extended(13, &[(number - 13) as u8]);
+        return 13;
     }
-    extended(14, &((number - 269) as u16).to_be_bytes())
+    14
+}
+
+/// Returns the number of bytes that extend the nibble of an option delta, an option length or a token length.
+#[inline]
+pub(crate) fn option_extension_size(number: u32) -> u64
+    requires { number ≤ greatest_option_form }
+    ensures size { result ≡ length (option_form number).1 }
+    ensures bound { result ≤ 2 }
+{
+    if number < 13 {
+        return 0;
+    }
+    if number < 269 {
+        return 1;
+    }
+    2
+}
+
+/// Writes the bytes that extend the nibble of an option delta, an option length or a token length.
+#[inline]
+pub(crate) fn write_option_extension<S: Sink>(out: &mut S, number: u32)
+    requires fits { number ≤ greatest_option_form }
+    requires room { length (option_form number).1 ≤ S.space out.old }
+    ensures appended { S.contents out.new ≡ S.contents out.old ++ (option_form number).1 }
+    ensures less_room { S.space out.new + length (option_form number).1 ≡ S.space out.old }
+{
+    if number < 13 {
+        return;
+    }
+    if number < 269 {
+        return out.push((number - 13) as u8);
+    }
+    out.append(&((number - 269) as u16).to_be_bytes())
 }

@@ -4,6 +4,7 @@
 
 mod builder;
 mod code;
+mod compact;
 mod fault;
 mod form;
 mod frame;
@@ -22,6 +23,7 @@ mod writing;
 
 pub use builder::{Builder, MessageBuilder};
 pub use code::Code;
+pub use compact::{CompactBuilder, SHORT_OPTIONS, ShortBuilder};
 pub use fault::{BuildFault, FormatFault, FrameFault};
 pub use frame::Declared;
 pub use kinds::{OptionKind, kind};

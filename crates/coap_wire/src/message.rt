@@ -34,6 +34,18 @@ impl<'a> Model for MessageRef<'a> {
 }
 
 impl<'a> MessageRef<'a> {
+    /// Returns the same message, which borrows the bytes of the frame and not `self`.
+    pub fn again(&self) -> MessageRef<'a>
+        ensures { result ≡ self.now }
+    {
+        MessageRef {
+            code: self.code,
+            token: self.token.again(),
+            body: self.body,
+            payload: self.payload,
+        }
+    }
+
     /// The code.
     pub fn code(&self) -> Code
         ensures { result ≡ self.now.code }

@@ -1,7 +1,8 @@
 //! Where a message is written.
 
-ghost use Rattle.std.specs.Prelude.{◌≡◌, ℕ, ◌+◌, ◌-◌, ◌<◌, ◌≤◌, List, [], ◌∷◌, ◌++◌, length, take, vec_len, vec_capacity};
+ghost use Rattle.std.specs.Prelude.{◌≡◌, ℕ, ◌+◌, ◌-◌, ◌<◌, ◌≤◌, List, [], ◌∷◌, ◌++◌, length, take, drop, vec_len, vec_capacity};
 
+use arrayvec::ArrayVec;
 use std::marker::Model;
 
 /// Takes bytes one after another, in room that is there already.
@@ -49,7 +50,29 @@ impl Sink for Vec<u8> {
     }
 }
 
-/// A slice of fixed length, filled from its front.
+/// An `ArrayVec<u8, N>` takes as many bytes as are free in its array.
+impl<const N: usize> Sink for ArrayVec<u8, N> {
+    ghost contents = { λ v. v.items };
+
+    ghost space = { λ v. N - length v.items };
+
+    fn room(&self) -> usize {
+        self.remaining_capacity()
+    }
+
+    fn push(&mut self, byte: u8) {
+        self.push(byte);
+    }
+
+    fn append(&mut self, bytes: &[u8]) {
+        prove!(bytes.len() <= self.remaining_capacity());
+        let Ok(()) = self.try_extend_from_slice(bytes) else {
+            unreachable!()
+        };
+    }
+}
+
+/// A slice of fixed length, filled from its front. Contracts see the bytes written and the bytes after them.
 #[derive(Drop)]
 pub struct SliceSink<'a> {
     bytes: &'a mut [u8],
@@ -57,23 +80,23 @@ pub struct SliceSink<'a> {
 }
 
 impl<'a> Model for SliceSink<'a> {
-    ghost Value = { List ℕ × ℕ };
+    ghost Value = { List ℕ × List ℕ };
 
-    ghost view = { λ s. (take s.filled s.bytes.now, length s.bytes.now - s.filled) };
+    ghost view = { λ s. (take s.filled s.bytes.now, drop s.filled s.bytes.now) };
 
     ghost invariant = { λ s. s.filled ≤ length s.bytes.now };
 }
 
 impl<'a> SliceSink<'a> {
-    /// A sink over the whole slice, with nothing written yet.
+    /// Creates a sink over the whole slice, with nothing written yet.
     pub fn new(bytes: &'a mut [u8]) -> SliceSink<'a>
         ensures empty { result.0 ≡ [] }
-        ensures room { result.1 ≡ length bytes.old }
+        ensures after { result.1 ≡ bytes.old }
     {
         SliceSink { bytes, filled: 0 }
     }
 
-    /// The bytes written so far.
+    /// Returns the bytes written so far.
     pub fn written(&self) -> &[u8]
         ensures { result.now ≡ self.now.0 }
     {
@@ -84,13 +107,19 @@ impl<'a> SliceSink<'a> {
 impl Sink for SliceSink<'_> {
     ghost contents = { λ s. s.0 };
 
-    ghost space = { λ s. s.1 };
+    ghost space = { λ s. length s.1 };
 
     fn room(&self) -> usize {
         self.bytes.len() - self.filled
     }
 
-    fn push(&mut self, byte: u8) {
+    // The bytes after what is written stay as they are.
+    fn push(&mut self, byte: u8)
+        requires { 0 < length self.old.1 }
+        ensures appended { self.new.0 ≡ self.old.0 ++ byte ∷ [] }
+        ensures less_room { length self.new.1 + 1 ≡ length self.old.1 }
+        ensures after { self.new.1 ≡ drop 1 self.old.1 }
+    {
         self.bytes[self.filled] = byte;
         self.filled += 1;
     }

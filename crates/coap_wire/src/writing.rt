@@ -1,29 +1,17 @@
 //! Writes the parts of a frame from left to right.
 
-ghost use Rattle.std.specs.Prelude.{◌≡◌, ◌+◌, ◌-◌, ◌≤◌, ◌<◌, ◌++◌, length};
-ghost use Rattle.coap_wire.specs.Prelude.{AllByRecursion, AreOrdered, option_form, greatest_token, greatest_length, greatest_option_form, HasOptionForm, option_spelling, options_spelling, payload_bytes, head_spelling, coap_option, coap_options, most_options};
+ghost use Rattle.std.specs.Prelude.{◌≡◌, ℕ, ◌+◌, ◌-◌, ◌≤◌, ◌<◌, List, ◌++◌, length};
+ghost use Rattle.coap_wire.specs.Prelude.{AllByRecursion, AreOrdered, greatest_token, greatest_length, greatest_option_form, HasOptionForm, option_spelling, options_spelling, payload_marker, head_spelling, coap_option, coap_options};
 
 use crate::code::Code;
-use crate::form::{form_of_length, form_of_option};
+use crate::form::{
+    length_extension_size, length_nibble, option_extension_size, option_nibble,
+    write_length_extension, write_option_extension,
+};
 use crate::options::{OptionRef, PAYLOAD_MARKER};
 use crate::sink::Sink;
 
-/// How many bytes extend the nibble of an option delta, an option length or a token's length.
-pub(crate) fn extension_size(number: u32) -> u64
-    requires { number ≤ greatest_option_form }
-    ensures size { result ≡ length (option_form number).1 }
-    ensures bound { result ≤ 2 }
-{
-    if number < 13 {
-        0
-    } else if number < 269 {
-        1
-    } else {
-        2
-    }
-}
-
-/// The length of an option's spelling, whose number counts from `base`.
+/// Returns the length of an option's encoding, whose number counts from `base`.
 pub(crate) fn option_size(base: u16, option: &OptionRef) -> u64
     requires ordered { base ≤ option.now.number }
     requires short { length option.now.value.now ≤ greatest_option_form }
@@ -31,11 +19,23 @@ pub(crate) fn option_size(base: u16, option: &OptionRef) -> u64
     ensures bound { result ≤ 65809 }
 {
     let delta = u32::from(option.number - base);
-    let length = option.value.len() as u32;
-    1 + extension_size(delta) + extension_size(length) + u64::from(length)
+    let count = option.value.len() as u32;
+    1 + option_extension_size(delta) + option_extension_size(count) + u64::from(count)
+}
+
+/// Returns the length of the first byte, the extension of the length, the code, the extension of the token's length and
+/// the token.
+pub(crate) fn head_size(token: usize, body: u64) -> u64
+    requires token { token ≤ greatest_token }
+    requires body { body ≤ greatest_length }
+    ensures size { (code : ℕ) (bytes : List ℕ) → length bytes ≡ token → result ≡ length (head_spelling code bytes body) }
+    ensures bound { result ≤ 72 }
+{
+    2 + length_extension_size(body) + option_extension_size(token as u32) + token as u64
 }
 
 /// Writes the first byte, the extension of the length, the code, the extension of the token's length and the token.
+#[inline]
 pub(crate) fn write_head<S: Sink>(out: &mut S, code: Code, token: &[u8], body: u64)
     requires token { length token.now ≤ greatest_token }
     requires body { body ≤ greatest_length }
@@ -43,29 +43,31 @@ pub(crate) fn write_head<S: Sink>(out: &mut S, code: Code, token: &[u8], body: u
     ensures appended { S.contents out.new ≡ S.contents out.old ++ head_spelling code token.now body }
     ensures less_room { S.space out.new + length (head_spelling code token.now body) ≡ S.space out.old }
 {
-    let length = form_of_length(body);
-    let token_length = form_of_option(token.len() as u32);
-    out.push(length.nibble * 16 + token_length.nibble);
-    out.append(&length.extension);
+    let token_length = token.len() as u32;
+    out.push(length_nibble(body) * 16 + option_nibble(token_length));
+    write_length_extension(out, body);
     out.push(code.byte());
-    out.append(&token_length.extension);
+    write_option_extension(out, token_length);
     out.append(token);
 }
 
-/// Writes an option.
-fn write_option<S: Sink>(out: &mut S, base: u16, option: &OptionRef)
-    requires ordered { base ≤ option.now.number }
-    requires short { length option.now.value.now ≤ greatest_option_form }
-    requires room { length (option_spelling base (coap_option option.now)) ≤ S.space out.old }
-    ensures appended { S.contents out.new ≡ S.contents out.old ++ option_spelling base (coap_option option.now) }
-    ensures less_room { S.space out.new + length (option_spelling base (coap_option option.now)) ≡ S.space out.old }
+/// Writes an option, whose number counts from `base`.
+#[inline]
+pub(crate) fn write_option<S: Sink>(out: &mut S, base: u16, number: u16, value: &[u8])
+    requires ordered { base ≤ number }
+    requires short { length value.now ≤ greatest_option_form }
+    requires room { length (option_spelling base (record { number = number; value = value.now })) ≤ S.space out.old }
+    ensures appended { S.contents out.new
+        ≡ S.contents out.old ++ option_spelling base (record { number = number; value = value.now }) }
+    ensures less_room { S.space out.new + length (option_spelling base (record { number = number; value = value.now }))
+        ≡ S.space out.old }
 {
-    let delta = form_of_option(u32::from(option.number - base));
-    let length = form_of_option(option.value.len() as u32);
-    out.push(delta.nibble * 16 + length.nibble);
-    out.append(&delta.extension);
-    out.append(&length.extension);
-    out.append(option.value);
+    let delta = u32::from(number - base);
+    let count = value.len() as u32;
+    out.push(option_nibble(delta) * 16 + option_nibble(count));
+    write_option_extension(out, delta);
+    write_option_extension(out, count);
+    out.append(value);
 }
 
 /// Writes all options.
@@ -78,19 +80,26 @@ pub(crate) fn write_options<S: Sink>(out: &mut S, options: &[OptionRef])
 {
     let mut base = 0;
     for option in options {
-        write_option(out, base, option);
+        write_option(out, base, option.number, option.value);
         base = option.number;
     }
 }
 
-/// Writes the marker and the payload, or nothing for an empty payload.
-pub(crate) fn write_payload<S: Sink>(out: &mut S, payload: &[u8])
-    requires { length (payload_bytes payload.now) ≤ S.space out.old }
-    ensures appended { S.contents out.new ≡ S.contents out.old ++ payload_bytes payload.now }
-    ensures less_room { S.space out.new + length (payload_bytes payload.now) ≡ S.space out.old }
+/// Returns the length of the marker: 1, or 0 if there is no payload.
+pub(crate) fn marker_size(payload: &[u8]) -> u64
+    ensures size { result ≡ length (payload_marker payload.now) }
+    ensures bound { result ≤ 1 }
+{
+    u64::from(!payload.is_empty())
+}
+
+/// Writes the marker that a payload follows, or nothing if there is no payload.
+pub(crate) fn write_marker<S: Sink>(out: &mut S, payload: &[u8])
+    requires { length (payload_marker payload.now) ≤ S.space out.old }
+    ensures appended { S.contents out.new ≡ S.contents out.old ++ payload_marker payload.now }
+    ensures less_room { S.space out.new + length (payload_marker payload.now) ≡ S.space out.old }
 {
     if !payload.is_empty() {
         out.push(PAYLOAD_MARKER);
-        out.append(payload);
     }
 }

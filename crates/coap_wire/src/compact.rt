@@ -1,0 +1,180 @@
+//! Builds a message of few and short options, which are encoded at once.
+
+ghost use Rattle.std.specs.Prelude.{◌≡◌, ◌+◌, ◌≤◌, ◌++◌, [], length};
+ghost use Rattle.coap_wire.specs.Prelude.{last_number, Spells, spelling, front_spelling, body_spelling, HasSpelling, with_option, encoded_size, bytes_of_uint};
+
+use crate::code::Code;
+use crate::sink::Sink;
+use crate::token::TokenRef;
+use crate::uint::significant_bytes;
+use crate::writing::{head_size, marker_size, write_head, write_marker, write_option};
+use arrayvec::ArrayVec;
+use std::marker::Model;
+
+/// The most bytes that the options of a short message take: enough for each message that a server sends by itself, but
+/// for a response with Location-Path.
+pub const SHORT_OPTIONS: usize = 48;
+
+/// A short message that is being built.
+pub type ShortBuilder<'a> = CompactBuilder<'a, 'a, SHORT_OPTIONS>;
+
+/// A message that is being built, whose options take at most `N` bytes. Each option is encoded as it is added, so its
+/// value is not borrowed. The token and the payload are. Contracts see the `Message`.
+///
+/// A message of few and short options costs less here than with a `Builder`, which takes options of any length.
+#[derive(Drop)]
+pub struct CompactBuilder<'t, 'p, const N: usize> {
+    token: TokenRef<'t>,
+    options: ArrayVec<u8, N>,
+    payload: &'p [u8],
+    /// The number of the last option, or 0.
+    last: u16,
+    code: Code,
+}
+
+impl<'t, 'p, const N: usize> Model for CompactBuilder<'t, 'p, N> {
+    ghost use Rattle.coap_wire.specs.Message.{Message};
+
+    ghost Value = { Message };
+
+    ghost use Rattle.coap_wire.specs.CompactViews.{compact_message, IsCompact};
+
+    ghost view = { compact_message };
+
+    ghost invariant = { IsCompact };
+}
+
+impl<'t, 'p, const N: usize> CompactBuilder<'t, 'p, N> {
+    /// Creates a message with this code and this token, with no options and no payload.
+    pub fn new(code: Code, token: TokenRef<'t>) -> CompactBuilder<'t, 'p, N>
+        requires { N ≤ 65804 }
+        ensures { result ≡ record { code = code; token = token.entry; options = []; payload = [] } }
+    {
+        CompactBuilder {
+            code,
+            token: token.again(),
+            options: ArrayVec::new(),
+            last: 0,
+            payload: &[],
+        }
+    }
+
+    /// Appends an option (RFC 7252 section 3.1), which takes at most 5 bytes beside its value.
+    ///
+    /// # Preconditions
+    ///
+    /// The number is not below that of the last option, and there is room.
+    #[inline]
+    pub fn option(&mut self, number: u16, value: &[u8])
+        requires order { last_number 0 self.old.options ≤ number }
+        requires room { encoded_size self.old + 5 + length value.now ≤ N }
+        ensures added { self.new ≡ with_option self.old number value.now }
+        ensures size { encoded_size self.new ≤ encoded_size self.old + 5 + length value.now }
+    {
+        write_option(&mut self.options, self.last, number, value);
+        self.last = number;
+    }
+    /// Appends an option of format uint in the fewest bytes (RFC 7252 section 3.2), at most 9 with its head.
+    ///
+    /// # Preconditions
+    ///
+    /// As `option`.
+    #[inline]
+    pub fn uint_option(&mut self, number: u16, value: u32)
+        requires order { last_number 0 self.old.options ≤ number }
+        requires room { encoded_size self.old + 9 ≤ N }
+        ensures added { self.new ≡ with_option self.old number (bytes_of_uint value) }
+        ensures size { encoded_size self.new ≤ encoded_size self.old + 9 }
+    {
+        if value == 0 {
+            return self.option(number, &[]);
+        }
+        if value < 256 {
+            return self.option(number, &[value as u8]);
+        }
+        self.option(number, significant_bytes(&value.to_be_bytes()));
+    }
+
+    /// Sets the payload, at most 1,048,576 bytes. An empty one is no payload, and no marker is written for it.
+    pub fn payload(&mut self, payload: &'p [u8])
+        requires { length payload.now ≤ 1048576 }
+        ensures { self.new ≡ record self.old { payload = payload.now } }
+    {
+        self.payload = payload;
+    }
+
+    /// Returns the code.
+    pub fn code(&self) -> Code
+        ensures { result ≡ self.now.code }
+    {
+        self.code
+    }
+
+    /// Returns the token.
+    pub fn token(&self) -> &TokenRef<'t>
+        ensures { result.now ≡ self.now.token }
+    {
+        &self.token
+    }
+
+    /// Returns the payload, empty if there is none.
+    pub fn payload_bytes(&self) -> &'p [u8]
+        ensures payload { result.now ≡ self.now.payload }
+        ensures last { spelling self.now ≡ front_spelling self.now ++ self.now.payload }
+    {
+        self.payload
+    }
+
+    /// Returns the length of the encoding in bytes.
+    pub fn size(&self) -> u64
+        ensures size { result ≡ length (spelling self.now) }
+        ensures spelled { HasSpelling self.now }
+    {
+        self.front_size() + self.payload.len() as u64
+    }
+
+    /// Returns the length of the encoding in front of the payload, in bytes: at most 73 beside the options.
+    pub fn front_size(&self) -> u64
+        ensures size { result ≡ length (front_spelling self.now) }
+        ensures whole { result + length self.now.payload ≡ length (spelling self.now) }
+        ensures bound { result ≤ N + 73 }
+        ensures spelled { HasSpelling self.now }
+    {
+        let token = self.token.bytes().len();
+        head_size(token, self.body_size()) + self.options.len() as u64 + marker_size(self.payload)
+    }
+
+    /// Appends the encoding of the message up to its payload, which follows. There must be room for it.
+    pub fn write_front<S: Sink>(&self, out: &mut S)
+        requires { length (front_spelling self.now) ≤ S.space out.old }
+        ensures appended { S.contents out.new ≡ S.contents out.old ++ front_spelling self.now }
+        ensures less_room { S.space out.new + length (front_spelling self.now) ≡ S.space out.old }
+        ensures whole { spelling self.now ≡ front_spelling self.now ++ self.now.payload }
+        ensures spelled { Spells (spelling self.now) self.now }
+    {
+        write_head(out, self.code, self.token.bytes(), self.body_size());
+        out.append(&self.options);
+        write_marker(out, self.payload);
+    }
+
+    /// Appends the one encoding of the message. There must be room for it.
+    pub fn write<S: Sink>(&self, out: &mut S)
+        requires { length (spelling self.now) ≤ S.space out.old }
+        ensures appended { S.contents out.new ≡ S.contents out.old ++ spelling self.now }
+        ensures less_room { S.space out.new + length (spelling self.now) ≡ S.space out.old }
+        ensures spelled { Spells (spelling self.now) self.now }
+    {
+        self.write_front(out);
+        out.append(self.payload);
+    }
+
+    /// Returns the length of the options, the marker and the payload.
+    fn body_size(&self) -> u64
+        ensures size { result ≡ length (body_spelling self.now) }
+        ensures bound { result ≤ 1114381 }
+        ensures spelled { HasSpelling self.now }
+    {
+        let options = self.options.len() as u64;
+        options + marker_size(self.payload) + self.payload.len() as u64
+    }
+}
