@@ -86,7 +86,7 @@ greater_allowed = refl
 equal : raise_refusal 1152 1152 ≡ None
 equal = refl
 
--- of a frame of 1,153 bytes the first two are kept, then frames of 2,000 bytes are taken, then comes its last byte of the length
+-- Of a frame of 1,153 bytes the first two are kept, then the maximum is raised to 2,000 bytes, then the last byte of the length comes.
 abbrev begun : FramerValue
 begun = record { max = 1152; kept = 0xe1 ∷ 0x03 ∷ []; spent = []; copied = 2 }
 
@@ -101,7 +101,7 @@ judged_by_the_greater : framer_after (asked_for begun 2000) (0x6f ∷ []) ≡ re
 unfolding framing beginning declared_of length_at option_number_at two_bytes_at
 judged_by_the_greater = refl
 
--- the same of the stream, and where the last byte of the length came before
+-- the same of the stream, and if the last byte of the length came before
 told_after : sized_split (sizes_first 2 1152 (always 2000)) (0xe1 ∷ 0x03 ∷ 0x6f ∷ []) ≡ record { messages = []; rest = 0xe1 ∷ 0x03 ∷ 0x6f ∷ []; fault = None }
 unfolding sized_split sized_frames frames_within beginning declared_of length_at option_number_at two_bytes_at
 told_after = refl

@@ -40,9 +40,10 @@ given_by v (Size new ∷ more) = given_by (asked_for v new) more
 given_by v (Piece p ∷ more) =
     given_then (λ now. given_by now more) (take (framing_of v p).taken p) v.max (framer_after v p) (framing_of v p).finding
 
--- The frames, the rest and the fault of the stream that the kept bytes and then the taken bytes form. A frame's size is judged by the
--- one in force when the last byte of its length was taken. (What is kept may have come while a lower one was in force: what is
--- unfinished then is so with a greater one.)
+-- The frames, the rest and the fault of the stream that the kept bytes and then the taken bytes form. The size of a frame is compared
+-- with the maximum in force when the last byte that states the size was taken: the last byte of the token length's extension, if there
+-- is one, otherwise the last byte of the frame's length. (Kept bytes may have been taken under a lower maximum: a frame that is
+-- unfinished under that one is unfinished under a higher one too.)
 abbrev pub stream_given : FramerValue → Given → Frames
 stream_given v given = sized_frames (sizes_first (length v.kept) v.max given.sizes) (v.kept ++ given.taken)
 

@@ -1,6 +1,6 @@
 //! A framer: gives the frames of a stream that comes in pieces cut anywhere.
 
-ghost use Rattle.std.specs.Prelude.{◌≡◌, ◌≤◌, ◌<◌, [], OnOk, OnErr, length, take, vec_capacity, IfOk, ⊤};
+ghost use Rattle.std.specs.Prelude.{◌≡◌, ◌≤◌, ◌<◌, [], OnOk, OnErr, length, take, vec_capacity, max as larger, IfOk, ⊤};
 ghost use Rattle.coap_frame.specs.Prelude.{Unfinished, beginning, framing, framing_of, framer_after, framer_of, kept_in, frame_in, finding_in, finding_of, finding_read, sem, follows_so, none, IsFramer, MayUnread, with_frame_back, IsFramed, raised, IsRaiseAnswer};
 ghost use Rattle.coap_frame.specs.declared.framer.Held.TheVariants as held_as;
 ghost use Rattle.coap_frame.specs.contracts.framer.Framer.{the_row};
@@ -233,14 +233,15 @@ impl Framer {
     }
 }
 
-/// Makes room for so many bytes in a buffer, which keeps its own.
+/// Grows a buffer of a smaller capacity to exactly `room` bytes. The bytes in it stay.
 fn widen(buffer: &mut Vec<u8>, room: usize) -> Result<(), AllocError>
     ensures items { buffer.new.items ≡ buffer.old.items }
-    ensures capacity { vec_capacity buffer.old ≤ vec_capacity buffer.new }
+    ensures exact { OnOk result (vec_capacity buffer.new ≡ larger (vec_capacity buffer.old) room) }
     ensures ok { OnOk result (room ≤ vec_capacity buffer.new) }
     ensures err { OnErr result (vec_capacity buffer.old < room) }
+    ensures unchanged { OnErr result (vec_capacity buffer.new ≡ vec_capacity buffer.old) }
 {
-    buffer.reserve(room.saturating_sub(buffer.len()))
+    buffer.reserve_exact(room.saturating_sub(buffer.len()))
 }
 
 /// Leaves the bytes of an unfinished frame alone in the buffer.

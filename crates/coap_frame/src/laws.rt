@@ -3,9 +3,11 @@
 ghost use Rattle.std.specs.Prelude.{◌≡◌, ℕ, ◌≤◌, List, ◌++◌, length, take};
 ghost use Rattle.coap_frame.specs.Prelude.{Unfinished, Faulty, beginning, fault_bytes, FrameFault, FramerValue, IsFramer, Nothing, AFrame, AFault, MayUnread, framing, framing_of, framer_after, without_last, FramerCall, AreCounted, Handed, IsGiven, given_by, taken_of, unread_after, last_byte};
 
-/// Where each piece is given to one call, up to the first fault, and the greatest frame is raised between pieces, the
-/// frames, the fault and the bytes kept are those of the stream that the kept bytes and the taken bytes form. A frame's
-/// size is judged by the one in force when the last byte of its length is taken.
+/// The frames, the fault and the bytes kept are those of the stream that the kept bytes and the taken bytes form. Each
+/// piece is given to one call, up to the first fault, and the maximum size may be raised between pieces. The size of a
+/// frame is compared with the maximum in force when the last byte that states the size is taken. If the token length
+/// has an extension, this is the last byte of that extension; otherwise it is the last byte of the frame's length (RFC
+/// 8323 section 3.2, RFC 8974 section 2.1).
 pub fn framer_gives_the_frames()
     ensures { (v : FramerValue) (handed : List Handed) → IsFramer v → IsGiven v (given_by v handed) }
 {}
