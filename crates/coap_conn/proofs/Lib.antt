@@ -11,4 +11,5 @@ pub mod AnnounceLaws
 pub mod StopLaws
 pub mod HeldLaws
 pub mod AskedLaws
+mod RingLemmas
 mod Worked

@@ -20,5 +20,6 @@ pub mod History
 pub mod LinkViews
 pub mod QueueValue
 pub mod QueueViews
+pub mod RingLends
 pub mod Release
 pub mod Prelude

@@ -16,7 +16,8 @@ pub use Rattle.coap_wire.specs.Recognition.{is_critical}
 unfoldable pub use Rattle.coap_wire.specs.Recognition.{first_critical_behind, is_recognised, kind_of, known_behind}
 pub use Rattle.coap_wire.specs.Refusal.{RefusedBy}
 pub use Rattle.coap_wire.specs.Spelling.{body_spelling, head_spelling, option_spelling}
-unfoldable pub use Rattle.coap_wire.specs.Spelling.{spelling}
+pub use Rattle.coap_wire.specs.CompactViews.{encoded_size}
+unfoldable pub use Rattle.coap_wire.specs.Spelling.{spelling, front_spelling}
 pub use Rattle.coap_wire.specs.Uint.{uint_of, without_leading_zeros}
 unfoldable pub use Rattle.coap_wire.specs.Uint.{bytes_of_uint}
 pub use Rattle.coap_wire.specs.Views.{coap_option}
@@ -66,6 +67,7 @@ pub use Rattle.coap_conn.specs.Reasons.{abort_text, abort_with, number_told, tol
 pub use Rattle.coap_conn.specs.Reasons.{abort_options}
 pub use Rattle.coap_conn.specs.Rejects.{reject_of_frame, reject_reason}
 pub use Rattle.coap_conn.specs.Release.{release_refusal}
+pub use Rattle.coap_conn.specs.RingLends.{ring_row, lends_bytes}
 pub use Rattle.coap_conn.specs.Verdicts.{Request, VerdictValue}
 -- ---- coap_conn, declared
 pub use Rattle.coap_conn.specs.declared.asked.Outstanding.{Outstanding}

@@ -13,7 +13,7 @@ pub record IsQueue (q : QueueValue) : Type 0 where
 abbrev pub free_of : QueueValue → ℕ
 free_of q = q.bytes - length q.waiting
 
--- a front of the bytes that wait, with at least one of them where any waits
+-- a prefix of the queued bytes, with at least one of them if any are queued
 pub record IsNextPart (waiting part : List ℕ) : Type 0 where
   pub front : part ≡ take (length part) waiting
   pub some : part ≡ [] → waiting ≡ []

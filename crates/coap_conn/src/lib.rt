@@ -12,9 +12,10 @@ mod pending;
 mod phase;
 mod queue;
 mod reason;
+mod ring;
 
 pub use limits::{LimitFault, Limits};
 pub use link::Link;
 pub use phase::{Due, Full, Phase, Reject, Reply, RequestFault, Role, SendFault, Verdict};
-pub use queue::OutQueue;
+pub use queue::{OutQueue, first_part};
 pub use reason::Reason;

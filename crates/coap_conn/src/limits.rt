@@ -29,6 +29,18 @@ pub enum LimitFault {
     Outstanding = 6,
 }
 
+const _: () = prove!(LimitFault::MaxMessage as u8 == 1);
+
+const _: () = prove!(LimitFault::MaxSent as u8 == 2);
+
+const _: () = prove!(LimitFault::Queue as u8 == 3);
+
+const _: () = prove!(LimitFault::Pending as u8 == 4);
+
+const _: () = prove!(LimitFault::Observers as u8 == 5);
+
+const _: () = prove!(LimitFault::Outstanding as u8 == 6);
+
 /// The limits of one connection. Contracts see its values by name.
 #[derive(Clone, Copy, PartialEq, Eq)]
 pub struct Limits {

@@ -47,8 +47,8 @@ impl Model for Link {
 }
 
 impl Link {
-    ghost use Rattle.std.specs.Prelude.{◌≡◌, ◌≤◌, ◌↔◌, ⊤, length, IsTrue, IfOk};
-    ghost use Rattle.coap_conn.specs.Prelude.{sem, follows_so, none, next_moment as moment_next, History, new_history, after, LinkShows, IsLink, IsReady, free_in, limit_in, is_finished, new_link, IsNextPart, link_after};
+    ghost use Rattle.std.specs.Prelude.{◌≡◌, ◌≤◌, ◌++◌, ◌↔◌, ⊤, length, IsTrue, IfOk};
+    ghost use Rattle.coap_conn.specs.Prelude.{sem, follows_so, none, next_moment as moment_next, History, new_history, after, LinkShows, IsLink, IsReady, free_in, limit_in, is_finished, new_link, link_after};
     ghost use Rattle.coap_conn.specs.Calls as call;
     ghost use Rattle.coap_conn.specs.contracts.link.Link.{the_row};
 
@@ -85,7 +85,8 @@ impl Link {
         })
     }
 
-    /// All bytes that wait.
+    /// Returns all queued bytes in one slice. They are copied together if they wrap around the end of the queue's ring:
+    /// `parts` costs no copy.
     pub fn front<'a>(&'a mut self) -> &'a [u8]
         ensures* unchanged { sem 𝓛 (follows_so the_row the_row self.entry.ghost_name none (λ _ _. ⊤)
             (λ l. l ≡ self.old)) }
@@ -94,11 +95,11 @@ impl Link {
         self.queue.front()
     }
 
-    /// A front of the bytes that wait, where they lie: none only where nothing waits.
-    pub fn next_part(&self) -> &[u8]
-        ensures { IsNextPart self.now.waiting result.now }
+    /// Returns the queued bytes in the two slices that they occupy: the first ones, and those after them.
+    pub fn parts(&self) -> (&[u8], &[u8])
+        ensures { result.0.now ++ result.1.now ≡ self.now.waiting }
     {
-        self.queue.next_part()
+        self.queue.parts()
     }
 
     /// The first so many bytes were written, and wait no more.

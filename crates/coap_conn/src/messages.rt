@@ -1,12 +1,12 @@
 //! The messages that a connection sends of itself.
 
 ghost use Rattle.std.specs.Prelude.{◌≡◌, ◌≤◌, ◌∷◌, ◌++◌, [], length, option_copied};
-ghost use Rattle.coap_conn.specs.Prelude.{abort_text as text_for, abort_with as abort_message, number_told, told_options, ping_with, pong_with, bare_response, spelling, bytes_of, csm_with as csm_of, own_csm, first_csm_with as first_csm_of, first_csm, release, free_of};
+ghost use Rattle.coap_conn.specs.Prelude.{abort_text as text_for, abort_with as abort_message, number_told, told_options, ping_with, pong_with, bare_response, spelling, encoded_size, bytes_of, csm_with as csm_of, own_csm, first_csm_with as first_csm_of, first_csm, release, free_of};
 
 use crate::csm::{CUSTODY, EXTENDED_TOKEN_LENGTH, MAX_MESSAGE_SIZE};
 use crate::queue::OutQueue;
 use crate::reason::Reason;
-use coap_wire::{Code, MessageBuilder, Token, TokenRef, UintBytes, uint_bytes};
+use coap_wire::{Code, MessageBuilder, ShortBuilder, Token, TokenRef, UintBytes, uint_bytes};
 
 /// Bad-CSM-Option, an option of Abort (RFC 8323 section 5.6).
 const BAD_CSM_OPTION: u16 = 2;
@@ -14,25 +14,22 @@ const BAD_CSM_OPTION: u16 = 2;
 /// The longest token that we take, as the one byte of Extended-Token-Length (RFC 8974 section 2.2.1).
 const OWN_TOKEN_LENGTH: [u8; 1] = [64];
 
-/// Our Capabilities and Settings: Max-Message-Size with these bytes, and nothing else (RFC 8323 section 5.3.1).
-fn csm_with<'a>(size: &'a UintBytes) -> MessageBuilder<'a, 2>
-    ensures { result ≡ csm_of size.now.items }
+/// Returns the CSM with a Max-Message-Size of these bytes, and nothing else (RFC 8323 section 5.3.1).
+fn csm_with(size: &UintBytes) -> ShortBuilder<'static>
+    ensures csm { result ≡ csm_of size.now.items }
+    ensures few { encoded_size result ≤ 13 }
 {
-    let mut csm = MessageBuilder::to(Code::CSM, TokenRef::empty());
-    let Ok(()) = csm.option(MAX_MESSAGE_SIZE, size) else {
-        unreachable!()
-    };
+    let mut csm = ShortBuilder::new(Code::CSM, TokenRef::empty());
+    csm.option(MAX_MESSAGE_SIZE, size);
     csm
 }
 
-/// Our first Capabilities and Settings: these, and the longest token that we take (RFC 8974 section 2.2.1).
-fn first_csm_with<'a>(size: &'a UintBytes) -> MessageBuilder<'a, 2>
+/// Returns the first CSM: with the length of the longest token that is accepted too (RFC 8974 section 2.2.1).
+fn first_csm_with(size: &UintBytes) -> ShortBuilder<'static>
     ensures { result ≡ first_csm_of size.now.items }
 {
     let mut csm = csm_with(size);
-    let Ok(()) = csm.option(EXTENDED_TOKEN_LENGTH, &OWN_TOKEN_LENGTH) else {
-        unreachable!()
-    };
+    csm.option(EXTENDED_TOKEN_LENGTH, &OWN_TOKEN_LENGTH);
     csm
 }
 
@@ -54,7 +51,7 @@ pub(crate) fn announce_first(queue: &mut OutQueue, max_message: usize)
 {
     let size = uint_bytes(max_message as u64);
     let csm = first_csm_with(&size);
-    queue.put(&csm);
+    queue.put_compact(&csm);
 }
 
 /// Queues our Capabilities and Settings with this size alone.
@@ -65,7 +62,7 @@ pub(crate) fn announce(queue: &mut OutQueue, max_message: usize)
 {
     let size = uint_bytes(max_message as u64);
     let csm = csm_with(&size);
-    queue.put(&csm);
+    queue.put_compact(&csm);
 }
 
 /// Queues Release.
@@ -74,19 +71,17 @@ pub(crate) fn queue_release(queue: &mut OutQueue)
     ensures queued { queue.new ≡ record queue.old { waiting = queue.old.waiting ++ bytes_of (release ∷ []) } }
     ensures small { length (bytes_of (release ∷ [])) ≡ 2 }
 {
-    let release: MessageBuilder<0> = MessageBuilder::to(Code::RELEASE, TokenRef::empty());
-    queue.put(&release);
+    let release = ShortBuilder::new(Code::RELEASE, TokenRef::empty());
+    queue.put_compact(&release);
 }
 
-/// A Pong to the Ping with this token, with Custody or not (RFC 8323 section 5.4).
-pub(crate) fn pong_to<'a>(token: &TokenRef<'a>, custody: bool) -> MessageBuilder<'a, 1>
+/// Returns the Pong to the Ping with this token, with Custody or not (RFC 8323 section 5.4).
+pub(crate) fn pong_to<'a>(token: &TokenRef<'a>, custody: bool) -> ShortBuilder<'a>
     ensures { result ≡ pong_with custody token.now }
 {
-    let mut pong = MessageBuilder::to(Code::PONG, token.again());
+    let mut pong = ShortBuilder::new(Code::PONG, token.again());
     if custody {
-        let Ok(()) = pong.option(CUSTODY, &[]) else {
-            unreachable!()
-        };
+        pong.option(CUSTODY, &[]);
     }
     pong
 }
@@ -104,18 +99,18 @@ pub(crate) fn ping_to<'a>(token: &'a Token, custody: bool) -> MessageBuilder<'a,
     ping
 }
 
-/// What is sent in place of a response that is too large: its code and token, where a code other than 2.01, 2.02 and
-/// 2.04 becomes 5.00.
-pub(crate) fn bare_of<'a, const N: usize>(response: &MessageBuilder<'a, N>) -> MessageBuilder<'a, 0>
-    ensures { result ≡ bare_response response.now }
+/// Returns the response that is sent in place of one that is too large, with this code and token: a code other than
+/// 2.01, 2.02 and 2.04 becomes 5.00.
+pub(crate) fn bare_of<'a>(code: Code, token: &TokenRef<'a>) -> ShortBuilder<'a>
+    ensures { result
+        ≡ bare_response (record { code = code; token = token.now; options = []; payload = [] }) }
 {
-    let code = response.code();
     let bare = if code == Code::CREATED || code == Code::DELETED || code == Code::CHANGED {
         code
     } else {
         Code::INTERNAL_SERVER_ERROR
     };
-    MessageBuilder::to(bare, response.token().again())
+    ShortBuilder::new(bare, token.again())
 }
 
 /// The number that Bad-CSM-Option tells.
@@ -149,24 +144,16 @@ pub(crate) fn abort_text(reason: Reason) -> Option<&'static [u8]>
     }
 }
 
-/// An Abort with this text, and with Bad-CSM-Option where there is a number (RFC 8323 section 5.6).
-pub(crate) fn abort_with<'a>(
-    number: Option<u16>,
-    bytes: &'a [u8],
-    text: &'a [u8],
-) -> MessageBuilder<'a, 1>
+/// Returns the Abort with this text, and with Bad-CSM-Option if there is a number (RFC 8323 section 5.6).
+pub(crate) fn abort_with<'a>(number: Option<u16>, bytes: &[u8], text: &'a [u8]) -> ShortBuilder<'a>
     requires short { length bytes.now ≤ 8 }
     requires small { length text.now ≤ 100 }
     ensures { result ≡ abort_message (told_options number bytes.now) text.now }
 {
-    let mut abort = MessageBuilder::to(Code::ABORT, TokenRef::empty());
+    let mut abort = ShortBuilder::new(Code::ABORT, TokenRef::empty());
     if let Some(_) = number {
-        let Ok(()) = abort.option(BAD_CSM_OPTION, bytes) else {
-            unreachable!()
-        };
+        abort.option(BAD_CSM_OPTION, bytes);
     }
-    let Ok(()) = abort.payload(text) else {
-        unreachable!()
-    };
+    abort.payload(text);
     abort
 }

@@ -148,6 +148,12 @@ pub enum SendFault {
     PeerTooSmall = 3,
 }
 
+const _: () = prove!(SendFault::NotOpen as u8 == 1);
+
+const _: () = prove!(SendFault::NoRoom as u8 == 2);
+
+const _: () = prove!(SendFault::PeerTooSmall as u8 == 3);
+
 /// Why a request, a cancellation or a Ping was not sent. The discriminants are the faults' numbers.
 #[derive(Clone, Copy, Debug, PartialEq, Eq, Error)]
 pub enum RequestFault {
@@ -170,3 +176,15 @@ pub enum RequestFault {
     #[error("no such observation")]
     NoSuchToken = 6,
 }
+
+const _: () = prove!(RequestFault::NotOpen as u8 == 1);
+
+const _: () = prove!(RequestFault::TooMany as u8 == 2);
+
+const _: () = prove!(RequestFault::TooBig as u8 == 3);
+
+const _: () = prove!(RequestFault::NoRoom as u8 == 4);
+
+const _: () = prove!(RequestFault::TokensSpent as u8 == 5);
+
+const _: () = prove!(RequestFault::NoSuchToken as u8 == 6);

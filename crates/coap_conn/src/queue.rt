@@ -1,22 +1,27 @@
-//! The bytes that wait to be written.
+//! The output queue: bytes queued for writing.
 
-ghost use Rattle.std.specs.Prelude.{◌≡◌, ◌≤◌, ◌++◌, IfOk, [], ⊤, length, drop};
-ghost use Rattle.coap_conn.specs.Prelude.{sem, follows_so, none, spelling, IsQueue, IsNextPart, free_of};
+ghost use Rattle.std.specs.Prelude.{◌≡◌, ◌≤◌, ◌++◌, IfOk, [], ⊤, length, drop, if◌then◌else◌};
+ghost use Rattle.coap_conn.specs.Prelude.{sem, follows_so, none, spelling, front_spelling, IsQueue, IsNextPart, free_of, fits as message_fits};
 ghost use Rattle.coap_conn.specs.contracts.queue.OutQueue.{the_row};
 
-use coap_wire::{MessageBuilder, Sink};
+use crate::ring::contiguous;
+use arrayvec::ArrayVec;
+use circular_buffer::HeapCircularBuffer;
+use coap_wire::{CompactBuilder, MessageBuilder, SHORT_OPTIONS, Sink};
 use std::alloc::{AllocError, Global};
 use std::marker::Model;
 
-/// A queue of bytes that wait to be written, in room that was reserved once. Contracts see a `QueueValue`: the room of
-/// the whole queue, and the bytes that wait.
+/// The bytes of the array in which a message is encoded up to its payload: 48 of options and at most 73 of all else.
+const FRONT: usize = 128;
+
+/// A queue of bytes to be written, in a ring whose room is reserved once. Contracts see a `QueueValue`: the capacity of
+/// the queue, and the queued bytes.
+///
+/// A message is appended in at most two steps: what comes before its payload, encoded in an array on the stack, and its
+/// payload. A message whose options do not fit that array is appended in more steps.
 #[derive(Drop)]
 pub struct OutQueue {
-    bytes: usize,
-    /// How many bytes at the front of the buffer were written: at most as many as the queue has room for.
-    start: usize,
-    /// Has room for twice the queue, so that behind its end there is room for all that the queue can take.
-    buffer: Vec<u8>,
+    ring: HeapCircularBuffer<u8>,
 }
 
 impl Model for OutQueue {
@@ -32,79 +37,167 @@ impl Model for OutQueue {
 }
 
 impl OutQueue {
-    /// A queue of so many bytes, 1,152 to 4,194,304, with none waiting.
+    /// Creates an empty queue of 1,152 to 4,194,304 bytes.
     ///
     /// # Errors
     ///
-    /// Where the room is refused.
+    /// `AllocError` if allocation fails.
     pub fn new(alloc: Global, bytes: usize) -> Result<OutQueue, AllocError>
         requires low { 1152 ≤ bytes }
         requires high { bytes ≤ 4194304 }
         ensures { IfOk result (λ q. q ≡ record { bytes = bytes; waiting = [] }) }
     {
         Ok(OutQueue {
-            bytes,
-            start: 0,
-            buffer: Vec::with_capacity(alloc, 2 * bytes)?,
+            ring: HeapCircularBuffer::with_capacity(alloc, bytes)?,
         })
     }
 
-    /// How many bytes more it can take.
+    /// Returns the number of bytes that can be queued.
     pub fn free(&self) -> usize
         ensures { result ≡ free_of self.now }
     {
-        self.bytes - self.waiting()
+        self.ring.capacity() - self.ring.len()
     }
 
-    /// How many bytes wait.
+    /// Returns the number of bytes queued.
     pub fn waiting(&self) -> usize
         ensures count { result ≡ length self.now.waiting }
         ensures within { IsQueue self.now }
     {
-        self.buffer.len() - self.start
+        self.ring.len()
     }
 
-    /// All bytes that wait.
+    /// Returns all queued bytes in one slice. If they wrap around the end of the ring, they are moved first: `parts` moves
+    /// none.
     pub fn front<'a>(&'a mut self) -> &'a [u8]
         ensures* unchanged { sem 𝓛 (follows_so the_row the_row self.entry.ghost_name none (λ _ _. ⊤)
             (λ q. q ≡ self.old)) }
         ensures front { result.now ≡ self.old.waiting }
     {
-        &self.buffer[self.start..]
+        contiguous(&mut self.ring)
     }
 
-    /// A front of the bytes that wait, where they lie: none only where nothing waits.
-    pub fn next_part(&self) -> &[u8]
-        ensures { IsNextPart self.now.waiting result.now }
+    /// Returns the queued bytes in the two slices that they occupy: the first ones, and those after them.
+    pub fn parts(&self) -> (&[u8], &[u8])
+        ensures { result.0.now ++ result.1.now ≡ self.now.waiting }
     {
-        &self.buffer[self.start..]
+        self.ring.as_slices()
     }
 
-    /// Queues the spelling of a message, for which there must be room.
+    /// Queues the encoding of a message. There must be room for it.
     pub(crate) fn put<const N: usize>(&mut self, message: &MessageBuilder<N>)
         requires { length (spelling message.now) ≤ free_of self.old }
         ensures { self.new ≡ record self.old { waiting = self.old.waiting ++ spelling message.now } }
     {
-        let _ = &self.bytes;
-        message.write(self);
-        let _ = &self.bytes;
+        let payload = message.payload_bytes();
+        prove!(message.front_size() <= message.size());
+        self.put_front(message);
+        self.extend(payload);
     }
 
-    /// The first so many bytes were written, and wait no more. What still waits is moved to the front of the room only
-    /// where more was written in front of it than can wait: so a move is paid by as many bytes written.
+    /// Queues the encoding of a message up to its payload.
+    fn put_front<const N: usize>(&mut self, message: &MessageBuilder<N>)
+        requires { length (front_spelling message.now) ≤ free_of self.old }
+        ensures { self.new ≡ record self.old { waiting = self.old.waiting ++ front_spelling message.now } }
+    {
+        if message.front_size() > FRONT as u64 {
+            let _ = &self.ring;
+            message.write_front(self);
+            let _ = &self.ring;
+            return;
+        }
+        let mut front: ArrayVec<u8, FRONT> = ArrayVec::new();
+        message.write_front(&mut front);
+        self.extend(&front);
+    }
+
+    /// Queues the encoding of a message with compact options. There must be room for it.
+    pub(crate) fn put_compact<const N: usize>(&mut self, message: &CompactBuilder<N>)
+        requires { length (spelling message.now) ≤ free_of self.old }
+        ensures { self.new ≡ record self.old { waiting = self.old.waiting ++ spelling message.now } }
+    {
+        let _ = &self.ring;
+        message.write(self);
+        let _ = &self.ring;
+    }
+
+    /// Queues the encoding of a message if it has at most `limit` bytes, and returns whether it has. There must be room
+    /// for that many.
+    #[inline]
+    pub(crate) fn offer<const N: usize>(
+        &mut self,
+        message: &CompactBuilder<N>,
+        limit: usize,
+    ) -> bool
+        requires { limit ≤ free_of self.old }
+        ensures fits { result ≡ message_fits limit message.now }
+        ensures queued { self.new ≡ (if message_fits limit message.now
+            then record self.old { waiting = self.old.waiting ++ spelling message.now } else self.old) }
+    {
+        if N > SHORT_OPTIONS {
+            return self.offer_long(message, limit);
+        }
+        prove!(message.front_size() <= FRONT as u64);
+        let payload = message.payload_bytes();
+        let mut front: ArrayVec<u8, FRONT> = ArrayVec::new();
+        message.write_front(&mut front);
+        // The size is known once the message is encoded.
+        if front.len() + payload.len() > limit {
+            return false;
+        }
+        // A short payload goes with it in one append.
+        if payload.len() <= front.remaining_capacity() {
+            front.append(payload);
+            self.extend(&front);
+            return true;
+        }
+        self.extend(&front);
+        self.extend(payload);
+        true
+    }
+
+    /// As `offer`, for a message whose options may not fit the array.
+    fn offer_long<const N: usize>(&mut self, message: &CompactBuilder<N>, limit: usize) -> bool
+        requires { limit ≤ free_of self.old }
+        ensures fits { result ≡ message_fits limit message.now }
+        ensures queued { self.new ≡ (if message_fits limit message.now
+            then record self.old { waiting = self.old.waiting ++ spelling message.now } else self.old) }
+    {
+        if message.size() > limit as u64 {
+            return false;
+        }
+        self.put_compact(message);
+        true
+    }
+
+    /// Appends bytes, for which there must be room.
+    fn extend(&mut self, bytes: &[u8])
+        requires { length bytes.now ≤ free_of self.old }
+        ensures { self.new ≡ record self.old { waiting = self.old.waiting ++ bytes.now } }
+    {
+        // Parts of a message are often empty: these cost no call.
+        if bytes.is_empty() {
+            return;
+        }
+        let _ = self.ring.fill_from_slice(bytes);
+    }
+
+    /// Removes the first `count` bytes, after the caller has written them. No byte is moved.
     pub fn written(&mut self, count: usize)
         requires { count ≤ length self.old.waiting }
         ensures { self.new ≡ record self.old { waiting = drop count self.old.waiting } }
     {
-        self.start += count;
-        if self.start == self.buffer.len() {
-            self.buffer.clear();
-            self.start = 0;
-        } else if self.start > self.bytes {
-            drop(self.buffer.drain(..self.start));
-            self.start = 0;
-        }
+        let left = self.ring.len() - count;
+        self.ring.truncate_front(left);
     }
+}
+
+/// Returns the first of two slices that is not empty: of the `parts` of a queue, the one to be written next.
+pub fn first_part<'a>(parts: (&'a [u8], &'a [u8])) -> &'a [u8]
+    ensures { IsNextPart (parts.entry.0.now ++ parts.entry.1.now) result.now }
+{
+    let (first, second) = parts;
+    if first.is_empty() { second } else { first }
 }
 
 impl Sink for OutQueue {
@@ -117,16 +210,10 @@ impl Sink for OutQueue {
     }
 
     fn push(&mut self, byte: u8) {
-        self.buffer.push_reserved(byte);
+        let _ = self.ring.push_back(byte);
     }
 
-    // Of the parts of a message many are empty: these cost no call.
     fn append(&mut self, bytes: &[u8]) {
-        if bytes.is_empty() {
-            return;
-        }
-        let Ok(()) = self.buffer.extend_from_slice(bytes) else {
-            unreachable!()
-        };
+        self.extend(bytes);
     }
 }

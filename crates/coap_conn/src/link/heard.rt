@@ -13,7 +13,7 @@ use crate::messages::bare_of;
 use crate::pending::Held;
 use crate::phase::{Phase, Reject, Role, Verdict};
 use crate::reason::Reason;
-use coap_wire::{Code, MessageBuilder, MessageRef};
+use coap_wire::{Code, MessageRef, ShortBuilder};
 
 impl Link {
     /// Handles a message (RFC 8323 sections 3.3, 3.4 and 5). There must be room for the greatest message sent, and the
@@ -221,11 +221,8 @@ impl Link {
         ensures after { self.new
             ≡ link_with self.old (request_reaction (standing_in self.old) message.now role.Client).effect }
     {
-        let response: MessageBuilder<0> = MessageBuilder::to(
-            Code::NOT_IMPLEMENTED,
-            message.token().again(),
-        );
-        let bare = bare_of(&response);
+        let response = ShortBuilder::new(Code::NOT_IMPLEMENTED, message.token().again());
+        let bare = bare_of(response.code(), response.token());
         self.answer(&response, &bare)
     }
 }

@@ -1,7 +1,7 @@
 //! What a link sends, as it fits the peer, and how it stops.
 
 ghost use Rattle.std.specs.Prelude.{◌≡◌, ◌++◌, false, true, [], OnOk, OnErr};
-ghost use Rattle.coap_conn.specs.Prelude.{RefusedBy, fit, fits, fitted, bare_response, IsAnswering, stop, abort, send, told_of, pong_with, sends, History, after, LinkShows, bytes_of, own_csm, IsReady, limit_in, standing_in, link_with, link_after, verdict_value, release_refusal};
+ghost use Rattle.coap_conn.specs.Prelude.{Message, RefusedBy, fit, fits, fitted, bare_response, IsAnswering, stop, abort, send, told_of, pong_with, sends, History, after, LinkShows, bytes_of, own_csm, IsReady, limit_in, standing_in, link_with, link_after, verdict_value, release_refusal};
 ghost use Rattle.coap_conn.specs.declared.phase.Phase.TheVariants.{Open};
 ghost use Rattle.coap_conn.specs.Verdicts as verdict;
 ghost use Rattle.coap_conn.specs.Calls as call;
@@ -13,7 +13,7 @@ use crate::messages::{
 };
 use crate::phase::{Phase, Reply, SendFault, Verdict};
 use crate::reason::Reason;
-use coap_wire::{Code, MessageBuilder, TokenRef, uint_bytes};
+use coap_wire::{Code, CompactBuilder, MessageBuilder, ShortBuilder, TokenRef, uint_bytes};
 
 /// The bytes of Release.
 const RELEASE_SIZE: usize = 2;
@@ -33,7 +33,23 @@ impl Link {
             self.queue.put(response);
             return Reply::Whole;
         }
-        self.reply_bare(response)
+        self.reply_bare(response.code(), response.token())
+    }
+
+    /// As `reply`, for a response with compact options.
+    #[inline]
+    pub fn reply_compact<const N: usize>(&mut self, response: &CompactBuilder<N>) -> Reply
+        requires ready { IsReady self.old }
+        requires answering { IsAnswering self.old.phase }
+        ensures reply { result ≡ fit (limit_in self.old) response.now (bare_response response.now) }
+        ensures after { self.new ≡ link_after self.old (call.Reply response.now) }
+        ensures shows { (h : History) → LinkShows self.old h → LinkShows self.new (after h (call.Reply response.now)) }
+    {
+        let limit = self.limit();
+        if self.queue.offer(response, limit) {
+            return Reply::Whole;
+        }
+        self.reply_bare(response.code(), response.token())
     }
 
     /// Whether the peer takes our Capabilities and Settings with this size.
@@ -83,35 +99,25 @@ impl Link {
         Ok(())
     }
 
-    /// Queues a message as it fits the peer, or less in its place, or neither.
-    fn queue_fitted<const N: usize, const M: usize>(
-        &mut self,
-        whole: &MessageBuilder<N>,
-        less: &MessageBuilder<M>,
-    ) -> Reply
+    /// Queues a message if it fits the peer, else `less` if that fits, else neither.
+    fn queue_fitted(&mut self, whole: &ShortBuilder, less: &ShortBuilder) -> Reply
         requires { IsReady self.old }
         ensures reply { result ≡ fit (limit_in self.old) whole.now less.now }
         ensures after { self.new
             ≡ record self.old { waiting = self.old.waiting ++ bytes_of (fitted whole.now less.now result) } }
     {
-        let limit = self.limit() as u64;
-        if whole.size() <= limit {
-            self.queue.put(whole);
+        let limit = self.limit();
+        if self.queue.offer(whole, limit) {
             return Reply::Whole;
         }
-        if less.size() <= limit {
-            self.queue.put(less);
+        if self.queue.offer(less, limit) {
             return Reply::Bare;
         }
         Reply::Stopped
     }
 
-    /// Sends a message as it fits the peer, or less in its place, or stops.
-    fn send<const N: usize, const M: usize>(
-        &mut self,
-        whole: &MessageBuilder<N>,
-        less: &MessageBuilder<M>,
-    ) -> Reply
+    /// Sends a message if it fits the peer, else `less` if that fits, else stops.
+    fn send(&mut self, whole: &ShortBuilder, less: &ShortBuilder) -> Reply
         requires { IsReady self.old }
         ensures reply { result ≡ fit (limit_in self.old) whole.now less.now }
         ensures after { self.new ≡ link_with self.old (send (standing_in self.old) whole.now less.now) }
@@ -127,24 +133,28 @@ impl Link {
         reply
     }
 
-    /// Sends a response as it fits the peer, or a bare one in its place. (Apart from `reply`, since a function clears
-    /// all its locals.)
-    fn reply_bare<const N: usize>(&mut self, response: &MessageBuilder<N>) -> Reply
+    /// Sends the bare response with this code and token in place of one that does not fit the peer, or stops if that
+    /// does not fit either. (Apart from `reply`, since a function clears all its locals.)
+    fn reply_bare(&mut self, code: Code, token: &TokenRef) -> Reply
         requires { IsReady self.old }
-        ensures reply { result ≡ fit (limit_in self.old) response.now (bare_response response.now) }
-        ensures after { self.new
-            ≡ link_with self.old (send (standing_in self.old) response.now (bare_response response.now)) }
+        ensures reply { (response : Message) → response.code ≡ code → response.token ≡ token.now →
+            fits (limit_in self.old) response ≡ false →
+            result ≡ fit (limit_in self.old) response (bare_response response) }
+        ensures after { (response : Message) → response.code ≡ code → response.token ≡ token.now →
+            fits (limit_in self.old) response ≡ false →
+            self.new ≡ link_with self.old (send (standing_in self.old) response (bare_response response)) }
     {
-        let bare = bare_of(response);
-        self.send(response, &bare)
+        let bare = bare_of(code, token);
+        let limit = self.limit();
+        if self.queue.offer(&bare, limit) {
+            return Reply::Bare;
+        }
+        self.stop(Reason::PeerTooSmall);
+        Reply::Stopped
     }
 
     /// Sends the answer to a message.
-    pub(super) fn answer<const N: usize, const M: usize>(
-        &mut self,
-        whole: &MessageBuilder<N>,
-        less: &MessageBuilder<M>,
-    ) -> Verdict<'static>
+    pub(super) fn answer(&mut self, whole: &ShortBuilder, less: &ShortBuilder) -> Verdict<'static>
         requires { IsReady self.old }
         ensures verdict { verdict_value result ≡ told_of (fit (limit_in self.old) whole.now less.now) }
         ensures after { self.new ≡ link_with self.old (send (standing_in self.old) whole.now less.now) }
@@ -168,7 +178,7 @@ impl Link {
             (pong_with false token.now)).effect }
     {
         let pong = pong_to(token, custody);
-        let plain: MessageBuilder<0> = MessageBuilder::to(Code::PONG, token.again());
+        let plain = ShortBuilder::new(Code::PONG, token.again());
         self.answer(&pong, &plain)
     }
 
