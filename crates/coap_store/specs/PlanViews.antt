@@ -23,20 +23,20 @@ change_value (changes.Delete path) = answer.Delete path
 -- what a request changes at its path
 abbrev pub effect_value : Effect → answer.Change
 effect_value effects.Nothing = answer.Nothing
-effect_value (effects.Put request format) = answer.Put (path_of request.now) format request.now.payload
-effect_value (effects.Delete request) = answer.Delete (path_of request.now)
+effect_value (effects.Put request format) = answer.Put (path_of request) format request.payload
+effect_value (effects.Delete request) = answer.Delete (path_of request)
 
 -- that path is one of a resource
 abbrev pub IsAtPath : Effect → Type 0
 IsAtPath effects.Nothing = Unit {0}
-IsAtPath (effects.Put request format) = is_path (path_of request.now) ≡ true
-IsAtPath (effects.Delete request) = is_path (path_of request.now) ≡ true
+IsAtPath (effects.Put request format) = is_path (path_of request) ≡ true
+IsAtPath (effects.Delete request) = is_path (path_of request) ≡ true
 
 -- what is told is no path of the root
 abbrev pub IsToldNamed : Bool → Effect → Type 0
 IsToldNamed false effect = Unit {0}
 IsToldNamed true effects.Nothing = Unit {0}
-IsToldNamed true (effects.Put request format) = path_of request.now ≢ []
+IsToldNamed true (effects.Put request format) = path_of request ≢ []
 IsToldNamed true (effects.Delete request) = Unit {0}
 
 -- no path stands for the root

@@ -10,7 +10,7 @@ use crate::place::Place;
 use crate::plan::{Bytes, Effect, Plan, Watch};
 use crate::request::Asked;
 use crate::store::Store;
-use crate::target::{Found, LINK_FORMAT, TEXT_PLAIN, Target, decimal_digits};
+use crate::target::{Found, LINK_FORMAT, TEXT_PLAIN, Target};
 use arrayvec::ArrayVec;
 use coap_wire::{Code, MessageRef, uint_bytes};
 
@@ -19,7 +19,7 @@ impl Store {
 
     /// The answer to a request at a moment in seconds. It allocates nothing, and changes nothing: `apply` makes the
     /// change. A GET of the resource that answers late is held for as many seconds as it asks: the plan tells how many.
-    pub fn answer<'s, 'r>(&'s self, request: &'r MessageRef<'r>, now: u64) -> Plan<'s, 'r>
+    pub fn answer<'s, 'r>(&'s self, request: &MessageRef<'r>, now: u64) -> Plan<'s, 'r>
         ensures answer { result ≡ answer_of self.now now request.now }
         ensures taken { TakesChange self.now result.change }
         ensures bare { changes result.change ≡ true → result.response.payload ≡ [] }
@@ -38,7 +38,7 @@ impl Store {
 
     /// The answer by the checks of the request alone, and then those of the resource.
     #[tactic(auto, unfolding(crate::specs::Answer::answer_at))]
-    fn checked<'s, 'r>(&'s self, asked: &Asked<'r, 'r>, now: u64) -> Plan<'s, 'r>
+    fn checked<'s, 'r>(&'s self, asked: &Asked<'_, 'r>, now: u64) -> Plan<'s, 'r>
         ensures { result ≡ answer_at self.now (target_of self.now now (path_of asked.now)) asked.now }
     {
         if asked.has_bad_option() {
@@ -103,7 +103,7 @@ impl Store {
     {
         match place {
             Place::Root => Some(Found::built(TEXT_PLAIN, Bytes::Stored(b"coap+tcp"))),
-            Place::Time => Some(Found::built(TEXT_PLAIN, Bytes::Decimal(decimal_digits(now)))),
+            Place::Time => Some(Found::built(TEXT_PLAIN, self.moment_text(now))),
             Place::Async => Some(Found::built(TEXT_PLAIN, Bytes::Stored(b"done"))),
             Place::Listing => Some(Found::built(LINK_FORMAT, Bytes::Stored(self.listing()))),
             Place::Dynamic => self.stored_at(key?),
@@ -124,7 +124,7 @@ impl Store {
 
     /// The answer by the checks of the resource, and then those of the method.
     #[tactic(auto, unfolding(crate::specs::Answer::resource_answer, crate::specs::Answer::method_answer))]
-    fn at_target<'s, 'r>(&'s self, asked: &Asked<'r, 'r>, target: Target<'s>) -> Plan<'s, 'r>
+    fn at_target<'s, 'r>(&'s self, asked: &Asked<'_, 'r>, target: Target<'s>) -> Plan<'s, 'r>
         requires path { target.is_path ≡ is_path (path_of asked.now) }
         requires place { target.place ≡ place_of (path_of asked.now) }
         ensures { result ≡ resource_answer self.now (target_value asked.now target.entry) asked.now }
@@ -157,7 +157,7 @@ impl Store {
 
     /// The answer to PUT and POST (RFC 7252 sections 5.8.2, 5.8.3).
     #[tactic(auto, using(crate::proofs::TargetLemmas::dynamic_is_named), unfolding(crate::specs::Answer::store_answer))]
-    fn put_or_post<'s, 'r>(&'s self, asked: &Asked<'r, 'r>, target: Target<'s>) -> Plan<'s, 'r>
+    fn put_or_post<'s, 'r>(&'s self, asked: &Asked<'_, 'r>, target: Target<'s>) -> Plan<'s, 'r>
         requires path { target.is_path ≡ is_path (path_of asked.now) }
         requires place { place_of (path_of asked.now) ≡ Dynamic }
         ensures { result ≡ store_answer self.now (target_value asked.now target.entry) asked.now }
@@ -295,7 +295,7 @@ pub(crate) fn max_age_of(place: Place) -> Option<u32>
 }
 
 /// The answer to a request that stores its payload at its path.
-fn stored<'s, 'r>(asked: &Asked<'r, 'r>, is_new: bool) -> Plan<'s, 'r>
+fn stored<'s, 'r>(asked: &Asked<'_, 'r>, is_new: bool) -> Plan<'s, 'r>
     requires path { is_path (path_asked asked.now) ≡ true }
     requires named { path_asked asked.now ≢ [] }
     ensures { (state : Option Representation) → is_none state ≡ is_new →
@@ -304,14 +304,14 @@ fn stored<'s, 'r>(asked: &Asked<'r, 'r>, is_new: bool) -> Plan<'s, 'r>
     let tells_location = is_new && asked.code() == Code::POST;
     let code = if is_new { Code::CREATED } else { Code::CHANGED };
     let effect = Effect::Put {
-        request: asked.request(),
+        request: asked.request().again(),
         format: asked.content_format(),
     };
     Plan::changing(code, tells_location, effect)
 }
 
 /// The answer to DELETE (RFC 7252 section 5.8.4).
-fn delete<'s, 'r>(asked: &Asked<'r, 'r>, target: Target) -> Plan<'s, 'r>
+fn delete<'s, 'r>(asked: &Asked<'_, 'r>, target: Target) -> Plan<'s, 'r>
     requires { target.is_path ≡ is_path (path_asked asked.now) }
     ensures { result ≡ delete_answer (target_value asked.now target.entry) }
 {
@@ -319,7 +319,7 @@ fn delete<'s, 'r>(asked: &Asked<'r, 'r>, target: Target) -> Plan<'s, 'r>
         return Plan::only(Code::DELETED);
     }
     let effect = Effect::Delete {
-        request: asked.request(),
+        request: asked.request().again(),
     };
     Plan::changing(Code::DELETED, false, effect)
 }

@@ -3,6 +3,7 @@
 
 mod answer;
 mod catalogue;
+mod decimal;
 mod fault;
 mod late;
 pub mod laws;

@@ -72,22 +72,22 @@ impl<'r> Change<'r> {
     }
 }
 
-/// What a request changes, told by the request.
-#[derive(Clone, Copy)]
+/// The change that a request makes, with the request that names its path.
+#[derive(Drop)]
 pub(crate) enum Effect<'r> {
     /// Nothing.
     Nothing,
     /// The payload is stored at the path.
     Put {
         /// The request.
-        request: &'r MessageRef<'r>,
+        request: MessageRef<'r>,
         /// Its Content-Format, where it has one.
         format: Option<u16>,
     },
     /// The resource at the path goes.
     Delete {
         /// The request.
-        request: &'r MessageRef<'r>,
+        request: MessageRef<'r>,
     },
 }
 
@@ -274,7 +274,7 @@ impl<'s, 'r> Plan<'s, 'r> {
         if !self.tells_location {
             return None;
         }
-        match self.effect {
+        match &self.effect {
             Effect::Put { request, .. } => Some(UriPath::of(request)),
             Effect::Nothing => None,
             Effect::Delete { .. } => None,
@@ -299,11 +299,11 @@ impl<'s, 'r> Plan<'s, 'r> {
     pub fn change(&self) -> Change<'r>
         ensures { change_value result ≡ self.now.change }
     {
-        match self.effect {
+        match &self.effect {
             Effect::Nothing => Change::Nothing,
             Effect::Put { request, format } => Change::Put {
                 path: path_in(request),
-                format,
+                format: *format,
                 bytes: request.payload(),
             },
             Effect::Delete { request } => Change::Delete(path_in(request)),
@@ -314,7 +314,7 @@ impl<'s, 'r> Plan<'s, 'r> {
     pub fn changes(&self) -> bool
         ensures { result ≡ is_change self.now.change }
     {
-        match self.effect {
+        match &self.effect {
             Effect::Nothing => false,
             Effect::Put { .. } => true,
             Effect::Delete { .. } => true,

@@ -1,11 +1,12 @@
 //! The store of a server's resources.
 
-ghost use Rattle.std.specs.Prelude.{◌≡◌, ◌<◌, IfSome, ◌≤◌, [], IfOk, OnOk, OnErr, length, not, nat_le, ◌==◌, option_map};
-ghost use Rattle.coap_store.specs.Prelude.{changed, greatest_version, found_in, put_in, removed_in, listing as listing_of, representation, TakesChange, TakesPut, IsPut, IsStore, change_value};
+ghost use Rattle.std.specs.Prelude.{◌≡◌, ◌<◌, IfSome, ◌≤◌, [], IfOk, OnOk, OnErr, length, not, nat_le, ◌==◌, option_map, decimal};
+ghost use Rattle.coap_store.specs.Prelude.{changed, greatest_version, found_in, put_in, removed_in, listing as listing_of, representation, TakesChange, TakesPut, IsPut, IsStore, change_value, bytes_in};
 
 use crate::catalogue::Catalogue;
+use crate::decimal::{Decimal, decimal_digits};
 use crate::path::PathKey;
-use crate::plan::Change;
+use crate::plan::{Bytes, Change};
 use crate::resource::Resource;
 use std::alloc::{AllocError, Global};
 use std::marker::Model;
@@ -19,6 +20,8 @@ pub struct Store {
     resources: Catalogue,
     /// How many representations were stored so far.
     versions: u64,
+    /// The moment whose text is kept.
+    moment: Decimal,
 }
 
 impl Model for Store {
@@ -61,7 +64,27 @@ impl Store {
             rep_max,
             resources: Catalogue::new(alloc)?,
             versions: versions_from,
+            moment: Decimal::of(0),
         })
+    }
+
+    /// Formats a moment, in seconds, once: a request or a notification of `/time` at this moment then costs no formatting.
+    /// The value of the store stays the same.
+    pub fn keep_moment(&mut self, now: u64)
+        ensures value { self.new ≡ self.old }
+        ensures store { IsStore self.new }
+    {
+        self.moment = Decimal::of(now);
+    }
+
+    /// Returns the text of a moment.
+    pub(crate) fn moment_text(&self, now: u64) -> Bytes<'_>
+        ensures { bytes_in result ≡ decimal now }
+    {
+        match self.moment.text_of(now) {
+            Some(text) => Bytes::Stored(text),
+            None => Bytes::Decimal(decimal_digits(now)),
+        }
     }
 
     /// Makes a change that `answer` gave on this store as it is now.

@@ -1,15 +1,13 @@
 //! What a request is about.
 
-ghost use Rattle.std.specs.Prelude.{◌≡◌, option_map, decimal, Some};
+ghost use Rattle.std.specs.Prelude.{◌≡◌, option_map, Some};
 ghost use Rattle.coap_store.specs.Prelude.{Path, path_of as path_asked, key_for, place_of as place_named, bytes_in, built as built_in, found_value};
 
 use crate::path::PathKey;
 use crate::place::{Place, place_of};
 use crate::plan::Bytes;
 use crate::request::key_of;
-use arrayvec::ArrayVec;
 use coap_wire::MessageRef;
-use itoa::Buffer;
 
 /// The Content-Format text/plain (RFC 7252 section 12.3).
 pub(crate) const TEXT_PLAIN: u16 = 0;
@@ -50,17 +48,6 @@ impl<'s> Found<'s> {
             bytes,
         }
     }
-}
-
-/// A number in decimal.
-pub(crate) fn decimal_digits(number: u64) -> ArrayVec<u8, 20>
-    ensures { result.items ≡ decimal number }
-{
-    let mut buffer = Buffer::new();
-    let Ok(text) = ArrayVec::try_from(buffer.format(number).as_bytes()) else {
-        unreachable!()
-    };
-    text
 }
 
 /// The path that a request asks for, by its Uri-Path options: `None` where it is none of a resource (RFC 7252 section
