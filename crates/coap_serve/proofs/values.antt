@@ -3,6 +3,8 @@ pub mod LinkLemmas
 pub mod ResponseLemmas
 pub mod SettleLemmas
 pub mod EntryLemmas
+pub mod MarkLemmas
+pub mod TagLemmas
 pub mod AnsweringLemmas
 pub mod SessionLemmas
 pub mod ServerLemmas

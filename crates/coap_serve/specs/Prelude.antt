@@ -44,6 +44,7 @@ pub use Rattle.coap_wire.specs.Stream.{StreamFault, Format, OfFrame, Stream, beh
 unfoldable pub use Rattle.coap_wire.specs.Stream.{sized_split, split}
 unfoldable pub use Rattle.coap_wire.specs.Uint.{bytes_of_uint}
 pub use Rattle.coap_wire.specs.Views.{with_option}
+pub use Rattle.coap_wire.specs.CompactViews.{encoded_size}
 pub use Rattle.coap_wire.specs.declared.fault.FormatFault.{FormatFault}
 pub use Rattle.coap_wire.specs.declared.fault.FrameFault.{FrameFault}
 -- ---- coap_frame
@@ -182,7 +183,7 @@ unfoldable pub use Rattle.coap_serve.specs.script.Words.{payload_value, segments
 pub use Rattle.coap_serve.specs.streams.Device.{Told, HasGiven, pieces_read, AddsBytes, is_failed_write, WritesPart}
 pub use Rattle.coap_serve.specs.streams.Device.{EndsAt, FoundEnd}
 pub use Rattle.coap_serve.specs.streams.DoorRun.{IsDoorRun, waited_behind, moved_to, EndsWith, HasTurnedSo, IsCutRun}
-pub use Rattle.coap_serve.specs.streams.DoorRun.{MayWaitAt, NoneYet, OneMore}
+pub use Rattle.coap_serve.specs.streams.DoorRun.{NoneYet, OneMore}
 pub use Rattle.coap_serve.specs.streams.Faults.{is_read_fault, is_write_fault}
 pub use Rattle.coap_serve.specs.streams.Notes.{true_end, AreNoted, IsNoEarlier, KeepsNotes, WhilePassedOver, AtFirst}
 pub use Rattle.coap_serve.specs.streams.Notes.{IsNoted, Served}
@@ -190,25 +191,29 @@ pub use Rattle.coap_serve.specs.streams.Output.{only_id, stream_of, stdio_output
 pub use Rattle.coap_serve.specs.streams.Output.{side_for, steps_for, waiting_of, written_once}
 unfoldable pub use Rattle.coap_serve.specs.streams.Output.{flushed, flushed_after, outcome, world_for, written_times}
 pub use Rattle.coap_serve.specs.streams.Serving.{HasServed, HasTurned, IsAskedOnce, IsTurnOf, HasGoneOn, AreServed}
-pub use Rattle.coap_serve.specs.streams.Serving.{AreOpened, asked_by, is_handed_out, HadItsPart, HasOneMore}
+pub use Rattle.coap_serve.specs.streams.Serving.{AreOpened, asked_by, HadItsPart, HasOneMore, IsOpening, IsRound}
 pub use Rattle.coap_serve.specs.streams.Serving.{IsServing, NoMore, PassedOver, opening}
 pub use Rattle.coap_serve.specs.streams.Standing.{Stands, IsGoing, IsTurn, HasRead, IsCut, IsRefused, IsWhole, Says}
-pub use Rattle.coap_serve.specs.streams.StdioRun.{IsStdioRun, AreNotEmpty, EndsRun, GoesOn, IsLastByte}
+pub use Rattle.coap_serve.specs.streams.StdioRun.{IsStdioRun, AreNotEmpty, EndsRun, GoesOn, IsLastByte, LeavesNothing, LeavesNothingWaiting}
 pub use Rattle.coap_serve.specs.streams.Telling.{TellsMore, DoorCall, Asked, Waited}
 pub use Rattle.coap_serve.specs.streams.Turns.{end_of, agenda_past, IsAtRest, IsInTurn, agenda_with, wait_of}
 pub use Rattle.coap_serve.specs.streams.Turns.{IsServedOnce, IsLaidOut, is_heard, server_heard, server_wrote}
 pub use Rattle.coap_serve.specs.streams.Turns.{waiting_once, rest_left, is_over_in, has_failed, course_of, wants_of}
-pub use Rattle.coap_serve.specs.streams.Turns.{IsAsked, CanGoOn, IsRestAnswer, MayWait, IsServed, IsAgendaOf}
+pub use Rattle.coap_serve.specs.streams.Turns.{IsAsked, CanGoOn, IsRestAnswer, IsServed, IsAgendaOf, IsWaitAfter}
 pub use Rattle.coap_serve.specs.streams.Turns.{wants_in, ComesToNothing, can_go_on, FarEnd, IsCarriedOn}
-pub use Rattle.coap_serve.specs.streams.Turns.{IsTakenAndWritten, least_with, left_behind}
+pub use Rattle.coap_serve.specs.streams.Turns.{IsTakenAndWritten, least_with, left_behind, IsOffered, CanAnyGoOn}
+pub use Rattle.coap_serve.specs.streams.Turns.{concerns_earlier, wait_for}
 pub use Rattle.coap_serve.specs.streams.Wires.{IsMemoryOrTurns, IsWithin, IsMemory, IsOneWrite, bytes_passed}
-pub use Rattle.coap_serve.specs.streams.Wires.{count_passed, IsTold, Answered}
+pub use Rattle.coap_serve.specs.streams.Wires.{count_passed, IsTold, Answered, WireTrace, trace_by, IsReadOnce}
+pub use Rattle.coap_serve.specs.streams.Wires.{IsWrittenOnce, read_room}
 -- ---- coap_serve, values
 pub use Rattle.coap_serve.specs.values.Causes.{change_hash, ObservesNone, hash_behind, path_hash, AreSettledUntouched}
-pub use Rattle.coap_serve.specs.values.Causes.{AreOthersSettled, IsUntouched, segments_hash}
+pub use Rattle.coap_serve.specs.values.Causes.{AreOthersSettled, IsUntouched, segments_hash, is_concerned}
+pub use Rattle.coap_serve.specs.values.Causes.{ConcernsNone, mark_anew, marks_after, IsMarkedBut, AreMarkedBut, AreMarkedAfter}
+unfoldable pub use Rattle.coap_serve.specs.values.Causes.{marks_anew}
 pub use Rattle.coap_serve.specs.values.Dues.{same_stamp, stamp_of, WaitsForWhatIsDue, outlook_of, tells_time, sooner}
 pub use Rattle.coap_serve.specs.values.Dues.{due_on, IsBefore, next_told, session_outlook}
-pub use Rattle.coap_serve.specs.values.Entries.{IsFirstStale, link_replied, entries_replied, entries_notified}
+pub use Rattle.coap_serve.specs.values.Entries.{IsFirstStale, IsFirstMarked, link_replied, entries_replied, entries_notified}
 pub use Rattle.coap_serve.specs.values.Entries.{settled_held, framer_on, is_observed, is_sent, response_on}
 unfoldable pub use Rattle.coap_serve.specs.values.Entries.{first_index}
 pub use Rattle.coap_serve.specs.values.Flushes.{IsFlushed, IsPartFlushed, waiting_at, more_at, IsFlushedOnce}
@@ -219,33 +224,38 @@ pub use Rattle.coap_serve.specs.values.ServerAnswers.{release_fault, can_take_on
 pub use Rattle.coap_serve.specs.values.ServerAnswers.{OpenedOrMemory, released_refusal, IsAnnounced, status_of}
 pub use Rattle.coap_serve.specs.values.ServerAnswers.{released_refusal_on, handled_so, RefusesPieceOn}
 pub use Rattle.coap_serve.specs.values.ServerAnswers.{announced_refusal_on, handled_on, session_refusal}
-pub use Rattle.coap_serve.specs.values.ServerAnswers.{session_status, written_refusal_on}
+pub use Rattle.coap_serve.specs.values.ServerAnswers.{session_status, take_number, written_refusal_on}
 unfoldable pub use Rattle.coap_serve.specs.values.ServerAnswers.{handled_by}
 pub use Rattle.coap_serve.specs.values.Servers.{new_server, server_put, server_removed, server_ticked, AreSettled}
 pub use Rattle.coap_serve.specs.values.Servers.{server_dropped, new_host, ServerValue, LiesAt, server_opened}
 pub use Rattle.coap_serve.specs.values.Servers.{is_there, server_written, server_ended, server_released}
 pub use Rattle.coap_serve.specs.values.Servers.{server_announced, settled_entry, count_on, on_session, server_settled}
 pub use Rattle.coap_serve.specs.values.Servers.{server_taken_on, server_taken_so, session_becomes}
+pub use Rattle.coap_serve.specs.values.Servers.{unmarked_entry, unmarked, AreAllMarked}
 unfoldable pub use Rattle.coap_serve.specs.values.Servers.{session_of, count_taken, server_taken, changed_at}
+pub use Rattle.coap_serve.specs.values.Responses.{path_size}
 pub use Rattle.coap_serve.specs.values.Sessions.{ObserverValue, answer_on, hold_on, held_in, host_changed, link_sent}
-pub use Rattle.coap_serve.specs.values.Sessions.{new_entry, notification_on, mark_at, untold_mark, SessionValue}
+pub use Rattle.coap_serve.specs.values.Sessions.{new_entry, notification_on, mark_at, present_mark, untold_by, SessionValue}
 pub use Rattle.coap_serve.specs.values.Sessions.{session_written, session_ended, session_released, session_announced}
 pub use Rattle.coap_serve.specs.values.Sessions.{change_by, observers_on, session_with, sizes_of, new_session}
 pub use Rattle.coap_serve.specs.values.Sessions.{session_takes, session_notified, IsSettled, RefusesPiece}
 pub use Rattle.coap_serve.specs.values.Sessions.{ObserversValue, Taking, asks_this, entry_left, frame_on, is_marked}
 pub use Rattle.coap_serve.specs.values.Sessions.{mark_of, session_max, session_raises, session_ready}
 pub use Rattle.coap_serve.specs.values.Sessions.{session_rejected, session_replied, session_settled_so, state_on}
-pub use Rattle.coap_serve.specs.values.Sessions.{taking_found, taking_read}
+pub use Rattle.coap_serve.specs.values.Sessions.{taking_found, taking_read, MarkedSession, AreMarked, IsMarked}
+pub use Rattle.coap_serve.specs.values.Sessions.{marks_on, observers_left}
+unfoldable pub use Rattle.coap_serve.specs.values.Sessions.{changed_mark}
 unfoldable pub use Rattle.coap_serve.specs.values.Sessions.{without_entry, is_stale, session_settled, session_handled}
 unfoldable pub use Rattle.coap_serve.specs.values.Sessions.{next_held_in, next_stale, session_settled_once, taking}
 unfoldable pub use Rattle.coap_serve.specs.values.Sessions.{session_settled_within}
 -- ---- coap_serve, views
 pub use Rattle.coap_serve.specs.views.ConfigViews.{start_values}
 pub use Rattle.coap_serve.specs.views.LineViews.{line_bytes, IsRun, IsDrainable}
-pub use Rattle.coap_serve.specs.views.ObserverViews.{observer_value, AreCovered}
+pub use Rattle.coap_serve.specs.views.ObserverViews.{observer_value, AreCovered, mark_in, IsTagged}
+pub use Rattle.coap_serve.specs.views.ObserverViews.{NoneMarkedBefore}
 pub use Rattle.coap_serve.specs.views.PathSetViews.{Covers}
-pub use Rattle.coap_serve.specs.views.ServerViews.{IsServer}
-pub use Rattle.coap_serve.specs.views.SessionViews.{IsSession, session_value}
+pub use Rattle.coap_serve.specs.views.ServerViews.{IsServer, IsMarkedServer, server_value}
+pub use Rattle.coap_serve.specs.views.SessionViews.{IsSession, session_value, marked_session}
 -- ---- coap_serve, world
 pub use Rattle.coap_serve.specs.world.Answered.{FollowsAnswers, HasResponse, is_asking}
 unfoldable pub use Rattle.coap_serve.specs.world.Answered.{HaveOwnAnswers}

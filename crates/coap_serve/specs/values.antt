@@ -5,3 +5,4 @@ pub mod ServerAnswers
 pub mod Flushes
 pub mod Dues
 pub mod Causes
+pub mod Responses

@@ -1,9 +1,10 @@
 //! Answers requests and notifies observers.
 
-ghost use Rattle.std.specs.Prelude.{◌≡◌, ◌<◌, ◌≤◌, ◌++◌, ◌∷◌, [], true, Some, None, is_some, length, slice_get, if◌then◌else◌, IfOk, OnOk, OnErr};
-ghost use Rattle.coap_serve.specs.Prelude.{IsAnswering, is_open, HeldValue, first_due, IsReady, can_hold, link_after, changed, unheld, response_message, change_value, path_of, IsPut, TakesChange, change_hash, MayWatch, asks_entry as asks, is_whole as is_sent_whole, ObserverValue, answer_on, hold_on, held_in, host_changed, link_sent, new_entry, notification_on, without_entry, IsFirstStale, link_replied, entries_replied, entries_notified, observer_value};
+ghost use Rattle.std.specs.Prelude.{◌≡◌, ◌<◌, ◌≤◌, ◌++◌, ◌∷◌, [], ℕ, Option, map, true, Some, None, is_some, length, slice_get, if◌then◌else◌, IfOk, OnOk, OnErr};
+ghost use Rattle.coap_serve.specs.Prelude.{IsAnswering, AreMarked, IsTagged, marks_after, is_open, HeldValue, first_due, IsReady, can_hold, link_after, changed, unheld, response_message, change_value, path_of, IsPut, TakesChange, change_hash, MayWatch, asks_entry as asks, is_whole as is_sent_whole, ObserverValue, answer_on, hold_on, held_in, host_changed, link_sent, new_entry, notification_on, without_entry, IsFirstStale, link_replied, entries_replied, entries_notified, observer_value};
 ghost use Rattle.coap_conn.specs.Calls as call;
 
+use crate::cause::Cause;
 use crate::host::{Host, mark_at};
 use crate::observers::{Observer, Observers, Stale};
 use crate::path_set::hash_of;
@@ -28,15 +29,16 @@ pub(crate) fn answer(
 ) -> Result<Option<u8>, AllocError>
     requires ready { IsReady link.old }
     requires open { is_open link.old.phase ≡ true }
+    requires marked { AreMarked host.old observers.old.entries observers.old.marks }
     ensures changed { IfOk result (λ changed. changed ≡ change_hash (answer_on host.old request.now).change) }
     ensures link { OnOk result (link.new ≡ link_replied host.old link.old observers.old.room
         (without_entry request.now.token observers.old.entries) request.now
         (held_in link.old (hold_on host.old request.now))) }
-    ensures entries { OnOk result (observers.new ≡ record observers.old {
-      entries = entries_replied host.old link.old observers.old.room
-          (without_entry request.now.token observers.old.entries) request.now
-          (held_in link.old (hold_on host.old request.now));
-    }) }
+    ensures entries { OnOk result (observers.new.entries ≡ entries_replied host.old link.old observers.old.room
+        (without_entry request.now.token observers.old.entries) request.now
+        (held_in link.old (hold_on host.old request.now))) }
+    ensures room { OnOk result (observers.new.room ≡ observers.old.room) }
+    ensures marked { OnOk result (AreMarked host.new observers.new.entries observers.new.marks) }
     ensures host { OnOk result (host.new ≡ host_changed host.old (answer_on host.old request.now).change) }
     ensures put { OnErr result (IsPut (answer_on host.old request.now).change) }
     ensures unchanged { OnErr result (host.new ≡ host.old) }
@@ -53,6 +55,7 @@ pub(crate) fn answer(
         let plan = plan.without_payload();
         let changed = change(&mut host.store, &plan)?;
         observers.forget(request.token());
+        mark_changed(observers, changed, host);
         respond(link, request.token(), &plan, false);
         return Ok(changed);
     }
@@ -85,6 +88,19 @@ fn change(store: &mut Store, plan: &Plan) -> Result<Option<u8>, AllocError>
     Ok(hash)
 }
 
+/// Marks the observers of the path with this hash where something was put or deleted, if it was, as changed.
+fn mark_changed(observers: &mut Observers, changed: Option<u8>, host: &Host)
+    ensures { observers.new ≡ record observers.old {
+      marks = marks_after changed host.entry.now observers.old.entries observers.old.marks;
+    } }
+{
+    if let Some(hash) = changed {
+        if observers.may_observe(hash) {
+            observers.mark(Cause::Path(hash), host);
+        }
+    }
+}
+
 /// The hash of the path where a change is, if it is one.
 fn hash_of_change(change: &Change) -> Option<u8>
     ensures { result ≡ change_hash (change_value change.now) }
@@ -111,8 +127,10 @@ fn answer_late(
     ensures link { link.new
         ≡ (if can_hold link.old then link_after link.old (call.Hold request.now.token moment) else link_after link.old
         (call.Reply (response_message request.now.token (unheld plan.entry).response))) }
-    ensures entries { observers.new
-        ≡ record observers.old { entries = without_entry request.now.token observers.old.entries } }
+    ensures entries { observers.new.entries ≡ without_entry request.now.token observers.old.entries }
+    ensures marks { (mark : ObserverValue → Option ℕ) → observers.old.marks ≡ map mark observers.old.entries →
+        observers.new.marks ≡ map mark observers.new.entries }
+    ensures room { observers.new.room ≡ observers.old.room }
 {
     observers.forget(request.token());
     if link.hold(request.token().to_token(), moment).is_err() {
@@ -164,8 +182,12 @@ fn is_whole(reply: Reply) -> bool
 fn enter(observers: &mut Observers, host: &Host, request: &MessageRef)
     requires room { length observers.old.entries < observers.old.room }
     requires watched { MayWatch host.now.store host.now.now (path_of request.now) (answer_on host.now request.now) }
-    ensures { observers.new
-        ≡ record observers.old { entries = observers.old.entries ++ new_entry host.entry.now request.now ∷ [] } }
+    ensures value { observers.new ≡ record observers.old {
+      entries = observers.old.entries ++ new_entry host.entry.now request.now ∷ [];
+      marks = observers.old.marks ++ None ∷ [];
+    } }
+    ensures marked { AreMarked host.entry.now observers.old.entries observers.old.marks →
+        AreMarked host.entry.now observers.new.entries observers.new.marks }
 {
     observers.enter(entry_for(host, request));
 }
@@ -173,7 +195,9 @@ fn enter(observers: &mut Observers, host: &Host, request: &MessageRef)
 /// The entry of a request whose path is there: it is told the state of the path.
 fn entry_for(host: &Host, request: &MessageRef) -> Observer
     requires { MayWatch host.now.store host.now.now (path_of request.now) (answer_on host.now request.now) }
-    ensures { observer_value result ≡ new_entry host.entry.now request.now }
+    ensures entry { observer_value result ≡ new_entry host.entry.now request.now }
+    ensures tagged { IsTagged result }
+    ensures unmarked { result.changed ≡ None }
 {
     let Some(path) = request_path(request) else {
         unreachable!()
@@ -185,6 +209,9 @@ fn entry_for(host: &Host, request: &MessageRef) -> Observer
         token: request.token().to_token(),
         format: there.format(),
         mark: mark_at(host.now, &there),
+        hash: hash_of(&path),
+        built_in: !path.place().is_dynamic(),
+        changed: None,
         path,
     }
 }
@@ -195,11 +222,13 @@ pub(crate) fn notify(link: &mut Link, observers: &mut Observers, host: &Host, st
     requires ready { IsReady link.old }
     requires answering { IsAnswering link.old.phase }
     requires first { IsFirstStale host.now observers.old.entries stale }
+    requires marked { AreMarked host.now observers.old.entries observers.old.marks }
     ensures link { (o : ObserverValue) → slice_get observers.old.entries stale.index ≡ Some o →
         link.new ≡ link_after link.old (call.Reply (notification_on host.entry.now o)) }
     ensures entries { (o : ObserverValue) → slice_get observers.old.entries stale.index ≡ Some o →
-        observers.new
-        ≡ record observers.old { entries = entries_notified host.entry.now link.old observers.old.entries o } }
+        observers.new.entries ≡ entries_notified host.entry.now link.old observers.old.entries o }
+    ensures room { observers.new.room ≡ observers.old.room }
+    ensures marked { AreMarked host.entry.now observers.new.entries observers.new.marks }
 {
     let observer = observers.get(stale.index);
     let plan = host

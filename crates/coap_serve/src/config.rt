@@ -24,6 +24,14 @@ pub enum ConfigFault {
     Turns = 4,
 }
 
+const _: () = prove!(ConfigFault::Connections as u8 == 1);
+
+const _: () = prove!(ConfigFault::Dynamic as u8 == 2);
+
+const _: () = prove!(ConfigFault::Representation as u8 == 3);
+
+const _: () = prove!(ConfigFault::Turns as u8 == 4);
+
 /// Where a server's counts begin.
 #[derive(Clone, Copy, Default, PartialEq, Eq)]
 pub struct Starts {

@@ -1,6 +1,6 @@
 //! Serves connections over the wires that a door hands out.
 
-ghost use Rattle.coap_serve.specs.Prelude.{IsDoorRun, waited_behind, TellsMore, IsMemoryOrTurns};
+ghost use Rattle.coap_serve.specs.Prelude.{IsDoorRun, waited_behind, TellsMore, trace_by, IsMemoryOrTurns};
 
 mod agenda;
 mod peer;
@@ -24,9 +24,11 @@ use std::alloc::Global;
 /// room for the greatest message sent. No wire is read or written that may not be. A connection is dropped, it alone,
 /// where its wire has failed or where nothing more is to be written on it.
 ///
-/// Between turns the door may wait: not at all where anything can be done at once; else until the next moment at which
-/// an answer is to be sent that is held, or an observer is to be told the moment; else for as long as no wire is ready.
-/// A connection on which nothing can be done is passed over as long as neither the moment nor what is stored changes.
+/// Between turns the door waits, and the clock is read after that. The wait is none if a connection was opened in the
+/// turn, if a change of what is stored concerns a connection that had had its part of it, or if something can be done
+/// at once on a connection. Otherwise it ends at the next moment at which a held answer is to be sent or an observer is
+/// to be told the moment, or as soon as a wire is ready. A connection on which nothing can be done is passed over as
+/// long as neither the moment nor what is stored changes.
 ///
 /// # Errors
 ///
@@ -42,7 +44,8 @@ pub fn serve_door<D: Door, C: Clock>(
     // It made whole turns, one behind the other, as its clock and its door tell them: all that may be, or as many as
     // memory was had for.
     ensures run { let tells = TellsMore (C.moments clock.old) (C.moments clock.new) in
-        IsDoorRun D.Wire.readable D.Wire.writable config tells
+        IsDoorRun D.Wire.readable D.Wire.writable
+        (trace_by D.Wire.given D.Wire.written D.Wire.answers D.Wire.rooms) config tells
         (TellsMore (D.calls door.old) (D.calls door.new)) result }
 {
     let Ok(mut service) = Service::new(alloc, config) else {

@@ -1,7 +1,7 @@
 //! What requests are answered from.
 
 ghost use Rattle.std.specs.Prelude.{◌≡◌, ◌<◌, ◌^◌, IfOk};
-ghost use Rattle.coap_serve.specs.Prelude.{mark_at as mark_in, new_host, untold_mark};
+ghost use Rattle.coap_serve.specs.Prelude.{mark_at as mark_in, new_host, present_mark};
 
 use crate::config::Config;
 use coap_store::{PathKey, Present, State, Store};
@@ -28,28 +28,33 @@ impl Host {
     {
         let moment = config.moment();
         let starts = config.starts();
-        let store = Store::new(
+        let mut store = Store::new(
             alloc,
             config.dynamic_max(),
             config.rep_max(),
             starts.versions,
         )?;
+        store.keep_moment(moment);
         Ok(Host { store, now: moment })
     }
 
-    /// The mark of the state of a path, where it is not the one with this mark: what tells it from the others that the
-    /// path has in time. Where the path is absent no mark is its state's, and 0 is answered.
-    pub(crate) fn other_mark(&self, path: &PathKey, mark: u64) -> Option<u64>
-        ensures { result ≡ untold_mark self.entry.now path.now mark }
+    /// Moves to a moment, in seconds. Its text is formatted here, once for all observers.
+    pub(crate) fn move_to(&mut self, now: u64)
+        ensures { self.new ≡ record self.old { now = now } }
+    {
+        self.store.keep_moment(now);
+        self.now = now;
+    }
+
+    /// Returns the mark of the state of a path, which tells it from the others that the path has in time, or `None` if
+    /// the path is absent.
+    pub(crate) fn mark(&self, path: &PathKey) -> Option<u64>
+        ensures { result ≡ present_mark self.entry.now path.now }
     {
         let State::Present(there) = self.store.state(path, self.now) else {
-            return Some(0);
-        };
-        let present = mark_at(self.now, &there);
-        if present == mark {
             return None;
-        }
-        Some(present)
+        };
+        Some(mark_at(self.now, &there))
     }
 }
 

@@ -1,7 +1,7 @@
 //! What holds of every server, each as the contract of a function that does nothing.
 
-ghost use Rattle.std.specs.Prelude.{◌≡◌, ◌⊎◌, ℕ, Bool, ◌+◌, ◌<◌, ◌^◌, ◌≤◌, List, [], ◌∷◌, ◌++◌, length, map, true, false, Some, None};
-ghost use Rattle.coap_serve.specs.Prelude.{AllByRecursion, concat, Message, StreamFault, LimitValues, AreInRange, AllFit, bare_response, reject_of, reject_reason, HeldValue, Answer, Pong, without_due, answers, takes_messages, send, pong_with, is_custody_pong, limit_now, standing_now, after, standing_due, StoreValue, answer_of, IsStore, ConfigValues, IsNotTaken, ServerValue, AreSettled, LiesAt, server_opened, server_ticked, server_dropped, ComesToNothing, IsServedOnce, can_go_on, is_over_in, wants_of, IsNoEarlier, KeepsNotes, WhilePassedOver, Course, Stamp, WrittenFault, ReleaseFault, WaitsForWhatIsDue, outlook_of, stamp_of, Side, waiting_on, HearsAll, handles, asks_answer, held_for, moment_after, held_message, next_held, side_after, side_faulted, side_written, side_ended, side_released, side_announced, settled_once, StandFor, QueuesCustody, IsFirstHeld, KeepsHeld, KeepsHeldOver, World, Step, new_world, side_of, step, after_steps, Event, Took, size_on, stream_on, steps_of, world_after, AreAccepted, Shows, kept_on, server_of, heard_step, steps_heard, kept_at, FollowsAnswers, IsRefusedStored, StoresNothing, view_of, after_view, AreSeen, first_number, view_events, EventValue, fed, replayed, DifferInCuts, AreInTime, lines_of, other_lines, WasToldLast, HaveOwnTokens, asked_late};
+ghost use Rattle.std.specs.Prelude.{◌≡◌, ◌⊎◌, ℕ, Bool, Option, Result, ◌+◌, ◌<◌, ◌^◌, ◌≤◌, List, [], ◌∷◌, ◌++◌, length, map, true, false, Some, None};
+ghost use Rattle.coap_serve.specs.Prelude.{AllByRecursion, concat, Message, StreamFault, LimitValues, AreInRange, AllFit, bare_response, reject_of, reject_reason, HeldValue, Answer, Pong, without_due, answers, takes_messages, send, pong_with, is_custody_pong, limit_now, standing_now, after, standing_due, StoreValue, answer_of, IsStore, ConfigValues, IsNotTaken, ServerValue, AreSettled, LiesAt, server_opened, server_ticked, server_dropped, ComesToNothing, IsServedOnce, can_go_on, is_over_in, wants_of, IsNoEarlier, KeepsNotes, WhilePassedOver, WireTrace, Course, Stamp, WrittenFault, ReleaseFault, WaitsForWhatIsDue, outlook_of, stamp_of, Side, waiting_on, HearsAll, handles, asks_answer, held_for, moment_after, held_message, next_held, side_after, side_faulted, side_written, side_ended, side_released, side_announced, settled_once, StandFor, QueuesCustody, IsFirstHeld, KeepsHeld, KeepsHeldOver, World, Step, new_world, side_of, step, after_steps, Event, Took, size_on, stream_on, steps_of, world_after, AreAccepted, Shows, kept_on, server_of, heard_step, steps_heard, kept_at, FollowsAnswers, IsRefusedStored, StoresNothing, view_of, after_view, AreSeen, first_number, view_events, EventValue, fed, replayed, DifferInCuts, AreInTime, lines_of, other_lines, WasToldLast, HaveOwnTokens, asked_late, IsFlushed, AddsBytes, waiting_at, Report, IoFault, IsStdioRun, LeavesNothingWaiting};
 ghost use Rattle.coap_conn.specs.declared.phase.Phase.TheVariants.{Stopped};
 ghost use Rattle.coap_conn.specs.Calls as call;
 ghost use Rattle.coap_serve.specs.declared.server.TakeFault.TheVariants.{Memory};
@@ -161,8 +161,8 @@ pub fn what_is_not_due_stays()
 
 /// What has nothing to do may be passed over: where a connection is not over, and nothing can be done of what it is to
 /// be served for, its part of a turn comes to nothing, whatever its wire does. The wire is neither read nor written;
-/// there is an outcome; and each leaves the server and what is left of its reads as they were, and the connection going
-/// on.
+/// there is an outcome; and each leaves the server, what is left of its reads and what its wire tells as they were, and
+/// the connection going on.
 pub fn what_has_nothing_to_do_is_passed_over()
     ensures { (v : ServerValue) (id i : ℕ) (rest : List ℕ) (may_read may_write : Bool) → LiesAt id i v.sessions →
         AreSettled v.host v.sessions → can_go_on (wants_of v id rest) may_read may_write ≡ false →
@@ -179,9 +179,9 @@ pub fn stamps_never_come_back()
     ensures same { (one other : Stamp) → IsNoEarlier one other → IsNoEarlier other one → one ≡ other }
     ensures back { (one other third : Stamp) → IsNoEarlier one other → IsNoEarlier other third → third ≡ one →
         other ≡ one }
-    ensures served { (v after : ServerValue) (id : ℕ) (rest left : List ℕ) (may_read may_write : Bool) (course : Course)
-        →
-        IsServedOnce may_read may_write v id rest after left course →
+    ensures served { (v after : ServerValue) (id : ℕ) (rest left : List ℕ) (wire told : WireTrace)
+        (may_read may_write : Bool) (course : Course) →
+        IsServedOnce may_read may_write v id rest wire after left told course →
         IsNoEarlier (stamp_of v.host) (stamp_of after.host) }
     ensures dropped { (v : ServerValue) (id : ℕ) → stamp_of (server_dropped v id).host ≡ stamp_of v.host }
     ensures opened { (v : ServerValue) → stamp_of (server_opened v).host ≡ stamp_of v.host }
@@ -195,9 +195,9 @@ pub fn stamps_never_come_back()
 /// together, one after the other. So a connection on which nothing could be done may be passed over without a look at
 /// the server: its part of a turn comes to nothing.
 pub fn what_was_noted_holds()
-    ensures served { (v after : ServerValue) (id : ℕ) (rest left : List ℕ) (may_read may_write : Bool) (course : Course)
-        →
-        AreSettled v.host v.sessions → IsServedOnce may_read may_write v id rest after left course →
+    ensures served { (v after : ServerValue) (id : ℕ) (rest left : List ℕ) (wire told : WireTrace)
+        (may_read may_write : Bool) (course : Course) →
+        AreSettled v.host v.sessions → IsServedOnce may_read may_write v id rest wire after left told course →
         KeepsNotes id v after }
     ensures dropped { (v : ServerValue) (id : ℕ) → AreSettled v.host v.sessions →
         KeepsNotes id v (server_dropped v id) }
@@ -211,6 +211,18 @@ pub fn what_was_noted_holds()
         AreSettled v.host v.sessions → WhilePassedOver id v after → stamp_of after.host ≡ stamp_of v.host →
         LiesAt id i after.sessions → can_go_on (wants_of v id rest) may_read may_write ≡ false →
         is_over_in (outlook_of v id) ≡ false → ComesToNothing may_read may_write after id rest }
+{}
+
+/// A flush leaves nothing that waits. After each flush that did not fail, no byte waits on the connection, whatever is
+/// pending and observed there: the number of writes to which a flush is limited is enough. So a run of `serve_one` that
+/// ends leaves no byte that waits, unless a write failed: everything that its connection queued for the bytes taken is
+/// in the output. A run that ends at its limit of turns, or because a read failed, is no exception. A run that ends for
+/// want of memory has taken the bytes before the last one of the request, or none.
+pub fn a_flush_leaves_nothing_waiting()
+    ensures flush { (v after : ServerValue) (events : List Event) (id : ℕ) (before now : Option (List ℕ)) →
+        Shows v events → IsFlushed id v after (AddsBytes before now) → waiting_at id after ≡ [] }
+    ensures run { (c : ConfigValues) (pieces : List (List ℕ)) (output : List ℕ) (result : Result Report IoFault) →
+        IsStdioRun c pieces output result → LeavesNothingWaiting c pieces output result }
 {}
 
 /// The limits are kept, after any events: on each connection no more bytes wait than the queue holds, and no more

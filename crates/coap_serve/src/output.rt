@@ -1,6 +1,6 @@
 //! Writes what waits to an outlet.
 
-ghost use Rattle.std.specs.Prelude.{◌≡◌, false, IfOk, OnOk, OnErr, is_err};
+ghost use Rattle.std.specs.Prelude.{◌≡◌, ◌++◌, false, IfOk, OnOk, OnErr, is_err};
 ghost use Rattle.coap_serve.specs.Prelude.{AddsBytes, WritesPart, IsFlushed, IsPartFlushed, session_of, stop_on};
 
 use crate::device::Outlet;
@@ -37,6 +37,23 @@ pub(crate) fn flush<W: Outlet>(
         last = server.flush_once(id, writer)?;
     }
     Ok(last.stop)
+}
+
+/// Writes the bytes of two slices, one after the other.
+pub(crate) fn write_parts<W: Outlet>(
+    writer: &mut W,
+    first: &[u8],
+    second: &[u8],
+) -> Result<(), WriteFailed>
+    requires { W.is_failed writer.old ≡ false }
+    ensures ok { OnOk result (AddsBytes (W.written writer.old) (W.written writer.new) (first.now ++ second.now)) }
+    ensures part { OnErr result (WritesPart (W.written writer.old) (W.written writer.new)
+        (first.now ++ second.now)) }
+    ensures failure { W.is_failed writer.new ≡ is_err result }
+{
+    write_all(writer, first)?;
+    write_all(writer, second)?;
+    Ok(())
 }
 
 /// Writes these bytes, until none is left.

@@ -1,7 +1,7 @@
 //! Bytes read from a wire that no connection has taken yet.
 
 ghost use Rattle.std.specs.Prelude.{◌≡◌, ◌≤◌, length, ◌==◌, ◌-◌, [], ◌∷◌, drop, IfOk};
-ghost use Rattle.coap_serve.specs.Prelude.{AddsBytes, TellsMore, count_passed};
+ghost use Rattle.coap_serve.specs.Prelude.{AddsBytes, TellsMore, count_passed, read_room};
 
 use crate::wire::{Got, Wire};
 use std::alloc::{AllocError, Global};
@@ -76,12 +76,13 @@ impl Rest {
         self.to = 0;
     }
 
-    /// Reads once, in place of the bytes that were there.
+    /// Reads once, into a buffer of 16,384 bytes, in place of the bytes that were there.
     pub fn read<W: Wire>(&mut self, wire: &mut W) -> Got
         ensures count { length self.new ≡ count_passed result }
         ensures gave { AddsBytes (W.given wire.old) (W.given wire.new) self.new }
         ensures wrote { AddsBytes (W.written wire.old) (W.written wire.new) [] }
         ensures answered { TellsMore (W.answers wire.old) (W.answers wire.new) (result ∷ []) }
+        ensures had_room { TellsMore (W.rooms wire.old) (W.rooms wire.new) (read_room ∷ []) }
     {
         self.from = 0;
         self.to = 0;

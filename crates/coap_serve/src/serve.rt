@@ -39,6 +39,14 @@ pub enum IoFault {
     Turns = 4,
 }
 
+const _: () = prove!(IoFault::Read as u8 == 1);
+
+const _: () = prove!(IoFault::Write as u8 == 2);
+
+const _: () = prove!(IoFault::Memory as u8 == 3);
+
+const _: () = prove!(IoFault::Turns as u8 == 4);
+
 /// How many bytes are read at once, at most.
 const PIECE: usize = 4_096;
 

@@ -1,7 +1,7 @@
 //! A server over several connections.
 
 ghost use Rattle.std.specs.Prelude.{◌≡◌, [], IfOk};
-ghost use Rattle.coap_serve.specs.Prelude.{release_fault, new_server, Shows};
+ghost use Rattle.coap_serve.specs.Prelude.{release_fault, new_server, take_number, Shows};
 
 mod bytes;
 mod changes;
@@ -33,6 +33,12 @@ pub enum OpenFault {
     #[error("memory was refused")]
     Memory = 3,
 }
+
+const _: () = prove!(OpenFault::Full as u8 == 1);
+
+const _: () = prove!(OpenFault::IdsSpent as u8 == 2);
+
+const _: () = prove!(OpenFault::Memory as u8 == 3);
 
 /// No connection has this number.
 #[derive(Clone, Copy, Debug, PartialEq, Eq, Error)]
@@ -74,6 +80,18 @@ pub enum TakeFault {
     },
 }
 
+impl TakeFault {
+    /// Returns the fault's number, 1 or 2.
+    pub const fn number(self) -> u8
+        ensures { result ≡ take_number self }
+    {
+        match self {
+            TakeFault::NoSuch => 1,
+            TakeFault::Memory { bytes: _ } => 2,
+        }
+    }
+}
+
 /// Why written bytes are not accepted. The discriminants are the faults' numbers.
 #[derive(Clone, Copy, Debug, PartialEq, Eq, Error)]
 pub enum WrittenFault {
@@ -84,6 +102,10 @@ pub enum WrittenFault {
     #[error("fewer bytes wait")]
     TooMany = 2,
 }
+
+const _: () = prove!(WrittenFault::NoSuch as u8 == 1);
+
+const _: () = prove!(WrittenFault::TooMany as u8 == 2);
 
 /// A moment before that of the server.
 #[derive(Clone, Copy, Debug, PartialEq, Eq, Error)]
@@ -106,6 +128,14 @@ pub enum ReleaseFault {
     #[error("the peer takes no message as small as this one")]
     PeerTooSmall = 4,
 }
+
+const _: () = prove!(ReleaseFault::NoSuch as u8 == 1);
+
+const _: () = prove!(ReleaseFault::NotOpen as u8 == 2);
+
+const _: () = prove!(ReleaseFault::NoRoom as u8 == 3);
+
+const _: () = prove!(ReleaseFault::PeerTooSmall as u8 == 4);
 
 impl From<SendFault> for ReleaseFault {
     ghost from_gives = { λ fault release. release ≡ release_fault fault };
@@ -144,6 +174,20 @@ pub enum AnnounceFault {
     #[error("the peer takes no message as great as this one")]
     PeerTooSmall = 7,
 }
+
+const _: () = prove!(AnnounceFault::NoSuch as u8 == 1);
+
+const _: () = prove!(AnnounceFault::NotOpen as u8 == 2);
+
+const _: () = prove!(AnnounceFault::Lower as u8 == 3);
+
+const _: () = prove!(AnnounceFault::TooLarge as u8 == 4);
+
+const _: () = prove!(AnnounceFault::NoRoom as u8 == 5);
+
+const _: () = prove!(AnnounceFault::Memory as u8 == 6);
+
+const _: () = prove!(AnnounceFault::PeerTooSmall as u8 == 7);
 
 /// How a connection is.
 #[derive(Clone, Copy, PartialEq, Eq)]

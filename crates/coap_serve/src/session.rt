@@ -1,7 +1,7 @@
 //! A connection of a server.
 
-ghost use Rattle.std.specs.Prelude.{◌≡◌, ℕ, List, [], IfOk, OnOk, OnErr, false, None, ◌≤◌, ◌+◌, ◌||◌, ⊤, Some, length, take, is_some, IfErr};
-ghost use Rattle.coap_serve.specs.Prelude.{IsLive, IsReady, IsPut, change_hash, change_by, host_changed, observers_on, session_handled, session_with, sizes_of, sooner as lesser, framer_on, sem, follows_so, none, RefusedBy, AreInRange, is_finished, IsNextPart, release_refusal, IsUntouched, new_session, session_takes, next_held_in, next_stale, session_notified, session_settled_once, taking, session_written, session_ended, session_released, session_announced, session_settled, IsSettled, RefusesPiece, IsAnnounced, due_on, IsBefore, next_told as next_told_of, settled_held};
+ghost use Rattle.std.specs.Prelude.{◌≡◌, ℕ, List, [], IfOk, OnOk, OnErr, false, None, ◌≤◌, ◌+◌, ◌++◌, ◌||◌, ⊤, Some, length, take, is_some, IfErr};
+ghost use Rattle.coap_serve.specs.Prelude.{IsLive, IsReady, IsPut, Host as HostValue, change_hash, change_by, host_changed, session_handled, session_with, sizes_of, sooner as lesser, framer_on, sem, follows_so, none, RefusedBy, AreInRange, is_finished, release_refusal, IsUntouched, IsMarkedBut, ConcernsNone, MarkedSession, IsMarked, AreMarked, observers_left, new_session, session_takes, next_held_in, next_stale, session_notified, session_settled_once, taking, session_written, session_ended, session_released, session_announced, session_settled, IsSettled, RefusesPiece, IsAnnounced, due_on, IsBefore, next_told as next_told_of, settled_held};
 ghost use Rattle.coap_serve.specs.contracts.session.Session.{the_row};
 
 use crate::answering::{answer, notify, send_due};
@@ -39,7 +39,7 @@ impl Taking {
     }
 }
 
-/// A connection: its framer, its link, and its observers. Contracts see a `SessionValue`.
+/// A connection: its framer, its link, and its observers. Contracts see a `MarkedSession`.
 #[derive(Drop)]
 pub(crate) struct Session {
     framer: Framer,
@@ -48,13 +48,13 @@ pub(crate) struct Session {
 }
 
 impl Model for Session {
-    ghost use Rattle.coap_serve.specs.values.Sessions.{SessionValue};
+    ghost use Rattle.coap_serve.specs.values.Sessions.{MarkedSession};
 
-    ghost Value = { SessionValue };
+    ghost Value = { MarkedSession };
 
-    ghost use Rattle.coap_serve.specs.views.SessionViews.{session_value, is_session};
+    ghost use Rattle.coap_serve.specs.views.SessionViews.{marked_session, is_session};
 
-    ghost view = { session_value };
+    ghost view = { marked_session };
 
     ghost invariant = { is_session };
 }
@@ -66,7 +66,7 @@ impl Session {
     ///
     /// Where the room is refused.
     pub(crate) fn open(alloc: Global, limits: Limits) -> Result<Session, AllocError>
-        ensures value { IfOk result (λ s. s ≡ new_session limits) }
+        ensures value { IfOk result (λ s. s ≡ record { session = new_session limits; marks = [] }) }
         ensures ranges { OnOk result (AreInRange limits) }
     {
         Ok(Session {
@@ -78,7 +78,7 @@ impl Session {
 
     /// Whether it takes bytes: there is room for the greatest message sent, and nothing has ended the connection.
     pub(crate) fn takes(&self) -> bool
-        ensures { result ≡ session_takes self.now }
+        ensures { result ≡ session_takes self.now.session }
     {
         self.link.phase().stop().is_none() && self.link.ready()
     }
@@ -92,15 +92,20 @@ impl Session {
     /// message's last. Nothing of the message was handled then.
     #[tactic(auto, unfolding(crate::specs::values::Sessions::taking, coap_frame::specs::Framing::framing))]
     pub(crate) fn take(&mut self, host: &mut Host, piece: &[u8]) -> Result<Taking, usize>
-        ensures count { IfOk result (λ t. t.count ≡ (taking host.old self.old piece.now).count) }
+        requires { IsMarked host.old self.old }
+        ensures count { IfOk result (λ t. t.count ≡ (taking host.old self.old.session piece.now).count) }
         ensures within { IfOk result (λ t. t.count ≤ length piece.now) }
-        ensures handled { IfOk result (λ t. t.handled ≡ (taking host.old self.old piece.now).handled) }
-        ensures changed { IfOk result (λ t. t.changed ≡ change_hash (taking host.old self.old piece.now).change) }
-        ensures after { OnOk result (self.new ≡ (taking host.old self.old piece.now).session) }
-        ensures host { OnOk result (host.new ≡ host_changed host.old (taking host.old self.old piece.now).change) }
-        ensures refused { IfErr result (λ count. RefusesPiece host.old self.old piece.now count) }
-        ensures kept { IfErr result (λ count. self.new ≡ (taking host.old self.old (take count piece.now)).session) }
+        ensures handled { IfOk result (λ t. t.handled ≡ (taking host.old self.old.session piece.now).handled) }
+        ensures changed { IfOk result (λ t. t.changed
+            ≡ change_hash (taking host.old self.old.session piece.now).change) }
+        ensures after { OnOk result (self.new.session ≡ (taking host.old self.old.session piece.now).session) }
+        ensures host { OnOk result (host.new
+            ≡ host_changed host.old (taking host.old self.old.session piece.now).change) }
+        ensures refused { IfErr result (λ count. RefusesPiece host.old self.old.session piece.now count) }
+        ensures kept { IfErr result (λ count. self.new.session
+            ≡ (taking host.old self.old.session (take count piece.now)).session) }
         ensures unchanged { OnErr result (host.new ≡ host.old) }
+        ensures marked { IsMarked host.new self.new }
     {
         if !self.takes() {
             return Ok(Taking::without_message(0));
@@ -141,8 +146,10 @@ impl Session {
     /// Sends what is held and due, and notifies the observers that are due, one after the other, as long as there is
     /// room for the greatest message sent (RFC 8323 section 5.4.1, RFC 7641 section 4.2).
     pub(crate) fn settle(&mut self, host: &Host)
-        ensures after { self.new ≡ session_settled host.entry.now self.old }
-        ensures settled { IsSettled host.entry.now self.new }
+        requires { IsMarked host.now self.old }
+        ensures after { self.new.session ≡ session_settled host.entry.now self.old.session }
+        ensures settled { IsSettled host.entry.now self.new.session }
+        ensures marked { IsMarked host.entry.now self.new }
     {
         for _ in 0..self.more() {
             if !self.settle_once(host) {
@@ -151,37 +158,56 @@ impl Session {
         }
     }
 
-    /// The same where what changed may have made something due on it. Else it must be settled already.
+    /// Marks the observers that what changed concerns, and settles, if it may have made something due here. Otherwise
+    /// the connection must be settled and its marks as they are to be.
     pub(crate) fn settle_where_touched(&mut self, host: &Host, cause: Cause)
-        requires { IsUntouched cause host.now.now self.old → IsSettled host.now self.old }
-        ensures { self.new ≡ session_settled host.entry.now self.old }
+        requires settled { IsUntouched cause host.now.now self.old.session → IsSettled host.now self.old.session }
+        requires marked { IsMarkedBut cause host.now self.old }
+        ensures after { self.new.session ≡ session_settled host.entry.now self.old.session }
+        ensures marked { IsMarked host.entry.now self.new }
     {
         if self.is_touched(cause, host.now) {
-            self.settle(host);
+            self.mark_and_settle(host, cause);
         }
     }
 
-    /// Whether what changed may make something due on it: an observer of such a path may be there, or the moment of
-    /// something came.
+    /// Marks the observers that what changed concerns, and settles. (Apart from `settle_where_touched`, so that a
+    /// connection that is not touched costs a look alone.)
+    #[inline(never)]
+    fn mark_and_settle(&mut self, host: &Host, cause: Cause)
+        requires { IsMarkedBut cause host.now self.old }
+        ensures after { self.new.session ≡ session_settled host.entry.now self.old.session }
+        ensures marked { IsMarked host.entry.now self.new }
+    {
+        self.observers.mark(cause, host);
+        self.settle(host);
+    }
+
+    /// Returns `true` if what changed may make something due: an observer of such a path or of the moment may be
+    /// there, or the moment of what is held came.
     fn is_touched(&self, cause: Cause, now: u64) -> bool
-        ensures { result ≡ false → IsUntouched cause now self.now }
+        ensures untouched { result ≡ false → IsUntouched cause now self.now.session }
+        ensures unmarked { result ≡ false → ConcernsNone cause self.now.session.observers }
     {
         match cause {
             Cause::Path(hash) => self.observers.may_observe(hash),
-            Cause::Moment(before) => self.may_come_due() && self.comes_due(before, now),
+            Cause::Moment(before) => {
+                self.observers.may_tell_time()
+                    || (self.may_come_due() && self.comes_due(before, now))
+            }
         }
     }
 
-    /// Whether time alone may make anything due on it: something is held, or an observer of the moment may be there.
+    /// Returns `true` if time alone may make anything due: something is pending, or an observer of the moment may be there.
     fn may_come_due(&self) -> bool
-        ensures { result ≡ false → (now : ℕ) → due_on now self.now ≡ None }
+        ensures { result ≡ false → (now : ℕ) → due_on now self.now.session ≡ None }
     {
         self.link.pending() > 0 || self.observers.may_tell_time()
     }
 
-    /// Whether something came due on it behind this moment, up to now.
+    /// Returns `true` if something came due after a moment, up to now.
     fn comes_due(&self, before: u64, now: u64) -> bool
-        ensures { result ≡ false → IsBefore now (due_on before self.now) }
+        ensures { result ≡ false → IsBefore now (due_on before self.now.session) }
     {
         match self.due(before) {
             None => false,
@@ -191,7 +217,9 @@ impl Session {
 
     /// The same where something is held: no observer is due then.
     pub(crate) fn settle_held(&mut self, host: &Host)
-        ensures { self.new ≡ settled_held host.entry.now self.old }
+        requires { IsMarked host.now self.old }
+        ensures after { self.new.session ≡ settled_held host.entry.now self.old.session }
+        ensures marked { IsMarked host.entry.now self.new }
     {
         if self.link.pending() > 0 {
             self.settle(host);
@@ -201,9 +229,11 @@ impl Session {
     /// Sends what is held and due first, or else notifies the first observer that is due, where there is room, and
     /// answers whether there was any.
     fn settle_once(&mut self, host: &Host) -> bool
-        ensures after { self.new ≡ session_settled_once host.entry.now self.old }
-        ensures found { result
-            ≡ (is_some (next_held_in host.entry.now.now self.old) || is_some (next_stale host.entry.now self.old)) }
+        requires { IsMarked host.now self.old }
+        ensures after { self.new.session ≡ session_settled_once host.entry.now self.old.session }
+        ensures found { result ≡ (is_some (next_held_in host.entry.now.now self.old.session)
+            || is_some (next_stale host.entry.now self.old.session)) }
+        ensures marked { IsMarked host.entry.now self.new }
     {
         if !self.link.ready() {
             return false;
@@ -215,13 +245,17 @@ impl Session {
         self.notify_once(host)
     }
 
-    /// Notifies the first observer that is due, where there is one, and answers whether there was. There must be room.
+    /// Notifies the first observer that is marked as changed, where there is one, and answers whether there was. There
+    /// must be room.
     fn notify_once(&mut self, host: &Host) -> bool
-        requires { IsReady self.old.link }
-        ensures after { self.new ≡ session_notified host.entry.now self.old (next_stale host.entry.now self.old) }
-        ensures found { result ≡ is_some (next_stale host.entry.now self.old) }
+        requires ready { IsReady self.old.session.link }
+        requires marked { IsMarked host.now self.old }
+        ensures after { self.new.session
+            ≡ session_notified host.entry.now self.old.session (next_stale host.entry.now self.old.session) }
+        ensures found { result ≡ is_some (next_stale host.entry.now self.old.session) }
+        ensures marked { IsMarked host.entry.now self.new }
     {
-        let Some(stale) = self.observers.first_stale(host) else {
+        let Some(stale) = self.observers.first_changed() else {
             return false;
         };
         notify(&mut self.link, &mut self.observers, host, stale);
@@ -233,22 +267,22 @@ impl Session {
     pub(crate) fn front<'a>(&'a mut self) -> &'a [u8]
         ensures* unchanged { sem 𝓛 (follows_so the_row the_row self.entry.ghost_name none (λ _ _. ⊤)
             (λ s. s ≡ self.old)) }
-        ensures front { result.now ≡ self.old.link.waiting }
+        ensures front { result.now ≡ self.old.session.link.waiting }
     {
         self.link.front()
     }
 
-    /// A front of the bytes that wait, where they lie: none only where nothing waits.
-    pub(crate) fn next_part(&self) -> &[u8]
-        ensures { IsNextPart self.now.link.waiting result.now }
+    /// Returns the queued bytes in the two slices that they occupy.
+    pub(crate) fn parts(&self) -> (&[u8], &[u8])
+        ensures { result.0.now ++ result.1.now ≡ self.now.session.link.waiting }
     {
-        self.link.next_part()
+        self.link.parts()
     }
 
     /// The first so many bytes were written, and wait no more.
     pub(crate) fn written(&mut self, count: usize)
-        requires { count ≤ length self.old.link.waiting }
-        ensures { self.new ≡ session_written self.old count }
+        requires { count ≤ length self.old.session.link.waiting }
+        ensures { self.new ≡ record self.old { session = session_written self.old.session count } }
     {
         self.link.written(count);
     }
@@ -256,9 +290,11 @@ impl Session {
     /// The same of a settled one, and it settles: where there was room before, nothing is due, and so nothing is behind
     /// it.
     pub(crate) fn written_and_settled(&mut self, host: &Host, count: usize)
-        requires within { count ≤ length self.old.link.waiting }
-        requires settled { IsSettled host.now self.old }
-        ensures { self.new ≡ session_settled host.entry.now (session_written self.old count) }
+        requires within { count ≤ length self.old.session.link.waiting }
+        requires settled { IsSettled host.now self.old.session }
+        requires marked { IsMarked host.now self.old }
+        ensures after { self.new.session ≡ session_settled host.entry.now (session_written self.old.session count) }
+        ensures marked { IsMarked host.entry.now self.new }
     {
         let had_room = self.link.ready();
         self.written(count);
@@ -269,7 +305,8 @@ impl Session {
 
     /// The input ended, within a frame where bytes of one are kept. Nothing changes where no message is taken any more.
     pub(crate) fn end(&mut self)
-        ensures { self.new ≡ session_ended self.old }
+        ensures after { self.new.session ≡ session_ended self.old.session }
+        ensures marked { (host : HostValue) → IsMarked host self.old → IsMarked host self.new }
     {
         self.link.end(self.framer.kept() > 0);
         give_up(&mut self.framer, &self.link, &mut self.observers);
@@ -281,8 +318,9 @@ impl Session {
     ///
     /// As `Link::release`. Nothing has changed then.
     pub(crate) fn release(&mut self) -> Result<(), SendFault>
-        ensures answer { RefusedBy result (release_refusal self.old.link) }
-        ensures after { OnOk result (self.new ≡ session_released self.old) }
+        ensures answer { RefusedBy result (release_refusal self.old.session.link) }
+        ensures after { OnOk result (self.new.session ≡ session_released self.old.session) }
+        ensures marked { OnOk result ((host : HostValue) → IsMarked host self.old → IsMarked host self.new) }
         ensures err { OnErr result (self.new ≡ self.old) }
     {
         self.link.release()?;
@@ -297,8 +335,9 @@ impl Session {
     ///
     /// As `Server::announce` but `NoSuch`. Nothing has changed then.
     pub(crate) fn announce(&mut self, size: u32) -> Result<(), AnnounceFault>
-        ensures answer { IsAnnounced size (Some self.old) result }
-        ensures after { OnOk result (self.new ≡ session_announced self.old size) }
+        ensures answer { IsAnnounced size (Some self.old.session) result }
+        ensures after { OnOk result (self.new.session ≡ session_announced self.old.session size) }
+        ensures marked { OnOk result ((host : HostValue) → IsMarked host self.old → IsMarked host self.new) }
         ensures err { OnErr result (self.new ≡ self.old) }
     {
         let Phase::Open = self.link.phase() else {
@@ -326,14 +365,14 @@ impl Session {
     /// The next moment, in seconds, at which time alone may queue something: until then an answer is held, or an
     /// observer of the moment is to be told it.
     pub(crate) fn due(&self, now: u64) -> Option<u64>
-        ensures { result ≡ due_on now self.now }
+        ensures { result ≡ due_on now self.now.session }
     {
         sooner(self.link.next_moment(now), self.next_told(now))
     }
 
     /// The moment behind this one, where an observer is to be told it.
     fn next_told(&self, now: u64) -> Option<u64>
-        ensures { result ≡ next_told_of now self.now.observers }
+        ensures { result ≡ next_told_of now self.now.session.observers }
     {
         if !self.observers.tell_time() || now == u64::MAX {
             return None;
@@ -343,56 +382,56 @@ impl Session {
 
     /// How it stands.
     pub(crate) fn phase(&self) -> Phase
-        ensures { result ≡ self.now.link.phase }
+        ensures { result ≡ self.now.session.link.phase }
     {
         self.link.phase()
     }
 
     /// How many bytes of an unfinished frame are kept.
     pub(crate) fn kept(&self) -> usize
-        ensures { result ≡ length self.now.frame }
+        ensures { result ≡ length self.now.session.frame }
     {
         self.framer.kept()
     }
 
     /// How many bytes wait.
     pub(crate) fn waiting(&self) -> usize
-        ensures { result ≡ length self.now.link.waiting }
+        ensures { result ≡ length self.now.session.link.waiting }
     {
         self.link.waiting()
     }
 
     /// How many answers and Pongs are held.
     pub(crate) fn pending(&self) -> usize
-        ensures { result ≡ length self.now.link.held }
+        ensures { result ≡ length self.now.session.link.held }
     {
         self.link.pending()
     }
 
     /// How many are held, and how many observers there are, together.
     pub(crate) fn more(&self) -> usize
-        ensures { result ≡ length self.now.link.held + length self.now.observers }
+        ensures { result ≡ length self.now.session.link.held + length self.now.session.observers }
     {
         self.link.pending() + self.observers.len()
     }
 
     /// How many observers there are.
     pub(crate) fn observers(&self) -> usize
-        ensures { result ≡ length self.now.observers }
+        ensures { result ≡ length self.now.session.observers }
     {
         self.observers.len()
     }
 
     /// The greatest message that the peer takes.
     pub(crate) fn peer_max(&self) -> u32
-        ensures { result ≡ self.now.link.peer_max }
+        ensures { result ≡ self.now.session.link.peer_max }
     {
         self.link.peer_max()
     }
 
     /// Whether nothing more is to be written.
     pub(crate) fn finished(&self) -> bool
-        ensures { result ≡ is_finished self.now.link }
+        ensures { result ≡ is_finished self.now.session.link }
     {
         self.link.finished()
     }
@@ -416,6 +455,7 @@ pub(crate) fn sooner(one: Option<u64>, other: Option<u64>) -> Option<u64>
 /// # Errors
 ///
 /// Where memory is refused for the representation that the message stores. All is then as before.
+#[inline]
 fn handle(
     link: &mut Link,
     observers: &mut Observers,
@@ -425,9 +465,11 @@ fn handle(
     requires ready { IsReady link.old }
     requires live { IsLive link.old.phase }
     requires room { observers.old.room ≡ link.old.limits.observers }
+    requires marked { AreMarked host.old observers.old.entries observers.old.marks }
     ensures after { OnOk result ((frame : List ℕ) → session_with [] link.new observers.new.entries ≡ session_handled
         host.old (record { frame = frame; link = link.old; observers = observers.old.entries }) message.now) }
     ensures room { OnOk result (observers.new.room ≡ observers.old.room) }
+    ensures marked { OnOk result (AreMarked host.new observers.new.entries observers.new.marks) }
     ensures sizes { OnOk result (sizes_of link.new ≡ sizes_of link.old) }
     ensures changed { IfOk result (λ changed. changed ≡ change_hash (change_by host.old link.old message.now)) }
     ensures host { OnOk result (host.new ≡ host_changed host.old (change_by host.old link.old message.now)) }
@@ -446,7 +488,7 @@ fn handle(
 /// any more.
 fn give_up(framer: &mut Framer, link: &Link, observers: &mut Observers)
     ensures framer { framer.new ≡ framer_on link.now framer.old }
-    ensures observers { observers.new ≡ record observers.old { entries = observers_on link.now observers.old.entries } }
+    ensures observers { observers.new ≡ observers_left link.now observers.old }
 {
     match link.phase() {
         Phase::Waiting => observers.clear(),

@@ -1,6 +1,6 @@
 //! What connections and moments come from: wires, the door that hands them out, and the clock.
 
-ghost use Rattle.std.specs.Prelude.{ℕ, Bool, List, [], ◌∷◌, length, Option, None, is_some};
+ghost use Rattle.std.specs.Prelude.{ℕ, Bool, List, [], ◌∷◌, length, Option, None};
 ghost use Rattle.coap_serve.specs.Prelude.{AddsBytes, TellsMore, DoorCall, Asked, Waited, IsWithin, IsTold, bytes_passed, Got};
 
 /// What a read or a write of a wire came to.
@@ -28,13 +28,17 @@ pub trait Wire {
     /// What its reads and writes came to so far, in order, where it tells.
     ghost answers: { Self → Option (List Got) } = { λ _. None };
 
+    /// The length of the buffer of each read so far, in order, if the wire tells.
+    ghost rooms: { Self → Option (List ℕ) } = { λ _. None };
+
     /// Reads at least 1 byte and at most as many as the buffer has, into the front of the buffer. `Later` where no byte
     /// is there now, `End` where the peer sends nothing more, `Failed` where reading fails.
     fn read(&mut self, buffer: &mut [u8]) -> Got
         ensures within { IsWithin (length buffer.new) result }
         ensures gave { AddsBytes (given self.old) (given self.new) (bytes_passed buffer.new result) }
         ensures wrote { AddsBytes (written self.old) (written self.new) [] }
-        ensures answered { TellsMore (answers self.old) (answers self.new) (result ∷ []) };
+        ensures answered { TellsMore (answers self.old) (answers self.new) (result ∷ []) }
+        ensures had_room { TellsMore (rooms self.old) (rooms self.new) (length buffer.new ∷ []) };
 
     /// Writes at least 1 of the bytes, from their front. `Later` where none can be taken now, `Failed` where writing
     /// fails; `End` means the same as `Failed`.
@@ -42,16 +46,17 @@ pub trait Wire {
         ensures within { IsWithin (length bytes.now) result }
         ensures wrote { AddsBytes (written self.old) (written self.new) (bytes_passed bytes.now result) }
         ensures gave { AddsBytes (given self.old) (given self.new) [] }
-        ensures answered { TellsMore (answers self.old) (answers self.new) (result ∷ []) };
+        ensures answered { TellsMore (answers self.old) (answers self.new) (result ∷ []) }
+        ensures no_read { TellsMore (rooms self.old) (rooms self.new) [] };
 }
 
-/// Whether a wire is ready, as far as its owner knows without asking the system.
+/// Whether a wire is ready, as far as its owner knows without asking the system. `Tried` has it for any wire.
 pub trait Ready {
-    /// Whether a read may come to something, where it tells.
-    ghost readable: { Self → Option Bool };
+    /// Whether a read may come to something, if the wire tells.
+    ghost readable: { Self → Option Bool } = { λ _. None };
 
-    /// Whether a write may come to something, where it tells.
-    ghost writable: { Self → Option Bool };
+    /// Whether a write may come to something, if the wire tells.
+    ghost writable: { Self → Option Bool } = { λ _. None };
 
     /// Whether a read may come to something else than `Later`. No read is tried where it may not.
     fn may_read(&self) -> bool
@@ -73,17 +78,17 @@ pub enum Wait {
     Forever,
 }
 
-/// What hands out wires, one for each connection that a peer opens.
+/// What hands out wires, one for each connection that a peer opens. `Polled` makes a door of what does nothing else.
 pub trait Door {
     /// The wires that it hands out.
     type Wire: Wire + Ready + Drop;
 
-    /// Which calls it had so far, in order, where it tells.
-    ghost calls: { Self → Option (List DoorCall) } = { λ _. None };
+    /// The calls that the door had so far, in order, if it tells.
+    ghost calls: { Self → Option (List (DoorCall Self.Wire)) } = { λ _. None };
 
     /// The next wire, where a peer has opened a connection that was not handed out yet. It never waits.
     fn next(&mut self) -> Option<Self::Wire>
-        ensures { TellsMore (calls self.old) (calls self.new) (Asked (is_some result) ∷ []) };
+        ensures { TellsMore (calls self.old) (calls self.new) (Asked result ∷ []) };
 
     /// Learns which wires are ready, and before that waits until one is that was not, or, where another connection may
     /// be opened (`opens`), until a peer opens one: as long as it is told at the most, and not at all where a peer

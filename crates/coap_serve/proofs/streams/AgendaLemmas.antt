@@ -1,16 +1,17 @@
 -- What the connections leave to be done, one after the other.
-use Rattle.std.proofs.Common.{◌≡◌, ◌⊎◌, ℕ, suc, ◌+◌, ◌≤◌, Bool, true, false, List, [], ◌∷◌, ◌++◌, length, map, take, drop, Option, Some, None, refl, sym, ap, subst, ◌∙◌, inl, inr, arith, ◌||◌, ◌&&◌, not, nat_lt, slice_get, IfSome, ◌<◌, remove, nat_eq, append_assoc, add-one}
+use Rattle.std.proofs.Common.{◌≡◌, ◌⊎◌, ℕ, suc, ◌+◌, ◌≤◌, Bool, true, false, List, [], ◌∷◌, ◌++◌, length, map, take, drop, Option, Some, None, refl, sym, ap, subst, ◌∙◌, inl, inr, arith, ◌||◌, slice_get, IfSome, ◌<◌, remove, nat_eq, append_assoc, add-one}
 use Rattle.std.proofs.lemmas.Bool.Decides.{nat_tests}
 use Rattle.coap_serve.specs.Prelude.{AllByRecursion, keys_of, values_of, Agenda, Course, Over, Wants, Host, Outlook}
-use Rattle.coap_serve.specs.Prelude.{Stamp, sooner, same_stamp, stamp_of, outlook_of, ServerValue, server_opened}
+use Rattle.coap_serve.specs.Prelude.{Stamp, sooner, stamp_of, outlook_of, ServerValue, server_opened}
 use Rattle.coap_serve.specs.Prelude.{server_dropped, FarEnd, agenda_with, agenda_past, IsAsked, IsServed, CanGoOn}
 use Rattle.coap_serve.specs.Prelude.{IsAtRest, IsInTurn, IsAgendaOf, least_with, wants_in, wants_of, end_of}
 use Rattle.coap_serve.specs.Prelude.{insert_entry, Peer, open_refusal, HasGoneOn, HasOneMore, AreServed, NoMore}
-use Rattle.coap_serve.specs.Prelude.{PassedOver, HadItsPart}
-use Rattle.std.proofs.lemmas.List.{map-append, length-map, length-take, length-take-le, append-nil, append_cancel_left, take_all, take_at, take_more, take-take, take-append-drop, drop_all, drop_at, drop_more, drop-append-le}
+use Rattle.coap_serve.specs.Prelude.{PassedOver, HadItsPart, CanAnyGoOn, WireTrace, concerns_earlier}
+use Rattle.std.proofs.lemmas.List.{map-append, length-map, length-append, length-take, length-take-le, append-nil, append_cancel_left, take_all, take_at, take_more, take-take, take-append-drop, drop_all, drop_at, drop_more, drop-append-le}
 use Rattle.std.proofs.lemmas.List.Sums.{fold-append}
 use Rattle.std.proofs.lemmas.Option.{same_Some, slice_get_cases, slice_get-map, slice_get_within, get_or_from_slice_get}
 use Rattle.std.proofs.lemmas.Bool.{or_parts, or_left}
+use Rattle.std.proofs.Math.Bool.{or_assoc, or-false}
 use Rattle.coap_serve.specs.declared.door.peer.Course.TheVariants.{Open}
 use Rattle.coap_serve.proofs.world.EntryLemmas.{all_append}
 use Rattle.coap_serve.proofs.values.OptionLemmas.{one_made}
@@ -22,7 +23,7 @@ pub stamp_in : (o : Option Outlook) (is_empty : Bool) (stamp : Stamp) → (wants
 stamp_in o is_empty stamp = grind arith
 
 -- it concerns none, or the stamp is the same
-none_or_same : (i : ℕ) (stamp later : Stamp) → (nat_lt 0 i && not (same_stamp later stamp)) ≡ false → (i ≡ 0) ⊎ (later ≡ stamp)
+none_or_same : (i : ℕ) (stamp later : Stamp) → concerns_earlier i stamp later ≡ false → (i ≡ 0) ⊎ (later ≡ stamp)
 none_or_same i stamp later e = grind (arith, nat_tests)
 
 -- ---- what can be done at once
@@ -43,8 +44,25 @@ can_go_on_so e reads result asked may is = subst (CanGoOn e) (or_left (e.wants.t
 
 -- ---- the agenda
 
-sooner_never : (due : Option ℕ) → sooner due None ≡ due
+pub sooner_never : (due : Option ℕ) → sooner due None ≡ due
 sooner_never due = grind arith
+
+or_turned : (a b c : Bool) → ((a || b) || c) ≡ ((a || c) || b)
+or_turned a b c = grind arith
+
+-- something can be done on one of two lists
+can_both : (xs ys : List FarEnd) (one other : Bool) → CanAnyGoOn xs one → CanAnyGoOn ys other → CanAnyGoOn (xs ++ ys) (one || other)
+can_both [] ys one other none can = rw none can
+can_both (e ∷ es) ys one other can more = (can.0, can.1 || other, can.2, can_both es ys can.1 other can.3 more, rw can.4 (or_assoc can.0 can.1 other))
+
+-- nothing can be done on those at rest, which were all served on a server with this stamp
+none_at_rest : (stamp : Stamp) (all : List FarEnd) → AllByRecursion (IsAtRest stamp) all → CanAnyGoOn all false
+none_at_rest stamp [] rests = refl
+none_at_rest stamp (e ∷ es) rests = (false, false, rests.0.1, none_at_rest stamp es rests.1, refl)
+
+fresh_at_rest : (stamp : Stamp) (all : List FarEnd) → AllByRecursion (IsAtRest stamp) all → AllByRecursion (λ e. e.wants.stamp ≡ stamp) all
+fresh_at_rest stamp [] rests = tt
+fresh_at_rest stamp (e ∷ es) rests = (rests.0.0, fresh_at_rest stamp es rests.1)
 
 -- ---- the entries of a map, by the index of a value
 
@@ -89,25 +107,29 @@ module _ {P : Type 0} (far : P → FarEnd) where
   more_ends es from i p order at = let there = value_at es i p at in rw (more_between es from i there.0 order there.1, map-append, there.2) refl
 
   -- one that was served
-  pub open_step : (es : List (ℕ × P)) (i : ℕ) (p : P) {a b : Agenda} {stamp : Stamp} {ready : Bool} → slice_get (values_of es) i ≡ Some p
-      → IsAgendaOf a stamp (far_ends (take i es)) → CanGoOn (far p) ready → (far p).wants.stamp ≡ stamp → b ≡ agenda_with a ready (far p).wants.due
-      → IsAgendaOf b stamp (far_ends (take (i + 1) es))
-  open_step es i p {a} {b} {stamp} {ready} at seen can same is = rw (more_ends es 0 i p (omega arith) at, is) (record {
+  pub open_step : (es : List (ℕ × P)) (i : ℕ) (p : P) {a b : Agenda} {changed : Bool} {stamp : Stamp} {ready : Bool} → slice_get (values_of es) i ≡ Some p
+      → IsAgendaOf a changed stamp (far_ends (take i es)) → CanGoOn (far p) ready → (far p).wants.stamp ≡ stamp → b ≡ agenda_with a ready (far p).wants.due
+      → IsAgendaOf b changed stamp (far_ends (take (i + 1) es))
+  open_step es i p {a} {b} {changed} {stamp} {ready} at seen can same is = rw (more_ends es 0 i p (omega arith) at, is) (record {
     due = rw (fold-append, seen.due) refl;
-    rest = λ none.
-        let parts = or_parts a.at_once ready none in
-        all_append (IsAtRest stamp) (far_ends (take i es)) (far p ∷ []) (seen.rest parts.0) ((same, rw parts.1 at can), tt);
+    ready = seen.ready || ready;
+    can = can_both (far_ends (take i es)) (far p ∷ []) seen.ready ready seen.can (ready, false, can, refl, sym (or-false ready));
+    at_once = rw seen.at_once (or_assoc changed seen.ready ready);
+    fresh = λ none. all_append (λ e. e.wants.stamp ≡ stamp) (far_ends (take i es)) (far p ∷ []) (seen.fresh none) (same, tt);
   })
 
   -- what a connection that was served changes may concern those before it, by the stamps of the server before and after
-  pub served_later : (es fs : List (ℕ × P)) (i : ℕ) {a b : Agenda} (was is : Host) {stamp later : Stamp} {concerns : Bool} → IsAgendaOf a (stamp_of was) (far_ends (take i es))
-      → take i fs ≡ take i es → stamp ≡ stamp_of was → later ≡ stamp_of is → concerns ≡ (nat_lt 0 i && not (same_stamp later stamp)) → b ≡ agenda_with a concerns None
-      → IsAgendaOf b (stamp_of is) (far_ends (take i fs))
-  served_later es fs i {a} was is seen same_front before after is_so is_with = rw (same_front, is_with, is_so, before, after) (record {
+  pub served_later : (es fs : List (ℕ × P)) (i : ℕ) {a b : Agenda} {changed : Bool} (was is : Host) {stamp later : Stamp} {concerns : Bool} → IsAgendaOf a changed (stamp_of was) (far_ends (take i es))
+      → take i fs ≡ take i es → stamp ≡ stamp_of was → later ≡ stamp_of is → concerns ≡ concerns_earlier i stamp later → b ≡ agenda_with a concerns None
+      → IsAgendaOf b (changed || concerns_earlier i (stamp_of was) (stamp_of is)) (stamp_of is) (far_ends (take i fs))
+  served_later es fs i {a} {changed = changed} was is seen same_front before after is_so is_with = rw (same_front, is_with, is_so, before, after) (record {
     due = sooner_never a.due ∙ seen.due;
-    rest = λ none.
-        let parts = or_parts a.at_once (nat_lt 0 i && not (same_stamp (stamp_of is) (stamp_of was))) none in
-        elim (none_or_same i (stamp_of was) (stamp_of is) parts.1) [ inl first ↦ rw first tt | inr same ↦ rw same (seen.rest parts.0) ];
+    ready = seen.ready;
+    can = seen.can;
+    at_once = rw seen.at_once (or_turned changed seen.ready (concerns_earlier i (stamp_of was) (stamp_of is)));
+    fresh = λ none.
+        let parts = or_parts changed (concerns_earlier i (stamp_of was) (stamp_of is)) none in
+        elim (none_or_same i (stamp_of was) (stamp_of is) parts.1) [ inl first ↦ rw first tt | inr same ↦ rw same (seen.fresh parts.0) ];
   })
 
   -- ---- what is passed over
@@ -137,12 +159,18 @@ module _ {P : Type 0} (far : P → FarEnd) where
   one_next es i p stamp at in_turn = let there = value_at es i p at in rw (there.1, there.2) in_turn
 
   -- those that were looked at, and those that were passed over then
-  pub past_on : (es : List (ℕ × P)) (from to : ℕ) {a b : Agenda} (host : Host) {stamp : Stamp} → stamp ≡ stamp_of host → from ≤ to → IsAgendaOf a (stamp_of host) (far_ends (take from es))
-      → AllByRecursion (IsAtRest stamp) (far_ends (drop from (take to es))) → b ≡ agenda_past a (far_ends (drop from (take to es))) → IsAgendaOf b (stamp_of host) (far_ends (take to es))
-  past_on es from to host on order seen rest is = rw (← front_between es from to order, map-append, is) (record {
-    due = rw (fold-append, seen.due) refl;
-    rest = λ none. all_append (IsAtRest (stamp_of host)) (far_ends (take from es)) (far_ends (drop from (take to es))) (seen.rest none) (rw on at rest);
-  })
+  pub past_on : (es : List (ℕ × P)) (from to : ℕ) {a b : Agenda} {changed : Bool} (host : Host) {stamp : Stamp} → stamp ≡ stamp_of host → from ≤ to → IsAgendaOf a changed (stamp_of host) (far_ends (take from es))
+      → AllByRecursion (IsAtRest stamp) (far_ends (drop from (take to es))) → b ≡ agenda_past a (far_ends (drop from (take to es))) → IsAgendaOf b changed (stamp_of host) (far_ends (take to es))
+  past_on es from to {changed = changed} host on order seen rest is =
+      let passed = far_ends (drop from (take to es)) in
+      let rests : AllByRecursion (IsAtRest (stamp_of host)) passed = rw on at rest in
+      rw (← front_between es from to order, map-append, is) (record {
+        due = rw (fold-append, seen.due) refl;
+        ready = seen.ready || false;
+        can = can_both (far_ends (take from es)) passed seen.ready false seen.can (none_at_rest (stamp_of host) passed rests);
+        at_once = rw (or-false seen.ready) seen.at_once;
+        fresh = λ none. all_append (λ e. e.wants.stamp ≡ stamp_of host) (far_ends (take from es)) passed (seen.fresh none) (fresh_at_rest (stamp_of host) passed rests);
+      })
 
 -- what was noted when it was served has the stamp of the server
 pub stamp_noted : {W : Type 0} (es : List (ℕ × Peer W)) (i : ℕ) {p : Peer W} (v : ServerValue) {course : Course} → slice_get (values_of es) i ≡ Some p
@@ -153,50 +181,63 @@ stamp_noted es i {p} v at noted open_now =
     rw (← there.2, ap (λ (w : Wants). w.stamp) (note open_now)) (stamp_in (outlook_of v there.0.0) _ (stamp_of v.host))
 
 -- one more was opened
-pub one_more_opened : {W : Type 0} (v after : ServerValue) (id : ℕ) (p : Peer W) (es now : List (ℕ × Peer W)) → open_refusal v ≡ None → id ≡ v.ids + 1 → after ≡ server_opened v → now ≡ insert_entry nat_eq es id p → p.rest ≡ [] → HasOneMore v es after now
-one_more_opened v after id p es now may number opened entries rest = record { peer = p; may = may; server = opened; entries = rw (← number) entries; rest = rest }
+pub one_more_opened : {W : Type 0} (v after : ServerValue) (id : ℕ) (p : Peer W) (es now : List (ℕ × Peer W)) → open_refusal v ≡ None → id ≡ v.ids + 1 → after ≡ server_opened v → now ≡ insert_entry nat_eq es id p → p.rest ≡ [] → HasOneMore p.wire v es after now
+one_more_opened v after id p es now may number opened entries rest = record { peer = p; may = may; server = opened; entries = rw (← number) entries; rest = rest; handed = refl }
 
-module _ {W : Type 0} (readable writable : W → Option Bool) where
+module _ {W : Type 0} (readable writable : W → Option Bool) (trace : W → WireTrace) where
   -- ---- one after the other
 
-  -- those that were served, and others behind them
-  both_served : {u v w : ServerValue} {es fs ls ms : List (ℕ × Peer W)} → AreServed readable writable u es v ls → AreServed readable writable v fs w ms → AreServed readable writable u (es ++ fs) w (ls ++ ms)
-  both_served (NoMore start) two = two
-  both_served (PassedOver start e others after left rests rest) two = PassedOver start e _ _ _ rests (both_served rest two)
-  both_served {ms = ms} (HadItsPart start e others between its after left in_turn part rest) two =
-      rw (append_assoc its left ms) (HadItsPart start e _ between its _ _ in_turn part (both_served rest two))
+  -- those that were served, and others after them
+  both_served : {n : ℕ} {u v w : ServerValue} {es fs ls ms : List (ℕ × Peer W)} {one other : Bool} (m : ℕ) → m ≡ n + length ls → AreServed readable writable trace n u es one v ls → AreServed readable writable trace m v fs other w ms
+      → AreServed readable writable trace n u (es ++ fs) (one || other) w (ls ++ ms)
+  both_served m many (NoMore n start) two = let same : m ≡ n = omega (arith, many) in rw same at two
+  both_served m many (PassedOver n start e others changed after left rests rest) two =
+      PassedOver n start e _ _ _ _ rests (both_served m (omega (arith, many)) rest two)
+  both_served {ms = ms} {other = other} m many (HadItsPart n start e others between its changed after left in_turn part rest) two =
+      rw (append_assoc its left ms, or_assoc (concerns_earlier n (stamp_of start.host) (stamp_of between.host)) changed other)
+      (HadItsPart n start e _ between its _ _ _ in_turn part (both_served m (omega (arith, many, length-append its left)) rest two))
 
   -- those at rest
-  all_passed : (v : ServerValue) (es : List (ℕ × Peer W)) → AllByRecursion (IsAtRest (stamp_of v.host)) (map (λ e. end_of readable writable e.1) es) → AreServed readable writable v es v es
-  all_passed v [] rests = NoMore v
-  all_passed v (e ∷ es) rests = PassedOver v e es v es rests.0 (all_passed v es rests.1)
+  all_passed : (n : ℕ) (v : ServerValue) (es : List (ℕ × Peer W)) → AllByRecursion (IsAtRest (stamp_of v.host)) (map (λ e. end_of readable writable e.1) es) → AreServed readable writable trace n v es false v es
+  all_passed n v [] rests = NoMore n v
+  all_passed n v (e ∷ es) rests = PassedOver n v e es false v es rests.0 (all_passed (n + 1) v es rests.1)
 
   -- how far a turn is: those before an index were served
-  pub record AreServedTo (u : ServerValue) (all : List (ℕ × Peer W)) (v : ServerValue) (now : List (ℕ × Peer W)) (at : ℕ) : Type 0 where
+  pub record AreServedTo (u : ServerValue) (all : List (ℕ × Peer W)) (v : ServerValue) (now : List (ℕ × Peer W)) (at : ℕ) (changed : Bool) : Type 0 where
     pub done : List (ℕ × Peer W)
     pub all_of_them : all ≡ done ++ drop at now
-    pub served : AreServed readable writable u done v (take at now)
+    pub served : AreServed readable writable trace 0 u done changed v (take at now)
 
   -- those up to another index were passed over
-  pub passed_on : {u v : ServerValue} {all now : List (ℕ × Peer W)} (from to : ℕ) {stamp : Stamp} → stamp ≡ stamp_of v.host → from ≤ to → to ≤ length now → AllByRecursion (IsAtRest stamp) (map (λ e. end_of readable writable e.1) (drop from (take to now)))
-      → AreServedTo u all v now from → AreServedTo u all v now to
-  passed_on {u} {v} {all} {now} from to is order within rests before = record {
+  pub passed_on : {u v : ServerValue} {all now : List (ℕ × Peer W)} (from to : ℕ) {changed : Bool} {stamp : Stamp} → stamp ≡ stamp_of v.host → from ≤ to → to ≤ length now → AllByRecursion (IsAtRest stamp) (map (λ e. end_of readable writable e.1) (drop from (take to now)))
+      → AreServedTo u all v now from changed → AreServedTo u all v now to changed
+  passed_on {u} {v} {all} {now} from to {changed = changed} is order within rests before = record {
     done = before.done ++ drop from (take to now);
     all_of_them =
         rw (append_assoc, ← drop-append-le from (take to now) (drop to now) (omega (arith, length-take to now)), take-append-drop) before.all_of_them;
-    served = subst (AreServed readable writable u (before.done ++ drop from (take to now)) v) (front_between now from to order)
-        (both_served before.served (all_passed v (drop from (take to now)) (rw is at rests)));
+    served = subst (AreServed readable writable trace 0 u (before.done ++ drop from (take to now)) changed v) (front_between now from to order)
+        (rw (or-false changed) at (both_served from (omega (arith, length-take-le from now (omega (arith, order, within)))) before.served (all_passed from v (drop from (take to now)) (rw is at rests))));
   }
 
-  pub one_further : {u v w : ServerValue} {all es now : List (ℕ × Peer W)} {i at : ℕ} → IfSome (slice_get es i) (λ e. IsInTurn (stamp_of v.host) (end_of readable writable e.1)) → HasGoneOn readable writable v es i w now at → AreServedTo u all v es i → AreServedTo u all w now at
-  one_further {v = v} {w = w} {es = es} {i = i} in_turn gone before = record {
-    done = before.done ++ gone.e ∷ [];
-    all_of_them = rw (append_assoc, gone.back, ← next_first es i gone.e gone.there) before.all_of_them;
-    served = rw gone.front (both_served before.served (rw append-nil at (HadItsPart v gone.e [] w gone.its w [] (rw gone.there at in_turn) gone.part (NoMore w))));
-  }
+  pub one_further : {u v w : ServerValue} {all es now : List (ℕ × Peer W)} {i at : ℕ} {changed : Bool} → IfSome (slice_get es i) (λ e. IsInTurn (stamp_of v.host) (end_of readable writable e.1)) → HasGoneOn readable writable trace v es i w now at → AreServedTo u all v es i changed
+      → AreServedTo u all w now at (changed || concerns_earlier i (stamp_of v.host) (stamp_of w.host))
+  one_further {v = v} {w = w} {es = es} {i = i} in_turn gone before =
+      let within = slice_get_within es i gone.e gone.there in
+      let one = HadItsPart i v gone.e [] w gone.its false w [] (rw gone.there at in_turn) gone.part (NoMore (i + length gone.its) w) in
+      record {
+        done = before.done ++ gone.e ∷ [];
+        all_of_them = rw (append_assoc, gone.back, ← next_first es i gone.e gone.there) before.all_of_them;
+        served = rw gone.front (both_served i (omega (arith, length-take-le i es (omega (arith, within)))) before.served (rw (append-nil, or-false) at one));
+      }
 
-  pub all_are_served : {u v : ServerValue} {all now : List (ℕ × Peer W)} {at : ℕ} → length now ≤ at → AreServedTo u all v now at → AreServed readable writable u all v now
+  pub all_are_served : {u v : ServerValue} {all now : List (ℕ × Peer W)} {at : ℕ} {changed : Bool} → length now ≤ at → AreServedTo u all v now at changed → AreServed readable writable trace 0 u all changed v now
   all_are_served {now = now} {at = at} most before = rw (before.all_of_them, drop_all at now most, append-nil) (rw (take_all at now most) at before.served)
+
+  -- how far a round is, with what those before an index leave to be done
+  pub record IsRoundTo (u : ServerValue) (all : List (ℕ × Peer W)) (a : Agenda) (v : ServerValue) (now : List (ℕ × Peer W)) (at : ℕ) : Type 0 where
+    pub changed : Bool
+    pub served : AreServedTo u all v now at changed
+    pub agenda : IsAgendaOf a changed (stamp_of v.host) (map (λ e. end_of readable writable e.1) (take at now))
 
   -- ---- one connection
 
@@ -217,11 +258,11 @@ module _ {W : Type 0} (readable writable : W → Option Bool) where
     back_same = append_cancel_left (take i es) (drop (suc i) mid) (drop (suc i) es) (rw before at beside)
 
     module _ (course : Course)
-        (part : IfSome (slice_get es i) (λ was. IfSome (slice_get mid i) (λ is. IsServed (readable was.1.wire) (writable was.1.wire) v was.0 was.1.rest between is.1.rest course))) where
-      its_part : IsServed (readable entry_was_there.0.1.wire) (writable entry_was_there.0.1.wire) v entry_was_there.0.0 entry_was_there.0.1.rest between is_there.0.rest course
+        (part : IfSome (slice_get es i) (λ was. IfSome (slice_get mid i) (λ is. IsServed (readable was.1.wire) (writable was.1.wire) v was.0 was.1.rest (trace was.1.wire) between is.1.rest (trace is.1.wire) course))) where
+      its_part : IsServed (readable entry_was_there.0.1.wire) (writable entry_was_there.0.1.wire) v entry_was_there.0.0 entry_was_there.0.1.rest (trace entry_was_there.0.1.wire) between is_there.0.rest (trace is_there.0.wire) course
       its_part = rw is_there.1 at (rw entry_was_there.1 at part)
 
-      pub one_open : course ≡ Open → HasGoneOn readable writable v es i between mid (i + 1)
+      pub one_open : course ≡ Open → HasGoneOn readable writable trace v es i between mid (i + 1)
       one_open open_now = record {
         e = entry_was_there.0;
         its = (entry_was_there.0.0, is_there.0) ∷ [];
@@ -231,7 +272,7 @@ module _ {W : Type 0} (readable writable : W → Option Bool) where
         back = rw (add-one i) back_same;
       }
 
-      pub one_over : (after : ServerValue) (now : List (ℕ × Peer W)) → course ≡ Over → now ≡ remove mid i → IfSome (slice_get (keys_of mid) i) (λ id. after ≡ server_dropped between id) → HasGoneOn readable writable v es i after now i
+      pub one_over : (after : ServerValue) (now : List (ℕ × Peer W)) → course ≡ Over → now ≡ remove mid i → IfSome (slice_get (keys_of mid) i) (λ id. after ≡ server_dropped between id) → HasGoneOn readable writable trace v es i after now i
       one_over after now over removed dropped = record {
         e = entry_was_there.0;
         its = [];

@@ -1,8 +1,11 @@
--- A flush of a server that shows a world is the flush of that world: where it ends in the world for some bytes, what is defined for them
--- was written.
-use Rattle.std.proofs.Common.{◌≡◌, ◌⊎◌, ℕ, zero, suc, ◌+◌, ◌≤◌, List, [], ◌∷◌, ◌++◌, length, Some, refl, sym, ap, ◌∙◌, append_assoc, arith, inl, inr}
+-- A flush of a server that shows a world is the flush of that world, and nothing waits after it. Where it ends in the world for some
+-- bytes, what is defined for them was written.
+use Rattle.std.proofs.Common.{◌≡◌, ◌⊎◌, ℕ, zero, suc, ◌+◌, ◌≤◌, ◌==◌, List, [], ◌∷◌, ◌++◌, length, map, Option, Some, None, refl, sym, ap, ◌∙◌, append_assoc, arith, inl, inr}
+use Rattle.std.proofs.lemmas.Bool.{cond_both}
+use Rattle.std.proofs.lemmas.Bool.Decides.{nat_tests}
 use Rattle.std.proofs.lemmas.List.{append-nil, length-map}
-use Rattle.coap_serve.specs.Prelude.{ConfigValues, ServerValue, session_of, server_written, waiting_in, waiting_at}
+use Rattle.coap_serve.specs.Prelude.{ConfigValues, ServerValue, SessionValue, session_of, session_written, session_becomes}
+use Rattle.coap_serve.specs.Prelude.{settled_entry, server_written, waiting_in, waiting_at}
 use Rattle.coap_serve.specs.Prelude.{more_in, more_at, flush_turns, IsFlushed, Side, waiting_on, side_written}
 use Rattle.coap_serve.specs.Prelude.{settled, World, side_of, Event, Wrote, stream_on, steps_by, world_after}
 use Rattle.coap_serve.specs.Prelude.{spelled_on, Shows, session_shown, only_id, stream_of, more_of, written_times}
@@ -10,9 +13,9 @@ use Rattle.coap_serve.specs.Prelude.{flushed, world_for, Outcome, stdio_output, 
 use Rattle.coap_serve.specs.world.World as world
 use Rattle.coap_serve.proofs.world.StepLaws.{world_step, spelled_same}
 use Rattle.coap_serve.proofs.world.HearingLaws.{world_hears}
-use Rattle.coap_serve.proofs.streams.FlushLaws.{flushed_so, times_further}
+use Rattle.coap_serve.proofs.streams.FlushLaws.{flushed_so, times_further, flush_leaves}
 use Rattle.coap_serve.proofs.streams.OutputLaws.{world_for_written, outcome_there}
-use Rattle.coap_serve.proofs.world.ShowLaws.{side_there, shows_written}
+use Rattle.coap_serve.proofs.world.ShowLaws.{side_there, shows_written, no_session}
 use Rattle.coap_serve.proofs.world.GoingOn.{GoesOn, as_before, written_goes_on, side_is}
 use Rattle.coap_serve.proofs.world.GrowLaws.{front_written, same_front, none_waits_all_written, written_all, settled_grows}
 use Rattle.coap_serve.proofs.world.WalkLaws.{written_between}
@@ -29,8 +32,15 @@ pub record FlushShown (c : ConfigValues) (es : List Event) (id : ℕ) (s : Side)
   pub there : side_of id (world_after c events).sides ≡ Some side
   pub said : front_written side ≡ front_written s ++ text
 
--- A server shows a world with its connection; the world for these bytes is the one in which that is flushed, and the connection spelled
--- what they spell.
+-- A server of this configuration shows a world, in which the connection with this number is this one.
+pub record ShowsSide (c : ConfigValues) (v : ServerValue) (id : ℕ) (s : Side) : Type 0 where
+  pub config : v.config ≡ c
+  pub events : List Event
+  pub shows : Shows v events
+  pub there : side_of id (world_after c events).sides ≡ Some s
+
+-- The same of the only connection. The world for these bytes is the one in which that is flushed, and the connection spelled what they
+-- spell.
 pub record LeadsTo (c : ConfigValues) (v : ServerValue) (s : Side) (bytes : List ℕ) : Type 0 where
   pub config : v.config ≡ c
   pub events : List Event
@@ -46,12 +56,9 @@ pub record StandsBehind (c : ConfigValues) (bytes front : List ℕ) (after : Ser
   pub says : stdio_output c bytes ≡ front ++ text
   pub written : wrote text
 
-module _ (c : ConfigValues) (v : ServerValue) (s : Side) (bytes : List ℕ) (leads : LeadsTo c v s bytes) where
-  abbrev id : ℕ
-  id = only_id c
-
+module _ (c : ConfigValues) (v : ServerValue) (id : ℕ) (s : Side) (from : ShowsSide c v id s) where
   abbrev es : List Event
-  es = leads.events
+  es = from.events
 
   -- one turn more
   module _ (turns : ℕ) (now : ServerValue) (text : List ℕ) (so_far : FlushShown c es id s turns now text) where
@@ -87,27 +94,79 @@ module _ (c : ConfigValues) (v : ServerValue) (s : Side) (bytes : List ℕ) (lea
   -- all turns
   flushing : (turns : ℕ) → FlushShown c es id s turns (flush_turns turns id v).server (flush_turns turns id v).text
   unfolding flush_turns written_times
-  flushing zero = record { config = leads.config; events = es; shows = leads.shows; world = refl; spelled = refl; side = s; there = leads.there; said = sym (append-nil (front_written s)) }
+  flushing zero = record { config = from.config; events = es; shows = from.shows; world = refl; spelled = refl; side = s; there = from.there; said = sym (append-nil (front_written s)) }
   flushing (suc turns) = turn_shown turns (flush_turns turns id v).server (flush_turns turns id v).text (flushing turns)
 
   more_there : more_at id v ≡ more_of (Some s)
   more_there =
-      ap more_in (side_there v es id s leads.shows (ap (λ (k : ConfigValues). side_of id (world_after k es).sides) leads.config ∙ leads.there))
+      ap more_in (side_there v es id s from.shows (ap (λ (k : ConfigValues). side_of id (world_after k es).sides) from.config ∙ from.there))
       ∙ ap (λ (n : ℕ). length s.history.held + n) (length-map s.observers _)
+
+  -- after all turns, or those after which nothing waits, the world is the flushed one
+  whole : (turns : ℕ) → turns ≤ suc (more_at id v) → (waiting_at id (flush_turns turns id v).server ≡ []) ⊎ (turns ≡ suc (more_at id v)) → written_times c.limits id turns (world_after c es) ≡ flushed c.limits id (world_after c es)
+  whole turns within done =
+      let f = flushing turns in
+      let w : World = world_after c es in
+      elim done [
+        | inl none ↦
+            times_further c.limits id turns (suc (more_of (Some s))) w f.side (world_hears c es) (rw (← f.world) f.there)
+            (sym (waits_shown turns (flush_turns turns id v).server (flush_turns turns id v).text f) ∙ none) (omega (arith, within, more_there))
+        | inr all ↦ ap (λ (n : ℕ). written_times c.limits id n w) (all ∙ ap (λ (n : ℕ). suc n) more_there)
+      ]
+      ∙ sym (flushed_so c.limits id w s from.there)
+
+  -- and so nothing waits
+  none_waits : (turns : ℕ) → turns ≤ suc (more_at id v) → (waiting_at id (flush_turns turns id v).server ≡ []) ⊎ (turns ≡ suc (more_at id v)) → waiting_at id (flush_turns turns id v).server ≡ []
+  none_waits turns within done =
+      let f = flushing turns in
+      let left = flush_leaves c.limits id (world_after c es) s from.there in
+      let flushed_there : side_of id (flushed c.limits id (world_after c es)).sides ≡ Some f.side = rw (← whole turns within done, ← f.world) f.there in
+      let none : waiting_on f.side ≡ [] = cc (flushed_there, left.0.there, left.1) in
+      waits_shown turns (flush_turns turns id v).server (flush_turns turns id v).text f ∙ none
+
+  pub leaves_nothing : (after : ServerValue) (wrote : List ℕ → Type 0) → IsFlushed id v after wrote → waiting_at id after ≡ []
+  leaves_nothing after wrote did = rw did.server (none_waits did.turns did.within (rw did.server at did.done))
+
+-- ---- any connection
+
+-- where no connection has the number, turns of a flush leave that so
+absent_entries : (id : ℕ) (f : ℕ × SessionValue → ℕ × SessionValue) (es : List (ℕ × SessionValue)) → ((e : ℕ × SessionValue) → (f e).0 ≡ e.0) → session_of id es ≡ None → session_of id (map f es) ≡ None
+unfolding session_of
+absent_entries id f [] keeps none = refl
+absent_entries id f (e ∷ es) keeps none = grind (arith, nat_tests, keeps e, none, absent_entries id f es keeps)
+
+absent_turns : (id : ℕ) (v : ServerValue) (turns : ℕ) → session_of id v.sessions ≡ None → session_of id (flush_turns turns id v).server.sessions ≡ None
+unfolding flush_turns
+absent_turns id v zero none = none
+absent_turns id v (suc turns) none =
+    let u : ServerValue = (flush_turns turns id v).server in
+    let becomes : ℕ × SessionValue → ℕ × SessionValue = session_becomes id (λ s. session_written s (length (waiting_at id u))) in
+    absent_entries id (settled_entry u.host) (map becomes u.sessions) (λ e. refl)
+    (absent_entries id becomes u.sessions (λ e. cond_both (e.0 == id) _ _ (λ (x : ℕ × SessionValue). x.0 ≡ e.0) (λ is. refl) (λ apart. refl)) (absent_turns id v turns none))
+
+-- A flush leaves nothing that waits on the connection with this number, where one has it.
+flush_on : (v after : ServerValue) (es : List Event) (id : ℕ) (wrote : List ℕ → Type 0) (found : Option Side) → Shows v es → side_of id (world_after v.config es).sides ≡ found → IsFlushed id v after wrote → waiting_at id after ≡ []
+flush_on v after es id wrote (Some s) shows there did = leaves_nothing v.config v id s (record { config = refl; events = es; shows = shows; there = there }) after wrote did
+flush_on v after es id wrote None shows absent did = rw did.server (ap waiting_in (absent_turns id v did.turns (no_session v es id shows absent)))
+
+pub flush_empties : (v after : ServerValue) (es : List Event) (id : ℕ) (wrote : List ℕ → Type 0) → Shows v es → IsFlushed id v after wrote → waiting_at id after ≡ []
+flush_empties v after es id wrote shows did = flush_on v after es id wrote (side_of id (world_after v.config es).sides) shows refl did
+
+-- ---- the only connection
+
+module _ (c : ConfigValues) (v : ServerValue) (s : Side) (bytes : List ℕ) (leads : LeadsTo c v s bytes) where
+  abbrev id : ℕ
+  id = only_id c
+
+  abbrev from : ShowsSide c v id s
+  from = record { config = leads.config; events = leads.events; shows = leads.shows; there = leads.there }
 
   -- after all turns, or those after which nothing waits, the world is the one for the bytes
   pub turns_stand : (turns : ℕ) → turns ≤ suc (more_at id v) → (waiting_at id (flush_turns turns id v).server ≡ []) ⊎ (turns ≡ suc (more_at id v))
       → Stands c (flush_turns turns id v).server bytes × (stdio_output c bytes ≡ front_written s ++ (flush_turns turns id v).text)
   turns_stand turns within done =
-      let f = flushing turns in
-      let w : World = world_after c es in
-      let whole : written_times c.limits id turns w ≡ written_times c.limits id (suc (more_of (Some s))) w = elim done [
-        | inl none ↦
-            times_further c.limits id turns (suc (more_of (Some s))) w f.side (world_hears c es) (rw (← f.world) f.there)
-            (sym (waits_shown turns (flush_turns turns id v).server (flush_turns turns id v).text f) ∙ none) (omega (arith, within, more_there))
-        | inr all ↦ ap (λ (n : ℕ). written_times c.limits id n w) (all ∙ ap (λ (n : ℕ). suc n) more_there)
-      ] in
-      let ends = f.world ∙ whole ∙ sym (flushed_so c.limits id w s leads.there) ∙ leads.flushes in
+      let f = flushing c v id s from turns in
+      let ends = f.world ∙ whole c v id s from turns within done ∙ leads.flushes in
       let all = world_for_written c bytes in
       let is_there : side_of id (world_for c bytes).sides ≡ Some f.side = rw (← ends) f.there in
       let none : waiting_on f.side ≡ [] = cc (is_there, all.there, all.waits) in (

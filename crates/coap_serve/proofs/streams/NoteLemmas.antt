@@ -1,5 +1,5 @@
 -- What was noted of connections stays so while the stamp is the same, and a stamp that changed never comes back.
-use Rattle.std.proofs.Common.{◌≡◌, ◌≢◌, ℕ, zero, suc, ◌+◌, ◌≤◌, Bool, true, false, List, [], ◌∷◌, ◌++◌, length, map, filter, drop, Option, Some, None, refl, sym, ap, ◌∙◌, arith, ◌==◌, option_map, if◌then◌else◌, Result, Ok, Err, nat_eq, is_ok, slice_get, remove, IfOk, OnOk, OnErr}
+use Rattle.std.proofs.Common.{◌≡◌, ◌≢◌, ℕ, zero, suc, ◌+◌, ◌≤◌, Bool, true, false, List, [], ◌∷◌, ◌++◌, length, map, filter, drop, Option, Some, None, refl, sym, ap, ◌∙◌, arith, ◌==◌, ◌||◌, option_map, if◌then◌else◌, Result, Ok, Err, nat_eq, is_ok, slice_get, remove, IfOk, OnOk, OnErr}
 use Rattle.std.proofs.lemmas.Bool.{eq-eqb, eqb-true, eqb-false}
 use Rattle.std.proofs.lemmas.Bool.Decides.{nat_tests}
 use Rattle.std.proofs.lemmas.Cmp.{nat_eq_equiv}
@@ -12,17 +12,20 @@ use Rattle.coap_serve.specs.Prelude.{AreSettled, session_of, session_becomes, se
 use Rattle.coap_serve.specs.Prelude.{server_opened, server_ticked, server_taken, server_taken_on, server_dropped}
 use Rattle.coap_serve.specs.Prelude.{is_there, stamp_of, outlook_of, Fed, fed_turns, fed, fed_more, IsServedOnce}
 use Rattle.coap_serve.specs.Prelude.{IsCarriedOn, ComesToNothing, server_heard, server_wrote, has_failed, is_over_in}
-use Rattle.coap_serve.specs.Prelude.{wants_in, wants_of, can_go_on, IsAtRest, MayWait, end_of, IsNoEarlier}
+use Rattle.coap_serve.specs.Prelude.{wants_in, wants_of, can_go_on, end_of, IsNoEarlier, FarEnd, CanAnyGoOn}
+use Rattle.coap_serve.specs.Prelude.{Agenda, IsAgendaOf, IsWaitAfter, agenda_with, wait_of, wait_for, least_with}
+use Rattle.coap_serve.specs.Prelude.{WireTrace}
+use Rattle.coap_serve.specs.streams.Turns.{wait_until}
 use Rattle.coap_serve.specs.Prelude.{KeepsNotes, WhilePassedOver, AtFirst, Served, IsNoted, AreNoted, true_end}
 use Rattle.coap_serve.specs.Prelude.{AllByRecursion, IsDistinct, keys_of, set_value_at, insert_entry, Peer, IoFault}
-use Rattle.coap_serve.specs.Prelude.{Wait, No, Until, Forever}
+use Rattle.coap_serve.specs.Prelude.{No}
 use Rattle.coap_serve.specs.script.Replay.{goes_on}
 use Rattle.coap_serve.specs.streams.Notes.{Dropped, Opened, Ticked}
 use Rattle.coap_serve.proofs.streams.PassedLemmas.{passed_over}
 use Rattle.coap_serve.proofs.values.ServerLemmas.{Entries, is_other, all_are_settled, all_settled_stay}
 use Rattle.coap_store.proofs.StoreLemmas.{removed_few}
 use Rattle.coap_serve.specs.declared.door.peer.Course.TheVariants.{Open}
-use Rattle.coap_serve.proofs.streams.AgendaLemmas.{stamp_in}
+use Rattle.coap_serve.proofs.streams.AgendaLemmas.{stamp_in, an_answer, can_with, sooner_never}
 
 -- ---- stamps
 
@@ -163,14 +166,14 @@ writes : (v : ServerValue) (id : ℕ) (wrote : Got) → GoesOnSparing (But id) v
 writes v id (Bytes n) = one_happens v id (λ s. session_written s n) v.host (follows_itself v.host)
 writes v id wrote = nothing_happens
 
-is_carried_on : (failed may_write : Bool) (v : ServerValue) (id : ℕ) (bytes : List ℕ) (after : ServerValue) (left : List ℕ) (course : Course) → IsCarriedOn failed may_write v id bytes after left course → GoesOnSparing (But id) v after
-is_carried_on true may_write v id bytes after left course carried = rw carried.0 nothing_happens
-is_carried_on false may_write v id bytes after left course carried =
+is_carried_on : (failed may_write : Bool) (v : ServerValue) (id : ℕ) (bytes : List ℕ) (wire : WireTrace) (after : ServerValue) (left : List ℕ) (told : WireTrace) (course : Course) → IsCarriedOn failed may_write v id bytes wire after left told course → GoesOnSparing (But id) v after
+is_carried_on true may_write v id bytes wire after left told course carried = rw carried.0 nothing_happens
+is_carried_on false may_write v id bytes wire after left told course carried =
     rw carried.server (one_then_another (takes_sparing (length bytes) v id bytes) (writes (fed v id bytes).server id carried.wrote))
 
-module _ (may_read may_write : Bool) (v : ServerValue) (id : ℕ) (rest : List ℕ) (after : ServerValue) (left : List ℕ) (course : Course) (part : IsServedOnce may_read may_write v id rest after left course) where
+module _ (may_read may_write : Bool) (v : ServerValue) (id : ℕ) (rest : List ℕ) {wire : WireTrace} (after : ServerValue) (left : List ℕ) {told : WireTrace} (course : Course) (part : IsServedOnce may_read may_write v id rest wire after left told course) where
   served_on : GoesOnSparing (But id) v after
-  served_on = one_then_another (hears v id part.heard) (is_carried_on (has_failed part.heard) may_write _ id part.bytes after left course part.carried)
+  served_on = one_then_another (hears v id part.heard) (is_carried_on (has_failed part.heard) may_write _ id part.bytes part.between after left told course part.carried)
 
   pub served_no_earlier : IsNoEarlier (stamp_of v.host) (stamp_of after.host)
   served_no_earlier = served_on.follows.no_earlier
@@ -214,7 +217,7 @@ keeps_notes : {id : ℕ} {v after : ServerValue} → AreSettled v.host v.session
 keeps_notes settled on =
     record { settled = on.settled settled; no_earlier = on.follows.no_earlier; noted = λ other rest apart same. wants_stay on settled other apart same rest }
 
-pub noted_where_served : (may_read may_write : Bool) (v : ServerValue) (id : ℕ) (rest : List ℕ) (after : ServerValue) (left : List ℕ) (course : Course) → AreSettled v.host v.sessions → IsServedOnce may_read may_write v id rest after left course → KeepsNotes id v after
+pub noted_where_served : (may_read may_write : Bool) (v : ServerValue) (id : ℕ) (rest : List ℕ) {wire : WireTrace} (after : ServerValue) (left : List ℕ) {told : WireTrace} (course : Course) → AreSettled v.host v.sessions → IsServedOnce may_read may_write v id rest wire after left told course → KeepsNotes id v after
 noted_where_served may_read may_write v id rest after left course settled part = keeps_notes settled (served_on may_read may_write v id rest after left course part)
 
 pub noted_where_dropped : (v : ServerValue) (id : ℕ) → AreSettled v.host v.sessions → KeepsNotes id v (server_dropped v id)
@@ -234,7 +237,7 @@ spares_one id other apart on = record { follows = on.follows; settled = on.settl
 
 passed_on_sparing : {id : ℕ} {v after : ServerValue} → WhilePassedOver id v after → GoesOnSparing (Only id) v after
 passed_on_sparing AtFirst = nothing_happens
-passed_on_sparing {id} (Served before now other rest left may_read may_write course so_far apart part) =
+passed_on_sparing {id} (Served before now other rest left wire told may_read may_write course so_far apart part) =
     one_then_another (passed_on_sparing so_far) (spares_one id other apart (served_on may_read may_write before other rest now left course part))
 passed_on_sparing {id} (Dropped before other so_far apart) = one_then_another (passed_on_sparing so_far) (spares_one id other apart (dropped_on before other))
 passed_on_sparing {id} (Opened before so_far apart) = one_then_another (passed_on_sparing so_far) (spares_one id (before.ids + 1) apart (opened_on before))
@@ -298,15 +301,15 @@ noted_with v (e ∷ es) (suc i) id p q at beside noted = (beside.0, noted_with v
 
 -- ---- one connection's part of a turn
 
-module _ {W : Type 0} (may_read may_write : Bool) (v : ServerValue) (id : ℕ) (rest : List ℕ) (after : ServerValue) (left : List ℕ) (es : List (ℕ × Peer W)) (i : ℕ) (p q : Peer W)
+module _ {W : Type 0} (may_read may_write : Bool) (v : ServerValue) (id : ℕ) (rest : List ℕ) (wire : WireTrace) (after : ServerValue) (left : List ℕ) (told : WireTrace) (es : List (ℕ × Peer W)) (i : ℕ) (p q : Peer W)
     (settled : AreSettled v.host v.sessions) (distinct : IsDistinct nat_eq (keys_of es)) (at : slice_get es i ≡ Some (id, p)) (noted : AreNoted v es) where
   -- the notes of those beside it hold
-  pub beside_served : (course : Course) → IsServedOnce may_read may_write v id rest after left course → AreNoted after (remove es i)
+  pub beside_served : (course : Course) → IsServedOnce may_read may_write v id rest wire after left told course → AreNoted after (remove es i)
   beside_served course part =
       beside_become (IsNoted v) (IsNoted after) id (stays_noted (served_on may_read may_write v id rest after left course part) settled) es i p distinct at noted
 
   -- all hold, where it goes on
-  pub all_noted : (r : Result Course IoFault) → IfOk r (λ course. IsServedOnce may_read may_write v id rest after left course) → IfOk r (λ course. course ≡ Open → q.wants ≡ wants_of after id q.rest)
+  pub all_noted : (r : Result Course IoFault) → IfOk r (λ course. IsServedOnce may_read may_write v id rest wire after left told course) → IfOk r (λ course. course ≡ Open → q.wants ≡ wants_of after id q.rest)
       → IfOk r (λ course. course ≡ Open → AreNoted after (set_value_at es i q))
   all_noted (Ok course) part wants = λ open_now. noted_with after es i id p q at (beside_served course part) (noted_now after id q (wants open_now))
   all_noted (Err fault) part wants = tt
@@ -332,15 +335,36 @@ noted_with_one_more v after id p es now settled noted given opened wants is dist
 
 -- ---- how long the door may wait
 
--- where all are at rest, the notes are the truth
-ends_are_true : {W : Type 0} (readable writable : W → Option Bool) (v : ServerValue) (es : List (ℕ × Peer W)) → AreNoted v es → AllByRecursion (IsAtRest (stamp_of v.host)) (map (λ e. end_of readable writable e.1) es)
-    → map (λ e. end_of readable writable e.1) es ≡ map (λ e. true_end readable writable v e) es
-ends_are_true readable writable v [] noted rest = refl
-ends_are_true readable writable v (e ∷ es) noted rest = rw (noted.0.truth rest.0.0, ends_are_true readable writable v es noted.1 rest.1) refl
+-- something that may be said of these
+some_answer : (all : List FarEnd) → (ready : Bool) × CanAnyGoOn all ready
+some_answer [] = (false, refl)
+some_answer (e ∷ es) =
+    let reads = an_answer e.wants.read e.readable in
+    let first = e.wants.take || reads.0 || (an_answer e.wants.write e.writable).0 in
+    let others = some_answer es in
+    let can : CanAnyGoOn (e ∷ es) (first || others.0) = (first, others.0, can_with e reads.0 reads.1, others.1, refl) in
+    (first || others.0, can)
 
--- what it may do by the notes, it may
-pub may_wait_so : {W : Type 0} (readable writable : W → Option Bool) (v : ServerValue) (es : List (ℕ × Peer W)) (wait : Wait) → AreNoted v es → MayWait wait (stamp_of v.host) (map (λ e. end_of readable writable e.1) es)
-    → MayWait wait (stamp_of v.host) (map (λ e. true_end readable writable v e) es)
-may_wait_so readable writable v es No noted may = tt
-may_wait_so readable writable v es (Until moment) noted may = rw (ends_are_true readable writable v es noted may.0) at may
-may_wait_so readable writable v es Forever noted may = rw (ends_are_true readable writable v es noted may.0) at may
+wait_where_changed : (a : Agenda) (opens ready noted : Bool) (all : List FarEnd) → a.at_once ≡ (true || noted) → wait_of (agenda_with a opens None) ≡ wait_for ((opens || true) || ready) all
+wait_where_changed a opens ready noted all once = grind arith
+
+wait_where_fresh : (a : Agenda) (opens ready : Bool) (all : List FarEnd) → a.at_once ≡ (false || ready) → a.due ≡ least_with None all → wait_of (agenda_with a opens None) ≡ wait_for ((opens || false) || ready) all
+wait_where_fresh a opens ready all once due = rw (once, due, sooner_never) (elim ready as (λ r. (if r || opens then No else wait_until (least_with None all)) ≡ (if (opens || false) || r then No else wait_until (least_with None all))) [ true ↦ grind arith | false ↦ grind arith ])
+
+-- where no stamp is older, the notes are the truth
+ends_are_true : {W : Type 0} (readable writable : W → Option Bool) (v : ServerValue) (es : List (ℕ × Peer W)) → AreNoted v es → AllByRecursion (λ e. e.wants.stamp ≡ stamp_of v.host) (map (λ e. end_of readable writable e.1) es)
+    → map (λ e. end_of readable writable e.1) es ≡ map (λ e. true_end readable writable v e) es
+ends_are_true readable writable v [] noted fresh = refl
+ends_are_true readable writable v (e ∷ es) noted fresh = rw (noted.0.truth fresh.0, ends_are_true readable writable v es noted.1 fresh.1) refl
+
+-- the agenda by the notes says how long the door may wait by what is true
+pub wait_so : {W : Type 0} (readable writable : W → Option Bool) (v : ServerValue) (es : List (ℕ × Peer W)) (a b : Agenda) (opens changed : Bool) → AreNoted v es
+    → IsAgendaOf a changed (stamp_of v.host) (map (λ e. end_of readable writable e.1) es) → b ≡ agenda_with a opens None
+    → IsWaitAfter (opens || changed) (map (λ e. true_end readable writable v e) es) (wait_of b)
+wait_so readable writable v es a b opens true noted of is =
+    let far = map (λ e. true_end readable writable v e) es in
+    let some = some_answer far in
+    record { ready = some.0; can = some.1; is = rw is (wait_where_changed a opens some.0 of.ready far of.at_once) }
+wait_so readable writable v es a b opens false noted of is =
+    let same = ends_are_true readable writable v es noted (of.fresh refl) in
+    record { ready = of.ready; can = rw same at of.can; is = rw is (rw same at (wait_where_fresh a opens of.ready (map (λ e. end_of readable writable e.1) es) of.at_once of.due)) }

@@ -81,18 +81,25 @@ nothing_done v id i s rest may_read may_write lies here settled idle on =
     record {
       unread = unread;
       unwritten = unwritten;
-      there_is_one = record {
+      there_is_one = λ wire. record {
         heard = Later;
         bytes = rest;
-        laid = rw unread (refl, refl);
-        carried = record { wrote = Later; within = tt; idle = λ e. refl; server = sym same.server; rest = sym left_so; outcome = rw on refl };
+        between = wire;
+        laid = rw unread (refl, refl, refl);
+        carried = record {
+          wrote = Later;
+          offered = rw same.server (record { idle = λ e. (refl, refl); busy = λ some. absurd (some unwritten) });
+          server = sym same.server;
+          rest = sym left_so;
+          outcome = rw on refl;
+        };
       };
-      always = λ after left course part.
-          let laid : (part.heard ≡ Later) × (part.bytes ≡ rest) = rw unread at part.laid in
-          let carried : IsTakenAndWritten may_write v id rest after left course = rw (laid.0, laid.1) at part.carried in
-          let wrote : carried.wrote ≡ Later = carried.idle (rw same.server unwritten) in
-          let server : after ≡ v = carried.server ∙ ap (server_wrote (fed v id rest).server id) wrote ∙ same.server in
-          (server, carried.rest ∙ left_so, carried.outcome ∙ rw (wrote, server, on) refl);
+      always = λ wire after left told course part.
+          let laid : (part.heard ≡ Later) × (part.bytes ≡ rest) × (part.between ≡ wire) = rw unread at part.laid in
+          let carried : IsTakenAndWritten may_write v id rest wire after left told course = rw (laid.0, laid.1, laid.2) at part.carried in
+          let wrote = carried.offered.idle (rw same.server unwritten) in
+          let server : after ≡ v = carried.server ∙ ap (server_wrote (fed v id rest).server id) wrote.0 ∙ same.server in
+          (server, carried.rest ∙ left_so, wrote.1, carried.outcome ∙ rw (wrote.0, server, on) refl);
     }
 
 -- a connection on which nothing can be done may be passed over

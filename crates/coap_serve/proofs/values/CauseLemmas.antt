@@ -1,5 +1,5 @@
 -- What a change of a path, or of the moment, cannot touch stays settled.
-use Rattle.std.proofs.Common.{◌≡◌, ◌≢◌, ℕ, zero, suc, ◌<◌, ◌^◌, false, List, [], ◌∷◌, Option, Some, None, is_some, refl, sym, ap, subst, ◌∙◌}
+use Rattle.std.proofs.Common.{◌≡◌, ◌≢◌, ℕ, zero, suc, ◌+◌, ◌<◌, ◌≤◌, ◌^◌, false, List, [], ◌∷◌, length, Option, Some, None, is_some, refl, sym, ap, subst, ◌∙◌, arith, ◌==◌, if◌then◌else◌}
 use Rattle.coap_serve.specs.Prelude.{find, map, not, slice_get, AllByRecursion, values_of, set_value_at, Path}
 use Rattle.coap_serve.specs.Prelude.{StoreValue, found_in, put_in, removed_in, place_of, key_for, state_at, Root}
 use Rattle.coap_serve.specs.Prelude.{Time, Async, Listing, Dynamic, Change, Nothing, Put, Delete, changed, changes}
@@ -7,14 +7,19 @@ use Rattle.coap_serve.specs.Prelude.{IsStore, Host, Cause, ObserverValue, Sessio
 use Rattle.coap_serve.specs.Prelude.{host_changed, session_settled, IsSettled, AreSettled, changed_at, settled_entry}
 use Rattle.coap_serve.specs.Prelude.{path_hash, change_hash, ObservesNone, IsUntouched, AreSettledUntouched}
 use Rattle.coap_serve.specs.Prelude.{AreOthersSettled}
+use Rattle.coap_serve.specs.Prelude.{mark_of, state_on, changed_mark, MarkedSession, IsMarked, is_concerned}
+use Rattle.coap_serve.specs.Prelude.{AreMarked, marks_after, ConcernsNone, marks_anew, IsMarkedBut, AreMarkedBut, AreAllMarked, AreMarkedAfter}
+use Rattle.std.proofs.lemmas.Bool.{both_ways, eq-eqb}
+use Rattle.coap_serve.proofs.values.MarkLemmas.{anew_same, anew_after, anew_unconcerned}
+use Rattle.coap_serve.proofs.world.EntryLemmas.{all_to}
 use Rattle.coap_store.specs.declared.place.Place.{Place}
 use Rattle.coap_store.proofs.AnswerLaws.{key_is}
 use Rattle.coap_store.proofs.ChangeLaws.{other_is_kept_on_put, other_is_kept_on_delete}
 use Rattle.coap_serve.specs.declared.cause.Cause.TheVariants as cause
 use Rattle.coap_serve.proofs.values.SettleLemmas.{settled_is_settled, settled_stays, settled_still}
 use Rattle.coap_serve.proofs.world.EntryLemmas.{none_due}
-use Rattle.coap_serve.proofs.values.ServerLemmas.{Entries, one_of_all, written_at_index, settled_up_to}
-use Rattle.coap_serve.proofs.values.DueLemmas.{at_moment, stays_settled}
+use Rattle.coap_serve.proofs.values.ServerLemmas.{Entries, MarkedEntries, all_written, one_of_all, written_at_index, settled_up_to}
+use Rattle.coap_serve.proofs.values.DueLemmas.{at_moment, stays_settled, mark_later}
 
 -- ---- the hash of a change
 
@@ -47,6 +52,25 @@ stale_elsewhere host c hash o is other =
     ap not (sym (marked_alike host.store (changed host.store c) host.now o.mark (key_for o.path) (place_of o.path)
     (λ q e. kept_elsewhere host.store c hash is q (λ same. other (ap path_hash (key_is o.path q e).1 ∙ same)))))
 
+mark_alike : (s t : StoreValue) (now : ℕ) (key : Option Path) (p : Place) → ((q : Path) → key ≡ Some q → found_in t.resources q ≡ found_in s.resources q) → mark_of now (state_at s now key p) ≡ mark_of now (state_at t now key p)
+unfolding state_at
+mark_alike s t now key Root same = refl
+mark_alike s t now key Time same = refl
+mark_alike s t now key Async same = refl
+mark_alike s t now key Listing same = refl
+mark_alike s t now None Dynamic same = refl
+mark_alike s t now (Some q) Dynamic same = ap (mark_of now) (sym (same q refl))
+
+-- whom the change does not concern has the same mark
+mark_elsewhere : (host : Host) (c : Change) (hash : ℕ) (o : ObserverValue) → change_hash c ≡ Some hash → is_concerned (cause.Path hash) o ≡ false → changed_mark host o ≡ changed_mark (host_changed host c) o
+unfolding changed_mark
+mark_elsewhere host c hash o is other =
+    let apart : path_hash o.path ≢ hash = λ same. both_ways (path_hash o.path == hash) other (eq-eqb (path_hash o.path) hash same) in
+    let same = mark_alike host.store (changed host.store c) host.now (key_for o.path) (place_of o.path)
+    (λ q e. kept_elsewhere host.store c hash is q (λ same. apart (ap path_hash (key_is o.path q e).1 ∙ same))) in
+    ap (λ b. if b then Some (mark_of host.now (state_on host o.path)) else None) (stale_elsewhere host c hash o is apart)
+    ∙ ap (λ (m : ℕ). if is_stale (host_changed host c) o then Some m else None) same
+
 none_elsewhere : (host : Host) (c : Change) (hash : ℕ) (os : List ObserverValue) → change_hash c ≡ Some hash → ObservesNone hash os → AllByRecursion (λ o. is_stale host o ≡ false) os → find (is_stale (host_changed host c)) os ≡ None
 none_elsewhere host c hash [] is others none = refl
 none_elsewhere host c hash (o ∷ os) is others none = rw (sym (stale_elsewhere host c hash o is others.0) ∙ none.0) (none_elsewhere host c hash os is others.1 none.1)
@@ -54,6 +78,81 @@ none_elsewhere host c hash (o ∷ os) is others none = rw (sym (stale_elsewhere 
 settled_elsewhere : (host : Host) (c : Change) (hash : ℕ) (v : SessionValue) → change_hash c ≡ Some hash → ObservesNone hash v.observers → IsSettled host v → IsSettled (host_changed host c) v
 settled_elsewhere host c hash v is others =
     settled_still host (host_changed host c) v (λ none. none) (λ fresh. none_elsewhere host c hash v.observers is others (none_due (is_stale host) v.observers fresh))
+
+-- ---- the marks that a change sets anew
+
+but_changed : (host : Host) (c : Change) (hash : ℕ) (s : MarkedSession) → change_hash c ≡ Some hash → IsMarked host s → IsMarkedBut (cause.Path hash) (host_changed host c) s
+but_changed host c hash s is marked =
+    let os = s.session.observers in
+    ap (marks_anew (cause.Path hash) (host_changed host c) os) marked ∙ anew_after (cause.Path hash) host (host_changed host c) os (λ o other. mark_elsewhere host c hash o is other)
+
+-- the same of the marks of one connection, after a change or none
+pub marked_after : (host : Host) (c : Change) (os : List ObserverValue) (marks : List (Option ℕ)) → AreMarked host os marks → marks_after (change_hash c) (host_changed host c) os marks ≡ map (changed_mark (host_changed host c)) os
+marked_after host Nothing os marks marked = marked
+marked_after host (Put path format bytes) os marks marked =
+    let c : Change = Put path format bytes in
+    let hash = path_hash path in
+    ap (marks_anew (cause.Path hash) (host_changed host c) os) marked ∙ anew_after (cause.Path hash) host (host_changed host c) os (λ o other. mark_elsewhere host c hash o refl other)
+marked_after host (Delete path) os marks marked =
+    let c : Change = Delete path in
+    let hash = path_hash path in
+    ap (marks_anew (cause.Path hash) (host_changed host c) os) marked ∙ anew_after (cause.Path hash) host (host_changed host c) os (λ o other. mark_elsewhere host c hash o refl other)
+
+pub all_but_changed : (host : Host) (c : Change) (hash : ℕ) (es : MarkedEntries) → change_hash c ≡ Some hash → AreAllMarked host es → AreMarkedBut (cause.Path hash) (host_changed host c) es
+all_but_changed host c hash es is =
+    all_to (λ (e : ℕ × MarkedSession). IsMarked host e.1) (λ (e : ℕ × MarkedSession). IsMarkedBut (cause.Path hash) (host_changed host c) e.1) (λ e. but_changed host c hash e.1 is) es
+
+but_later : (host : Host) (later before : ℕ) (s : MarkedSession) → IsStore host.store → IsMarked host s → IsMarkedBut (cause.Moment before) (at_moment host later) s
+but_later host later before s store marked =
+    let os = s.session.observers in
+    ap (marks_anew (cause.Moment before) (at_moment host later) os) marked ∙ anew_after (cause.Moment before) host (at_moment host later) os (λ o other. mark_later host later o store other)
+
+pub all_but_later : (host : Host) (later before : ℕ) (es : MarkedEntries) → IsStore host.store → AreAllMarked host es → AreMarkedBut (cause.Moment before) (at_moment host later) es
+all_but_later host later before es store =
+    all_to (λ (e : ℕ × MarkedSession). IsMarked host e.1) (λ (e : ℕ × MarkedSession). IsMarkedBut (cause.Moment before) (at_moment host later) e.1) (λ e. but_later host later before e.1 store) es
+
+pub all_but_put : (host : Host) (path : Path) (format : Option ℕ) (bytes : List ℕ) (hash : ℕ) (es : MarkedEntries) (store : StoreValue) → store ≡ put_in host.store path format bytes → hash ≡ path_hash path → AreAllMarked host es → AreMarkedBut (cause.Path hash) (record host { store = store }) es
+all_but_put host path format bytes hash es store is same marked = rw is (all_but_changed host (Put path format bytes) hash es (ap Some (sym same)) marked)
+
+pub all_but_removed : (host : Host) (path : Path) (hash : ℕ) (es : MarkedEntries) (store : StoreValue) → store ≡ removed_in host.store path → hash ≡ path_hash path → AreAllMarked host es → AreMarkedBut (cause.Path hash) (record host { store = store }) es
+all_but_removed host path hash es store is same marked = rw is (all_but_changed host (Delete path) hash es (ap Some (sym same)) marked)
+
+-- whose marks are as they are to be need none anew
+pub but_none : (why : Cause) (host : Host) (s : MarkedSession) → IsMarked host s → IsMarkedBut why host s
+but_none why host s marked = ap (marks_anew why host s.session.observers) marked ∙ anew_same why host s.session.observers
+
+pub marked_untouched : (why : Cause) (host : Host) (s : MarkedSession) → ConcernsNone why s.session.observers → IsMarkedBut why host s → IsMarked host s
+marked_untouched why host s none but = sym (anew_unconcerned why host s.session.observers s.marks none) ∙ but
+
+-- ---- the loop over them that sets marks anew
+
+-- the connections before an index have them
+abbrev pub AreMarkedUpTo : ℕ → Cause → Host → MarkedEntries → Type 0
+AreMarkedUpTo zero why host es = AreMarkedBut why host es
+AreMarkedUpTo (suc n) why host [] = Unit {0}
+AreMarkedUpTo (suc n) why host (e ∷ es) = IsMarked host e.1 × AreMarkedUpTo n why host es
+
+pub next_but : (n : ℕ) (why : Cause) (host : Host) (es : MarkedEntries) (s : MarkedSession) → AreMarkedUpTo n why host es → slice_get (values_of es) n ≡ Some s → IsMarkedBut why host s
+next_but zero why host es s marked at = one_of_all (IsMarkedBut why host) 0 es s marked at
+next_but (suc n) why host [] s marked at = absurd cc
+next_but (suc n) why host (e ∷ es) s marked at = next_but n why host es s marked.1 at
+
+one_up : (n : ℕ) (why : Cause) (host : Host) (es : MarkedEntries) (s : MarkedSession) → AreMarkedUpTo n why host es → IsMarked host s → AreMarkedUpTo (suc n) why host (set_value_at es n s)
+one_up zero why host [] s marked one = tt
+one_up zero why host (e ∷ es) s marked one = (one, marked.1)
+one_up (suc n) why host [] s marked one = tt
+one_up (suc n) why host (e ∷ es) s marked one = (marked.0, one_up n why host es s marked.1 one)
+
+pub one_more_up : (n : ℕ) (why : Cause) (host : Host) (es : MarkedEntries) (s : MarkedSession) → AreMarkedUpTo n why host es → IsMarked host s → AreMarkedUpTo (n + 1) why host (set_value_at es n s)
+one_more_up n why host es s marked one =
+    let next : suc n ≡ n + 1 = omega arith in
+    subst (λ (k : ℕ). AreMarkedUpTo k why host (set_value_at es n s)) next (one_up n why host es s marked one)
+
+pub all_up : (n : ℕ) (why : Cause) (host : Host) (es : MarkedEntries) → length es ≤ n → AreMarkedUpTo n why host es → AreAllMarked host es
+all_up zero why host [] many marked = tt
+all_up (suc n) why host [] many marked = tt
+all_up zero why host (e ∷ es) many marked = absurd (omega (arith, many))
+all_up (suc n) why host (e ∷ es) many marked = (marked.0, all_up n why host es (omega (arith, many)) marked.1)
 
 -- ---- all connections
 
@@ -116,3 +215,11 @@ pub others_settled : (host : Host) (c : Change) (i : ℕ) (es : Entries) (u : Se
 others_settled host c i es u None is settled = tt
 others_settled host c i es u (Some hash) is settled = λ s here.
     one_in_place (λ e. IsUntouched (cause.Path hash) host.now e.1 → IsSettled (host_changed host c) e.1) i es s u (untouched_by_change host c hash es (sym is) settled) (λ n _. here)
+
+-- the marks of all, where what a connection took changed something or nothing
+pub marked_after_take : (host : Host) (c : Change) (i : ℕ) (es : MarkedEntries) (s : MarkedSession) (found : Option ℕ) → found ≡ change_hash c → AreAllMarked host es → IsMarked (host_changed host c) s → AreMarkedAfter found (host_changed host c) (set_value_at es i s)
+marked_after_take host Nothing i es s None is all one = all_written (IsMarked host) es i s all one
+marked_after_take host (Put path format bytes) i es s None is all one = absurd cc
+marked_after_take host (Delete path) i es s None is all one = absurd cc
+marked_after_take host c i es s (Some hash) is all one =
+    all_written (IsMarkedBut (cause.Path hash) (host_changed host c)) es i s (all_but_changed host c hash es (sym is) all) (but_none (cause.Path hash) (host_changed host c) s one)

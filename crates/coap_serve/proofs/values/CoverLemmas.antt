@@ -1,5 +1,5 @@
 -- The paths of all observers are in the set that is kept beside them.
-use Rattle.std.proofs.Common.{◌≡◌, ℕ, zero, suc, ◌≤◌, Bool, true, false, List, [], ◌∷◌, ◌++◌, length, map, set, get_or, refl, ap, arith}
+use Rattle.std.proofs.Common.{◌≡◌, ◌≤◌, Bool, true, false, List, [], ◌∷◌, ◌++◌, length, map, refl, ap, arith}
 use Rattle.coap_serve.specs.Prelude.{filter, if◌then◌else◌, list_any, Path, place_of, is_dynamic, PathSet}
 use Rattle.coap_serve.specs.Prelude.{ObserverValue, tells_time, Covers, observer_value, AreCovered}
 use Rattle.std.proofs.lemmas.Bool.{both_ways, true_from_ne_false}
@@ -13,12 +13,6 @@ pub none_tells_time : (paths : PathSet) (os : List ObserverValue) → AreCovered
 none_tells_time paths [] all none = refl
 none_tells_time paths (o ∷ os) all none =
     rw (true_from_ne_false (is_dynamic (place_of o.path)) (λ is. both_ways paths.built_in none (all.0.built_in is))) (none_tells_time paths os all.1 none)
-
--- a mark changes no path
-pub told_covered : (paths : PathSet) (xs : List Observer) (i mark : ℕ) (x : Observer) → x ≡ get_or xs i x → AreCovered paths (map observer_value xs) → AreCovered paths (map observer_value (set xs i (record x { mark = mark })))
-told_covered paths [] i mark x read all = tt
-told_covered paths (y ∷ ys) zero mark x read all = rw read all
-told_covered paths (y ∷ ys) (suc i) mark x read all = (all.0, told_covered paths ys i mark x read all.1)
 
 -- one more path is in the set
 pub one_more_covered : (before after : PathSet) (xs : List Observer) (x : Observer) → AreCovered before (map observer_value xs) → Covers after x.path → ((p : Path) → Covers before p → Covers after p) → AreCovered after (map observer_value (xs ++ x ∷ []))

@@ -1,9 +1,10 @@
 -- What is not due yet: a tick to a moment before each that is due changes nothing but the moment.
-use Rattle.std.proofs.Common.{◌≡◌, ℕ, ◌+◌, ◌<◌, ◌≤◌, ◌^◌, true, false, List, [], ◌∷◌, Option, Some, None, min, refl, sym, ap, subst, ◌∙◌, arith, inl, inr, find, fold}
+use Rattle.std.proofs.Common.{◌≡◌, ℕ, ◌+◌, ◌<◌, ◌≤◌, ◌^◌, true, false, List, [], ◌∷◌, Option, Some, None, min, refl, sym, ap, subst, ◌∙◌, arith, inl, inr, find, fold, if◌then◌else◌}
 use Rattle.coap_serve.specs.Prelude.{AllByRecursion, list_any, filter_map, reduce, HeldValue, Answer, Pong, come}
 use Rattle.coap_serve.specs.Prelude.{to_come, next_moment, first_due, Path, Representation, StoreValue, place_of}
 use Rattle.coap_serve.specs.Prelude.{key_for, stored_at, state_at, is_dynamic, Root, Time, Async, Listing, Dynamic}
 use Rattle.coap_serve.specs.Prelude.{IsStore, Host, ObserverValue, SessionValue, is_marked, is_stale, IsSettled}
+use Rattle.coap_serve.specs.Prelude.{mark_of, state_on, changed_mark}
 use Rattle.coap_serve.specs.Prelude.{ServerValue, AreSettled, sooner, tells_time, next_told, due_on, IsBefore}
 use Rattle.coap_serve.specs.Prelude.{WaitsForWhatIsDue}
 use Rattle.std.proofs.lemmas.Bool.{cases_lt, not-false, false_from_ne_true, or_parts, ne_eqb}
@@ -77,6 +78,21 @@ stale_so host later o store stored =
     let key : Option Path = key_for o.path in
     let there = λ (now : ℕ). state_is_stored host.store now key (place_of o.path) (not-false (is_dynamic (place_of o.path)) stored) in
     cc (there host.now, there later, marked_so host.now later o.mark (stored_at host.store key) (λ r. stored_numbered host.store key r store))
+
+-- what is stored keeps its mark, and so does whoever observes it
+mark_so : (now later : ℕ) (o : Option Representation) → ((r : Representation) → o ≡ Some r → 1 ≤ r.version) → mark_of now o ≡ mark_of later o
+mark_so now later None numbered = refl
+mark_so now later (Some r) numbered = let some = numbered r refl in rw (ne_eqb r.version 0 (λ e. omega (arith, e, some))) refl
+
+pub mark_later : (host : Host) (later : ℕ) (o : ObserverValue) → IsStore host.store → tells_time o ≡ false → changed_mark host o ≡ changed_mark (at_moment host later) o
+unfolding changed_mark
+mark_later host later o store stored =
+    let key : Option Path = key_for o.path in
+    let there = λ (now : ℕ). state_is_stored host.store now key (place_of o.path) (not-false (is_dynamic (place_of o.path)) stored) in
+    let same : mark_of host.now (state_on host o.path) ≡ mark_of later (state_on (at_moment host later) o.path) =
+    ap (mark_of host.now) (there host.now) ∙ mark_so host.now later (stored_at host.store key) (λ r. stored_numbered host.store key r store) ∙ ap (mark_of later) (sym (there later)) in
+    ap (λ b. if b then Some (mark_of host.now (state_on host o.path)) else None) (stale_so host later o store stored)
+    ∙ ap (λ (m : ℕ). if is_stale (at_moment host later) o then Some m else None) same
 
 none_stale : (host : Host) (later : ℕ) (os : List ObserverValue) → IsStore host.store → list_any tells_time os ≡ false → AllByRecursion (λ o. is_stale host o ≡ false) os → find (is_stale (at_moment host later)) os ≡ None
 none_stale host later [] store stored none = refl

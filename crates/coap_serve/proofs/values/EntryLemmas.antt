@@ -1,10 +1,9 @@
 -- Entries by their index, and what becomes of the first one that is stale.
-use Rattle.std.proofs.Common.{◌≡◌, ℕ, zero, suc, ◌<◌, ◌≤◌, Bool, true, false, List, [], ◌∷◌, length, map, set, get_or, Some, None, refl, ap, subst, ◌∙◌, arith, ◌||◌, find, filter, not, option_map, slice_get, slice_set, if◌then◌else◌}
-use Rattle.coap_serve.specs.Prelude.{AllByRecursion, AllWithin, remove, list_any, same_bytes, Host, Stale}
-use Rattle.coap_serve.specs.Prelude.{first_becomes, ObserverValue, mark_of, state_on, untold_mark, is_stale}
-use Rattle.coap_serve.specs.Prelude.{without_entry, IsFirstStale, first_index, observer_value}
+use Rattle.std.proofs.Common.{◌≡◌, ℕ, zero, suc, ◌<◌, ◌≤◌, Bool, true, false, List, [], ◌∷◌, length, map, get_or, Some, None, refl, ap, subst, ◌∙◌, arith, find, filter, not, option_map, slice_get, slice_set, if◌then◌else◌}
+use Rattle.coap_serve.specs.Prelude.{AllByRecursion, AllWithin, remove, same_bytes}
+use Rattle.coap_serve.specs.Prelude.{first_becomes}
+use Rattle.coap_serve.specs.Prelude.{without_entry, first_index, observer_value}
 use Rattle.std.proofs.lemmas.List.Elements.{recursion_from_All}
-use Rattle.std.proofs.lemmas.List.{length-map, map-set}
 use Rattle.std.proofs.lemmas.Option.{slice_get_read, slice_get-map}
 use Rattle.coap_serve.specs.declared.observers.Observer.{Observer}
 use Rattle.coap_serve.proofs.values.OptionLemmas.{none_made, one_made}
@@ -58,39 +57,16 @@ unfolding first_index
 none_at_all due [] none = refl
 none_at_all due (o ∷ os) none = cc (none.0, none_at_all due os none.1)
 
-first_at : {X O : Type 0} (due : O → Bool) (seen : X → O) (xs : List X) (i : ℕ) (x : X) → i < length xs → x ≡ get_or xs i x → due (seen x) ≡ true → AllWithin (λ y. due (seen y) ≡ false) xs 0 i → first_index due (map seen xs) ≡ Some i
+pub first_at : {X O : Type 0} (due : O → Bool) (seen : X → O) (xs : List X) (i : ℕ) (x : X) → i < length xs → x ≡ get_or xs i x → due (seen x) ≡ true → AllWithin (λ y. due (seen y) ≡ false) xs 0 i → first_index due (map seen xs) ≡ Some i
 unfolding first_index
 first_at due seen [] i x within read is none = absurd (omega arith)
 first_at due seen (y ∷ xs) zero x within read is none = cc
 first_at due seen (y ∷ xs) (suc i) x within read is none =
     cc (none 0 y (omega arith) (omega arith), first_at due seen xs i x (omega arith) read is (λ k d low below. none (suc k) d (omega arith) (omega arith)))
 
--- ---- what was told
-
--- where no other mark is found, the state now was told
-pub is_told : (host : Host) (o : ObserverValue) → untold_mark host o.path o.mark ≡ None → is_stale host o ≡ false
-unfolding is_stale
-is_told host o none = grind arith
-
--- where one is found, another one was told, and it is that of the state now
-is_untold : (host : Host) (o : ObserverValue) (mark : ℕ) → untold_mark host o.path o.mark ≡ Some mark → (is_stale host o ≡ true) × (mark ≡ mark_of host.now (state_on host o.path))
-unfolding is_stale
-is_untold host o mark found = grind arith
-
 -- the entry that is read is the one that is seen
 pub read_at : (xs : List Observer) (i : ℕ) (x : Observer) → i < length xs → x ≡ get_or xs i x → slice_get (map observer_value xs) i ≡ Some (observer_value x)
 read_at xs i x within read = slice_get-map observer_value xs i ∙ ap (option_map observer_value) (slice_get_read xs (length xs) i x refl within read)
-
--- the first one for which it is found
-pub first_untold : (host : Host) (xs : List Observer) (found : Stale) (x : Observer) → found.index < length xs → x ≡ get_or xs found.index x → untold_mark host x.path x.mark ≡ Some found.mark
-    → AllWithin (λ y. is_stale host (observer_value y) ≡ false) xs 0 found.index → IsFirstStale host (map observer_value xs) found
-first_untold host xs found x within read untold none =
-    let is = is_untold host (observer_value x) found.mark untold in
-    record {
-      first = first_at (is_stale host) observer_value xs found.index x within read is.0 none;
-      mark =
-          λ o at. let same : observer_value x ≡ o = cc (read_at xs found.index x within read) in is.1 ∙ ap (λ (p : ObserverValue). mark_of host.now (state_on host p.path)) same;
-    }
 
 -- ---- a filter of what is seen
 
@@ -100,17 +76,3 @@ others_seen token [] = refl
 others_seen token (o ∷ os) =
     let rest = others_seen token os in
     elim (not (same_bytes o.token.items token)) as (λ b. map observer_value (if b then o ∷ filter (λ p. not (same_bytes p.token.items token)) os else filter (λ p. not (same_bytes p.token.items token)) os) ≡ (if b then observer_value o ∷ without_entry token (map observer_value os) else without_entry token (map observer_value os))) [ true ↦ cc | false ↦ rest ]
-
--- ---- a write of a mark
-
-pub told_seen : (xs : List Observer) (i mark : ℕ) (x : Observer) (o : ObserverValue) → i < length (map observer_value xs) → x ≡ get_or xs i x → slice_get (map observer_value xs) i ≡ Some o → map observer_value (set xs i (record x { mark = mark })) ≡ set (map observer_value xs) i (record o { mark = mark })
-told_seen xs i mark x o within read at =
-    let there = read_at xs i x (omega (arith, within, length-map xs observer_value)) read in
-    cc (map-set observer_value xs i (record x { mark = mark }))
-
--- ---- some
-
--- whether one of those that the code holds passes a test of values
-pub any_seen : (test : ObserverValue → Bool) (os : List Observer) → list_any (λ o. test (observer_value o)) os ≡ list_any test (map observer_value os)
-any_seen test [] = refl
-any_seen test (o ∷ os) = ap (λ b. test (observer_value o) || b) (any_seen test os)

@@ -1,11 +1,11 @@
 -- The connections of a server, found by their numbers and changed where they lie.
-use Rattle.std.proofs.Common.{◌≡◌, ℕ, zero, suc, ◌+◌, ◌<◌, ◌≤◌, Bool, true, false, cond, List, [], ◌∷◌, ◌++◌, length, Option, Some, None, is_some, refl, sym, ap, subst, ◌∙◌, arith, map, filter, remove, IfNone, IfSome, OnOk, OnErr, Result, Ok, Err, not, nat_eq, slice_get, ◌==◌}
+use Rattle.std.proofs.Common.{◌≡◌, ℕ, zero, suc, ◌+◌, ◌<◌, ◌≤◌, Bool, true, false, cond, List, [], ◌∷◌, ◌++◌, length, Option, Some, None, is_some, refl, sym, ap, subst, ◌∙◌, arith, map, filter, remove, IfNone, IfSome, OnOk, OnErr, Result, Ok, Err, not, nat_eq, option_map, nat_lt, slice_get, ◌==◌, if◌then◌else◌}
 use Rattle.coap_serve.specs.Prelude.{AllByRecursion, IsDistinct, position_or_len, position, lookup, keys_of}
 use Rattle.coap_serve.specs.Prelude.{values_of, nat_eq_equiv, set_value_at, insert_entry, Host, SessionValue}
 use Rattle.coap_serve.specs.Prelude.{new_session, session_settled, IsSettled, ServerValue, LiesAt, session_of}
 use Rattle.coap_serve.specs.Prelude.{is_there, changed_at, session_becomes, on_session, settled_entry}
 use Rattle.coap_serve.specs.Prelude.{server_settled, server_ticked, server_opened, server_dropped, AreSettled}
-use Rattle.coap_serve.specs.Prelude.{IsServer}
+use Rattle.coap_serve.specs.Prelude.{IsServer, open_refusal, MarkedSession, unmarked, unmarked_entry}
 use Rattle.std.proofs.lemmas.Bool.{eqb-true, ne_eqb, cond_both}
 use Rattle.std.proofs.lemmas.List.{length-map, length_push}
 use Rattle.std.proofs.lemmas.List.Sums.{length-filter, count_by-le-length}
@@ -19,10 +19,13 @@ use Rattle.coap_serve.proofs.world.EntryLemmas.{all_to, all_append, all_filter, 
 abbrev pub Entries : Type 0
 Entries = List (ℕ × SessionValue)
 
+abbrev pub MarkedEntries : Type 0
+MarkedEntries = List (ℕ × MarkedSession)
+
 -- ---- found
 
 -- what is so of all connections is so of the one at an index
-pub one_of_all : (P : SessionValue → Type 0) (i : ℕ) (es : Entries) (s : SessionValue) → AllByRecursion (λ e. P e.1) es → slice_get (values_of es) i ≡ Some s → P s
+pub one_of_all : {S : Type 0} (P : S → Type 0) (i : ℕ) (es : List (ℕ × S)) (s : S) → AllByRecursion (λ e. P e.1) es → slice_get (values_of es) i ≡ Some s → P s
 one_of_all P i [] s all at = absurd cc
 one_of_all P zero (e ∷ es) s all at = subst P (let is : e.1 ≡ s = cc in is) all.0
 one_of_all P (suc i) (e ∷ es) s all at = one_of_all P i es s all.1 at
@@ -33,15 +36,80 @@ unfolding session_of
 session_looked_up id [] = refl
 session_looked_up id (e ∷ es) = rw (nat_eq_equiv.symm e.0 id, session_looked_up id es) refl
 
+-- ---- without the marks
+
+pub unmarked_looked_up : (id : ℕ) (es : MarkedEntries) → session_of id (unmarked es) ≡ option_map (λ (s : MarkedSession). s.session) (lookup (nat_eq id) es)
+unfolding session_of
+unmarked_looked_up id [] = refl
+unmarked_looked_up id (e ∷ es) =
+    rw (nat_eq_equiv.symm e.0 id, unmarked_looked_up id es)
+    (elim (nat_eq id e.0) as (λ b. cond b (Some e.1.session) (option_map (λ (s : MarkedSession). s.session) (lookup (nat_eq id) es)) ≡ option_map (λ (s : MarkedSession). s.session) (cond b (Some e.1) (lookup (nat_eq id) es))) [ true ↦ refl | false ↦ refl ])
+
+keys_unmarked : (es : MarkedEntries) → keys_of (unmarked es) ≡ keys_of es
+keys_unmarked [] = refl
+keys_unmarked (e ∷ es) = cc (keys_unmarked es)
+
+value_unmarked : (es : MarkedEntries) (i : ℕ) → slice_get (values_of (unmarked es)) i ≡ option_map (λ (s : MarkedSession). s.session) (slice_get (values_of es) i)
+value_unmarked [] i = refl
+value_unmarked (e ∷ es) zero = refl
+value_unmarked (e ∷ es) (suc i) = value_unmarked es i
+
+pub unmarked_at : (es : MarkedEntries) (i : ℕ) (s : MarkedSession) → slice_get (values_of es) i ≡ Some s → slice_get (values_of (unmarked es)) i ≡ Some s.session
+unmarked_at es i s at = value_unmarked es i ∙ ap (option_map (λ (s : MarkedSession). s.session)) at
+
+unmarked_written : (es : MarkedEntries) (i : ℕ) (s : MarkedSession) → unmarked (set_value_at es i s) ≡ set_value_at (unmarked es) i s.session
+unmarked_written [] i s = refl
+unmarked_written (e ∷ es) zero s = refl
+unmarked_written (e ∷ es) (suc i) s = ap (λ (rest : Entries). unmarked_entry e ∷ rest) (unmarked_written es i s)
+
+pub set_unmarked : (es : MarkedEntries) (i : ℕ) (s : MarkedSession) (v : SessionValue) → s.session ≡ v → unmarked (set_value_at es i s) ≡ set_value_at (unmarked es) i v
+set_unmarked es i s v is = unmarked_written es i s ∙ ap (set_value_at (unmarked es) i) is
+
+-- what is so of all is so of all still where it is so of the one that is written
+pub all_written : (P : MarkedSession → Type 0) (es : MarkedEntries) (i : ℕ) (s : MarkedSession) → AllByRecursion (λ e. P e.1) es → P s → AllByRecursion (λ e. P e.1) (set_value_at es i s)
+all_written P [] i s all one = tt
+all_written P (e ∷ es) zero s all one = (one, all.1)
+all_written P (e ∷ es) (suc i) s all one = (all.0, all_written P es i s all.1 one)
+
+pub own_written : (P : MarkedSession → Type 0) (es : MarkedEntries) (i : ℕ) (s : MarkedSession) → P s → IfSome (slice_get (values_of (set_value_at es i s)) i) P
+own_written P [] i s one = tt
+own_written P (e ∷ es) zero s one = one
+own_written P (e ∷ es) (suc i) s one = own_written P es i s one
+
+pub within_unmarked : (id i : ℕ) (es : MarkedEntries) → LiesAt id i (unmarked es) → i < length es
+within_unmarked id i es lies = omega (arith, lies.within, length-map es unmarked_entry)
+
+pub inserted_unmarked : (es : MarkedEntries) (id : ℕ) (s : MarkedSession) → unmarked (insert_entry nat_eq es id s) ≡ insert_entry nat_eq (unmarked es) id s.session
+inserted_unmarked [] id s = refl
+inserted_unmarked (e ∷ es) id s =
+    elim (nat_eq id e.0) as (λ b. unmarked (cond b ((e.0, s) ∷ es) (e ∷ insert_entry nat_eq es id s)) ≡ cond b ((e.0, s.session) ∷ unmarked es) (unmarked_entry e ∷ insert_entry nat_eq (unmarked es) id s.session)) [
+      | true ↦ refl
+      | false ↦ ap (λ (rest : Entries). unmarked_entry e ∷ rest) (inserted_unmarked es id s)
+    ]
+
+pub all_inserted : (P : MarkedSession → Type 0) (es : MarkedEntries) (id : ℕ) (s : MarkedSession) → AllByRecursion (λ e. P e.1) es → P s → AllByRecursion (λ e. P e.1) (insert_entry nat_eq es id s)
+all_inserted P [] id s all one = (one, tt)
+all_inserted P (e ∷ es) id s all one =
+    elim (nat_eq id e.0) as (λ b. AllByRecursion (λ e. P e.1) (cond b ((e.0, s) ∷ es) (e ∷ insert_entry nat_eq es id s))) [ true ↦ (one, all.1) | false ↦ (all.0, all_inserted P es id s all.1 one) ]
+
+pub still_unmarked : {T E : Type 0} (r : Result T E) (es fs : MarkedEntries) → OnErr r (es ≡ fs) → OnErr r (unmarked es ≡ unmarked fs)
+still_unmarked (Ok x) es fs same = tt
+still_unmarked (Err e) es fs same = ap unmarked same
+
 -- what the map found, where it found none and where it found one
-pub none_where_none : (id : ℕ) (es : Entries) (r : Option ℕ) → is_some r ≡ is_some (lookup (nat_eq id) es) → IfNone r (session_of id es ≡ None)
-none_where_none id es None found = session_looked_up id es ∙ there_is_none (lookup (nat_eq id) es) (sym found)
+pub none_where_none : (id : ℕ) (es : MarkedEntries) (r : Option ℕ) → is_some r ≡ is_some (lookup (nat_eq id) es) → IfNone r (session_of id (unmarked es) ≡ None)
+none_where_none id es None found = unmarked_looked_up id es ∙ ap (option_map (λ (s : MarkedSession). s.session)) (there_is_none (lookup (nat_eq id) es) (sym found))
 none_where_none id es (Some i) found = tt
 
-pub one_where_some : (id : ℕ) (es : Entries) (r : Option ℕ) → IsDistinct nat_eq (keys_of es) → r ≡ position (nat_eq id) (keys_of es) → IfSome r (λ i. i < length es) → IfSome r (λ i. slice_get (values_of es) i ≡ lookup (nat_eq id) es) → IfSome r (λ i. LiesAt id i es)
+pub one_where_some : (id : ℕ) (es : MarkedEntries) (r : Option ℕ) → IsDistinct nat_eq (keys_of es) → r ≡ position (nat_eq id) (keys_of es) → IfSome r (λ i. i < length es) → IfSome r (λ i. slice_get (values_of es) i ≡ lookup (nat_eq id) es) → IfSome r (λ i. LiesAt id i (unmarked es))
 one_where_some id es None distinct index within value = tt
 one_where_some id es (Some i) distinct index within value =
-    record { distinct = distinct; index = (cond_some _ _ i (sym index)).1; within = within; found = session_looked_up id es ∙ sym value }
+    record {
+      distinct = rw (keys_unmarked es) distinct;
+      index = rw (keys_unmarked es) (cond_some _ _ i (sym index)).1;
+      within = rw (length-map es unmarked_entry) within;
+      found = unmarked_looked_up id es ∙ ap (option_map (λ (s : MarkedSession). s.session)) (sym value) ∙ sym (value_unmarked es i);
+    }
 
 -- ---- changed
 
@@ -52,7 +120,12 @@ written_at_index f [] i s at = refl
 written_at_index f (e ∷ es) zero s at = ap (λ v. (e.0, f v) ∷ es) (let is : e.1 ≡ s = cc in sym is)
 written_at_index f (e ∷ es) (suc i) s at = ap (λ rest. e ∷ rest) (written_at_index f es i s at)
 
-pub length-written : (es : Entries) (i : ℕ) (s : SessionValue) → length (set_value_at es i s) ≡ length es
+-- a value written at an index, where its connection became what a function makes of it
+pub written_unmarked : (f : SessionValue → SessionValue) (es : MarkedEntries) (i : ℕ) (s after : MarkedSession) → slice_get (values_of es) i ≡ Some s → after.session ≡ f s.session → unmarked (set_value_at es i after) ≡ changed_at i f (unmarked es)
+written_unmarked f es i s after at is =
+    unmarked_written es i after ∙ ap (set_value_at (unmarked es) i) is ∙ written_at_index f (unmarked es) i s.session (unmarked_at es i s at)
+
+pub length-written : {S : Type 0} (es : List (ℕ × S)) (i : ℕ) (s : S) → length (set_value_at es i s) ≡ length es
 length-written [] i s = refl
 length-written (e ∷ es) zero s = refl
 length-written (e ∷ es) (suc i) s = ap suc (length-written es i s)
@@ -65,7 +138,7 @@ changed_written zero f (e ∷ es) s = refl
 changed_written (suc i) f (e ∷ es) s = ap (λ (rest : Entries). e ∷ rest) (changed_written i f es s)
 
 -- what was there, written again
-pub written_back : (es : Entries) (i : ℕ) (s back : SessionValue) → slice_get (values_of es) i ≡ Some s → back ≡ s → set_value_at es i back ≡ es
+pub written_back : {S : Type 0} (es : List (ℕ × S)) (i : ℕ) (s back : S) → slice_get (values_of es) i ≡ Some s → back ≡ s → set_value_at es i back ≡ es
 written_back [] i s back at is = refl
 written_back (e ∷ es) zero s back at is = ap (λ v. (e.0, v) ∷ es) (let same : back ≡ e.1 = cc in same)
 written_back (e ∷ es) (suc i) s back at is = ap (λ rest. e ∷ rest) (written_back es i s back at is)
@@ -197,6 +270,10 @@ length-settled_up_to zero host es = refl
 length-settled_up_to (suc n) host [] = refl
 length-settled_up_to (suc n) host (e ∷ es) = ap suc (length-settled_up_to n host es)
 
+pub as_many_settled : (n : ℕ) (host : Host) (es now : MarkedEntries) → unmarked now ≡ settled_up_to n host (unmarked es) → length now ≡ length es
+as_many_settled n host es now is =
+    sym (length-map now unmarked_entry) ∙ ap length is ∙ length-settled_up_to n host (unmarked es) ∙ length-map es unmarked_entry
+
 next_settles : (n : ℕ) (host : Host) (es : Entries) → changed_at n (session_settled host) (settled_up_to n host es) ≡ settled_up_to (suc n) host es
 unfolding settled_up_to changed_at
 next_settles zero host [] = refl
@@ -274,6 +351,12 @@ module _ (v : ServerValue) (entries : Entries) (server : IsServer v) (is : entri
       (omega (arith, length_push v.sessions (v.ids + 1, new_session v.config.limits)))
 
 -- ---- what calls answer
+
+pub opens : (v : ServerValue) → length v.sessions < v.config.connections → (v.ids ≡ 18446744073709551615 → ⊥) → open_refusal v ≡ None
+opens v few left = grind (arith, few, left)
+
+pub enough_waits : {E : Type 0} (fault : E) (waiting count : ℕ) → count ≤ waiting → (if nat_lt waiting count then Some fault else None) ≡ None
+enough_waits fault waiting count enough = grind (arith, enough)
 
 pub is_there_at : (id i : ℕ) (es : Entries) → LiesAt id i es → true ≡ is_there (session_of id es)
 is_there_at id i es lies = cc (lies.found, (there_at (values_of es) i (rw (length-values_of es) lies.within)).1)

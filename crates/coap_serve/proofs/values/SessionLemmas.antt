@@ -8,12 +8,12 @@ use Rattle.coap_serve.specs.Prelude.{with_size, Verdict, LimitValues, AreInRange
 use Rattle.coap_serve.specs.Prelude.{Pong, first_due, fits, LinkValue, IsReady, free_in, limit_in, own_csm}
 use Rattle.coap_serve.specs.Prelude.{link_after, is_open, takes_messages, answers, is_request, IsPut, Host, Inside}
 use Rattle.coap_serve.specs.Prelude.{ObserverValue, ObserversValue, SessionValue, is_stale, session_ready}
-use Rattle.coap_serve.specs.Prelude.{session_takes, sizes_of, observers_on, frame_on, session_with, without_entry}
+use Rattle.coap_serve.specs.Prelude.{session_takes, sizes_of, frame_on, session_with, without_entry}
 use Rattle.coap_serve.specs.Prelude.{hold_on, held_in, session_replied, asks_this, session_handled, change_by}
 use Rattle.coap_serve.specs.Prelude.{Taking, taking_read, taking, RefusesPiece, notification_on, session_notified}
 use Rattle.coap_serve.specs.Prelude.{next_held_in, next_stale, link_sent, session_settled_once, first_index}
 use Rattle.coap_serve.specs.Prelude.{link_replied, entries_replied, entries_notified, framer_on, IsSession}
-use Rattle.coap_serve.specs.Prelude.{session_value}
+use Rattle.coap_serve.specs.Prelude.{session_value, observers_left}
 use Rattle.coap_frame.proofs.RaiseLemmas.{raise_allowed, raised_is_framer}
 use Rattle.coap_frame.proofs.FramingLemmas.{empty_framer, framing_is_framer}
 use Rattle.coap_frame.proofs.FrontLaws.{frame_first}
@@ -29,7 +29,7 @@ use Rattle.coap_serve.proofs.values.OptionLemmas.{there_is, there_at}
 -- ---- what a stop gives up
 
 -- a session whose fields were changed, and which then gave up what a stop gives up
-pub given_up : (s : Inside) (l : LinkValue) (f g : FramerValue) (o p : ObserversValue) → IsSession s → sizes_of l ≡ sizes_of s.link → f.max ≡ s.framer.max → IsFramer f → o.room ≡ s.observers.room → g ≡ framer_on l f → p ≡ record o { entries = observers_on l o.entries }
+pub given_up : (s : Inside) (l : LinkValue) (f g : FramerValue) (o p : ObserversValue) → IsSession s → sizes_of l ≡ sizes_of s.link → f.max ≡ s.framer.max → IsFramer f → o.room ≡ s.observers.room → g ≡ framer_on l f → p ≡ observers_left l o
     → IsSession (record { framer = g; link = l; observers = p })
 given_up s l f g o p is sizes max framer room g_is p_is =
     let emptied = empty_framer f.max [] f.copied framer.low framer.high framer.countable refl in
@@ -59,7 +59,7 @@ replied_as host l others m None = refl
 replied_as host l others m (Some seconds) = refl
 
 pub on_request : {T E : Type 0} (r : Result T E) (host : Host) (v : SessionValue) (m : Message) (l after : LinkValue) (o p : ObserversValue) → asks_this v.link m ≡ true → l ≡ link_after v.link (call.Handle m) → o.room ≡ v.link.limits.observers → o.entries ≡ v.observers
-    → OnOk r (after ≡ link_replied host l o.room (without_entry m.token o.entries) m (held_in l (hold_on host m))) → OnOk r (p ≡ record o { entries = entries_replied host l o.room (without_entry m.token o.entries) m (held_in l (hold_on host m)) })
+    → OnOk r (after ≡ link_replied host l o.room (without_entry m.token o.entries) m (held_in l (hold_on host m))) → OnOk r (p.entries ≡ entries_replied host l o.room (without_entry m.token o.entries) m (held_in l (hold_on host m)))
     → OnOk r ((frame : List ℕ) → session_with [] after p.entries ≡ session_handled host (record v { frame = frame }) m)
 unfolding session_handled
 on_request (Ok x) host v m l after o p asks is room entries link_is p_is = λ frame.
@@ -113,7 +113,7 @@ module _ (s : Inside) (is : IsSession s) (piece frame : List ℕ) (found : (fram
       cc (takes, is.greatest, cut, kept, unread_nothing s.framer piece frame is.framer found)
 
 -- a session that took a piece, and then gave up what a stop gives up
-pub taken_session : (s : Inside) (piece : List ℕ) (l : LinkValue) (g : FramerValue) (o p : ObserversValue) → IsSession s → sizes_of l ≡ sizes_of s.link → o.room ≡ s.observers.room → g ≡ framer_on l (framer_after s.framer piece) → p ≡ record o { entries = observers_on l o.entries } → IsSession (record { framer = g; link = l; observers = p })
+pub taken_session : (s : Inside) (piece : List ℕ) (l : LinkValue) (g : FramerValue) (o p : ObserversValue) → IsSession s → sizes_of l ≡ sizes_of s.link → o.room ≡ s.observers.room → g ≡ framer_on l (framer_after s.framer piece) → p ≡ observers_left l o → IsSession (record { framer = g; link = l; observers = p })
 taken_session s piece l g o p is sizes room = given_up s l (framer_after s.framer piece) g o p is sizes refl (framing_is_framer s.framer piece is.framer) room
 
 -- a session whose framer alone was changed
@@ -129,7 +129,7 @@ ready_is l true same = le-leb l.limits.max_sent (free_in l) (same.0 refl)
 ready_is l false same = false_from_ne_true (nat_le l.limits.max_sent (free_in l)) (λ fits. false≢true (same.1 (leb-true l.limits.max_sent (free_in l) fits)))
 
 -- what is seen of a session that gave up what a stop gives up
-given_up_seen : (s : Inside) (l : LinkValue) (g : FramerValue) (o p : ObserversValue) → g ≡ framer_on l s.framer → p ≡ record o { entries = observers_on l o.entries } → record { frame = g.kept; link = l; observers = p.entries } ≡ session_with s.framer.kept l o.entries
+given_up_seen : (s : Inside) (l : LinkValue) (g : FramerValue) (o p : ObserversValue) → g ≡ framer_on l s.framer → p ≡ observers_left l o → record { frame = g.kept; link = l; observers = p.entries } ≡ session_with s.framer.kept l o.entries
 given_up_seen s l g o p g_is p_is =
     let kept : (framer_on l s.framer).kept ≡ frame_on l s.framer.kept =
     elim (takes_messages l.phase) as (λ b. (if b then s.framer else record s.framer { kept = []; spent = [] }).kept ≡ (if b then s.framer.kept else [])) [ true ↦ refl | false ↦ refl ] in
@@ -138,7 +138,7 @@ given_up_seen s l g o p g_is p_is =
 -- a session in which the first stale observer, at this index, was session_is_notified
 module _ (host : Host) (s : Inside) (index : ℕ) (l : LinkValue) (o : ObserversValue) (ready : session_ready (session_value s) ≡ true) (first : first_index (is_stale host) s.observers.entries ≡ Some index)
     (link : (e : ObserverValue) → slice_get s.observers.entries index ≡ Some e → l ≡ link_after s.link (call.Reply (notification_on host e)))
-    (entries : (e : ObserverValue) → slice_get s.observers.entries index ≡ Some e → o ≡ record s.observers { entries = entries_notified host s.link s.observers.entries e }) where
+    (entries : (e : ObserverValue) → slice_get s.observers.entries index ≡ Some e → o.entries ≡ entries_notified host s.link s.observers.entries e) where
   abbrev session_is_notified : (e : ObserverValue) × (slice_get s.observers.entries index ≡ Some e)
   session_is_notified = there_at s.observers.entries index (is_first (is_stale host) s.observers.entries index first).within
 
@@ -148,16 +148,16 @@ module _ (host : Host) (s : Inside) (index : ℕ) (l : LinkValue) (o : Observers
   pub next_found : true ≡ is_some (next_stale host (session_value s))
   next_found = cc next_is
 
-  pub notified_session : (g : FramerValue) (p : ObserversValue) → IsSession s → g ≡ framer_on l s.framer → p ≡ record o { entries = observers_on l o.entries } → IsSession (record { framer = g; link = l; observers = p })
-  notified_session g p was =
+  pub notified_session : (g : FramerValue) (p : ObserversValue) → o.room ≡ s.observers.room → IsSession s → g ≡ framer_on l s.framer → p ≡ observers_left l o → IsSession (record { framer = g; link = l; observers = p })
+  notified_session g p room was =
       let sizes = ap sizes_of (link session_is_notified.0 session_is_notified.1) ∙ stays_so sizes_of (answers s.link.phase) s.link _ refl in
-      given_up s l s.framer g o p was sizes refl was.framer (ap (λ (k : ObserversValue). k.room) (entries session_is_notified.0 session_is_notified.1))
+      given_up s l s.framer g o p was sizes refl was.framer room
 
-  pub notified_once : (g : FramerValue) (p : ObserversValue) → g ≡ framer_on l s.framer → p ≡ record o { entries = observers_on l o.entries }
+  pub notified_once : (g : FramerValue) (p : ObserversValue) → g ≡ framer_on l s.framer → p ≡ observers_left l o
       → record { frame = g.kept; link = l; observers = p.entries } ≡ session_notified host (session_value s) (next_stale host (session_value s))
   notified_once g p g_is p_is =
       given_up_seen s l g o p g_is p_is
-      ∙ ap (λ (k : ObserversValue). session_with s.framer.kept l k.entries) (entries session_is_notified.0 session_is_notified.1)
+      ∙ ap (session_with s.framer.kept l) (entries session_is_notified.0 session_is_notified.1)
       ∙ ap (λ (k : LinkValue). session_with s.framer.kept k (entries_notified host s.link s.observers.entries session_is_notified.0)) (link session_is_notified.0 session_is_notified.1)
       ∙ ap (session_notified host (session_value s)) (sym next_is)
 
@@ -179,9 +179,9 @@ module _ (host : Host) (s : Inside) (l : LinkValue) (ready : session_ready (sess
   pub held_found : true ≡ (is_some (next_held_in host.now (session_value s)) || is_some (next_stale host (session_value s)))
   held_found = cc held_is
 
-  pub sent_session : (g : FramerValue) (p : ObserversValue) → IsSession s → g ≡ framer_on l s.framer → p ≡ record s.observers { entries = observers_on l s.observers.entries } → IsSession (record { framer = g; link = l; observers = p })
+  pub sent_session : (g : FramerValue) (p : ObserversValue) → IsSession s → g ≡ framer_on l s.framer → p ≡ observers_left l s.observers → IsSession (record { framer = g; link = l; observers = p })
   sent_session g p was = given_up s l s.framer g s.observers p was (ap sizes_of (link due.0 due.1) ∙ sent_sizes s.link host.now due.0) refl was.framer refl
 
-  pub sent_once : (g : FramerValue) (p : ObserversValue) → g ≡ framer_on l s.framer → p ≡ record s.observers { entries = observers_on l s.observers.entries } → record { frame = g.kept; link = l; observers = p.entries } ≡ session_settled_once host (session_value s)
+  pub sent_once : (g : FramerValue) (p : ObserversValue) → g ≡ framer_on l s.framer → p ≡ observers_left l s.observers → record { frame = g.kept; link = l; observers = p.entries } ≡ session_settled_once host (session_value s)
   unfolding session_settled_once
   sent_once g p g_is p_is = given_up_seen s l g s.observers p g_is p_is ∙ cc (link due.0 due.1, held_is)

@@ -3,7 +3,7 @@ use Rattle.std.proofs.Common.{◌≡◌, ℕ, ◌≤◌, Bool, true, false, ◌&
 use Rattle.coap_serve.specs.Prelude.{AllByRecursion, list_any, Message, Phase, Server, Reply, Whole, Bare, Stopped}
 use Rattle.coap_serve.specs.Prelude.{Reason, LimitValues, stop_of, takes_messages, answers, fit, bare_response}
 use Rattle.coap_serve.specs.Prelude.{HeldValue, Answer, Pong, first_due, without_due, is_request, Reaction, stay}
-use Rattle.coap_serve.specs.Prelude.{send_as, react, reaction_unless, answered, asks_custody, is_custody_pong}
+use Rattle.coap_serve.specs.Prelude.{send_as, react, reaction_unless, asks_custody, is_custody_pong}
 use Rattle.coap_serve.specs.Prelude.{pong_with, History, standing_now, with_effect, after, limit_now, own_csm}
 use Rattle.coap_serve.specs.Prelude.{standing_due, release, same_bytes, StoreValue, Response, held_response}
 use Rattle.coap_serve.specs.Prelude.{prompt_answer, response_with_observe, ConfigValues, Observer, goes_on}

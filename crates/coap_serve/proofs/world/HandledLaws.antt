@@ -25,8 +25,6 @@ use Rattle.coap_serve.proofs.world.AcrossLaws.{handled_there, faulted_there, Hol
 use Rattle.coap_serve.proofs.values.OptionLemmas.{same_there}
 use Rattle.coap_serve.proofs.world.PlaceLaws.{nobody}
 use Rattle.coap_conn.specs.declared.phase.Phase.TheVariants as phase
-use Rattle.coap_conn.specs.Held as held
-use Rattle.coap_serve.specs.declared.server.Handled.TheVariants as handled
 use Rattle.coap_serve.specs.world.World as world
 use Rattle.coap_serve.specs.world.Events as event
 use Rattle.coap_conn.proofs.HeldLaws.{due_pong}

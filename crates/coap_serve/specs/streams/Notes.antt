@@ -4,6 +4,7 @@ use Rattle.std.specs.List.{AllByRecursion}
 use Rattle.coap_serve.specs.values.Servers.{ServerValue, AreSettled, server_opened, server_ticked, server_dropped}
 use Rattle.coap_serve.specs.values.Dues.{stamp_of}
 use Rattle.coap_serve.specs.streams.Turns.{IsServedOnce, wants_of, FarEnd}
+use Rattle.coap_serve.specs.streams.Wires.{WireTrace}
 use Rattle.coap_serve.specs.declared.door.peer.Course.{Course}
 use Rattle.coap_serve.specs.declared.door.peer.Peer.{Peer}
 use Rattle.coap_serve.specs.declared.server.Stamp.{Stamp}
@@ -40,7 +41,7 @@ pub record KeepsNotes (id : ℕ) (v after : ServerValue) : Type 0 where
 -- connections have their part of a turn, are dropped and are opened, and the moment moves on.
 pub data WhilePassedOver (id : ℕ) (v : ServerValue) : ServerValue → Type 0 where
   AtFirst : WhilePassedOver id v v
-  Served : (before after : ServerValue) (other : ℕ) (rest left : List ℕ) (may_read may_write : Bool) (course : Course) → WhilePassedOver id v before → id ≢ other → IsServedOnce may_read may_write before other rest after left course → WhilePassedOver id v after
+  Served : (before after : ServerValue) (other : ℕ) (rest left : List ℕ) (wire told : WireTrace) (may_read may_write : Bool) (course : Course) → WhilePassedOver id v before → id ≢ other → IsServedOnce may_read may_write before other rest wire after left told course → WhilePassedOver id v after
   Dropped : (before : ServerValue) (other : ℕ) → WhilePassedOver id v before → id ≢ other → WhilePassedOver id v (server_dropped before other)
   Opened : (before : ServerValue) → WhilePassedOver id v before → id ≢ before.ids + 1 → WhilePassedOver id v (server_opened before)
   Ticked : (before : ServerValue) (later : ℕ) → WhilePassedOver id v before → before.host.now ≤ later → WhilePassedOver id v (server_ticked before later)

@@ -1,10 +1,12 @@
 -- A turn of a door: what happens in it, and that each connection has its part.
-use Rattle.std.specs.Prelude.{◌≡◌, ℕ, ◌+◌, Bool, true, false, List, [], ◌∷◌, ◌++◌, take, drop, slice_get, Option, Some, None, Result, Ok, Err, is_none, nat_eq, if◌then◌else◌}
+use Rattle.std.specs.Prelude.{◌≡◌, ℕ, ◌+◌, Bool, true, false, List, [], ◌∷◌, ◌++◌, length, map, take, drop, slice_get, Option, Some, None, is_none, is_some, nat_eq, ◌||◌, if◌then◌else◌}
 use Rattle.std.specs.List.{AllByRecursion}
 use Rattle.indexmap.specs.IndexMap.{insert_entry}
 use Rattle.coap_serve.specs.script.Shown.{ShowsMore}
 use Rattle.coap_serve.specs.streams.Telling.{DoorCall, Asked}
-use Rattle.coap_serve.specs.streams.Turns.{IsServed, IsAtRest, IsInTurn, end_of}
+use Rattle.coap_serve.specs.streams.Notes.{true_end}
+use Rattle.coap_serve.specs.streams.Turns.{IsServed, IsAtRest, IsInTurn, IsAgendaOf, IsWaitAfter, concerns_earlier, end_of}
+use Rattle.coap_serve.specs.streams.Wires.{WireTrace}
 use Rattle.coap_serve.specs.values.Dues.{stamp_of}
 use Rattle.coap_serve.specs.values.ServerAnswers.{open_refusal}
 use Rattle.coap_serve.specs.values.Servers.{ServerValue, server_opened, server_dropped}
@@ -12,7 +14,8 @@ use Rattle.coap_serve.specs.world.Events.{Event, Opened, Took, Wrote, Ticked, St
 use Rattle.coap_serve.specs.declared.door.peer.Course.{Course}
 use Rattle.coap_serve.specs.declared.door.peer.Course.TheVariants.{Open, Over}
 use Rattle.coap_serve.specs.declared.door.peer.Peer.{Peer}
-use Rattle.coap_serve.specs.declared.serve.IoFault.{IoFault}
+use Rattle.coap_serve.specs.declared.door.agenda.Agenda.{Agenda}
+use Rattle.coap_serve.specs.declared.wire.Wait.{Wait}
 
 -- ---- what happens
 
@@ -58,62 +61,78 @@ abbrev pub end_left : {W : Type 0} → Course → ℕ → Peer W → List (ℕ �
 end_left Open id p = (id, p) ∷ []
 end_left Over id p = []
 
--- A connection had its part of a turn, and was dropped where it is over.
-pub record HasHadItsPart {W : Type 0} (readable writable : W → Option Bool) (v : ServerValue) (e : ℕ × Peer W) (after : ServerValue) (left : List (ℕ × Peer W)) : Type 0 where
+-- A connection had its part of a turn, and was dropped if it is over. Its wire was read and written for that alone.
+pub record HasHadItsPart {W : Type 0} (readable writable : W → Option Bool) (trace : W → WireTrace) (v : ServerValue) (e : ℕ × Peer W) (after : ServerValue) (left : List (ℕ × Peer W)) : Type 0 where
   pub served : ServerValue
   pub peer : Peer W
   pub course : Course
-  pub part : IsServed (readable e.1.wire) (writable e.1.wire) v e.0 e.1.rest served peer.rest course
+  pub part : IsServed (readable e.1.wire) (writable e.1.wire) v e.0 e.1.rest (trace e.1.wire) served peer.rest (trace peer.wire) course
   pub server : after ≡ server_left course served e.0
   pub far_end : left ≡ end_left course e.0 peer
 
--- The connection at an index had its part, and the turn is at a later index: those before and behind it stand as they did.
-pub record HasGoneOn {W : Type 0} (readable writable : W → Option Bool) (v : ServerValue) (es : List (ℕ × Peer W)) (i : ℕ) (after : ServerValue) (left : List (ℕ × Peer W)) (at : ℕ) : Type 0 where
+-- The connection at an index had its part, and the turn is at a later index: those before and after it are as they were.
+pub record HasGoneOn {W : Type 0} (readable writable : W → Option Bool) (trace : W → WireTrace) (v : ServerValue) (es : List (ℕ × Peer W)) (i : ℕ) (after : ServerValue) (left : List (ℕ × Peer W)) (at : ℕ) : Type 0 where
   pub e : ℕ × Peer W
   pub its : List (ℕ × Peer W)
   pub there : slice_get es i ≡ Some e
-  pub part : HasHadItsPart readable writable v e after its
+  pub part : HasHadItsPart readable writable trace v e after its
   pub front : take at left ≡ take i es ++ its
   pub back : drop at left ≡ drop (i + 1) es
 
--- Each connection in order: one at rest was passed over, any other one had its part of the turn.
-pub data AreServed {W : Type 0} (readable writable : W → Option Bool) : ServerValue → List (ℕ × Peer W) → ServerValue → List (ℕ × Peer W) → Type 0 where
-  NoMore : (v : ServerValue) → AreServed readable writable v [] v []
-  PassedOver : (v : ServerValue) (e : ℕ × Peer W) (es : List (ℕ × Peer W)) (after : ServerValue) (left : List (ℕ × Peer W)) → IsAtRest (stamp_of v.host) (end_of readable writable e.1)
-      → AreServed readable writable v es after left → AreServed readable writable v (e ∷ es) after (e ∷ left)
-  HadItsPart : (v : ServerValue) (e : ℕ × Peer W) (es : List (ℕ × Peer W)) (between : ServerValue) (its : List (ℕ × Peer W)) (after : ServerValue) (left : List (ℕ × Peer W)) → IsInTurn (stamp_of v.host) (end_of readable writable e.1)
-      → HasHadItsPart readable writable v e between its → AreServed readable writable between es after left → AreServed readable writable v (e ∷ es) after (its ++ left)
+-- Each connection in order, after this many others that are still there: one at rest was passed over, any other one had its part of the
+-- turn. Whether serving one of them concerned a connection before it, counting those others, is changed.
+pub data AreServed {W : Type 0} (readable writable : W → Option Bool) (trace : W → WireTrace) : (earlier : ℕ) → ServerValue → List (ℕ × Peer W) → (changed : Bool) → ServerValue → List (ℕ × Peer W) → Type 0 where
+  NoMore : (earlier : ℕ) (v : ServerValue) → AreServed readable writable trace earlier v [] false v []
+  PassedOver : (earlier : ℕ) (v : ServerValue) (e : ℕ × Peer W) (es : List (ℕ × Peer W)) (changed : Bool) (after : ServerValue) (left : List (ℕ × Peer W)) → IsAtRest (stamp_of v.host) (end_of readable writable e.1)
+      → AreServed readable writable trace (earlier + 1) v es changed after left → AreServed readable writable trace earlier v (e ∷ es) changed after (e ∷ left)
+  HadItsPart : (earlier : ℕ) (v : ServerValue) (e : ℕ × Peer W) (es : List (ℕ × Peer W)) (between : ServerValue) (its : List (ℕ × Peer W)) (changed : Bool) (after : ServerValue) (left : List (ℕ × Peer W)) → IsInTurn (stamp_of v.host) (end_of readable writable e.1)
+      → HasHadItsPart readable writable trace v e between its → AreServed readable writable trace (earlier + length its) between es changed after left
+      → AreServed readable writable trace earlier v (e ∷ es) (concerns_earlier earlier (stamp_of v.host) (stamp_of between.host) || changed) after (its ++ left)
 
--- A connection was opened where one more may be, of whose reads nothing is left; or none was.
-pub record HasOneMore {W : Type 0} (v : ServerValue) (es : List (ℕ × Peer W)) (after : ServerValue) (left : List (ℕ × Peer W)) : Type 0 where
+-- Each connection in order had its part but those at rest, and the agenda says what is left to be done.
+pub record IsRound {W : Type 0} (readable writable : W → Option Bool) (trace : W → WireTrace) (v : ServerValue) (es : List (ℕ × Peer W)) (a : Agenda) (after : ServerValue) (left : List (ℕ × Peer W)) : Type 0 where
+  pub changed : Bool
+  pub served : AreServed readable writable trace 0 v es changed after left
+  pub agenda : IsAgendaOf a changed (stamp_of after.host) (map (λ e. end_of readable writable e.1) left)
+
+-- ---- a turn
+
+-- A connection was opened for a wire, as one more may be: nothing is left of its reads, and the wire was not touched.
+pub record HasOneMore {W : Type 0} (wire : W) (v : ServerValue) (es : List (ℕ × Peer W)) (after : ServerValue) (left : List (ℕ × Peer W)) : Type 0 where
   pub peer : Peer W
   pub may : open_refusal v ≡ None
   pub server : after ≡ server_opened v
   pub entries : left ≡ insert_entry nat_eq es (v.ids + 1) peer
   pub rest : peer.rest ≡ []
+  pub handed : peer.wire ≡ wire
 
-abbrev pub AreOpened : {W : Type 0} → Bool → ServerValue → List (ℕ × Peer W) → ServerValue → List (ℕ × Peer W) → Type 0
-AreOpened true v es after left = HasOneMore v es after left
-AreOpened false v es after left = (after ≡ v) × (left ≡ es)
+-- for the wire that a door handed out, or none
+abbrev pub AreOpened : {W : Type 0} → (handed : Option W) → ServerValue → List (ℕ × Peer W) → ServerValue → List (ℕ × Peer W) → Type 0
+AreOpened (Some wire) v es after left = HasOneMore wire v es after left
+AreOpened None v es after left = (after ≡ v) × (left ≡ es)
 
--- A door is asked for a wire once where one more connection may be opened, and hands one out or none; else it is not asked.
-abbrev pub asked_by : ServerValue → (hands_out : Bool) → List DoorCall
-asked_by v hands_out = if is_none (open_refusal v) then (Asked hands_out ∷ []) else []
+-- A door is asked for a wire once if one more connection may be opened, and hands one out or none; otherwise it is not asked.
+abbrev pub asked_by : {W : Type 0} → ServerValue → (handed : Option W) → List (DoorCall W)
+asked_by v handed = if is_none (open_refusal v) then (Asked handed ∷ []) else []
 
-abbrev pub IsAskedOnce : (told : List DoorCall → Type 0) → ServerValue → Type 0
-IsAskedOnce told v = (hands_out : Bool) × told (asked_by v hands_out)
+abbrev pub IsAskedOnce : {W : Type 0} → (told : List (DoorCall W) → Type 0) → ServerValue → Type 0
+IsAskedOnce {W} told v = (handed : Option W) × told (asked_by v handed)
 
--- a wire was handed out: memory may be refused for its connection
-abbrev pub is_handed_out : Result Bool IoFault → Bool
-is_handed_out (Ok opened) = opened
-is_handed_out (Err fault) = true
+-- The door was asked, where told says which calls it had, and a connection was opened for the wire that it handed out, or none was.
+pub record IsOpening {W : Type 0} (told : List (DoorCall W) → Type 0) (v : ServerValue) (es : List (ℕ × Peer W)) (after : ServerValue) (left : List (ℕ × Peer W)) (opens : Bool) : Type 0 where
+  pub handed : Option W
+  pub asked : told (asked_by v handed)
+  pub opened : AreOpened handed v es after left
+  pub is : opens ≡ is_some handed
 
--- A turn of a server and the far ends of its connections, where told says which calls its door had: it is asked once, where one more
--- connection may be opened; one is opened for the wire that it hands out, or none; and then each has its part.
-pub record IsTurnOf {W : Type 0} (readable writable : W → Option Bool) (told : List DoorCall → Type 0) (v : ServerValue) (es : List (ℕ × Peer W)) (after : ServerValue) (left : List (ℕ × Peer W)) : Type 0 where
+-- A turn of a server and the far ends of its connections, where told says which calls its door had. The door is asked once if one more
+-- connection may be opened, one is opened for the wire that it hands out, or none, and then each has its part. After that the door need
+-- not wait at all exactly if a connection was opened, a change concerned one that had had its part, or something can be done at once.
+pub record IsTurnOf {W : Type 0} (readable writable : W → Option Bool) (trace : W → WireTrace) (told : List (DoorCall W) → Type 0) (v : ServerValue) (es : List (ℕ × Peer W)) (after : ServerValue) (left : List (ℕ × Peer W)) (wait : Wait) : Type 0 where
   pub opens : Bool
-  pub asked : told (asked_by v opens)
   pub server : ServerValue
   pub entries : List (ℕ × Peer W)
-  pub opened : AreOpened opens v es server entries
-  pub served : AreServed readable writable server entries after left
+  pub opened : IsOpening told v es server entries opens
+  pub changed : Bool
+  pub served : AreServed readable writable trace 0 server entries changed after left
+  pub waits : IsWaitAfter (opens || changed) (map (λ e. true_end readable writable after e) left) wait

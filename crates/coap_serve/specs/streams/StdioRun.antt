@@ -4,14 +4,15 @@ use Rattle.std.specs.List.{concat}
 use Rattle.coap_conn.specs.declared.reason.Reason.{Reason}
 use Rattle.coap_wire.specs.Message.{Message}
 use Rattle.coap_conn.specs.Calls.{end_reason}
+use Rattle.coap_conn.specs.LinkValue.{bytes_of}
 use Rattle.coap_serve.specs.declared.serve.Report.{Report}
 use Rattle.coap_serve.specs.declared.serve.IoFault.{IoFault}
 use Rattle.coap_serve.specs.declared.serve.IoFault.TheVariants.{Read, Write, Memory, Turns}
 use Rattle.coap_store.specs.Changes.{IsPut}
 use Rattle.coap_serve.specs.Configs.{ConfigValues}
-use Rattle.coap_serve.specs.world.Sides.{is_cut}
+use Rattle.coap_serve.specs.world.Sides.{Side, is_cut, waiting_on}
 use Rattle.coap_serve.specs.world.View.{change_made}
-use Rattle.coap_serve.specs.streams.Output.{only_id, stream_of, world_for, outcome, stdio_output}
+use Rattle.coap_serve.specs.streams.Output.{only_id, stream_of, world_for, side_for, outcome, stdio_output}
 
 -- no read found the end
 abbrev pub AreNotEmpty : List (List ℕ) → Type 0
@@ -92,3 +93,27 @@ IsStdioRun c pieces output (Err Read) = (length pieces < c.turns) × IsShortRun 
 IsStdioRun c pieces output (Err Turns) = (length pieces ≡ c.turns) × IsShortRun c pieces output
 IsStdioRun c pieces output (Err Write) = (length pieces ≤ c.turns) × LedToWrite c pieces output × IsCutOutput c pieces output
 IsStdioRun c pieces output (Err Memory) = IsNoRun pieces output ⊎ IsRefusedRun c pieces output
+
+-- ---- no byte is left
+
+-- Everything that the connection queued for these bytes is in the output, and nothing waits.
+pub record LeavesNothing (c : ConfigValues) (bytes output : List ℕ) : Type 0 where
+  pub side : Side
+  pub there : side_for c bytes ≡ Some side
+  pub none_waits : waiting_on side ≡ []
+  pub written : output ≡ bytes_of side.history.queued
+
+-- the bytes of these reads up to the last one of the request that could not be stored
+pub record LeavesNothingBefore (c : ConfigValues) (pieces : List (List ℕ)) (output : List ℕ) : Type 0 where
+  pub taken : List ℕ
+  pub others : List ℕ
+  pub all : concat pieces ≡ taken ++ others
+  pub leaves : LeavesNothing c taken output
+
+-- A run leaves no byte that waits, unless a write failed. This includes a run that ended at the limit of turns.
+abbrev pub LeavesNothingWaiting : ConfigValues → List (List ℕ) → List ℕ → Result Report IoFault → Type 0
+LeavesNothingWaiting c pieces output (Ok report) = LeavesNothing c (concat pieces) output
+LeavesNothingWaiting c pieces output (Err Read) = LeavesNothing c (concat pieces) output
+LeavesNothingWaiting c pieces output (Err Turns) = LeavesNothing c (concat pieces) output
+LeavesNothingWaiting c pieces output (Err Memory) = IsNoRun pieces output ⊎ LeavesNothingBefore c pieces output
+LeavesNothingWaiting c pieces output (Err Write) = Unit {0}

@@ -7,8 +7,8 @@ abbrev pub TellsMore : {A : Type 0} → Option (List A) → Option (List A) → 
 TellsMore None new more = Unit {0}
 TellsMore (Some before) new more = new ≡ Some (before ++ more)
 
--- A call of a door: it is asked for a wire, and hands one out or none; or it may wait as long as this, where one more connection may be
--- opened or not.
-pub data DoorCall : Type 0 where
-  Asked : (hands_out : Bool) → DoorCall
-  Waited : (wait : Wait) (opens : Bool) → DoorCall
+-- A call of a door: it is asked for a wire, and hands out this one or none; or it may wait as long as this, and is told whether one more
+-- connection may be opened.
+pub data DoorCall (W : Type 0) : Type 0 where
+  Asked : (handed : Option W) → DoorCall W
+  Waited : (wait : Wait) (opens : Bool) → DoorCall W

@@ -1,5 +1,5 @@
 -- What a turn over the wires of a door does to the server and its connections.
-use Rattle.std.specs.Prelude.{◌≡◌, fold, ℕ, Bool, true, false, not, List, [], length, drop, Option, Some, None, ◌==◌, ◌&&◌, ◌||◌, if◌then◌else◌}
+use Rattle.std.specs.Prelude.{◌≡◌, ◌≢◌, fold, ℕ, Bool, true, false, not, List, [], ◌∷◌, length, drop, Option, Some, None, nat_lt, ◌==◌, ◌&&◌, ◌||◌, if◌then◌else◌}
 use Rattle.std.specs.List.{AllByRecursion}
 use Rattle.coap_conn.specs.declared.reason.Reason.{Reason}
 use Rattle.coap_serve.specs.values.Servers.{ServerValue, session_of, server_ended, server_written}
@@ -7,7 +7,7 @@ use Rattle.coap_serve.specs.values.ServerAnswers.{can_take_on, stop_on}
 use Rattle.coap_serve.specs.script.Replay.{fed}
 use Rattle.coap_serve.specs.values.Dues.{outlook_of, stamp_of, same_stamp, sooner}
 use Rattle.coap_serve.specs.values.Flushes.{waiting_at}
-use Rattle.coap_serve.specs.streams.Wires.{IsWithin, IsTold, count_passed}
+use Rattle.coap_serve.specs.streams.Wires.{IsTold, WireTrace, IsReadOnce, IsWrittenOnce, read_room}
 use Rattle.coap_serve.specs.declared.door.peer.Course.{Course}
 use Rattle.coap_serve.specs.declared.door.peer.Course.TheVariants.{Open, Over}
 use Rattle.coap_serve.specs.declared.door.wants.Wants.{Wants}
@@ -68,48 +68,54 @@ has_failed Failed = true
 abbrev pub course_of : (wrote : Got) (is_over : Bool) → Course
 course_of wrote is_over = if has_failed wrote || is_over then Over else Open
 
--- the bytes that are there to be taken: those that a read gave, or those that were left before
-abbrev pub IsLaidOut : Bool → List ℕ → Got → List ℕ → Type 0
-IsLaidOut true rest heard bytes = length bytes ≡ count_passed heard
-IsLaidOut false rest heard bytes = (heard ≡ Later) × (bytes ≡ rest)
+-- The bytes that are there to be taken, and what the wire tells then: if a read is due, the wire was read once and gave these bytes;
+-- otherwise they were left before, and the wire was not touched.
+abbrev pub IsLaidOut : (is_due : Bool) → List ℕ → WireTrace → Got → List ℕ → WireTrace → Type 0
+IsLaidOut true rest wire heard bytes after = IsReadOnce read_room wire after heard bytes
+IsLaidOut false rest wire heard bytes after = (heard ≡ Later) × (bytes ≡ rest) × (after ≡ wire)
 
--- A connection of a server took what it takes of these bytes, and what waited then was written once, where the wire may be written.
-pub record IsTakenAndWritten (may_write : Bool) (v : ServerValue) (id : ℕ) (bytes : List ℕ) (after : ServerValue) (left : List ℕ) (course : Course) : Type 0 where
+-- What was offered to a wire was written once if it is not empty; otherwise the wire was not touched.
+pub record IsOffered (bytes : List ℕ) (wire : WireTrace) (wrote : Got) (after : WireTrace) : Type 0 where
+  pub idle : bytes ≡ [] → (wrote ≡ Later) × (after ≡ wire)
+  pub busy : bytes ≢ [] → IsWrittenOnce bytes wire after wrote
+
+-- A connection of a server took what it takes of these bytes. What was queued then was written once, if the wire may be written.
+pub record IsTakenAndWritten (may_write : Bool) (v : ServerValue) (id : ℕ) (bytes : List ℕ) (wire : WireTrace) (after : ServerValue) (left : List ℕ) (told : WireTrace) (course : Course) : Type 0 where
   pub wrote : Got
-  pub within : IsWithin (length (waiting_once may_write id (fed v id bytes).server)) wrote
-  pub idle : waiting_once may_write id (fed v id bytes).server ≡ [] → wrote ≡ Later
+  pub offered : IsOffered (waiting_once may_write id (fed v id bytes).server) wire wrote told
   pub server : after ≡ server_wrote (fed v id bytes).server id wrote
   pub rest : left ≡ rest_left v id bytes
   pub outcome : course ≡ course_of wrote (is_over_in (outlook_of after id))
 
 -- what follows a read that failed, and one that did not
-abbrev pub IsCarriedOn : (failed may_write : Bool) → ServerValue → ℕ → List ℕ → ServerValue → List ℕ → Course → Type 0
-IsCarriedOn true may_write v id bytes after left course = (after ≡ v) × (course ≡ Over)
-IsCarriedOn false may_write v id bytes after left course = IsTakenAndWritten may_write v id bytes after left course
+abbrev pub IsCarriedOn : (failed may_write : Bool) → ServerValue → ℕ → List ℕ → WireTrace → ServerValue → List ℕ → WireTrace → Course → Type 0
+IsCarriedOn true may_write v id bytes wire after left told course = (after ≡ v) × (told ≡ wire) × (course ≡ Over)
+IsCarriedOn false may_write v id bytes wire after left told course = IsTakenAndWritten may_write v id bytes wire after left told course
 
--- One connection's part of a turn, where its wire may be read or not, and written or not: a read where one is due, then what it
--- takes, then a write. A failed read ends it.
-pub record IsServedOnce (may_read may_write : Bool) (v : ServerValue) (id : ℕ) (rest : List ℕ) (after : ServerValue) (left : List ℕ) (course : Course) : Type 0 where
+-- One connection's part of a turn, if its wire may be read or not, and written or not: a read if one is due, then what it takes, then a
+-- write if anything is queued. A failed read ends it. The wire is read and written at no other time: told is what it tells after that.
+pub record IsServedOnce (may_read may_write : Bool) (v : ServerValue) (id : ℕ) (rest : List ℕ) (wire : WireTrace) (after : ServerValue) (left : List ℕ) (told : WireTrace) (course : Course) : Type 0 where
   pub heard : Got
   pub bytes : List ℕ
-  pub laid : IsLaidOut (is_heard may_read v id rest) rest heard bytes
-  pub carried : IsCarriedOn (has_failed heard) may_write (server_heard v id heard) id bytes after left course
+  pub between : WireTrace
+  pub laid : IsLaidOut (is_heard may_read v id rest) rest wire heard bytes between
+  pub carried : IsCarriedOn (has_failed heard) may_write (server_heard v id heard) id bytes between after left told course
 
 -- A connection's part of a turn comes to nothing, whatever its wire does: its wire is neither read nor written, there is an outcome, and
--- each leaves the server and what is left of its reads as they were, and the connection going on.
+-- each leaves the server, what is left of its reads and its wire as they were, and the connection open.
 pub record ComesToNothing (may_read may_write : Bool) (v : ServerValue) (id : ℕ) (rest : List ℕ) : Type 0 where
   pub unread : is_heard may_read v id rest ≡ false
   pub unwritten : waiting_once may_write id v ≡ []
-  pub there_is_one : IsServedOnce may_read may_write v id rest v rest Open
-  pub always : (after : ServerValue) (left : List ℕ) (course : Course) → IsServedOnce may_read may_write v id rest after left course → (after ≡ v) × (left ≡ rest) × (course ≡ Open)
+  pub there_is_one : (wire : WireTrace) → IsServedOnce may_read may_write v id rest wire v rest wire Open
+  pub always : (wire : WireTrace) (after : ServerValue) (left : List ℕ) (told : WireTrace) (course : Course) → IsServedOnce may_read may_write v id rest wire after left told course → (after ≡ v) × (left ≡ rest) × (told ≡ wire) × (course ≡ Open)
 
 -- the same, for what its wire answers of itself
-pub record IsServed (readable writable : Option Bool) (v : ServerValue) (id : ℕ) (rest : List ℕ) (after : ServerValue) (left : List ℕ) (course : Course) : Type 0 where
+pub record IsServed (readable writable : Option Bool) (v : ServerValue) (id : ℕ) (rest : List ℕ) (wire : WireTrace) (after : ServerValue) (left : List ℕ) (told : WireTrace) (course : Course) : Type 0 where
   pub may_read : Bool
   pub may_write : Bool
   pub read : IsTold readable may_read
   pub write : IsTold writable may_write
-  pub part : IsServedOnce may_read may_write v id rest after left course
+  pub part : IsServedOnce may_read may_write v id rest wire after left told course
 
 -- ---- what is left to be done
 
@@ -177,11 +183,25 @@ least_with due all = fold (λ due e. sooner due e.wants.due) due all
 abbrev pub least_due : List FarEnd → Option ℕ
 least_due all = least_with None all
 
--- What an agenda says of the connections that were looked at, on a server with this stamp: where nothing is to be done at once, all
--- are at rest; and the least moment is that of all.
-pub record IsAgendaOf (a : Agenda) (stamp : Stamp) (all : List FarEnd) : Type 0 where
+-- Serving a connection with this many others before it changed what a server stores or its moment, by its stamps before and after: that
+-- may concern those before it, which have had their part of the turn.
+abbrev pub concerns_earlier : (earlier : ℕ) (before after : Stamp) → Bool
+concerns_earlier earlier before after = nat_lt 0 earlier && not (same_stamp after before)
+
+-- whether something can be done at once on any of these
+abbrev pub CanAnyGoOn : List FarEnd → Bool → Type 0
+CanAnyGoOn [] result = result ≡ false
+CanAnyGoOn (e ∷ es) result = (first others : Bool) × CanGoOn e first × CanAnyGoOn es others × (result ≡ (first || others))
+
+-- What an agenda says of the connections that were looked at, on a server with this stamp, if a change concerned those before it or none
+-- did: something is to be done at once exactly if there was such a change or something can be done on one of these; the least moment is
+-- that of all; and without such a change all were served on a server with this stamp.
+pub record IsAgendaOf (a : Agenda) (changed : Bool) (stamp : Stamp) (all : List FarEnd) : Type 0 where
   pub due : a.due ≡ least_due all
-  pub rest : a.at_once ≡ false → AllByRecursion (IsAtRest stamp) all
+  pub ready : Bool
+  pub can : CanAnyGoOn all ready
+  pub at_once : a.at_once ≡ (changed || ready)
+  pub fresh : changed ≡ false → AllByRecursion (λ e. e.wants.stamp ≡ stamp) all
 
 -- connections at rest were passed over
 abbrev pub agenda_past : Agenda → List FarEnd → Agenda
@@ -198,8 +218,14 @@ wait_until (Some moment) = Until moment
 abbrev pub wait_of : Agenda → Wait
 wait_of a = if a.at_once then No else wait_until a.due
 
--- How long the door may wait: not at all; or, where all are at rest, until the least moment of them.
-abbrev pub MayWait : Wait → Stamp → List FarEnd → Type 0
-MayWait No stamp all = Unit {0}
-MayWait (Until moment) stamp all = AllByRecursion (IsAtRest stamp) all × (least_due all ≡ Some moment)
-MayWait Forever stamp all = AllByRecursion (IsAtRest stamp) all × (least_due all ≡ None)
+-- no time if something is to be done at once; otherwise until the least moment at which time alone may queue something on one of these,
+-- and without end if there is none
+abbrev pub wait_for : (at_once : Bool) → List FarEnd → Wait
+wait_for at_once all = if at_once then No else wait_until (least_due all)
+
+-- How long the door may wait after a turn: not at all exactly if the turn itself calls for another one, or something can be done at once
+-- on a connection.
+pub record IsWaitAfter (calls_again : Bool) (all : List FarEnd) (wait : Wait) : Type 0 where
+  pub ready : Bool
+  pub can : CanAnyGoOn all ready
+  pub is : wait ≡ wait_for (calls_again || ready) all

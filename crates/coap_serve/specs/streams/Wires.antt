@@ -1,7 +1,8 @@
 -- What wires pass on, and how serving them ends.
-use Rattle.std.specs.Prelude.{◌≡◌, ℕ, ◌≤◌, Bool, List, [], ◌∷◌, take, Option, Some, None, Result, Ok, Err}
+use Rattle.std.specs.Prelude.{◌≡◌, ℕ, ◌≤◌, Bool, List, [], ◌∷◌, length, take, Option, Some, None, Result, Ok, Err}
 use Rattle.coap_serve.specs.declared.wire.Got.{Got}
 use Rattle.coap_serve.specs.declared.wire.Got.TheVariants.{Bytes, Later, End, Failed}
+use Rattle.coap_serve.specs.streams.Device.{AddsBytes}
 use Rattle.coap_serve.specs.streams.Telling.{TellsMore}
 use Rattle.coap_serve.specs.declared.serve.IoFault.{IoFault}
 use Rattle.coap_serve.specs.declared.serve.IoFault.TheVariants as fault
@@ -37,6 +38,40 @@ write_outcome Failed = Failed
 -- a wire was written once, and what it told of that comes to this
 pub data IsOneWrite (before after : Option (List Got)) (outcome : Got) : Type 0 where
   Answered : (answer : Got) → TellsMore before after (answer ∷ []) → outcome ≡ write_outcome answer → IsOneWrite before after outcome
+
+-- ---- what a wire tells of its calls
+
+-- What a wire tells of its calls so far, each if it tells: the bytes that its reads gave, the bytes that its writes took, the results of
+-- its reads and writes, and the length of the buffer of each read.
+pub record WireTrace : Type 0 where
+  pub given : Option (List ℕ)
+  pub written : Option (List ℕ)
+  pub answers : Option (List Got)
+  pub rooms : Option (List ℕ)
+
+-- the trace of a wire, by the ghost members of its type
+abbrev pub trace_by : {W : Type 0} (given written : W → Option (List ℕ)) (answers : W → Option (List Got)) (rooms : W → Option (List ℕ)) → W → WireTrace
+trace_by given written answers rooms wire = record { given = given wire; written = written wire; answers = answers wire; rooms = rooms wire }
+
+-- the length of the buffer that a wire is read into
+abbrev pub read_room : ℕ
+read_room = 16384
+
+-- A wire was read once, into a buffer of this length. The read came to this, and gave these bytes.
+pub record IsReadOnce (room : ℕ) (before after : WireTrace) (heard : Got) (bytes : List ℕ) : Type 0 where
+  pub gave : AddsBytes before.given after.given bytes
+  pub count : length bytes ≡ count_passed heard
+  pub wrote : AddsBytes before.written after.written []
+  pub answered : TellsMore before.answers after.answers (heard ∷ [])
+  pub had_room : TellsMore before.rooms after.rooms (room ∷ [])
+
+-- A wire was written once, with a prefix of these bytes. The write came to this, and took that many of them.
+pub record IsWrittenOnce (bytes : List ℕ) (before after : WireTrace) (wrote : Got) : Type 0 where
+  pub within : IsWithin (length bytes) wrote
+  pub took : AddsBytes before.written after.written (bytes_passed bytes wrote)
+  pub gave : AddsBytes before.given after.given []
+  pub answered : IsOneWrite before.answers after.answers wrote
+  pub no_read : TellsMore before.rooms after.rooms []
 
 -- what a wire answers of itself is what it tells, where it tells
 abbrev pub IsTold : (told : Option Bool) (answer : Bool) → Type 0

@@ -1,14 +1,14 @@
 -- What makes connections due, and which of them it cannot touch.
-use Rattle.std.specs.Prelude.{◌≢◌, ℕ, ◌+◌, ◌*◌, ◌%◌, List, [], ◌∷◌, Option, Some, None}
-use Rattle.std.specs.List.{AllByRecursion}
+use Rattle.std.specs.Prelude.{◌≡◌, ◌≢◌, ℕ, ◌+◌, ◌*◌, ◌%◌, Bool, false, List, [], ◌∷◌, map, Option, Some, None, ◌==◌, if◌then◌else◌}
+use Rattle.std.specs.List.{AllByRecursion, list_any}
 use Rattle.coap_store.specs.Paths.{Path}
 use Rattle.coap_store.specs.Answer.{Change, Nothing, Put, Delete}
 use Rattle.coap_serve.specs.declared.host.Host.{Host}
 use Rattle.coap_serve.specs.declared.cause.Cause.{Cause}
 use Rattle.coap_serve.specs.declared.cause.Cause.TheVariants as cause
-use Rattle.coap_serve.specs.values.Sessions.{ObserverValue, SessionValue, IsSettled}
-use Rattle.coap_serve.specs.values.Dues.{IsBefore, due_on}
-use Rattle.coap_serve.specs.values.Servers.{changed_at}
+use Rattle.coap_serve.specs.values.Sessions.{ObserverValue, SessionValue, MarkedSession, changed_mark, IsSettled}
+use Rattle.coap_serve.specs.values.Dues.{IsBefore, due_on, tells_time}
+use Rattle.coap_serve.specs.values.Servers.{changed_at, AreAllMarked}
 
 -- ---- the hash of a path, below 256
 
@@ -51,3 +51,41 @@ abbrev pub AreOthersSettled : Option ℕ → ℕ → Host → List (ℕ × Sessi
 AreOthersSettled None at host sessions = Unit {0}
 AreOthersSettled (Some hash) at host sessions =
     (s : SessionValue) → IsSettled host s → AreSettledUntouched (cause.Path hash) host (changed_at at (λ _. s) sessions)
+
+-- ---- the marks that a cause sets
+
+-- what changed may have made this observer stale
+abbrev pub is_concerned : Cause → ObserverValue → Bool
+is_concerned (cause.Path hash) o = path_hash o.path == hash
+is_concerned (cause.Moment before) o = tells_time o
+
+-- it made none of them stale
+abbrev pub ConcernsNone : Cause → List ObserverValue → Type 0
+ConcernsNone (cause.Path hash) observers = ObservesNone hash observers
+ConcernsNone (cause.Moment before) observers = list_any tells_time observers ≡ false
+
+abbrev pub mark_anew : Cause → Host → ObserverValue → Option ℕ → Option ℕ
+mark_anew why host o mark = if is_concerned why o then changed_mark host o else mark
+
+-- the marks, where those of the observers that it concerns are set anew
+unfoldable pub marks_anew : Cause → Host → List ObserverValue → List (Option ℕ) → List (Option ℕ)
+marks_anew why host [] marks = marks
+marks_anew why host (o ∷ os) [] = []
+marks_anew why host (o ∷ os) (mark ∷ marks) = mark_anew why host o mark ∷ marks_anew why host os marks
+
+-- the marks after a change of the path with this hash, if there was any
+abbrev pub marks_after : Option ℕ → Host → List ObserverValue → List (Option ℕ) → List (Option ℕ)
+marks_after None host observers marks = marks
+marks_after (Some hash) host observers marks = marks_anew (cause.Path hash) host observers marks
+
+-- once these are set anew, all are as they are to be
+abbrev pub IsMarkedBut : Cause → Host → MarkedSession → Type 0
+IsMarkedBut why host s = marks_anew why host s.session.observers s.marks ≡ map (changed_mark host) s.session.observers
+
+abbrev pub AreMarkedBut : Cause → Host → List (ℕ × MarkedSession) → Type 0
+AreMarkedBut why host sessions = AllByRecursion (λ e. IsMarkedBut why host e.1) sessions
+
+-- the same of a change of the path with this hash, if there was any
+abbrev pub AreMarkedAfter : Option ℕ → Host → List (ℕ × MarkedSession) → Type 0
+AreMarkedAfter None host sessions = AreAllMarked host sessions
+AreMarkedAfter (Some hash) host sessions = AreMarkedBut (cause.Path hash) host sessions

@@ -1,5 +1,5 @@
 -- How the code finds and changes the entries of a connection's observers, and what its framer becomes where it stops.
-use Rattle.std.specs.Prelude.{◌≡◌, ℕ, Bool, ◌&&◌, List, [], ◌∷◌, length, Option, Some, None, option_map, slice_get, suc, ◌==◌, if◌then◌else◌}
+use Rattle.std.specs.Prelude.{◌≡◌, ℕ, Bool, ◌&&◌, List, [], ◌∷◌, length, Option, Some, None, is_some, option_map, slice_get, suc, ◌==◌, if◌then◌else◌}
 use Rattle.coap_wire.specs.Message.{Message}
 use Rattle.coap_frame.specs.Framing.{FramerValue}
 use Rattle.coap_conn.specs.Phases.{takes_messages}
@@ -24,6 +24,11 @@ first_index due (o ∷ os) = if due o then Some 0 else option_map (λ i. suc i) 
 pub record IsFirstStale (host : Host) (observers : List ObserverValue) (found : Stale) : Type 0 where
   pub first : first_index (is_stale host) observers ≡ Some found.index
   pub mark : (o : ObserverValue) → slice_get observers found.index ≡ Some o → found.mark ≡ mark_of host.now (state_on host o.path)
+
+-- the first changed mark that is set
+pub record IsFirstMarked (marks : List (Option ℕ)) (found : Stale) : Type 0 where
+  pub first : first_index is_some marks ≡ Some found.index
+  pub mark : slice_get marks found.index ≡ Some (Some found.mark)
 
 -- ---- a request (RFC 7641 section 4.1)
 

@@ -135,6 +135,11 @@ abbrev pub RefusesPieceOn : ServerValue → List ℕ → ℕ → Option SessionV
 RefusesPieceOn v piece bytes None = ⊥
 RefusesPieceOn v piece bytes (Some s) = RefusesPiece v.host s piece bytes
 
+-- the number of a fault
+abbrev pub take_number : TakeFault → ℕ
+take_number taken.NoSuch = 1
+take_number (taken.Memory bytes) = 2
+
 -- A piece is not taken: no connection has the number, and nothing changes; or memory was refused, and the server is the one that
 -- took so many bytes of the piece.
 abbrev pub IsNotTaken : ServerValue → ℕ → List ℕ → TakeFault → ServerValue → Type 0

@@ -6,7 +6,7 @@ use Rattle.coap_store.specs.Paths.{Path}
 use Rattle.coap_store.specs.Store.{put_in, removed_in}
 use Rattle.coap_serve.specs.Configs.{ConfigValues}
 use Rattle.coap_serve.specs.declared.host.Host.{Host}
-use Rattle.coap_serve.specs.values.Sessions.{SessionValue, Taking, new_session, taking, host_changed, session_written, session_ended, session_released, session_announced, session_settled, IsSettled}
+use Rattle.coap_serve.specs.values.Sessions.{SessionValue, MarkedSession, IsMarked, Taking, new_session, taking, host_changed, session_written, session_ended, session_released, session_announced, session_settled, IsSettled}
 
 -- the configuration, the resources and the moment, the number given last, and the connections in order of their numbers
 pub record ServerValue : Type 0 where
@@ -51,6 +51,19 @@ server_settled v = record v { sessions = map (settled_entry v.host) v.sessions }
 -- every connection is settled
 abbrev pub AreSettled : Host → List (ℕ × SessionValue) → Type 0
 AreSettled host sessions = AllByRecursion (λ e. IsSettled host e.1) sessions
+
+-- ---- the changed marks
+
+-- the connections without the marks
+abbrev pub unmarked_entry : ℕ × MarkedSession → ℕ × SessionValue
+unmarked_entry e = (e.0, e.1.session)
+
+abbrev pub unmarked : List (ℕ × MarkedSession) → List (ℕ × SessionValue)
+unmarked sessions = map unmarked_entry sessions
+
+-- every observer of every connection has the mark that it is to have
+abbrev pub AreAllMarked : Host → List (ℕ × MarkedSession) → Type 0
+AreAllMarked host sessions = AllByRecursion (λ e. IsMarked host e.1) sessions
 
 -- ---- what is seen
 

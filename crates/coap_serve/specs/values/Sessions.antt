@@ -1,5 +1,5 @@
 -- A connection of a server as the code holds it, and what its calls do to it and to what is stored.
-use Rattle.std.specs.Prelude.{◌≡◌, ℕ, zero, suc, ◌+◌, Bool, true, false, not, ◌&&◌, List, [], ◌∷◌, length, Option, Some, None, Result, Ok, Err, find, filter, nat_le, ◌==◌, if◌then◌else◌}
+use Rattle.std.specs.Prelude.{◌≡◌, ℕ, zero, suc, ◌+◌, Bool, true, false, not, ◌&&◌, List, [], ◌∷◌, length, map, Option, Some, None, option_map, Result, Ok, Err, find, filter, nat_le, ◌==◌, if◌then◌else◌}
 use Rattle.coap_wire.specs.Message.{Message}
 use Rattle.coap_wire.specs.Reading.{message_of}
 use Rattle.coap_wire.specs.Stream.{OfFrame}
@@ -39,16 +39,22 @@ pub record ObserverValue : Type 0 where
   pub format : Option ℕ
   pub mark : ℕ
 
--- observers, and for how many there is room
+-- observers, for how many there is room, and the changed mark of each
 pub record ObserversValue : Type 0 where
   pub room : ℕ
   pub entries : List ObserverValue
+  pub marks : List (Option ℕ)
 
 -- the bytes of the unfinished frame, the link, and the observers
 pub record SessionValue : Type 0 where
   pub frame : List ℕ
   pub link : LinkValue
   pub observers : List ObserverValue
+
+-- a connection with the changed mark of each observer
+pub record MarkedSession : Type 0 where
+  pub session : SessionValue
+  pub marks : List (Option ℕ)
 
 -- the greatest message that it takes, as announced last
 abbrev pub session_max : SessionValue → ℕ
@@ -78,13 +84,29 @@ is_marked now mark (Some r) = mark_at now r == mark
 abbrev pub state_on : Host → Path → Option Representation
 state_on host path = state_of host.store host.now path
 
--- the mark of the state of a path, where another one than this was told
-abbrev pub untold_mark : Host → Path → ℕ → Option ℕ
-untold_mark host path told = if is_marked host.now told (state_on host path) then None else Some (mark_of host.now (state_on host path))
-
 -- an observer is stale where the state now has another mark than the one that it was told
 unfoldable pub is_stale : Host → ObserverValue → Bool
 is_stale host o = not (is_marked host.now o.mark (state_on host o.path))
+
+-- the mark of the state of a path now; nothing if the path is absent
+abbrev pub present_mark : Host → Path → Option ℕ
+present_mark host path = option_map (mark_at host.now) (state_on host path)
+
+-- the mark of the present state, if another one than this was told; 0 if there is no state
+abbrev pub untold_by : Option ℕ → ℕ → Option ℕ
+untold_by None told = Some 0
+untold_by (Some present) told = if present == told then None else Some present
+
+-- the changed mark of an observer: there is one exactly if the observer is stale, and it is the mark of the state now
+unfoldable pub changed_mark : Host → ObserverValue → Option ℕ
+changed_mark host o = if is_stale host o then Some (mark_of host.now (state_on host o.path)) else None
+
+-- each observer has the mark that it is to have on this host
+abbrev pub AreMarked : Host → List ObserverValue → List (Option ℕ) → Type 0
+AreMarked host observers marks = marks ≡ map (changed_mark host) observers
+
+abbrev pub IsMarked : Host → MarkedSession → Type 0
+IsMarked host s = AreMarked host s.session.observers s.marks
 
 -- ---- what is seen of it
 
@@ -101,6 +123,12 @@ session_takes v = takes_messages v.link.phase && session_ready v
 -- the observers go where the connection is not open any more, and the bytes of a frame where no message is taken any more
 abbrev pub observers_on : LinkValue → List ObserverValue → List ObserverValue
 observers_on l observers = if is_open l.phase then observers else []
+
+abbrev pub marks_on : LinkValue → List (Option ℕ) → List (Option ℕ)
+marks_on l marks = if is_open l.phase then marks else []
+
+abbrev pub observers_left : LinkValue → ObserversValue → ObserversValue
+observers_left l o = record o { entries = observers_on l o.entries; marks = marks_on l o.marks }
 
 abbrev pub frame_on : LinkValue → List ℕ → List ℕ
 frame_on l frame = if takes_messages l.phase then frame else []

@@ -3,11 +3,14 @@ use Rattle.std.specs.Prelude.{◌≡◌, ◌⊎◌, true, []}
 use Rattle.coap_frame.specs.Framing.{IsFramer}
 use Rattle.coap_conn.specs.Limits.{AreInRange}
 use Rattle.coap_conn.specs.Phases.{is_open}
-use Rattle.coap_serve.specs.values.Sessions.{SessionValue}
+use Rattle.coap_serve.specs.values.Sessions.{SessionValue, MarkedSession}
 use Rattle.coap_serve.specs.declared.session.Session.TheInside.{Inside}
 
 abbrev pub session_value : Inside → SessionValue
 session_value s = record { frame = s.framer.kept; link = s.link; observers = s.observers.entries }
+
+abbrev pub marked_session : Inside → MarkedSession
+marked_session s = record { session = session_value s; marks = s.observers.marks }
 
 -- the framer takes what was announced last, the observers have the room that the limits name, and there are observers only while the connection is open
 pub record IsSession (s : Inside) : Type 0 where

@@ -1,7 +1,7 @@
 //! What the connections that were looked at in a turn leave to be done.
 
-ghost use Rattle.std.specs.Prelude.{◌≡◌, ◌≤◌, ◌&&◌, drop, length, map, nat_lt, not, slice_get, take, IfSome, false, None};
-ghost use Rattle.coap_serve.specs.Prelude.{AllByRecursion, end_of, agenda_past, IsAtRest, IsInTurn, same_stamp, agenda_with, wait_of};
+ghost use Rattle.std.specs.Prelude.{◌≡◌, ◌≤◌, drop, length, map, slice_get, take, IfSome, false, None};
+ghost use Rattle.coap_serve.specs.Prelude.{AllByRecursion, end_of, agenda_past, IsAtRest, IsInTurn, concerns_earlier, agenda_with, wait_of};
 
 use super::peer::Peers;
 use crate::server::Stamp;
@@ -11,7 +11,7 @@ use crate::wire::{Ready, Wait};
 /// What the connections that were looked at in a turn leave to be done.
 #[derive(Clone, Copy, PartialEq, Eq)]
 pub(super) struct Agenda {
-    /// Whether something can be done at once.
+    /// Whether another turn is to follow without a wait.
     pub(super) at_once: bool,
     /// The least moment, in seconds, at which time alone may queue something.
     pub(super) due: Option<u64>,
@@ -98,7 +98,7 @@ pub(super) fn pass_over<W: Ready>(peers: &Peers<W>, seen: Seen, stamp: Stamp) ->
 /// Whether serving the connection at an index, before and after which the server had these stamps, may concern those
 /// before it, which have had their part of the turn.
 pub(super) fn concerns_others(at: usize, before: Stamp, after: Stamp) -> bool
-    ensures { result ≡ (nat_lt 0 at && not (same_stamp after before)) }
+    ensures { result ≡ concerns_earlier at before after }
 {
     at > 0 && after != before
 }

@@ -1,7 +1,7 @@
 //! The far end of a connection, and its part of a turn.
 
-ghost use Rattle.std.specs.Prelude.{◌≡◌, ◌≢◌, false, true, [], ◌∷◌, length, is_some, OnOk, OnErr, IfOk, IfErr};
-ghost use Rattle.coap_serve.specs.Prelude.{IsPartlyFed, fed, AddsBytes, HasServed, TellsMore, IsServedOnce, IsLaidOut, is_heard, server_heard, server_wrote, waiting_once, rest_left, is_over_in, has_failed, course_of, wants_of, IsWithin, IsMemory, IsOneWrite, bytes_passed, stop_on, session_of, IsAsked, CanGoOn, IsRestAnswer, end_of};
+ghost use Rattle.std.specs.Prelude.{◌≡◌, ◌≢◌, false, [], length, is_some, OnOk, OnErr, IfOk, IfErr};
+ghost use Rattle.coap_serve.specs.Prelude.{IsPartlyFed, fed, AddsBytes, HasServed, TellsMore, IsServedOnce, trace_by, IsLaidOut, is_heard, server_heard, server_wrote, waiting_once, rest_left, is_over_in, has_failed, course_of, wants_of, IsWithin, IsMemory, IsOneWrite, bytes_passed, stop_on, session_of, IsAsked, CanGoOn, IsRestAnswer, end_of};
 ghost use Rattle.coap_serve.specs.declared.door.peer.Course.TheVariants.{Open};
 ghost use Rattle.coap_serve.specs.declared.wire.Got.TheVariants.{Later, End};
 
@@ -10,6 +10,7 @@ use crate::rest::Rest;
 use crate::serve::IoFault;
 use crate::server::{ConnId, Outlook, Server, Stamp};
 use crate::wire::{Got, Ready, Wire};
+use coap_conn::first_part;
 use indexmap::IndexMap;
 
 /// The far end of a connection.
@@ -79,8 +80,10 @@ pub(super) fn serve_peer<W: Wire>(
     may_read: bool,
     may_write: bool,
 ) -> Result<Course, IoFault>
-    ensures part { IfOk result (λ course. IsServedOnce may_read may_write server.old id peer.old.rest server.new
-        peer.new.rest course) }
+    // The wire is read once exactly if it was to be, and written once exactly if something was queued.
+    ensures part { IfOk result (λ course. IsServedOnce may_read may_write server.old id peer.old.rest
+        (trace_by W.given W.written W.answers W.rooms peer.old.wire) server.new peer.new.rest
+        (trace_by W.given W.written W.answers W.rooms peer.new.wire) course) }
     ensures shows { HasServed server.old server.new }
     ensures wants { IfOk result (λ course. course ≡ Open → peer.new.wants ≡ wants_of server.new id peer.new.rest) }
     ensures fault { IfErr result IsMemory }
@@ -125,16 +128,12 @@ fn outcome(wrote: Got, is_over: bool) -> Course
 fn hear<W: Wire>(server: &mut Server, id: ConnId, peer: &mut Peer<W>, may_read: bool) -> Got
     ensures server { server.new ≡ server_heard server.old id result }
     ensures shows { HasServed server.old server.new }
-    ensures laid { IsLaidOut (is_heard may_read server.old id peer.old.rest) peer.old.rest result peer.new.rest }
-    // The wire is not touched where it is not to be read.
+    // The wire is read once if it is to be, with room for 16,384 bytes, and what it gave is there to be taken.
+    ensures laid { IsLaidOut (is_heard may_read server.old id peer.old.rest) peer.old.rest
+        (trace_by W.given W.written W.answers W.rooms peer.old.wire) result peer.new.rest
+        (trace_by W.given W.written W.answers W.rooms peer.new.wire) }
+    // Nothing changes if it is not.
     ensures passed { is_heard may_read server.old id peer.old.rest ≡ false → peer.new ≡ peer.old }
-    ensures read { is_heard may_read server.old id peer.old.rest ≡ true →
-        AddsBytes (W.given peer.old.wire) (W.given peer.new.wire) peer.new.rest }
-    ensures wrote { is_heard may_read server.old id peer.old.rest ≡ true →
-        AddsBytes (W.written peer.old.wire) (W.written peer.new.wire) [] }
-    // Where it is to be read, it is read once.
-    ensures answered { is_heard may_read server.old id peer.old.rest ≡ true →
-        TellsMore (W.answers peer.old.wire) (W.answers peer.new.wire) (result ∷ []) }
 {
     if !may_read || !peer.rest.is_empty() || !server.can_take(id) {
         return Got::Later;
@@ -184,6 +183,7 @@ fn write_once<W: Wire>(server: &mut Server, id: ConnId, wire: &mut W, may_write:
         AddsBytes (W.written wire.old) (W.written wire.new)
         (bytes_passed (waiting_once may_write id server.old) result) }
     ensures gave { waiting_once may_write id server.old ≢ [] → AddsBytes (W.given wire.old) (W.given wire.new) [] }
+    ensures no_read { waiting_once may_write id server.old ≢ [] → TellsMore (W.rooms wire.old) (W.rooms wire.new) [] }
     // Where something waits and it may be written, it is written once.
     ensures answered { waiting_once may_write id server.old ≢ [] →
         IsOneWrite (W.answers wire.old) (W.answers wire.new) result }
@@ -192,9 +192,10 @@ fn write_once<W: Wire>(server: &mut Server, id: ConnId, wire: &mut W, may_write:
     if !may_write {
         return Got::Later;
     }
-    let Some(part) = server.next_part(id) else {
+    let Some(parts) = server.parts(id) else {
         return Got::Later;
     };
+    let part = first_part(parts);
     if part.is_empty() {
         return Got::Later;
     }

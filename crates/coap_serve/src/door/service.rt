@@ -24,8 +24,8 @@ pub struct Service<W> {
 }
 
 impl<W: Wire + Ready + Drop> Service<W> {
-    ghost use Rattle.std.specs.Prelude.{◌+◌, ◌++◌, ◌∷◌, true, List, [], is_none, is_ok, map, nat_le, IfErr, IfOk, OnErr, OnOk, Err};
-    ghost use Rattle.coap_serve.specs.Prelude.{RefusedBy, RefusedOrMemory, put_refusal, remove_refusal, true_end, HasTurned, IsAskedOnce, IsTurnOf, moved_to, TellsMore, MayWait, IsMemory, stamp_of, open_refusal, new_server, server_put, server_removed, server_ticked, Event, Ticked, Stored, Removed, Shows};
+    ghost use Rattle.std.specs.Prelude.{◌+◌, ◌++◌, ◌∷◌, true, List, [], is_none, is_ok, nat_le, IfErr, IfOk, OnErr, OnOk, Err};
+    ghost use Rattle.coap_serve.specs.Prelude.{RefusedBy, RefusedOrMemory, put_refusal, remove_refusal, HasTurned, IsAskedOnce, IsTurnOf, moved_to, TellsMore, trace_by, IsMemory, open_refusal, new_server, server_put, server_removed, server_ticked, Event, Ticked, Stored, Removed, Shows};
     ghost use Rattle.coap_serve.specs.declared.serve.IoFault.TheVariants as fault;
 
     /// A server with no connection, that stores nothing, whose counts begin where the configuration says.
@@ -111,8 +111,10 @@ impl<W: Wire + Ready + Drop> Service<W> {
         self.server.remove(path)
     }
 
-    /// One turn at a moment: opens one connection, where one more may be and the door hands out a wire, and serves
-    /// each. Answers how long the door may wait then.
+    /// Makes one turn at a moment: opens one connection, if one more may be opened and the door hands out a wire, and
+    /// serves each. Returns how long the door may wait then: `Wait::No` exactly if a connection was opened, a change
+    /// concerns a connection that was served before it in this turn, or something can be done at once on a connection;
+    /// otherwise until the least moment at which time alone may queue something, or without end if there is none.
     ///
     /// # Errors
     ///
@@ -124,13 +126,13 @@ impl<W: Wire + Ready + Drop> Service<W> {
         // The door is asked once where one more connection may be opened, and not else.
         ensures asks { self.old.is_spent ≡ false
             → IsAskedOnce (TellsMore (D.calls door.old) (D.calls door.new)) self.old.server }
-        // One connection is opened or none; then each in order has its part of the turn, but those at rest.
-        ensures turn { OnOk result (IsTurnOf W.readable W.writable (TellsMore (D.calls door.old) (D.calls door.new))
-            self.old.server self.old.peers.entries self.new.server self.new.peers.entries) }
-        // The door waits only where nothing can be done that a connection is to be served for now, whatever was noted
-        // of it.
-        ensures waits { IfOk result (λ wait. MayWait wait (stamp_of self.new.server.host)
-            (map (λ e. true_end W.readable W.writable self.new.server e) self.new.peers.entries)) }
+        // One connection is opened or none; then each in order has its part of the turn, but those at rest: its wire
+        // is read and written for that alone. The result is No exactly if a connection was opened, a change concerned
+        // one that had had its part, or something can be done at once; otherwise it is the least moment at which time
+        // alone may queue something, or Forever if there is none.
+        ensures turn { IfOk result (λ wait. IsTurnOf W.readable W.writable
+            (trace_by W.given W.written W.answers W.rooms) (TellsMore (D.calls door.old) (D.calls door.new))
+            self.old.server self.old.peers.entries self.new.server self.new.peers.entries wait) }
         ensures fault { IfErr result IsMemory }
         ensures ready { OnOk result (self.new.is_spent ≡ false) }
         ensures spent { OnErr result (self.new.is_spent ≡ true) }

@@ -1,7 +1,7 @@
 //! A turn of a door.
 
-ghost use Rattle.std.specs.Prelude.{◌≡◌, ◌<◌, ◌≤◌, ◌+◌, ◌-◌, ◌^◌, false, true, Ok, length, is_none, map, remove, slice_get, take, IfSome, IfOk, IfErr, OnOk};
-ghost use Rattle.coap_serve.specs.Prelude.{keys_of, AreNoted, true_end, HasServed, HasTurned, HasGoneOn, AreServed, AreOpened, IsAskedOnce, IsTurnOf, asked_by, is_handed_out, TellsMore, IsServed, IsAgendaOf, MayWait, end_of, wait_of, wants_of, IsMemory, stamp_of, open_refusal, AreSettled, server_dropped};
+ghost use Rattle.std.specs.Prelude.{◌≡◌, ◌<◌, ◌≤◌, ◌+◌, ◌-◌, ◌^◌, ◌||◌, Bool, false, Ok, Some, length, is_none, map, remove, slice_get, take, IfSome, IfOk, IfErr, OnOk, OnErr};
+ghost use Rattle.coap_serve.specs.Prelude.{keys_of, AreNoted, HasServed, HasTurned, HasGoneOn, IsRound, IsOpening, IsAskedOnce, IsTurnOf, asked_by, TellsMore, trace_by, IsServed, IsAgendaOf, concerns_earlier, end_of, wants_of, IsMemory, stamp_of, open_refusal, AreSettled, server_dropped};
 ghost use Rattle.coap_serve.specs.declared.door.peer.Course.TheVariants.{Open};
 
 use super::agenda::{Agenda, Seen, concerns_others, pass_over};
@@ -12,8 +12,10 @@ use crate::serve::IoFault;
 use crate::server::Server;
 use crate::wire::{Door, Ready, Wait, Wire};
 
-/// One turn at a moment: opens one connection, where one more may be and the door hands out a wire, and serves each.
-/// Answers how long the door may wait then.
+/// Makes one turn at a moment: opens one connection, if one more may be opened and the door hands out a wire, and
+/// serves each. Returns how long the door may wait then: `Wait::No` exactly if a connection was opened, a change
+/// concerns a connection that was served before it in this turn, or something can be done at once on a connection;
+/// otherwise until the least moment at which time alone may queue something, or without end if there is none.
 ///
 /// # Errors
 ///
@@ -27,19 +29,18 @@ pub(super) fn take_turn<D: Door>(
     ensures shows { HasTurned server.old server.new }
     // The door is asked once, where one more connection may be opened.
     ensures asks { IsAskedOnce (TellsMore (D.calls door.old) (D.calls door.new)) server.old }
-    ensures turn { OnOk result (IsTurnOf D.Wire.readable D.Wire.writable
-        (TellsMore (D.calls door.old) (D.calls door.new)) server.old peers.old.entries server.new peers.new.entries) }
+    // Each connection has its part, and the result says how long the door may wait then.
+    ensures turn { IfOk result (λ wait. IsTurnOf D.Wire.readable D.Wire.writable
+        (trace_by D.Wire.given D.Wire.written D.Wire.answers D.Wire.rooms)
+        (TellsMore (D.calls door.old) (D.calls door.new)) server.old peers.old.entries server.new peers.new.entries
+        wait) }
     ensures noted { OnOk result (AreNoted server.new peers.new.entries) }
     ensures settled { OnOk result (AreSettled server.new.host server.new.sessions) }
-    // The door waits only where nothing can be done that a connection is to be served for now, whatever was noted of
-    // it.
-    ensures waits { IfOk result (λ wait. MayWait wait (stamp_of server.new.host)
-        (map (λ e. true_end D.Wire.readable D.Wire.writable server.new e) peers.new.entries)) }
     ensures fault { IfErr result IsMemory }
 {
-    accept(server, peers, door)?;
+    let opens = accept(server, peers, door)?;
     let agenda = serve_each(server, peers)?;
-    Ok(agenda.wait())
+    Ok(agenda.with(opens, None).wait())
 }
 
 /// Opens one connection, where one more may be and the door hands out a wire, and answers whether it did.
@@ -59,10 +60,12 @@ fn accept<D: Door>(
     ensures fault { IfErr result IsMemory }
     // The door is asked once where one more connection may be opened, and not at all for a wire that none could be
     // opened for.
-    ensures asks { TellsMore (D.calls door.old) (D.calls door.new) (asked_by server.old (is_handed_out result)) }
+    ensures opened { IfOk result (λ opens. IsOpening (TellsMore (D.calls door.old) (D.calls door.new)) server.old
+        peers.old.entries server.new peers.new.entries opens) }
     ensures passes { is_none (open_refusal server.old) ≡ false → (door.new ≡ door.old) × (result ≡ Ok false) }
-    ensures opened { IfOk result (λ opened. AreOpened opened server.old peers.old.entries server.new
-        peers.new.entries) }
+    // Memory is refused only for a wire that the door handed out.
+    ensures refused { OnErr result ((wire : D.Wire) ×
+        TellsMore (D.calls door.old) (D.calls door.new) (asked_by server.old (Some wire))) }
 {
     if !server.can_open() {
         return Ok(false);
@@ -95,14 +98,12 @@ fn serve_each<W: Wire + Ready + Drop>(
 ) -> Result<Agenda, IoFault>
     requires { AreNoted server.old peers.old.entries }
     ensures shows { HasServed server.old server.new }
-    // Each connection in order has its part, but those at rest.
-    ensures parts { OnOk result (AreServed W.readable W.writable server.old peers.old.entries server.new
+    // Each connection in order has its part, but those at rest, and the result says what is left to be done.
+    ensures round { IfOk result (λ agenda. IsRound W.readable W.writable
+        (trace_by W.given W.written W.answers W.rooms) server.old peers.old.entries agenda server.new
         peers.new.entries) }
     ensures noted { OnOk result (AreNoted server.new peers.new.entries) }
     ensures settled { OnOk result (AreSettled server.new.host server.new.sessions) }
-    // What is left to be done at once, and when: the door waits only where all were served after the last change.
-    ensures waits { IfOk result (λ agenda. MayWait (wait_of agenda) (stamp_of server.new.host)
-        (map (λ e. end_of W.readable W.writable e.1) peers.new.entries)) }
     ensures fault { IfErr result IsMemory }
 {
     let mut seen = pass_over(peers, Seen::none(), server.stamp());
@@ -128,12 +129,16 @@ fn serve_next<W: Wire + Ready + Drop>(
     requires noted { AreNoted server.old peers.old.entries }
     ensures shows { HasServed server.old server.new }
     // The connection has its part of the turn, and the others stand as before.
-    ensures part { IfOk result (λ later. HasGoneOn W.readable W.writable server.old peers.old.entries seen.at server.new
+    ensures part { IfOk result (λ later. HasGoneOn W.readable W.writable
+        (trace_by W.given W.written W.answers W.rooms) server.old peers.old.entries seen.at server.new
         peers.new.entries later.at) }
     ensures noted { OnOk result (AreNoted server.new peers.new.entries) }
-    ensures agenda { IfOk result (λ later. IsAgendaOf seen.agenda (stamp_of server.old.host)
+    // What it leaves to be done is added to what those before it leave.
+    ensures agenda { IfOk result (λ later. (changed : Bool) → IsAgendaOf seen.agenda changed (stamp_of server.old.host)
         (map (λ e. end_of W.readable W.writable e.1) (take seen.at peers.old.entries)) →
-        IsAgendaOf later.agenda (stamp_of server.new.host)
+        IsAgendaOf later.agenda
+        (changed || concerns_earlier seen.at (stamp_of server.old.host) (stamp_of server.new.host))
+        (stamp_of server.new.host)
         (map (λ e. end_of W.readable W.writable e.1) (take later.at peers.new.entries))) }
     ensures within { IfOk result (λ later. later.at ≤ length peers.new.entries) }
     // One fewer is left.
@@ -177,7 +182,8 @@ fn serve_at<W: Wire + Ready>(
     ensures part { IfSome (slice_get peers.old.entries at)
         (λ was. IfSome (slice_get peers.new.entries at)
         (λ is. IfOk result (λ course. IsServed (W.readable was.1.wire) (W.writable was.1.wire) server.old was.0
-        was.1.rest server.new is.1.rest course))) }
+        was.1.rest (trace_by W.given W.written W.answers W.rooms was.1.wire) server.new is.1.rest
+        (trace_by W.given W.written W.answers W.rooms is.1.wire) course))) }
     ensures wants { IfSome (slice_get peers.new.entries at)
         (λ is. IfOk result (λ course. course ≡ Open → is.1.wants ≡ wants_of server.new is.0 is.1.rest)) }
     // What was noted of the others still holds, and what was noted of it does where it goes on.

@@ -8,12 +8,13 @@ use std::alloc::AllocError;
 
 impl Server {
     ghost use Rattle.std.specs.Prelude.{◌≡◌, ◌+◌, ◌≤◌, ◌++◌, ◌∷◌, ⊤, List, [], length, take, true, false, is_err, is_some, IfOk, IfErr, IfSome, OnOk, OnErr, option_copied};
-    ghost use Rattle.coap_serve.specs.Prelude.{sem, follows_so, none, RefusedBy, IsNextPart, IsPartlyFed, fed, took, ShowsMore, ShowsPart, AddsBytes, WritesPart, waiting_at, more_at, IsFlushedOnce, session_of, is_there, count_taken, server_taken, server_written, can_take_on, handled_by, IsNotTaken, written_refusal, front_of, stop_on, Event, Took, Wrote, takes, handled_in, Shows, ShowsRefused, IsRefusedFor};
+    ghost use Rattle.coap_serve.specs.Prelude.{sem, follows_so, none, RefusedBy, IsPartlyFed, fed, took, ShowsMore, ShowsPart, AddsBytes, WritesPart, waiting_at, more_at, IsFlushedOnce, session_of, is_there, count_taken, server_taken, server_written, can_take_on, handled_by, IsNotTaken, written_refusal, front_of, stop_on, Event, Took, Wrote, takes, handled_in, Shows, ShowsRefused, IsRefusedFor};
     ghost use Rattle.coap_serve.specs.contracts.server.Server.{the_row};
     ghost use Rattle.coap_serve.specs.script.Events as event;
 
     /// Whether a connection takes bytes: it is there, has neither stopped nor been released, and has room in its queue
     /// for the greatest message sent.
+    #[tactic(auto, using(crate::proofs::values::ServerLemmas::unmarked_at, crate::proofs::values::ServerLemmas::within_unmarked))]
     pub(crate) fn can_take(&self, id: ConnId) -> bool
         ensures { result ≡ can_take_on (session_of id self.now.sessions) }
     {
@@ -32,6 +33,7 @@ impl Server {
     /// `NoSuch` where no connection has the number: nothing has changed then. `Memory` where memory was refused for a
     /// representation that the message stores: the bytes before its last one are taken then, and nothing of it was
     /// handled.
+    #[tactic(auto, using(crate::proofs::values::ServerLemmas::unmarked_at, crate::proofs::values::ServerLemmas::within_unmarked))]
     pub fn take(&mut self, id: ConnId, piece: &[u8]) -> Result<Taken, TakeFault>
         ensures within { IfOk result (λ t. t.bytes ≤ length piece.now) }
         ensures count { IfOk result (λ t. t.bytes ≡ count_taken self.old id piece.now) }
@@ -96,7 +98,9 @@ impl Server {
         Ok(taken)
     }
 
-    /// All bytes that wait on a connection, where one has the number.
+    /// Returns all queued bytes of a connection in one slice, or `None` if no connection has the number. If they wrap
+    /// around the end of the queue's ring, they are moved first: `parts` moves none.
+    #[tactic(auto, using(crate::proofs::values::ServerLemmas::unmarked_at, crate::proofs::values::ServerLemmas::within_unmarked))]
     pub fn front<'a>(&'a mut self, id: ConnId) -> Option<&'a [u8]>
         ensures* unchanged { sem 𝓛 (follows_so the_row the_row self.entry.ghost_name none (λ _ _. ⊤)
             (λ s. s ≡ self.old)) }
@@ -106,14 +110,15 @@ impl Server {
         Some(self.sessions[at].front())
     }
 
-    /// A front of the bytes that wait on a connection, where they lie, where one has the number: none of them only
-    /// where nothing waits.
-    pub fn next_part(&self, id: ConnId) -> Option<&[u8]>
+    /// Returns the queued bytes of a connection in the two slices that they occupy, the first ones and those after them,
+    /// or `None` if no connection has the number. Unlike `front`, it moves no bytes.
+    #[tactic(auto, using(crate::proofs::values::ServerLemmas::unmarked_at, crate::proofs::values::ServerLemmas::within_unmarked))]
+    pub fn parts(&self, id: ConnId) -> Option<(&[u8], &[u8])>
         ensures there { is_some result ≡ is_there (session_of id self.now.sessions) }
-        ensures part { IfSome result (λ part. IsNextPart (waiting_at id self.now) part.now) }
+        ensures parts { IfSome result (λ parts. parts.0.now ++ parts.1.now ≡ waiting_at id self.now) }
     {
         let at = find(&self.sessions, id)?;
-        Some(self.sessions[at].next_part())
+        Some(self.sessions[at].parts())
     }
 
     /// The first so many bytes of a connection were written, and wait no more.
@@ -122,6 +127,7 @@ impl Server {
     ///
     /// In this order: `NoSuch` where no connection has the number, `TooMany` where fewer bytes wait. Nothing has
     /// changed then.
+    #[tactic(auto, using(crate::proofs::values::ServerLemmas::unmarked_at, crate::proofs::values::ServerLemmas::within_unmarked))]
     pub fn written(&mut self, id: ConnId, count: usize) -> Result<(), WrittenFault>
         ensures answer { RefusedBy result (written_refusal self.old id count) }
         ensures ok { OnOk result (self.new ≡ server_written self.old id count) }
@@ -145,6 +151,7 @@ impl Server {
     /// # Errors
     ///
     /// Where a write failed.
+    #[tactic(auto, using(crate::proofs::values::ServerLemmas::unmarked_at, crate::proofs::values::ServerLemmas::within_unmarked))]
     pub(crate) fn flush_once<W: Outlet>(
         &mut self,
         id: ConnId,

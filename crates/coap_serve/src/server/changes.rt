@@ -28,7 +28,7 @@ impl Server {
         }
         let before = self.stamp();
         if now > before.moment {
-            self.host.now = now;
+            self.host.move_to(now);
             settle_touched(&mut self.sessions, &self.host, Cause::Moment(before.moment));
         }
         Ok(())

@@ -54,6 +54,7 @@ impl Server {
     /// # Errors
     ///
     /// Where no connection has the number. Nothing has changed then.
+    #[tactic(auto, using(crate::proofs::values::ServerLemmas::unmarked_at, crate::proofs::values::ServerLemmas::within_unmarked))]
     pub fn ended(&mut self, id: ConnId) -> Result<(), NoSuch>
         ensures answer { is_ok result ≡ is_there (session_of id self.old.sessions) }
         ensures ok { OnOk result (self.new ≡ server_ended self.old id) }
@@ -75,6 +76,7 @@ impl Server {
     /// In this order: `NoSuch` where no connection has the number, `NotOpen` where it is not open, `NoRoom` where fewer
     /// than 2 bytes are free in its queue, `PeerTooSmall` where less than 2 bytes may be sent. Nothing has changed
     /// then.
+    #[tactic(auto, using(crate::proofs::values::ServerLemmas::unmarked_at, crate::proofs::values::ServerLemmas::within_unmarked))]
     pub fn release(&mut self, id: ConnId) -> Result<(), ReleaseFault>
         ensures answer { RefusedBy result (released_refusal self.old id) }
         ensures ok { OnOk result (self.new ≡ server_released self.old id) }
@@ -98,6 +100,7 @@ impl Server {
     /// size is below the one announced last, `TooLarge` where it is above 1,048,576 bytes, `NoRoom` where its queue has
     /// no room for the greatest message sent, `PeerTooSmall` where the peer takes no message as great as the
     /// announcement, `Memory` where the size is greater and its room is refused. Nothing has changed then.
+    #[tactic(auto, using(crate::proofs::values::ServerLemmas::unmarked_at, crate::proofs::values::ServerLemmas::within_unmarked))]
     pub fn announce(&mut self, id: ConnId, new: u32) -> Result<(), AnnounceFault>
         ensures answer { IsAnnounced new (session_of id self.old.sessions) result }
         ensures ok { OnOk result (self.new ≡ server_announced self.old id new) }
@@ -116,6 +119,7 @@ impl Server {
     /// # Errors
     ///
     /// Where no connection has the number. Nothing has changed then.
+    #[tactic(auto, using(crate::proofs::values::ServerLemmas::unmarked_at, crate::proofs::values::ServerLemmas::within_unmarked))]
     pub fn drop_conn(&mut self, id: ConnId) -> Result<(), NoSuch>
         ensures answer { is_ok result ≡ is_there (session_of id self.old.sessions) }
         ensures ok { OnOk result (self.new ≡ server_dropped self.old id) }

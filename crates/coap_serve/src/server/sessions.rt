@@ -1,27 +1,31 @@
 //! What is done to the connections that a server holds, each by its index.
 
 ghost use Rattle.std.specs.Prelude.{◌≡◌, ◌<◌, ◌≤◌, false, None, Some, length, map, slice_get, if◌then◌else◌, is_err, is_some, IfNone, IfSome, IfOk, OnOk, OnErr};
-ghost use Rattle.coap_serve.specs.Prelude.{values, RefusedBy, AddsBytes, WritesPart, IsFlushedAt, SessionValue, session_written, session_ended, session_released, session_announced, session_settled, LiesAt, session_of, changed_at, settled_entry, AreSettled, AreSettledUntouched, AreOthersSettled, settled_held, released_refusal_on, IsAnnounced, handled_so};
+ghost use Rattle.coap_serve.specs.Prelude.{values, values_of, SessionValue, IsMarked, unmarked, AreAllMarked, AreMarkedBut, AreMarkedAfter, RefusedBy, AddsBytes, WritesPart, IsFlushedAt, session_written, session_ended, session_released, session_announced, session_settled, LiesAt, session_of, changed_at, settled_entry, AreSettled, AreSettledUntouched, AreOthersSettled, settled_held, released_refusal_on, IsAnnounced, handled_so};
 
 use super::{AnnounceFault, ConnId, Handled, ReleaseFault, Sessions};
 use crate::cause::Cause;
 use crate::device::Outlet;
 use crate::host::Host;
-use crate::output::{WriteFailed, write_all};
+use crate::output::{WriteFailed, write_parts};
 use coap_conn::Reason;
 
 /// The index of a connection.
 pub(super) fn find(sessions: &Sessions, id: ConnId) -> Option<usize>
-    ensures none { IfNone result (session_of id sessions.now.entries ≡ None) }
-    ensures some { IfSome result (λ at. LiesAt id at sessions.now.entries) }
+    ensures none { IfNone result (session_of id (unmarked sessions.now.entries) ≡ None) }
+    ensures some { IfSome result (λ at. LiesAt id at (unmarked sessions.now.entries)) }
 {
     sessions.get_index_of(&id)
 }
 
-/// Every connection settles. Those that a change does not touch are settled already, and cost a look.
+/// Every connection marks the observers that a change concerns, and settles. Those that the change does not touch are
+/// settled already, and cost a look.
 pub(super) fn settle_touched(sessions: &mut Sessions, host: &Host, cause: Cause)
-    requires { AreSettledUntouched cause host.now sessions.old.entries }
-    ensures { sessions.new.entries ≡ map (settled_entry host.entry.now) sessions.old.entries }
+    requires settled { AreSettledUntouched cause host.now (unmarked sessions.old.entries) }
+    requires marked { AreMarkedBut cause host.now sessions.old.entries }
+    ensures after { unmarked sessions.new.entries
+        ≡ map (settled_entry host.entry.now) (unmarked sessions.old.entries) }
+    ensures marked { AreAllMarked host.entry.now sessions.new.entries }
 {
     for at in 0..sessions.len() {
         sessions[at].settle_where_touched(host, cause);
@@ -32,10 +36,13 @@ pub(super) fn settle_touched(sessions: &mut Sessions, host: &Host, cause: Cause)
 /// alone, where it holds something.
 pub(super) fn settle_after(changed: Option<u8>, sessions: &mut Sessions, at: usize, host: &Host)
     requires within { at < length sessions.old.entries }
-    requires others { AreOthersSettled changed at host.now sessions.old.entries }
-    ensures { sessions.new.entries
-        ≡ (if is_some changed then map (settled_entry host.entry.now) sessions.old.entries else changed_at at
-        (settled_held host.entry.now) sessions.old.entries) }
+    requires others { AreOthersSettled changed at host.now (unmarked sessions.old.entries) }
+    requires marked { AreMarkedAfter changed host.now sessions.old.entries }
+    requires own { IfSome (slice_get (values sessions.old) at) (IsMarked host.now) }
+    ensures after { unmarked sessions.new.entries ≡ (if is_some changed then map (settled_entry host.entry.now)
+        (unmarked sessions.old.entries) else changed_at at (settled_held host.entry.now)
+        (unmarked sessions.old.entries)) }
+    ensures marked { AreAllMarked host.entry.now sessions.new.entries }
 {
     match changed {
         None => sessions[at].settle_held(host),
@@ -69,19 +76,24 @@ pub(super) fn what_was_handled(takes: bool, message: bool, stop: Option<Reason>)
 /// The first so many bytes of the connection at an index were written. It settles.
 pub(super) fn written_at(sessions: &mut Sessions, at: usize, host: &Host, count: usize)
     requires within { at < length sessions.old.entries }
-    requires waiting { IfSome (slice_get (values sessions.old) at) (λ s. count ≤ length s.link.waiting) }
-    requires settled { AreSettled host.now sessions.old.entries }
-    ensures { sessions.new.entries
-        ≡ changed_at at (λ s. session_settled host.entry.now (session_written s count)) sessions.old.entries }
+    requires waiting { IfSome (slice_get (values_of (unmarked sessions.old.entries)) at)
+        (λ s. count ≤ length s.link.waiting) }
+    requires settled { AreSettled host.now (unmarked sessions.old.entries) }
+    requires marked { AreAllMarked host.now sessions.old.entries }
+    ensures after { unmarked sessions.new.entries ≡ changed_at at
+        (λ s. session_settled host.entry.now (session_written s count)) (unmarked sessions.old.entries) }
+    ensures marked { AreAllMarked host.entry.now sessions.new.entries }
 {
     sessions[at].written_and_settled(host, count);
 }
 
 /// The input of the connection at an index ended. It settles.
 pub(super) fn end_at(sessions: &mut Sessions, at: usize, host: &Host)
-    requires { at < length sessions.old.entries }
-    ensures { sessions.new.entries
-        ≡ changed_at at (λ s. session_settled host.entry.now (session_ended s)) sessions.old.entries }
+    requires within { at < length sessions.old.entries }
+    requires marked { AreAllMarked host.now sessions.old.entries }
+    ensures after { unmarked sessions.new.entries ≡ changed_at at
+        (λ s. session_settled host.entry.now (session_ended s)) (unmarked sessions.old.entries) }
+    ensures marked { AreAllMarked host.entry.now sessions.new.entries }
 {
     let session = &mut sessions[at];
     session.end();
@@ -93,15 +105,18 @@ pub(super) fn end_at(sessions: &mut Sessions, at: usize, host: &Host)
 /// # Errors
 ///
 /// As `Session::release`. Nothing has changed then.
+#[tactic(auto, using(crate::proofs::values::ServerLemmas::unmarked_at))]
 pub(super) fn release_at(
     sessions: &mut Sessions,
     at: usize,
     host: &Host,
 ) -> Result<(), ReleaseFault>
-    requires { at < length sessions.old.entries }
-    ensures answer { RefusedBy result (released_refusal_on (slice_get (values sessions.old) at)) }
-    ensures ok { OnOk result (sessions.new.entries ≡ changed_at at
-        (λ s. session_settled host.entry.now (session_released s)) sessions.old.entries) }
+    requires within { at < length sessions.old.entries }
+    requires marked { AreAllMarked host.now sessions.old.entries }
+    ensures answer { RefusedBy result (released_refusal_on (slice_get (values_of (unmarked sessions.old.entries)) at)) }
+    ensures ok { OnOk result (unmarked sessions.new.entries ≡ changed_at at
+        (λ s. session_settled host.entry.now (session_released s)) (unmarked sessions.old.entries)) }
+    ensures marked { AreAllMarked host.entry.now sessions.new.entries }
     ensures err { OnErr result (sessions.new.entries ≡ sessions.old.entries) }
 {
     let session = &mut sessions[at];
@@ -115,16 +130,19 @@ pub(super) fn release_at(
 /// # Errors
 ///
 /// As `Session::announce`. Nothing has changed then.
+#[tactic(auto, using(crate::proofs::values::ServerLemmas::unmarked_at))]
 pub(super) fn announce_at(
     sessions: &mut Sessions,
     at: usize,
     host: &Host,
     size: u32,
 ) -> Result<(), AnnounceFault>
-    requires { at < length sessions.old.entries }
-    ensures answer { IsAnnounced size (slice_get (values sessions.old) at) result }
-    ensures ok { OnOk result (sessions.new.entries ≡ changed_at at
-        (λ s. session_settled host.entry.now (session_announced s size)) sessions.old.entries) }
+    requires within { at < length sessions.old.entries }
+    requires marked { AreAllMarked host.now sessions.old.entries }
+    ensures answer { IsAnnounced size (slice_get (values_of (unmarked sessions.old.entries)) at) result }
+    ensures ok { OnOk result (unmarked sessions.new.entries ≡ changed_at at
+        (λ s. session_settled host.entry.now (session_announced s size)) (unmarked sessions.old.entries)) }
+    ensures marked { AreAllMarked host.entry.now sessions.new.entries }
     ensures err { OnErr result (sessions.new.entries ≡ sessions.old.entries) }
 {
     let session = &mut sessions[at];
@@ -147,21 +165,25 @@ pub(super) fn flush_at<W: Outlet>(
 ) -> Result<bool, WriteFailed>
     requires within { at < length sessions.old.entries }
     requires works { W.is_failed writer.old ≡ false }
-    ensures ok { IfOk result (λ waited. (s : SessionValue) → slice_get (values sessions.old) at ≡ Some s →
-        IsFlushedAt at host.entry.now s sessions.old.entries sessions.new.entries
+    requires marked { AreAllMarked host.now sessions.old.entries }
+    ensures ok { IfOk result (λ waited. (s : SessionValue) →
+        slice_get (values_of (unmarked sessions.old.entries)) at ≡ Some s →
+        IsFlushedAt at host.entry.now s (unmarked sessions.old.entries) (unmarked sessions.new.entries)
         (AddsBytes (W.written writer.old) (W.written writer.new)) waited) }
-    ensures part { OnErr result ((s : SessionValue) → slice_get (values sessions.old) at ≡ Some s →
+    ensures part { OnErr result ((s : SessionValue) →
+        slice_get (values_of (unmarked sessions.old.entries)) at ≡ Some s →
         WritesPart (W.written writer.old) (W.written writer.new) s.link.waiting) }
+    ensures marked { AreAllMarked host.entry.now sessions.new.entries }
     ensures err { OnErr result (sessions.new.entries ≡ sessions.old.entries) }
     ensures failure { W.is_failed writer.new ≡ is_err result }
 {
     let session = &mut sessions[at];
-    let waiting = session.front();
-    let count = waiting.len();
+    let count = session.waiting();
     if count == 0 {
         return Ok(false);
     }
-    write_all(writer, waiting)?;
+    let (first, second) = session.parts();
+    write_parts(writer, first, second)?;
     session.written(count);
     session.settle(host);
     Ok(true)

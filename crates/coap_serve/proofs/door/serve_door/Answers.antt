@@ -1,4 +1,4 @@
-use Rattle.coap_serve.specs.Prelude.{NoneYet}
+use Rattle.coap_serve.specs.Prelude.{NoneYet, trace_by}
 use Rattle.std.proofs.Common.{[], refl, ap, arith, ◌∙◌}
 use Rattle.std.proofs.lemmas.Result.{err_from_is_err_and}
 use Rattle.coap_serve.proofs.streams.DoorLemmas.{told_none, turned_once_more, cut_in_a_turn, ended_by_memory}
@@ -14,26 +14,28 @@ loop-turn-init g c = record {
     door_tells = told_none (g.D.Door.calls c.args.door.now);
   };
   counted = refl;
-  may = tt;
   ready = c.in-Ok.ensures.ready;
 }
 
 pub loop-turn-preserved : goal.loop-turn-preserved
 loop-turn-preserved g c =
-    turned_once_more g.D.Wire.Ready.readable g.D.Wire.Ready.writable c.args.config
+    turned_once_more g.D.Wire.Ready.readable g.D.Wire.Ready.writable
+    (trace_by g.D.Wire.Wire.given g.D.Wire.Wire.written g.D.Wire.Wire.answers g.D.Wire.Wire.rooms) c.args.config
     (g.C.Clock.moments c.args.clock.now) (g.C.Clock.moments c.loop-turn.clock) (g.C.Clock.moments c.now.new.self)
     (g.D.Door.calls c.args.door.now) (g.D.Door.calls c.loop-turn.door) (g.D.Door.calls c.wait_behind.new.door) (g.D.Door.calls c.turn.new.door)
     c.loop-turn.service.server c.loop-turn.service.peers.entries c.loop-turn.service.is_spent c.loop-turn.wait c.loop-turn.turn c.loop-turn.invariant
     c.can_open.result c.can_open.ensures c.wait_behind.ensures c.now.result c.now.ensures c.tick.new.self.server c.tick.ensures.moved
     c.tick.new.self.peers.entries c.turn.new.self.server c.turn.new.self.peers.entries c.turn.new.self.is_spent c.in_ok-wait.wait
-    (ap (λ peers. peers.entries) c.tick.ensures.peers) c.in_ok-wait.ensures.turn c.in_ok-wait.ensures.waits c.in_ok-wait.ensures.ready
+    (ap (λ peers. peers.entries) c.tick.ensures.peers) c.in_ok-wait.ensures.turn c.in_ok-wait.ensures.ready
 
 pub returns-in_err-wait-clause-run : goal.returns-in_err-wait-clause-run
 returns-in_err-wait-clause-run g c =
     let p = err_from_is_err_and c.from_residual.result c.from_residual.ensures.1 in
     rw (p.1, p.2)
-    (ended_by_memory g.D.Wire.Ready.readable g.D.Wire.Ready.writable c.args.config _ _ c.in_err-wait.field-0.0 c.in_err-wait.ensures.fault
-    (cut_in_a_turn g.D.Wire.Ready.readable g.D.Wire.Ready.writable c.args.config
+    (ended_by_memory g.D.Wire.Ready.readable g.D.Wire.Ready.writable
+    (trace_by g.D.Wire.Wire.given g.D.Wire.Wire.written g.D.Wire.Wire.answers g.D.Wire.Wire.rooms) c.args.config _ _ c.in_err-wait.field-0.0 c.in_err-wait.ensures.fault
+    (cut_in_a_turn g.D.Wire.Ready.readable g.D.Wire.Ready.writable
+    (trace_by g.D.Wire.Wire.given g.D.Wire.Wire.written g.D.Wire.Wire.answers g.D.Wire.Wire.rooms) c.args.config
     (g.C.Clock.moments c.args.clock.now) (g.C.Clock.moments c.loop-turn.clock) (g.C.Clock.moments c.now.new.self)
     (g.D.Door.calls c.args.door.now) (g.D.Door.calls c.loop-turn.door) (g.D.Door.calls c.wait_behind.new.door) (g.D.Door.calls c.turn.new.door)
     c.loop-turn.service.server c.loop-turn.service.peers.entries c.loop-turn.service.is_spent c.loop-turn.wait c.loop-turn.turn c.loop-turn.invariant
@@ -44,6 +46,7 @@ pub returns-clause-run : goal.returns-clause-run
 returns-clause-run g c = record {
   server = c.loop-turn.service.server;
   entries = c.loop-turn.service.peers.entries;
+  wait = c.loop-turn.wait;
   turned = c.loop-turn.invariant.turned;
   all = omega (arith, c.loop-turn.invariant.counted, c.loop-turn-test.false, c.turns-turn-end.ensures.value);
 }

@@ -1,10 +1,11 @@
-use Rattle.coap_serve.specs.Prelude.{TellsMore}
+use Rattle.coap_serve.specs.Prelude.{TellsMore, trace_by}
 use Rattle.coap_serve.proofs.streams.DoorLemmas.{HasRunTo}
 use Rattle.coap_serve.proofs.door.serve_door.Given as goal
 
 -- how far the run has come
 abbrev pub invariant-loop-turn : goal.invariant-loop-turn
 invariant-loop-turn g l =
-    HasRunTo g.D.Wire.Ready.readable g.D.Wire.Ready.writable l.fn.config
+    HasRunTo g.D.Wire.Ready.readable g.D.Wire.Ready.writable
+    (trace_by g.D.Wire.Wire.given g.D.Wire.Wire.written g.D.Wire.Wire.answers g.D.Wire.Wire.rooms) l.fn.config
     (TellsMore (g.C.Clock.moments l.fn.clock) (g.C.Clock.moments l.clock)) (TellsMore (g.D.Door.calls l.fn.door) (g.D.Door.calls l.door))
     l.service.server l.service.peers.entries l.service.is_spent l.wait l.turn

@@ -4,7 +4,10 @@ use Rattle.std.proofs.lemmas.Bool.{ltb-false}
 use Rattle.std.proofs.lemmas.Fn.{filter_same}
 use Rattle.coap_serve.specs.declared.observers.Observer.{Observer}
 use Rattle.coap_serve.proofs.values.EntryLemmas.{others_seen}
+use Rattle.coap_serve.specs.Prelude.{IsTagged}
 use Rattle.coap_serve.proofs.values.CoverLemmas.{all_kept_stay}
+use Rattle.coap_serve.proofs.values.TagLemmas.{others_keep_marks}
+use Rattle.coap_serve.proofs.world.EntryLemmas.{all_filter}
 use Rattle.coap_serve.proofs.observers.keep_others.Goals as goal
 
 abbrev keeps : List ℕ → Observer → Bool
@@ -20,3 +23,9 @@ pub returns-clause-same : goal.returns-clause-same
 returns-clause-same c = λ no_less.
     let many : c.len-before.result ≤ c.len.result = ltb-false c.len.result c.len-before.result no_less in
     kept c ∙ all_kept_stay (keeps c.args.token.now) c.args.observers.now.items (omega (arith, many, c.len-before.ensures, c.len.ensures, ap length (kept c)))
+
+pub returns-clause-marks : goal.returns-clause-marks
+returns-clause-marks c = λ mark same. rw (kept c) (others_keep_marks (keeps c.args.token.now) mark c.args.observers.now.items same)
+
+pub returns-clause-tagged : goal.returns-clause-tagged
+returns-clause-tagged c = λ all. rw (kept c) (all_filter IsTagged (keeps c.args.token.now) c.args.observers.now.items all)

@@ -1,6 +1,6 @@
-use Rattle.std.proofs.Common.{ap, length, arith}
+use Rattle.std.proofs.Common.{ap, arith}
 use Rattle.coap_wire.specs.OptionNumbers as numbers
-use Rattle.coap_serve.specs.Prelude.{Path, written_length, each_at}
+use Rattle.coap_serve.specs.Prelude.{Path, path_size, written_length, each_at}
 use Rattle.coap_store.proofs.PathLemmas.{path_fits}
 use Rattle.coap_serve.proofs.values.ResponseLemmas.{with_options, segment_added}
 use Rattle.coap_serve.proofs.response.add_path.Goals as goal
@@ -13,8 +13,7 @@ loop-segment-init g c =
       ends = tt;
       added = ap (λ (p : Path). with_options c.args.response.now (each_at numbers.location_path p)) same;
       order = c.requires.order;
-      few = omega (arith, ap (λ (p : Path). length p) same);
-      room = c.requires.room;
+      few = omega (arith, ap path_size same);
       short = omega (arith, path_fits c.args.path c.requires.path, ap written_length same);
     }
 
@@ -27,7 +26,6 @@ loop-segment-preserved g c =
       ends = tt;
       added = segment_added c.args.response.now c.loop-segment.response c.add.new.response c.args.path c.loop-segment.segment-iterator c.next.new.self c.in-Some.segment.now steps c.add.ensures.added so_far.added;
       order = omega (arith, c.add.ensures.order);
-      few = omega (arith, c.add.ensures.few, so_far.few, ap (λ (p : Path). length p) steps);
-      room = so_far.room;
+      few = omega (arith, c.add.ensures.size, so_far.few, ap path_size steps);
       short = omega (arith, so_far.short, ap written_length steps);
     }

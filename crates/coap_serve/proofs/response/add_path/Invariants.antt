@@ -1,5 +1,5 @@
-use Rattle.std.proofs.Common.{◌≡◌, ◌≤◌, ◌+◌, ◌++◌, length}
-use Rattle.coap_serve.specs.Prelude.{last_number, written_length, each_at}
+use Rattle.std.proofs.Common.{◌≡◌, ◌≤◌, ◌+◌, ◌++◌}
+use Rattle.coap_serve.specs.Prelude.{last_number, encoded_size, path_size, written_length, each_at}
 use Rattle.coap_wire.specs.OptionNumbers as numbers
 use Rattle.coap_serve.proofs.response.add_path.Given as goal
 
@@ -10,7 +10,6 @@ invariant-loop-segment g l = record {
   ends : (goal.iterator-loop-segment g).is_finite l.segment-iterator;
   added : record l.response { options = l.response.options ++ each_at numbers.location_path l.segment-iterator } ≡ record l.fn.response { options = l.fn.response.options ++ each_at numbers.location_path l.fn.path };
   order : last_number 0 l.response.options ≤ 8;
-  few : length l.response.options + length l.segment-iterator ≤ length l.fn.response.options + length l.fn.path;
-  room : length l.fn.response.options + length l.fn.path ≤ g.row.N;
+  few : encoded_size l.response + path_size l.segment-iterator ≤ encoded_size l.fn.response + path_size l.fn.path;
   short : written_length l.segment-iterator ≤ 255;
 }

@@ -23,6 +23,7 @@ returns-in_default c =
     assumption (
       λ (frame : List ℕ). message_handled host (record { frame = frame; link = link; observers = c.args.observers.now.entries }) m c.on.new.self other c.on.ensures.after,
       ap sizes_of c.on.ensures.after ∙ stays_so sizes_of (takes_messages link.phase) link _ refl,
+      c.requires.marked,
       ap change_hash (sym same),
       ap (host_changed host) (sym same),
     )

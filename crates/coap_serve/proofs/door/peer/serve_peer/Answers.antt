@@ -1,3 +1,6 @@
+use Rattle.std.proofs.Common.{sym, ap, ◌∙◌}
+use Rattle.coap_serve.specs.Prelude.{trace_by, course_of, is_over_in}
+use Rattle.coap_serve.proofs.streams.PeerLemmas.{steps_are_a_part}
 use Rattle.coap_serve.proofs.streams.ServingLemmas.{served_further}
 use Rattle.coap_serve.proofs.door.peer.serve_peer.Goals as goal
 
@@ -6,3 +9,18 @@ returns-in_err-take_rest-clause-shows g c = served_further c.hear-heard.ensures.
 
 pub returns-clause-shows : goal.returns-clause-shows
 returns-clause-shows g c = served_further (served_further c.hear-heard.ensures.shows c.take_rest.ensures.shows) c.write_once-wrote.ensures.shows
+
+pub returns-clause-part : goal.returns-clause-part
+returns-clause-part g c =
+    let trace = trace_by g.W.Wire.given g.W.Wire.written g.W.Wire.answers g.W.Wire.rooms in
+    let wrote = c.write_once-wrote.ensures in
+    steps_are_a_part c.args.may_read c.args.may_write c.args.server.now c.hear-heard.new.server c.take_rest.new.server c.write_once-wrote.new.server c.args.id
+    c.args.peer.now.rest c.hear-heard.new.peer.rest c.take_rest.new.rest
+    (trace c.args.peer.now.wire) (trace c.hear-heard.new.peer.wire) (trace c.write_once-wrote.new.wire) c.hear-heard.result c.write_once-wrote.result c.outcome.result
+    c.hear-heard.ensures.server c.hear-heard.ensures.laid (sym c.failed.ensures ∙ c.if-failed.false)
+    c.in_ok-take_rest.ensures.server c.in_ok-take_rest.ensures.rest
+    (record {
+      idle = λ none. let same = wrote.idle none in (same.1, ap trace same.0);
+      busy = λ some. record { within = wrote.within; took = wrote.wrote some; gave = wrote.gave some; answered = wrote.answered some; no_read = wrote.no_read some };
+    })
+    wrote.server (c.outcome.ensures ∙ ap (course_of c.write_once-wrote.result) (c.is_over.ensures ∙ ap is_over_in c.outlook-outlook.ensures))

@@ -6,14 +6,14 @@ use Rattle.coap_serve.proofs.door.peer.write_once.Goals as goal
 
 pub unreachable-requires : goal.unreachable-requires
 unreachable-requires g c =
-    none_refused c.args.server.now c.args.id c.in-Bytes.count c.in-Some.part.now c.in_default-written.field-0
-    (sym c.in-Some.ensures.there) c.in-Some.ensures.part c.in-Bytes.ensures.within.1 c.in_default-written.ensures.answer
+    none_refused c.args.server.now c.args.id c.in-Bytes.count c.first_part-part.result.now c.in_default-written.field-0
+    (sym c.in-Some.ensures.there) (rw c.in-Some.ensures.parts at c.first_part-part.ensures) c.in-Bytes.ensures.within.1 c.in_default-written.ensures.answer
 
 pub returns-in-Ok-clause-wrote : goal.returns-in-Ok-clause-wrote
 returns-in-Ok-clause-wrote g c = λ _.
     rw c.if-not-may_write.false
-    (part_written (waiting_at c.args.id c.args.server.now) c.in-Some.part.now (Bytes c.in-Bytes.count) (g.W.Wire.written c.args.wire.now) (g.W.Wire.written c.write.new.self)
-    c.in-Some.ensures.part c.in-Bytes.ensures.within c.in-Bytes.ensures.wrote)
+    (part_written (waiting_at c.args.id c.args.server.now) c.first_part-part.result.now (Bytes c.in-Bytes.count) (g.W.Wire.written c.args.wire.now) (g.W.Wire.written c.write.new.self)
+    (rw c.in-Some.ensures.parts at c.first_part-part.ensures) c.in-Bytes.ensures.within c.in-Bytes.ensures.wrote)
 
 pub returns-in-Ok-clause-shows : goal.returns-in-Ok-clause-shows
 returns-in-Ok-clause-shows g c = written_served c.args.server.now _ c.written.new.self c.args.id c.in-Bytes.count (search rules) c.in-Ok.ensures.shows

@@ -18,10 +18,10 @@ returns g c =
       wants = rw written c.serve_peer.ensures.wants;
       others =
           rw (beside_written c.args.peers.now.entries c.args.at c.serve_peer.new.peer)
-          (IfOk-weaker c.serve_peer.result _ _ (beside_served _ _ c.args.server.now _ _ c.serve_peer.new.server _ c.args.peers.now.entries c.args.at _ c.serve_peer.new.peer
+          (IfOk-weaker c.serve_peer.result _ _ (beside_served _ _ c.args.server.now _ _ _ c.serve_peer.new.server _ _ c.args.peers.now.entries c.args.at _ c.serve_peer.new.peer
           c.requires.settled c.pair_mut-peer.ensures.unique c.pair_mut-peer.ensures.value c.requires.noted) c.serve_peer.ensures.part);
       noted =
-          all_noted _ _ c.args.server.now _ _ c.serve_peer.new.server _ c.args.peers.now.entries c.args.at c.pair_mut-peer.result.1.now c.serve_peer.new.peer
+          all_noted _ _ c.args.server.now _ _ _ c.serve_peer.new.server _ _ c.args.peers.now.entries c.args.at c.pair_mut-peer.result.1.now c.serve_peer.new.peer
           c.requires.settled c.pair_mut-peer.ensures.unique c.pair_mut-peer.ensures.value c.requires.noted c.serve_peer.result c.serve_peer.ensures.part c.serve_peer.ensures.wants;
       beside = beside_written c.args.peers.now.entries c.args.at c.serve_peer.new.peer;
       before = before_written c.args.peers.now.entries c.args.at c.serve_peer.new.peer;

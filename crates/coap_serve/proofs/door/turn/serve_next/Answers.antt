@@ -1,6 +1,6 @@
 use Rattle.std.proofs.Common.{arith}
 use Rattle.std.proofs.lemmas.List.Edits.{length-remove}
-use Rattle.coap_serve.specs.Prelude.{end_of}
+use Rattle.coap_serve.specs.Prelude.{end_of, trace_by}
 use Rattle.coap_serve.proofs.streams.AgendaLemmas.{served_later, front_stays, open_step, stamp_noted, same_length, one_open, one_over}
 use Rattle.coap_serve.proofs.streams.ServingLemmas.{served_further}
 use Rattle.coap_serve.proofs.door.turn.serve_next.Goals as goal
@@ -9,7 +9,7 @@ pub overflow_add-result : goal.overflow_add-result
 overflow_add-result g c = omega (arith, c.requires.there, c.requires.fits)
 
 pub returns-in-Over-clause-agenda : goal.returns-in-Over-clause-agenda
-returns-in-Over-clause-agenda g c seen =
+returns-in-Over-clause-agenda g c changed seen =
     let as_many = same_length c.serve_at.new.peers.entries c.args.peers.now.entries c.serve_at.ensures.same in
     rw (c.drop_at.ensures.host, c.drop_at.ensures.peers, front_stays c.serve_at.new.peers.entries c.args.seen.at (omega (arith, as_many, c.requires.there)))
     (served_later (end_of g.W.Ready.readable g.W.Ready.writable) c.args.peers.now.entries c.serve_at.new.peers.entries c.args.seen.at
@@ -23,7 +23,7 @@ returns-in-Over-clause-fewer g c =
     rw c.drop_at.ensures.peers (omega (arith, as_many, less, c.requires.there))
 
 pub returns-in-Open-clause-agenda : goal.returns-in-Open-clause-agenda
-returns-in-Open-clause-agenda g c seen =
+returns-in-Open-clause-agenda g c changed seen =
     open_step (end_of g.W.Ready.readable g.W.Ready.writable) c.serve_at.new.peers.entries c.args.seen.at c.index-peer.result.now c.index-peer.ensures
     (served_later (end_of g.W.Ready.readable g.W.Ready.writable) c.args.peers.now.entries c.serve_at.new.peers.entries c.args.seen.at
     c.args.server.now.host c.serve_at.new.server.host seen c.serve_at.ensures.before c.stamp-before.ensures.stamp c.stamp.ensures.stamp
@@ -38,13 +38,15 @@ returns-in-Open-clause-fewer g c =
 
 pub returns-in-Over-clause-part : goal.returns-in-Over-clause-part
 returns-in-Over-clause-part g c =
-    one_over g.W.Ready.readable g.W.Ready.writable c.args.server.now c.serve_at.new.server c.args.peers.now.entries c.serve_at.new.peers.entries c.args.seen.at
+    one_over g.W.Ready.readable g.W.Ready.writable (trace_by g.W.Wire.given g.W.Wire.written g.W.Wire.answers g.W.Wire.rooms)
+    c.args.server.now c.serve_at.new.server c.args.peers.now.entries c.serve_at.new.peers.entries c.args.seen.at
     c.requires.there c.serve_at.ensures.same c.serve_at.ensures.before c.serve_at.ensures.beside c.in_ok-course.course c.in_ok-course.ensures.part
     c.drop_at.new.server c.drop_at.new.peers.entries c.in-Over.is c.drop_at.ensures.peers c.drop_at.ensures.server
 
 pub returns-in-Open-clause-part : goal.returns-in-Open-clause-part
 returns-in-Open-clause-part g c =
-    one_open g.W.Ready.readable g.W.Ready.writable c.args.server.now c.serve_at.new.server c.args.peers.now.entries c.serve_at.new.peers.entries c.args.seen.at
+    one_open g.W.Ready.readable g.W.Ready.writable (trace_by g.W.Wire.given g.W.Wire.written g.W.Wire.answers g.W.Wire.rooms)
+    c.args.server.now c.serve_at.new.server c.args.peers.now.entries c.serve_at.new.peers.entries c.args.seen.at
     c.requires.there c.serve_at.ensures.same c.serve_at.ensures.before c.serve_at.ensures.beside c.in_ok-course.course c.in_ok-course.ensures.part c.in-Open.is
 
 pub returns-in-Over-clause-shows : goal.returns-in-Over-clause-shows

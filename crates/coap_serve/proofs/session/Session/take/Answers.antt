@@ -1,8 +1,8 @@
 use Rattle.coap_frame.proofs.GivenLaws.{unread_allowed}
 use Rattle.coap_frame.proofs.FramingLemmas.{framing_is_framer, unread_is_framer}
-use Rattle.std.proofs.Common.{◌≡◌, Ok, arith, refl, sym, ap, ◌∙◌}
+use Rattle.std.proofs.Common.{◌≡◌, Ok, arith, refl, sym, ap, subst, ◌∙◌}
 use Rattle.coap_serve.specs.Prelude.{AFrame, framing_of, FramerValue, IsFramer, framer_after, unread_after, taken_of}
-use Rattle.coap_serve.specs.Prelude.{finding_read, session_takes, sizes_of, takes_messages}
+use Rattle.coap_serve.specs.Prelude.{finding_read, MarkedSession, IsMarked, session_takes, sizes_of, takes_messages}
 use Rattle.coap_serve.proofs.values.LinkLemmas.{stays_so}
 use Rattle.coap_serve.proofs.values.SessionLemmas.{taken_session, reframed, frame_takes_some, put_refused, kept_but_last}
 use Rattle.coap_serve.proofs.session.Session.take.Goals.{In-Ok-Some, After-unread}
@@ -60,7 +60,7 @@ pub returns-in-Err-handle-clause-refused : goal.returns-in-Err-handle-clause-ref
 returns-in-Err-handle-clause-refused c =
     let s = c.self.inside in
     let found = frame_found (goal.at.returns-in-Err-handle-clause-refused c).In-Ok-Some in
-    let takes = ap session_takes c.self.view_is ∙ sym c.takes.ensures ∙ c.if-not-takes.false in
+    let takes = ap (λ (m : MarkedSession). session_takes m.session) c.self.view_is ∙ sym c.takes.ensures ∙ c.if-not-takes.false in
     rw (← c.self.view_is, c.next-framed.ensures.framed.taken)
     (put_refused s c.self.invariant c.args.piece.now c.in-Ok-Some.frame.now found c.args.host.now c.in-Ok.message takes (sym c.in-Ok.ensures.exact) c.in-Err-handle.ensures.put)
 
@@ -69,6 +69,9 @@ returns-in-Err-handle-clause-kept c =
     let s = c.self.inside in
     let found = frame_found (goal.at.returns-in-Err-handle-clause-kept c).In-Ok-Some in
     let back = taken_back (goal.at.returns-in-Err-handle-clause-kept c).After-unread in
-    let takes = ap session_takes c.self.view_is ∙ sym c.takes.ensures ∙ c.if-not-takes.false in
+    let takes = ap (λ (m : MarkedSession). session_takes m.session) c.self.view_is ∙ sym c.takes.ensures ∙ c.if-not-takes.false in
     rw (c.in-Err-handle.ensures.silent, c.in-Err-handle.ensures.kept, back, c.next-framed.ensures.framed.taken, ← c.self.view_is)
     (kept_but_last s c.self.invariant c.args.piece.now c.in-Ok-Some.frame.now found c.args.host.now takes)
+
+pub handle-requires-clause-marked : goal.handle-requires-clause-marked
+handle-requires-clause-marked c = subst (IsMarked c.args.host.now) (sym c.self.view_is) c.requires

@@ -1,0 +1,69 @@
+//! A door that never waits, over a source that only hands out wires.
+
+ghost use Rattle.std.specs.Prelude.{Some, true};
+
+use crate::wire::{Door, Got, Ready, Wait, Wire};
+
+/// Hands out wires, one for each connection that a peer opens. It knows neither which of them are ready nor how to
+/// wait; `Polled` makes a door of it.
+pub trait Wires {
+    /// The wires that it hands out.
+    type Wire: Wire + Drop;
+
+    /// Returns the next wire, if a peer has opened a connection that was not handed out yet. It never waits.
+    fn next(&mut self) -> Option<Self::Wire>;
+}
+
+/// A wire whose reads and writes are always tried, since nobody knows whether it is ready.
+#[derive(Drop)]
+pub struct Tried<W>(pub W);
+
+impl<W: Wire> Wire for Tried<W> {
+    ghost given = { λ wire. W.given wire.0 };
+
+    ghost written = { λ wire. W.written wire.0 };
+
+    ghost answers = { λ wire. W.answers wire.0 };
+
+    ghost rooms = { λ wire. W.rooms wire.0 };
+
+    fn read(&mut self, buffer: &mut [u8]) -> Got {
+        self.0.read(buffer)
+    }
+
+    fn write(&mut self, bytes: &[u8]) -> Got {
+        self.0.write(bytes)
+    }
+}
+
+impl<W> Ready for Tried<W> {
+    ghost readable = { λ _. Some true };
+
+    ghost writable = { λ _. Some true };
+
+    fn may_read(&self) -> bool {
+        true
+    }
+
+    fn may_write(&self) -> bool {
+        true
+    }
+}
+
+/// A door over a source of wires, which never waits. A server behind it uses a processor all the time; a transport that
+/// can wait has a `Door` of its own.
+#[derive(Drop)]
+pub struct Polled<D>(pub D);
+
+impl<D: Wires> Door for Polled<D> {
+    type Wire = Tried<D::Wire>;
+
+    fn next(&mut self) -> Option<Tried<D::Wire>> {
+        match self.0.next() {
+            Some(wire) => Some(Tried(wire)),
+            None => None,
+        }
+    }
+
+    fn wait(&mut self, _wait: Wait, _opens: bool) {}
+}
