@@ -72,7 +72,6 @@ pub use Rattle.coap_conn.specs.Outstanding.{Observation, OutstandingValue, Ping,
 pub use Rattle.coap_conn.specs.Outstanding.{is_last, is_pinged, with_cancelled, without_asked, without_pinged}
 unfoldable pub use Rattle.coap_conn.specs.Outstanding.{is_notification}
 pub use Rattle.coap_conn.specs.Phases.{IsLive, is_waiting, stop_of, takes_messages}
-pub use Rattle.coap_conn.specs.QueueValue.{IsNextPart}
 pub use Rattle.coap_conn.specs.Reaction.{Effect, Reaction, Standing, abort, aborts, answered, asks_custody}
 pub use Rattle.coap_conn.specs.Reaction.{csm_reaction, holds, is_method, is_reserved, is_signal, late_pong, leaves}
 pub use Rattle.coap_conn.specs.Reaction.{minds_critical_options, not_implemented, open_reaction, ping_reaction}

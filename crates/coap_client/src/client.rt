@@ -1,7 +1,7 @@
 //! A client of one connection.
 
 ghost use Rattle.std.specs.Prelude.{◌≡◌, ◌≤◌, Ok, length, take, option_map, ◌++◌, ◌∷◌, ⊤, ℕ, List, [], IfOk, OnOk, OnErr};
-ghost use Rattle.coap_client.specs.Prelude.{message_of, first_critical, IsFramer, framing_of, framer_after, frame_back, IsLive, react, reject_reason, standing_in, link_after, answer_told, event_told, event_value, answer_read, pong_read, heard_value, taken_event, taking_framed, sem, follows_so, none, RefusedBy, next_token, IsNextPart, extras_value, ClientValue, taking, client_takes, new_client, client_written, client_ended, client_sent, client_cancelled, client_pinged, send_refusal, cancelling_refusal, ping_refusal, ClientCall, ClientShows, Took, Sent, Cancelled, Pinged, Wrote, Ended, takes, event_of};
+ghost use Rattle.coap_client.specs.Prelude.{message_of, first_critical, IsFramer, framing_of, framer_after, frame_back, IsLive, react, reject_reason, standing_in, link_after, answer_told, event_told, event_value, answer_read, pong_read, heard_value, taken_event, taking_framed, sem, follows_so, none, RefusedBy, next_token, extras_value, ClientValue, taking, client_takes, new_client, client_written, client_ended, client_sent, client_cancelled, client_pinged, send_refusal, cancelling_refusal, ping_refusal, ClientCall, ClientShows, Took, Sent, Cancelled, Pinged, Wrote, Ended, takes, event_of};
 ghost use Rattle.coap_conn.specs.LinkValue.{IsReady};
 ghost use Rattle.coap_conn.specs.Calls as call;
 ghost use Rattle.coap_client.specs.declared.client.Heard.TheVariants as heard;
@@ -238,11 +238,12 @@ impl Client {
         self.link.front()
     }
 
-    /// A front of the bytes that wait to be written, where they lie: none only where nothing waits.
-    pub fn next_part(&self) -> &[u8]
-        ensures { IsNextPart self.now.link.waiting result.now }
+    /// Returns the bytes queued for writing in the two slices that they occupy: the first ones, and those after them.
+    /// Unlike `front`, it moves no bytes.
+    pub fn parts(&self) -> (&[u8], &[u8])
+        ensures { result.0.now ++ result.1.now ≡ self.now.link.waiting }
     {
-        self.link.next_part()
+        self.link.parts()
     }
 
     /// The first so many bytes were written, and wait no more.

@@ -11,7 +11,7 @@ use crate::client::{Client, Event};
 use crate::plan::ClientPlan;
 use crate::request::Extras;
 use crate::say::{say_fault, say_option, say_response, say_stop, write_payload};
-use coap_conn::{Limits, Phase, Reason, RequestFault};
+use coap_conn::{Limits, Phase, Reason, RequestFault, first_part};
 use coap_serve::{Clock, Got, Outlet, Rest, Wire, WriteFailed};
 use coap_wire::{MessageRef, Token};
 use std::alloc::{AllocError, Global};
@@ -27,6 +27,10 @@ pub enum ClientFault {
     #[error("no memory")]
     Memory = 2,
 }
+
+const _: () = prove!(ClientFault::Output as u8 == 1);
+
+const _: () = prove!(ClientFault::Memory as u8 == 2);
 
 impl From<WriteFailed> for ClientFault {
     ghost from_gives = { λ failed given. given ≡ fault.Output };
@@ -250,7 +254,8 @@ impl Run {
             × (self.new.started ≡ self.old.started) × (self.new.moment ≡ self.old.moment)
             × (self.new.first ≡ self.old.first) × (self.new.cancelled ≡ self.old.cancelled) }
     {
-        match wire.write(self.client.next_part()) {
+        let part = first_part(self.client.parts());
+        match wire.write(part) {
             Got::Bytes(count) => {
                 self.client.written(count);
                 Got::Bytes(count)

@@ -55,6 +55,22 @@ pub enum TargetFault {
     Memory = 8,
 }
 
+const _: () = prove!(TargetFault::Url as u8 == 1);
+
+const _: () = prove!(TargetFault::Scheme as u8 == 2);
+
+const _: () = prove!(TargetFault::NoHost as u8 == 3);
+
+const _: () = prove!(TargetFault::UserInfo as u8 == 4);
+
+const _: () = prove!(TargetFault::Fragment as u8 == 5);
+
+const _: () = prove!(TargetFault::PartTooLong as u8 == 6);
+
+const _: () = prove!(TargetFault::TooManyParts as u8 == 7);
+
+const _: () = prove!(TargetFault::Memory as u8 == 8);
+
 impl From<AllocError> for TargetFault {
     ghost from_gives = { λ _ why. why ≡ Memory };
 

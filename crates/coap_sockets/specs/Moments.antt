@@ -1,5 +1,5 @@
 -- How long there is to wait, in nanoseconds.
-use Rattle.std.specs.Prelude.{ℕ, ◌+◌, ◌-◌, ◌*◌, ◌/◌, ◌%◌, min, max, Option, Some, None}
+use Rattle.std.specs.Prelude.{ℕ, suc, ◌+◌, ◌-◌, ◌*◌, ◌/◌, ◌%◌, ◌==◌, min, max, Option, Some, None, if◌then◌else◌}
 
 -- a second
 abbrev pub second : ℕ
@@ -20,6 +20,12 @@ to_next_second now = second - now % second
 -- The share of one who has it first of what is left for all, with so many others behind it: a second at the least, while so much is left.
 abbrev pub share_of : (left others : ℕ) → ℕ
 share_of left others = min (max (left / (others + 1)) second) left
+
+-- The end of the attempt to connect to an address, as time from the start of all attempts: after the share that the one with this index has of
+-- what is left for it and the later ones of so many. There is no attempt if nothing is left.
+abbrev pub end_of_attempt : (passed limit index count : ℕ) → Option ℕ
+end_of_attempt passed limit index count =
+    if limit - passed == 0 then None else Some (passed + share_of (limit - passed) (count - suc index))
 
 -- the shorter of two times, of which none is endless
 abbrev pub at_most : (limit : ℕ) → Option ℕ → ℕ

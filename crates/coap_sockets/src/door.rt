@@ -1,7 +1,7 @@
 //! A server's door over TCP: one listener, the wires of the connections that it accepted, and one set of events for all
 //! of them.
 
-ghost use Rattle.std.specs.Prelude.{◌≡◌, ◌≤◌, ◌&&◌, true, false, length, Some, None, IsSome, IfSome, IfOk, option_map};
+ghost use Rattle.std.specs.Prelude.{◌≡◌, ◌≤◌, ◌&&◌, true, false, length, Some, None, IsSome, IfSome, IfNone, IfOk, option_map};
 ghost use Rattle.std.specs.Duration.{as_nanos};
 ghost use Rattle.coap_serve.specs.declared.wire.Wait.TheVariants as asked;
 ghost use Rattle.coap_sockets.specs.Moments.{second};
@@ -34,6 +34,10 @@ pub enum ListenFault {
     #[error("no memory")]
     Memory = 2,
 }
+
+const _: () = prove!(ListenFault::Socket as u8 == 1);
+
+const _: () = prove!(ListenFault::Memory as u8 == 2);
 
 impl From<io::Error> for ListenFault {
     ghost from_gives = { λ error given. given ≡ fault.Socket };
@@ -159,7 +163,10 @@ impl<'a, R: Net + time::Clock> SocketDoor<'a, R> {
         alloc: Global,
         address: SocketAddr,
         wires: usize,
-    ) -> Result<SocketDoor<'a, R>, ListenFault> {
+    ) -> Result<SocketDoor<'a, R>, ListenFault>
+        ensures places { IfOk result (λ door. length door.places.items ≡ wires) }
+        ensures ready { IfOk result (λ door. (door.may_accept ≡ true) × (door.full_since ≡ None)) }
+    {
         let places = places(alloc, wires)?;
         let events = Events::with_capacity(alloc, wires.saturating_add(1))?;
         let poll = Poll::new(rt)?;
@@ -233,6 +240,8 @@ impl<'a, R: Net + time::Clock> SocketDoor<'a, R> {
     fn time_for(&self, wait: Wait, opens: bool) -> Option<Duration>
         ensures no { wait ≡ asked.No → option_map as_nanos result ≡ Some 0 }
         ensures forever { wait ≡ asked.Forever → opens && self.now.may_accept ≡ false → result ≡ None }
+        // A wait ends, unless it is asked to be without end.
+        ensures ends { IfNone result (wait ≡ asked.Forever) }
         // A peer that waits already is not made to wait, but while the system has no room for it.
         ensures at_once { opens && self.now.may_accept ≡ true → self.now.full_since ≡ None →
             option_map as_nanos result ≡ Some 0 }

@@ -1,6 +1,6 @@
 //! A client's wire over TCP, which waits.
 
-ghost use Rattle.std.specs.Prelude.{◌≡◌, ◌≢◌, length, None, [], ◌∷◌};
+ghost use Rattle.std.specs.Prelude.{◌≡◌, ◌≢◌, ℕ, length, None, [], ◌∷◌};
 ghost use Rattle.std.specs.IoError.{error_kind};
 ghost use Rattle.std.specs.declared.io.ErrorKind.TheVariants as kind;
 ghost use Rattle.coap_serve.specs.streams.Wires.{IsWithin, bytes_passed};
@@ -13,7 +13,7 @@ ghost use Rattle.coap_serve.specs.streams.Telling.{TellsMore};
 
 use crate::answers::{Hindrance, hindrance_of, read_got, write_got};
 use crate::clock::RunClock;
-use crate::moments::share_of;
+use crate::moments::end_of_attempt;
 use coap_serve::{Got, Wire};
 use mio::net::TcpStream;
 use mio::{Events, Interest, Poll, Token};
@@ -166,13 +166,11 @@ impl<'a, R: Net + time::Clock> Line<'a, R> {
         };
         let limit = Duration::from_secs(u64::from(seconds));
         let mut fault = ConnectFault::Socket(Hindrance::UnknownName);
-        for (address, others) in addresses.zip((0..count).rev()) {
-            let passed = dialer.clock.passed();
-            let left = limit.saturating_sub(passed);
-            if left.is_zero() {
+        for (address, index) in addresses.zip(0..count) {
+            let Some(end) = end_of_attempt(dialer.clock.passed(), limit, index, count) else {
                 break;
-            }
-            match dialer.dial(address, passed.saturating_add(share_of(left, others))) {
+            };
+            match dialer.dial(address, end) {
                 Ok(stream) => return Ok(dialer.line(stream)),
                 Err(trouble) => fault = trouble,
             }
@@ -260,6 +258,7 @@ impl<'a, R: Net + time::Clock> Wire for Line<'a, R> {
         ensures wrote { AddsBytes None None (bytes_passed bytes.now result) }
         ensures gave { AddsBytes None None [] }
         ensures answered { TellsMore None None (result ∷ []) }
+        ensures no_read { TellsMore {A = ℕ} None None [] }
         ensures blocked { self.new.is_blocked ≡ is_blocked_by (length bytes.now) result }
         ensures stuck { self.new.is_stuck ≡ is_later result }
     {

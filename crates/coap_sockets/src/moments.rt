@@ -43,6 +43,26 @@ pub(crate) fn share_of(left: Duration, others: u16) -> Duration
     share.max(second()).min(left)
 }
 
+/// Returns the time at which the attempt to connect to an address ends, the one with this index of so many, which share
+/// a time from the clock's start: after the share of it and the later ones of what is left. Returns `None` if nothing is
+/// left.
+pub(crate) fn end_of_attempt(
+    passed: Duration,
+    limit: Duration,
+    index: u16,
+    count: u16,
+) -> Option<Duration>
+    ensures end { option_map as_nanos result
+        ≡ spec.end_of_attempt (as_nanos passed) (as_nanos limit) index count }
+{
+    let left = limit.saturating_sub(passed);
+    if left.is_zero() {
+        return None;
+    }
+    let others = count.saturating_sub(index).saturating_sub(1);
+    Some(passed.saturating_add(share_of(left, others)))
+}
+
 /// A time, but at most this one; `None` is a time without end.
 pub(crate) fn at_most(limit: Duration, time: Option<Duration>) -> Duration
     ensures { as_nanos result ≡ spec.at_most (as_nanos limit) (option_map as_nanos time) }
