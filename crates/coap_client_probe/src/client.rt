@@ -5,7 +5,7 @@
 use crate::asked::{method, read_asked};
 use crate::target::tell_fault;
 use coap_client::{Client, Event, Target};
-use coap_conn::RequestFault;
+use coap_conn::{RequestFault, first_part};
 use coap_serve::Limits;
 use coap_told::{Told, cut, next_number, number, read_hex};
 use coap_wire::{MessageRef, Token};
@@ -152,7 +152,7 @@ pub(crate) fn act(
             client.ended();
             told.word("-");
         }
-        "part" => told.hex(client.next_part()),
+        "part" => told.hex(first_part(client.parts())),
         "look" => told.word("-"),
         _ => told.word("strange"),
     }

@@ -4,7 +4,7 @@
 //! Answers are told as Debug has them.
 
 use crate::limits::limits_of;
-use coap_conn::{Link, Phase, Reject, Role};
+use coap_conn::{Link, Phase, Reject, Role, first_part};
 use coap_told::{Told, cut, number, read_hex};
 use coap_wire::{BuildFault, Builder, MessageRef, Token, parse};
 use std::alloc::{AllocError, Global};
@@ -167,7 +167,7 @@ fn act(link: &mut Link, word: &str, bytes: &[u8], last: &str, told: &mut Told) {
             told.word("token");
             told.number(u64::from(link.peer_token()));
         }
-        "part" => told.hex(link.next_part()),
+        "part" => told.hex(first_part(link.parts())),
         "look" => told.word("-"),
         _ => told.word("strange"),
     }

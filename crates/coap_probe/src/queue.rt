@@ -1,7 +1,7 @@
 //! Queues of bytes that wait to be written: `= queue COUNT`, and then `append BYTES`, `push BYTE`, `write COUNT`,
 //! `part` and `look`.
 
-use coap_conn::OutQueue;
+use coap_conn::{OutQueue, first_part};
 use coap_told::{Told, cut, number, read_hex};
 use coap_wire::Sink;
 use std::alloc::{AllocError, Global};
@@ -22,7 +22,7 @@ fn act(queue: &mut OutQueue, word: &str, rest: &str, bytes: &mut Vec<u8>, told: 
         ("append", more) if more.len() <= queue.room() => queue.append(more),
         ("push", [byte]) if queue.room() > 0 => queue.push(*byte),
         ("write", _) if count <= queue.waiting() => queue.written(count),
-        ("part", _) => told.hex(queue.next_part()),
+        ("part", _) => told.hex(first_part(queue.parts())),
         ("look", _) => {}
         _ => told.word("refused"),
     }

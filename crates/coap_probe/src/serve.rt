@@ -6,6 +6,7 @@
 //! tells a front of what waits.
 
 use crate::limits::{config_of, limits_of};
+use coap_conn::first_part;
 use coap_serve::{
     AnnounceFault, Config, Handled, ReplayFault, ScriptFault, Server, TakeFault, WriteOutlet,
     WrittenFault, script,
@@ -91,8 +92,8 @@ fn announce(server: &mut Server, text: &str, told: &mut Told) {
 /// Tells a front of what waits on a connection.
 fn part(server: &Server, text: &str, told: &mut Told) {
     let (id, _) = next_number(text);
-    match server.next_part(id as u64) {
-        Some(part) => told.hex(part),
+    match server.parts(id as u64) {
+        Some(parts) => told.hex(first_part(parts)),
         None => told.word("nosuch"),
     }
 }

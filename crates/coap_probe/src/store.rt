@@ -157,6 +157,15 @@ fn change(store: &mut Store, word: &str, request: &MessageRef, rest: &str, told:
     }
 }
 
+/// Returns the answer to the request that the bytes encode, at a moment. The answer borrows the store and these bytes:
+/// the message that was read is dropped here.
+fn planned<'s, 'r>(store: &'s Store, bytes: &'r [u8], moment: u64) -> Option<Plan<'s, 'r>> {
+    let Ok(request) = parse(bytes) else {
+        return None;
+    };
+    Some(store.answer(&request, moment))
+}
+
 /// Plays an event.
 pub(crate) fn play(store: &mut Store, event: &str, bytes: &mut Vec<u8>, told: &mut Told) {
     let (word, rest) = cut(event);
@@ -168,7 +177,9 @@ pub(crate) fn play(store: &mut Store, event: &str, bytes: &mut Vec<u8>, told: &m
     match word {
         "ask" => {
             let moment = number(rest).unwrap_or(0) as u64;
-            tell_plan(store.answer(&request, moment), told);
+            if let Some(plan) = planned(store, bytes, moment) {
+                tell_plan(plan, told);
+            }
         }
         "make" => {
             tell_plan(store.answer(&request, 0), told);

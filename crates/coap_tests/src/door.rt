@@ -9,11 +9,16 @@
 //! the moment 6 at the most, `~ever` one until something is ready, and with `|` in place of `~` no connection may be
 //! opened. A wire may then be read while words are left that its reads give. All other runs have wires that are always
 //! ready.
+//!
+//! If the first of the moments is `passes`, the clock begins at the second one and stands still but while the door
+//! waits: a wait until a moment ends at that moment.
 
 ghost use Rattle.std.specs.Prelude.{None, length};
 ghost use Rattle.coap_serve.specs.streams.Wires.{IsWithin};
 
+mod greatest;
 mod memory;
+mod polled;
 
 use crate::rows::{digits, same, spelled};
 use crate::settings::{configured, set_all};
@@ -33,6 +38,8 @@ struct Book {
     tells_waits: bool,
     /// How often the door was told to wait.
     waits: RefCell<usize>,
+    /// The last moment that the door was told to wait until, or the one at which a clock that passes begins.
+    moment: RefCell<u64>,
 }
 
 impl Book {
@@ -44,6 +51,18 @@ impl Book {
             written: RefCell::new(Vec::new(alloc)),
             tells_waits,
             waits: RefCell::new(0),
+            moment: RefCell::new(0),
+        }
+    }
+
+    /// Moves the clock to a moment, and returns `true` if that could be noted.
+    fn pass_to(&self, moment: u64) -> bool {
+        match self.moment.try_borrow_mut() {
+            Ok(mut now) => {
+                *now = moment;
+                true
+            }
+            Err(_) => false,
         }
     }
 
@@ -63,6 +82,9 @@ impl Book {
     fn wait(&self, wait: Wait, opens: bool) {
         if let Ok(mut waits) = self.waits.try_borrow_mut() {
             *waits = waits.saturating_add(1);
+        }
+        if let Wait::Until(moment) = wait {
+            self.pass_to(moment);
         }
         if !self.tells_waits {
             return;
@@ -314,6 +336,21 @@ impl Clock for Moments<'_> {
     }
 }
 
+/// A clock that moves forward while the door waits, and at no other time.
+#[derive(Drop)]
+struct Passing<'a> {
+    book: &'a Book,
+}
+
+impl Clock for Passing<'_> {
+    fn now(&mut self) -> u64 {
+        match self.book.moment.try_borrow() {
+            Ok(moment) => *moment,
+            Err(_) => 0,
+        }
+    }
+}
+
 /// Serves what a door hands out, as a text sets it: what is set; the moments; the wires. Tells how that went.
 fn served(rt: &(impl Abort + AllocGlobal), opening: &str) -> Result<String, Fail> {
     let (setting, rest) = opening.split_once("; ").unwrap_or((opening, ""));
@@ -329,8 +366,19 @@ fn served(rt: &(impl Abort + AllocGlobal), opening: &str) -> Result<String, Fail
         count: 0,
         book: &book,
     };
-    let mut clock = Moments { text: moments };
-    let result = serve_door(rt.alloc(), &mut door, &mut clock, configured(rt, &setting));
+    let config = configured(rt, &setting);
+    let result = match moments.strip_prefix("passes ") {
+        Some(first) => {
+            book.pass_to(first.parse::<u64>().unwrap_or(0));
+            serve_door(rt.alloc(), &mut door, &mut Passing { book: &book }, config)
+        }
+        None => serve_door(
+            rt.alloc(),
+            &mut door,
+            &mut Moments { text: moments },
+            config,
+        ),
+    };
     assert!(rt; result == Err(IoFault::Turns));
     book.told()
 }
@@ -507,17 +555,17 @@ fn takes_the_rest_first(rt: HostRuntime) -> Result<(), Fail> {
 const WAITS_WHERE_NOTHING_IS_TO_BE_DONE: &str = "= waits turns 3; 0
 +- ~ever +- ~ever +-
 = waits turns 6; 0; all 00e1 | all 00e1
-+1 1<2 1>8 ~ever +2 2<2 2>8 ~ever +- ~ever +- ~ever +- ~ever +-
++1 1<2 1>8 ~no +2 2<2 2>8 ~no +- ~ever +- ~ever +- ~ever +-
 1 60e1230100004140
 2 60e1230100004140
 = waits turns 3 connections 1; 0; all 00e1
-+1 1<2 1>8 |ever |ever
++1 1<2 1>8 |no |ever
 1 60e1230100004140
 = waits turns 4 connections 1; 0; all 00e1 end
 +1 1<2 1>8 |no 1<end ~ever +- ~ever +-
 1 60e1230100004140
 = waits turns 4; 0 5 4 5; all 00e1 @2 010101
-+1 1<2 1>8 ~ever +- ~ever +- 1<3 1>13 ~ever +-
++1 1<2 1>8 ~no +- ~ever +- 1<3 1>13 ~ever +-
 1 60e1230100004140a14501c0ff'coap+tcp'
 = waits turns 1; 0; all 00e1
 +1 1<2 1>8
@@ -532,25 +580,39 @@ fn waits_where_nothing_is_to_be_done(rt: HostRuntime) -> Result<(), Fail> {
 /// the door waits for the lesser moment. An observer of the moment is told each one, and the last moment of all has
 /// none behind it.
 const WAITS_FOR_A_MOMENT: &str = "= waits turns 5; 0 0 0 1; all 00e1810105b5'async'4131
-+1 1<13 1>8 ~1 +- ~1 +- ~1 +- 1>9 ~ever +-
++1 1<13 1>8 ~no +- ~1 +- ~1 +- 1>9 ~ever +-
 1 60e1230100004140614505c0ff'done'
 = waits turns 4; 0 1; all,@9 00e1810105b5'async'4131
-+1 1<13 1>8 ~1 +- ~ever +- ~ever +-
++1 1<13 1>8 ~no +- ~ever +- ~ever +-
 1 60e1230100004140
 = waits turns 5; 0 0 0 5 9; all 00e1810105b5'async'4139 | all 00e1810106b5'async'4135
-+1 1<13 1>8 ~9 +2 2<13 2>8 ~5 +- ~5 +- 2>9 ~9 +- 1>9
++1 1<13 1>8 ~no +2 2<13 2>8 ~no +- ~5 +- 2>9 ~9 +- 1>9
 1 60e1230100004140614505c0ff'done'
 2 60e1230100004140614506c0ff'done'
 = waits turns 5; 5 5 6 6 8; all 00e16101076054'time'
-+1 1<11 1>17 ~6 +- ~6 +- 1>9 ~7 +- ~7 +- 1>9
++1 1<11 1>17 ~no +- ~6 +- 1>9 ~7 +- ~7 +- 1>9
 1 60e123010000414061450760602101ff'5'61450760602101ff'6'61450760602101ff'8'
 = waits turns 2; 18446744073709551615; all 00e16101076054'time'
-+1 1<11 1>37 ~ever +-
++1 1<11 1>37 ~no +-
 1 60e1230100004140d10c450760602101ff'18446744073709551615'";
 
 #[test]
 fn waits_for_a_moment(rt: HostRuntime) -> Result<(), Fail> {
     play_all(&rt, WAITS_FOR_A_MOMENT)
+}
+
+/// The clock is read after the door waited: an observer of the moment is told each one in the turn after the wait for
+/// it, and an answer that is held for 2 s is sent in the turn after the wait for its moment.
+const READS_THE_CLOCK_AFTER_THE_WAIT: &str = "= waits turns 4; passes 5; all 00e16101076054'time'
++1 1<11 1>17 ~no +- ~6 +- 1>9 ~7 +- 1>9
+1 60e123010000414061450760602101ff'5'61450760602101ff'6'61450760602101ff'7'
+= waits turns 3; passes 0; all 00e1810105b5'async'4132
++1 1<13 1>8 ~no +- ~2 +- 1>9
+1 60e1230100004140614505c0ff'done'";
+
+#[test]
+fn reads_the_clock_after_the_wait(rt: HostRuntime) -> Result<(), Fail> {
+    play_all(&rt, READS_THE_CLOCK_AFTER_THE_WAIT)
 }
 
 /// What is left of a read is taken before the door waits. A peer whose queue is full and whose wire may not be written
@@ -560,9 +622,9 @@ const WAITS_FOR_WIRES: &str = "= waits turns 5 sent 1152 queue 1152; 0; all 00e1
 +1 1>8 ~no +- 1<8 1>13 ~no +- 1>13 ~ever +- ~ever +-
 1 60e1230100004140a14501c0ff'coap+tcp'a14502c0ff'coap+tcp'
 = waits turns 3 sent 1152 queue 1152; 0; @9 00e1010101
-+1 ~ever +- ~ever +-
++1 ~no +- ~ever +-
 = waits turns 5 sent 1152 queue 1152; 0; late,@2,all 00e1010101
-+1 1>later ~ever +- ~ever +- 1>8 ~no +- 1<5 1>13 ~ever +-
++1 1>later ~no +- ~ever +- 1>8 ~no +- 1<5 1>13 ~ever +-
 1 60e1230100004140a14501c0ff'coap+tcp'
 = waits turns 4 sent 1152 queue 1152; 0; all,@9 00e1010101010102 010103
 +1 1>8 ~no +- 1<8 ~ever +- ~ever +-
@@ -571,7 +633,7 @@ const WAITS_FOR_WIRES: &str = "= waits turns 5 sent 1152 queue 1152; 0; all 00e1
 +1 1<5 1>21:1 ~no +- 1<later 1>20:1 ~ever +- ~ever +- 1>19 ~ever +-
 1 60e1230100004140a14501c0ff'coap+tcp'
 = waits turns 3; 0; all failed | all @2 00e1
-+1 1<failed ~ever +2 2>8 ~ever +- 2<2
++1 1<failed ~no +2 2>8 ~no +- 2<2
 1 -
 2 60e1230100004140";
 
@@ -584,15 +646,15 @@ fn waits_for_wires(rt: HostRuntime) -> Result<(), Fail> {
 /// next turn, with no wait in between, and on one behind it in the same turn. So does a DELETE.
 const PASSES_OVER_NO_NEWS: &str =
     "= waits turns 7 dynamic 1; 0; all 00e1410302b1'a'ff'x'3101076051'a' | all @3 00e1410302b1'a'ff'y'
-+1 1<15 1>19 ~ever +2 2>8 ~ever +- ~ever +- 2<9 2>3 ~no +- 1>8 ~ever +- ~ever +-
++1 1<15 1>19 ~no +2 2>8 ~no +- ~ever +- 2<9 2>3 ~no +- 1>8 ~ever +- ~ever +-
 1 60e1230100004140014102514507410120ff'x'514507410220ff'y'
 2 60e1230100004140014402
 = waits turns 6 dynamic 1; 0; all 00e1410302b1'a'ff'x' @4 410302b1'a'ff'y' | all 00e13101076051'a'
-+1 1<9 1>11 ~ever +2 2<8 2>16 ~ever +- ~ever +- ~ever +- 1<7 1>3 2>8 ~ever +-
++1 1<9 1>11 ~no +2 2<8 2>16 ~no +- ~ever +- ~ever +- 1<7 1>3 2>8 ~ever +-
 1 60e1230100004140014102014402
 2 60e1230100004140514507410120ff'x'514507410220ff'y'
 = waits turns 6 dynamic 1; 0; all 00e1410302b1'a'ff'x'3101076051'a' | all @3 00e1210402b1'a'
-+1 1<15 1>19 ~ever +2 2>8 ~ever +- ~ever +- 2<7 2>3 ~no +- 1>3 ~ever +-
++1 1<15 1>19 ~no +2 2>8 ~no +- ~ever +- 2<7 2>3 ~no +- 1>3 ~ever +-
 1 60e1230100004140014102514507410120ff'x'018407
 2 60e1230100004140014202";
 

@@ -13,16 +13,17 @@ use std::process::Abort;
 use std::test::Fail;
 
 /// What is read: Capabilities and Settings, a GET of the root, and a PUT that stores one byte.
-const READ: &[u8] = b"\x00\xe1\x01\x01\x01\x41\x03\x02\xb1a\xffx";
+pub(super) const READ: &[u8] = b"\x00\xe1\x01\x01\x01\x41\x03\x02\xb1a\xffx";
 
 /// What is written for it.
-const WRITTEN: &[u8] = b"\x50\xe1\x22\x04\x80\x41\x40\xa1\x45\x01\xc0\xffcoap+tcp\x01\x41\x02";
+pub(super) const WRITTEN: &[u8] =
+    b"\x50\xe1\x22\x04\x80\x41\x40\xa1\x45\x01\xc0\xffcoap+tcp\x01\x41\x02";
 
 /// A wire that gives bytes, and whose writes take one byte each.
 #[derive(Drop)]
-struct Line<'a> {
-    rest: &'a [u8],
-    page: &'a RefCell<Fixed>,
+pub(super) struct Line<'a> {
+    pub(super) rest: &'a [u8],
+    pub(super) page: &'a RefCell<Fixed>,
 }
 
 impl Wire for Line<'_> {
