@@ -6,6 +6,8 @@
     tests/edits.py [--all] CRATE ..  those of these crates
     tests/edits.py --control     the control alone
     tests/edits.py --rows [CRATE ..]  those alone that rows tell
+    tests/edits.py --tests [CRATE ..]  those alone that tests of the programs tell
+    tests/edits.py --types [CRATE ..]  tries nothing: whether all edits are well typed
     tests/edits.py --list [CRATE ..]  tries nothing: a line for each edit, with the function and the clause that refuse it, and its name
 
 An edit is a file tests/edits/CRATE/NAME.edit. Its first line says which clause refuses it and whether the gate tries it. Each of
@@ -13,21 +15,30 @@ its parts has four lines:
 
     gate: refused by 'after' of Link::on      or `all: refused by ..`, where the gate does not try it; or
     rows: told by tests/rows/script/a_mebibyte.rows     where no clause refuses it, since it only tells refused memory
+    server: told by tests/sockets.py files     or `client: ..`, if no clause can refuse it: the program that is built with it, and the test
     file: src/limits.rt          a file of the crate
     in: Limits::queue            a function of that file, as a check names it without crate and module (the impl of a trait
                                  for a type is both names in one, as SliceSinkSink::push), or `const NAME`
     old: self.queue              a text that stands once in the function's body, or in the constant
     new: self.max_sent           what stands there in the wrong body
 
+Whatever is tried, the first line of every edit must quote a clause that the function has which it names (tests/quotes.py has the forms), and
+the function must be one that the edit changes, or one that names a constant that it changes. And every edit must be well typed: all edits
+of a crate are put into a few copies of it, each with one type error of this script's own, so that the compiler tells all type errors and
+proves nothing.
+
 An edit of the layer `rows` is told where a row of the file that it names comes to something else, once the probe that plays it is built with
 the wrong body, unproved (`rt try`). --all tries these too, each in a build of its own; --rows tries them alone.
+An edit of the layer `server` or `client` is told if the test that it names fails with that program built with the wrong body, unproved, and
+passes with the program built alike without it (tests/unproved.py). --all tries these too, in one to three minutes each; --tests tries them
+alone.
 
 Edits of different functions go into one copy of the crate, a round, which is checked once over what earlier checks proved: what
 the crate's own check keeps in out/incremental, or, where there is none, a folder of this run, in which the crate's first round
 is proved from nothing, and the second one behind it. So a crate is proved once here, with the wrong bodies in it.
-An edit is refused where a goal of a function that it edits stays open. That the function calls one that is not proved does not
-count; nor does it count where nothing is open but what a file of its proof says with a name that the edit takes away, since
-that tells nothing of the contract: such an edit is told as NOT REFUSED. Where a function that nobody edited has an open goal of
+An edit is refused if a goal of a function that it edits stays open, which is then named. That the function calls one that is not proved
+does not count. Nor does an error in a file of its proof that stands in no answer to a goal, or that only says that a name is gone, of the
+code or of a lemma, since that tells nothing of the contract: such an edit is told as NOT REFUSED. Where a function that nobody edited has an open goal of
 its own, the round is cut in two. An edit that no round refused is tried alone, and so is one of a constant, for which any
 function's goal and any lemma counts. Rounds run side by side, one for each processor, those of the largest crates first.
 The libraries below a crate are taken from out/rlib, and proved where they are not there or older than their files.
@@ -45,17 +56,24 @@ import tempfile
 from concurrent.futures import FIRST_COMPLETED, ThreadPoolExecutor, wait
 from dataclasses import dataclass, field
 
+import quotes
 import rows
 from rooms import PARTS, ROOT, crates, furnish, is_program, listed
+from unproved import Unproved
 
 KIT = os.path.dirname(os.path.dirname(os.path.realpath(shutil.which("rt") or "/opt/rattle/bin/rt")))
 # How many rounds of a crate without kept work run in turn over its folder: behind two, nearly every function was once proved.
 IN_TURN = 2
 FUNCTION = re.compile(r"( *)(?:pub(?:\([a-z ]+\))? )?(?:const )?fn (\w+)")
 BLOCK = re.compile(r"(?:pub(?:\([a-z]+\))? )?(?:impl\b *(.*?)|trait (\w+).*?) ?\{?$")
+# The layers of the edits that tests of a program tell.
+PROGRAMS = ("server", "client")
 VERDICT = re.compile(r"fn (\w+)::(.*?): (no proof|not proved)(.*)")
 # What is said of a file of a proof where it names something that is not there, and where it cites what was refused for that.
 GONE = re.compile(r"has no field|is not in scope|has no `|was not admitted")
+# Where an error stands in the proofs of a crate, and what is stated there: an answer to a goal, or a lemma.
+PLACE = re.compile(r"\./(proofs/[^:]+\.antt):(\d+)\b.*: error: ")
+STATED = re.compile(r"(?:pub |abbrev |unfoldable )*(\S+) : (?:goal\.(\S+))?")
 
 
 class BadEdit(Exception):
@@ -200,7 +218,7 @@ def read_edit(crate, file):
     with open(file, encoding="utf-8") as lines:
         for number, line in enumerate(lines.read().splitlines()):
             word, colon, text = line.partition(":")
-            if number == 0 and re.fullmatch(r"(gate|all): refused by \S.*|rows: told by tests/rows/\S+\.rows|control: \S.*", line):
+            if number == 0 and re.fullmatch(r"(gate|all): refused by \S.*|rows: told by tests/rows/\S+\.rows|(server|client): told by tests/\w+\.py( \w+)+|control: \S.*", line):
                 edit.layer, edit.refusal = word, text.removeprefix(" refused by ")
                 continue
             if not colon or word not in ("file", "in", "old", "new"):
@@ -213,6 +231,34 @@ def read_edit(crate, file):
     if not edit.parts:
         raise BadEdit(f"{file}: nothing is edited")
     return edit
+
+
+def wrong_quote(edit):
+    """What is wrong with the clause that an edit's first line quotes, or nothing."""
+    said, files = quotes.Quotes(edit.crate, block_name), {it.file for it in edit.parts}
+    if wrong := said.why_not(edit.refusal, files):
+        return wrong
+    name = re.search(r"([\w:]+)$", edit.refusal)[1]
+    named = said.contracts(name, files)
+    for part in edit.parts:
+        constant = part.function.removeprefix("const ")
+        if constant != part.function:
+            is_of_it = any(re.search(rf"\b{constant}\b", it.body) for it in named)
+        else:
+            own = said.contracts(part.function, {part.file})
+            is_of_it = any(it in named or it.implements == name for it in own)
+        if is_of_it:
+            return ""
+    return f"it does not change {name}"
+
+
+def tell_wrong_quotes(edits):
+    """Tells of each edit that quotes no clause of what it changes, and returns how many there are."""
+    wrong = {f"{it.crate}/{it.name}": wrong_quote(it) for it in edits if it.layer in ("gate", "all")}
+    for name, why in wrong.items():
+        if why:
+            print(f"edit {name}: {why}", flush=True)
+    return sum(map(bool, wrong.values()))
 
 
 def edits_of(folder, names, layers):
@@ -255,6 +301,11 @@ def check(name, kept, edits):
     texts = {}
     for edit in edits:
         texts = edit.applied(texts)
+    return check_texts(name, texts, ["--incremental", kept])
+
+
+def check_texts(name, texts, more):
+    """The lines of a check of the crate with these texts in place of its own files."""
     with tempfile.TemporaryDirectory(prefix="edits-", ignore_cleanup_errors=True) as room:
         for part in PARTS:
             if os.path.isdir(f"{ROOT}/crates/{name}/{part}"):
@@ -263,8 +314,62 @@ def check(name, kept, edits):
             with open(f"{room}/{file}", "w", encoding="utf-8") as it:
                 it.write(text)
         how = {"cwd": room, "stdin": subprocess.DEVNULL, "stdout": subprocess.PIPE, "stderr": subprocess.STDOUT}
-        ran = subprocess.run([*words_to_check(name), "--incremental", kept], text=True, errors="replace", **how)
+        ran = subprocess.run([*words_to_check(name), *more], text=True, errors="replace", **how)
     return ran.stdout.splitlines()
+
+
+def typed_rounds(edits):
+    """Shares the edits of one crate out so that no two of a round change one function or constant."""
+    rounds = []
+    for edit in edits:
+        one = next((it for it in rounds if not any(other.functions() & edit.functions() for other in it)), None)
+        if one is None:
+            rounds.append([edit])
+        else:
+            one.append(edit)
+    return rounds
+
+
+def type_errors(name, edits):
+    """The compiler's errors in a crate with these edits, but for the one that is put in so that nothing is proved."""
+    texts = {}
+    for edit in edits:
+        texts = edit.applied(texts)
+    root = "src/main.rt" if is_program(name) else "src/lib.rt"
+    if root not in texts:
+        with open(f"{ROOT}/crates/{name}/{root}", encoding="utf-8") as it:
+            texts[root] = it.read()
+    own = f"{root}:{texts[root].count(chr(10)) + 3}:"
+    texts[root] += "\nfn no_type() -> u8 {\n    true\n}\n"
+    lines = check_texts(name, texts, [])
+    errors = [it for it in lines if re.match(r"src/\S+: error", it)]
+    others = [it for it in errors if not it.startswith(own)]
+    return others if others or errors else [f"the compiler does not tell the error that was put in: {lines[-1:]}"]
+
+
+def wrong_types(name, edits):
+    """The edits of a round that are not well typed, each with the first error."""
+    try:
+        errors = type_errors(name, edits)
+    except (BadEdit, ValueError, OSError) as why:
+        errors = [str(why)]
+    if not errors:
+        return []
+    if len(edits) == 1:
+        return [(edits[0], errors[0])]
+    half = len(edits) // 2
+    return wrong_types(name, edits[:half]) + wrong_types(name, edits[half:])
+
+
+def tell_wrong_types(edits):
+    """Tells of each edit that is not well typed, and returns how many there are."""
+    names = dict.fromkeys(it.crate for it in edits)
+    with ThreadPoolExecutor(len(os.sched_getaffinity(0))) as pool:
+        found = [pool.submit(wrong_types, name, one) for name in names for one in typed_rounds([it for it in edits if it.crate == name])]
+        wrong = [it for one in found for it in one.result()]
+    for edit, why in wrong:
+        print(f"edit {edit.crate}/{edit.name}: not well typed: {why}", flush=True)
+    return len(wrong)
 
 
 def is_real(line):
@@ -272,21 +377,37 @@ def is_real(line):
     return ": error: " in line and not GONE.search(line)
 
 
-def open_functions(lines):
-    """The functions that have an open goal of their own, and those of which only a file of the proof names what is not there. A goal of a
-    closure is its function's."""
-    is_open, cites = set(), set()
+def goal_at(name, line):
+    """The goal whose answer, or else the lemma whose proof, an error of a crate's proofs stands in; nothing where it stands in neither, as in
+    a line that imports what is not there."""
+    at = PLACE.match(line)
+    if not at:
+        return ""
+    with open(f"{ROOT}/crates/{name}/{at[1]}", encoding="utf-8") as it:
+        above = it.read().splitlines()[: int(at[2])]
+    if above[-1].startswith("use "):
+        return ""
+    stated = next((found for it in reversed(above) if (found := STATED.match(it))), None)
+    return (stated[2] or stated[1]) if stated else ""
+
+
+def open_functions(name, lines):
+    """The functions that have an open goal of their own, each with the goals that are named, and those of which only a file of the proof
+    names what is not there. A goal of a closure is its function's."""
+    goals, cites = {}, set()
     for line in lines:
         at = VERDICT.match(line)
         if not at:
             continue
         answers = "./proofs/" + at[2].replace("::", "/") + "/"
         said = [it for it in lines if it.startswith(answers) and ": error: " in it]
-        if "did not prove" in at[4] or any(map(is_real, said)):
-            is_open.add(told(at[2].split("::")))
+        unproved = re.findall(r"`([^`]+)`", at[4].partition("did not prove")[2])
+        named = unproved + [goal for it in filter(is_real, said) if (goal := goal_at(name, it))]
+        if named:
+            goals.setdefault(told(at[2].split("::")), []).extend(named)
         elif said:
             cites.add(told(at[2].split("::")))
-    return is_open, cites - is_open
+    return goals, cites - goals.keys()
 
 
 def all_functions(lines):
@@ -297,13 +418,19 @@ def all_functions(lines):
 
 @dataclass
 class Outcome:
-    """What a round showed: the edits that it refused, those that are left to be tried, why an edit cannot be tried, and the edits of which
-    only a proof's names are gone."""
+    """What a round showed: the edits that it refused, those that are left to be tried, why an edit cannot be tried, the edits of which
+    only a proof's names are gone, and the goals that are open of each function."""
 
     refused: list
     left: list
     bad: str = ""
     cited: tuple = ()
+    goals: dict = field(default_factory=dict)
+
+    def goal(self, edit):
+        """A goal that refuses an edit, in words."""
+        named = [goal for it in sorted(edit.functions()) for goal in self.goals.get(it, [])]
+        return f"by the goal {named[0]}, " if named else ""
 
 
 def try_round(name, kept, is_own, edits):
@@ -320,18 +447,19 @@ def try_round(name, kept, is_own, edits):
     judged = any(it.startswith(("logic=not-proved", "logic=proved")) for it in lines)
     if not judged:
         return Outcome([], edits, next((it for it in lines if "error" in it), f"the check gave no verdict: {lines[-1:]}"))
-    (is_open, cites), known = open_functions(lines), all_functions(lines)
+    (goals, cites), known = open_functions(name, lines), all_functions(lines)
     strange = [it for edit in edits for it in edit.functions() - known if not edit.is_constant()]
     if strange:
         return Outcome([], edits, f"the check names no function {strange[0]}")
     if edits[0].is_constant():
         # what a constant is may be said by a lemma of its own
-        return Outcome(edits, []) if is_open or any(map(is_real, lines)) else Outcome([], edits)
-    if (is_open | cites) - {it for edit in edits for it in edit.functions()}:
+        named = [goal for it in goals.values() for goal in it] or [goal for it in filter(is_real, lines) if (goal := goal_at(name, it))]
+        return Outcome(edits, [], goals={it: named for it in edits[0].functions()}) if named else Outcome([], edits)
+    if (goals.keys() | cites) - {it for edit in edits for it in edit.functions()}:
         return Outcome([], edits)
-    refused = [it for it in edits if it.functions() & is_open]
+    refused = [it for it in edits if it.functions() & goals.keys()]
     cited = [it for it in edits if it not in refused and it.functions() & cites]
-    return Outcome(refused, [it for it in edits if it not in refused and it not in cited], cited=tuple(cited))
+    return Outcome(refused, [it for it in edits if it not in refused and it not in cited], cited=tuple(cited), goals=goals)
 
 
 def tell(edit, refused, how):
@@ -395,7 +523,7 @@ def judge(edits):
                 if is_own:
                     work.is_busy, work.in_turn = False, work.in_turn - (not outcome.bad)
                 for edit in outcome.refused:
-                    verdicts[edit.crate, edit.name] = tell(edit, True, f"one of {len(one)} in a check")
+                    verdicts[edit.crate, edit.name] = tell(edit, True, f"{outcome.goal(edit)}one of {len(one)} in a check")
                 for edit in outcome.cited:
                     verdicts[edit.crate, edit.name] = tell(edit, False, "only a name that its proof cites is gone")
                 if len(one) == 1 and outcome.left:
@@ -424,6 +552,16 @@ def is_told(edit):
 def judge_by_rows(edits):
     """Tries the edits that rows tell, and returns for each whether they did."""
     return {(it.crate, it.name): tell(it, is_told(it), "by rows") for it in edits}
+
+
+def judge_by_tests(edits):
+    """Tries the edits that tests of the programs tell, and returns for each whether they did."""
+    if not edits:
+        return {}
+    with tempfile.TemporaryDirectory(prefix="edits-", ignore_cleanup_errors=True) as room:
+        unproved = Unproved(room)
+        whys = ((it, unproved.missed(it)) for it in edits)
+        return {(it.crate, it.name): tell(it, not why, why or "by a test") for it, why in whys}
 
 
 def rlib(library):
@@ -470,30 +608,38 @@ def wrong_in(control, verdicts):
 def main(words):
     below, is_all = crates(), "--all" in words
     names = [it for it in words if not it.startswith("--")]
-    unknown = [it for it in words if it not in below and it not in ("--all", "--control", "--list", "--rows")]
+    unknown = [it for it in words if it not in below and it not in ("--all", "--control", "--list", "--rows", "--tests", "--types")]
     if unknown:
         raise SystemExit(f"no crate {unknown[0]}\n0 passed, 1 failed")
+    whole = edits_of(f"{ROOT}/tests/edits", names or below, ["gate", "all", "rows", *PROGRAMS])
+    unquoted = tell_wrong_quotes(whole)
     if "--list" in words:
-        found = sorted(it.row() for it in edits_of(f"{ROOT}/tests/edits", names or below, ["gate", "all", "rows"]))
-        print("\n".join("  ".join(it) for it in found))
-        return 0
+        print("\n".join("  ".join(it) for it in sorted(it.row() for it in whole)))
+        return 1 if unquoted else 0
     control = [] if names else edits_of(f"{ROOT}/tests/edits/control", below, ["control"])
     edits = edits_of(f"{ROOT}/tests/edits", names or below, ["gate", "all"] if is_all else ["gate"])
-    by_rows = edits_of(f"{ROOT}/tests/edits", names or below, ["rows"] if is_all or "--rows" in words else [])
-    if "--control" in words:
+    by_rows = [it for it in whole if it.layer == "rows"] if is_all or "--rows" in words else []
+    by_tests = [it for it in whole if it.layer in PROGRAMS] if is_all or "--tests" in words else []
+    if {"--control", "--types"} & set(words):
         edits = []
-    if "--rows" in words:
+    if {"--rows", "--tests", "--types"} & set(words):
         control, edits = [], []
-    make_libraries(dict.fromkeys(it.crate for it in control + edits), below)
+    typed = [] if {"--control", "--rows", "--tests"} & set(words) else whole
+    make_libraries(dict.fromkeys(it.crate for it in control + edits + typed), below)
+    untyped = tell_wrong_types(typed)
+    told_of = f", and {len(typed) - untyped} of {len(typed)} are well typed" if typed else ""
+    quoting = sum(it.layer in ("gate", "all") for it in whole)
+    print(f"{quoting - unquoted} of {quoting} edits quote a clause{told_of}", flush=True)
     if control:
         print("The edits named harmless_ are a control, and must be told as NOT REFUSED.", flush=True)
-    verdicts = {**judge(control + edits), **judge_by_rows(by_rows)}
-    edits += by_rows
+    verdicts = {**judge(control + edits), **judge_by_rows(by_rows), **judge_by_tests(by_tests)}
+    edits += by_rows + by_tests
     wrong = wrong_in(control, verdicts) + sum(not verdicts[it.crate, it.name] for it in edits)
     used = resource.getrusage(resource.RUSAGE_CHILDREN)
     print(f"{used.ru_utime + used.ru_stime:.0f} s of processor time, and at most {used.ru_maxrss // 1000} MB in a process")
-    print(f"{len(control) + len(edits) - wrong} passed, {wrong} failed")
-    return 1 if wrong else 0
+    tried = len(typed) if "--types" in words else len(control) + len(edits)
+    print(f"{max(tried - wrong - unquoted - untyped, 0)} passed, {wrong + unquoted + untyped} failed")
+    return 1 if wrong or unquoted or untyped else 0
 
 
 if __name__ == "__main__":

@@ -3,12 +3,14 @@
     tests/memory.py bin/coap-server
 
 No message but one that stores a representation allocates anything; a replacing PUT allocates the room of
-its bytes alone; nothing is lost.
+its bytes alone; a framer that is raised requests its new size in bytes (measured with the probe); a queue requests as many bytes
+as it can hold; nothing is lost.
 
 Of a script, its events and the lines that need memory are allocated too. So two scripts are compared that are read alike and
 write as many lines of each kind: in one of them the events are of a connection that is not there.
 """
 
+import os
 import re
 import subprocess
 import sys
@@ -20,6 +22,9 @@ from program import CSM, GREETING, Checks
 PACKAGES = {"valgrind": "valgrind"}
 
 LISTING = b"</>;ct=0,</time>;ct=0;obs,</async>;ct=0".hex()
+
+# plays events on a framer alone
+PROBE = os.path.join(os.path.dirname(os.path.abspath(__file__)), "../crates/coap_probe/out/coap_probe")
 
 # what a peer sends over and over, and its answer
 KINDS = [
@@ -171,6 +176,35 @@ def putting(checks, server, storing):
     checks.same("allocations of 2,000 more puts", more(3000) - more(1000), 2000)
 
 
+def requested(command, stream):
+    """The bytes that a program requests over its input."""
+    with tempfile.NamedTemporaryFile("r") as log:
+        line = ["valgrind", "--log-file=" + log.name] + command
+        subprocess.run(line, input=stream, stdout=subprocess.DEVNULL, timeout=300, check=True)
+        return int(re.search(r"([\d,]+) bytes allocated", log.read())[1].replace(",", ""))
+
+
+def raised(sizes):
+    """The bytes that the probe requests for a framer of 1,152 bytes that is raised to these sizes."""
+    events = ["= frame 1152", *("raise %d" % it for it in sizes)]
+    return requested([PROBE], "".join(it + "\n" for it in events).encode())
+
+
+def raising(checks):
+    """A framer that is raised requests as many bytes as its new size."""
+    before = raised([1152, 1152])
+    checks.same("bytes of a framer raised to 2,000", raised([2000, 2000]) - before, 2000)
+    checks.same("bytes of a framer raised to 1,153 and to 1,500", raised([1153, 1500]) - before, 1153 + 1500)
+
+
+def queueing(checks, server):
+    """A connection requests as many bytes for its queue as the queue can hold."""
+    sizes = [65_536, 65_537, 131_072, 4_194_304]
+    first, *others = (requested([server, "--queue", str(it), "--script", "-"], b"open\n") for it in sizes)
+    for size, bytes_of_all in zip(sizes[1:], others):
+        checks.same("bytes of a queue of %d beside one of %d" % (size, sizes[0]), bytes_of_all - first, size - sizes[0])
+
+
 def main(programs):
     server, storing = programs[0], [programs[0], "-d", "1000"]
     checks = Checks()
@@ -190,6 +224,8 @@ def main(programs):
     for word, request in OBSERVING:
         telling(checks, storing, word, request)
     putting(checks, server, storing)
+    raising(checks)
+    queueing(checks, server)
     print("memory: %d passed, %d failed" % (checks.passed, checks.failed))
     return 1 if checks.failed else 0
 

@@ -53,12 +53,12 @@ def processor_time(process):
 class Server:
     """A server that listens at an address of this machine until its block is left. It takes its address by -A and -p."""
 
-    def __init__(self, program, words=(), host=LOCAL, port=None, files=None, says=True):
-        """Starts it, with a limit on its open files where one is told. `said` is its first line, where it says one."""
+    def __init__(self, program, words=(), host=LOCAL, port=None, files=None, says=True, **how):
+        """Starts it, with a limit on its open files where one is told, and as `how` tells Popen. `said` is its first line, where it says one."""
         self.host, self.port = host, port or free_port(host)
         limit = (lambda: resource.setrlimit(resource.RLIMIT_NOFILE, (files, files))) if files else None
         self.process = subprocess.Popen([program, "-A", host, "-p", str(self.port), *words], stdin=subprocess.DEVNULL,
-                                        stdout=subprocess.DEVNULL, stderr=subprocess.PIPE, preexec_fn=limit)
+                                        stdout=subprocess.DEVNULL, stderr=subprocess.PIPE, preexec_fn=limit, **how)
         self.said = line_of(self.process.stderr).decode() if says else ""
 
     def accepts(self):

@@ -8,6 +8,7 @@ waited for. libcoap's programs are asked by tests/interop.py, and hostile peers 
 """
 
 import contextlib
+import errno
 import itertools
 import os
 import select
@@ -18,9 +19,15 @@ import sys
 import tempfile
 import time
 
+import messages
 from peers import LIMIT, LOCAL, Server, authority, free_port, is_silent, line_of, processor_time, read_bytes, read_to_end, reset
 from program import ABORTS, CSM, GREETING, Checks
 from rows import TESTS
+
+# The number of the option ETag.
+ETAG = 4
+
+PING, PONG = bytes.fromhex("00e2"), bytes.fromhex("00e3")
 
 # GET of the root with token 1 behind the peer's Capabilities and Settings, and all that the server says to it
 HELLO = bytes.fromhex("00e1" "010101")
@@ -35,13 +42,60 @@ def flood(peer, piece):
         peer.send(piece)
 
 
-def client(program, words, stream=b"", seconds=LIMIT, environment=None):
-    """What a client comes to: its status, standard output and standard error."""
+def client(program, words, stream=b"", seconds=LIMIT, **how):
+    """What a client comes to: its status, standard output and standard error. It is started as `how` tells Popen."""
     try:
-        done = subprocess.run([program, *words], input=stream, capture_output=True, timeout=seconds, env=environment)
+        done = subprocess.run([program, *words], input=stream, capture_output=True, timeout=seconds, **how)
         return done.returncode, done.stdout, done.stderr
     except subprocess.TimeoutExpired:
         return "no end within %d s" % seconds
+
+
+class Waits:
+    """Programs whose calls are recorded by preloaded libraries: tests/waits.c, and what else is named of this folder. A wait takes so many
+    milliseconds at most, if that is said, and the program's clocks go on as if it had taken all its time."""
+
+    def __init__(self, *libraries, at_most=None, **settings):
+        self.folder, self.told = tempfile.TemporaryDirectory(prefix="waits-"), tempfile.TemporaryFile()
+        made = [self.compiled(it) for it in ("waits", *libraries)]
+        if at_most is not None:
+            settings["WAIT_AT_MOST"] = at_most
+        settings.update(LD_PRELOAD=" ".join(made), WAITS_TOLD=self.told.fileno())
+        self.settings = {**os.environ, **{name: str(value) for name, value in settings.items()}}
+
+    def compiled(self, name):
+        library = "%s/%s.so" % (self.folder.name, name)
+        subprocess.run(["gcc", "-O2", "-shared", "-fPIC", "-o", library, "%s/%s.c" % (TESTS, name)], check=True)
+        return library
+
+    def how(self, **settings):
+        """How such a program is started, with nothing recorded yet."""
+        os.ftruncate(self.told.fileno(), 0)
+        os.lseek(self.told.fileno(), 0, os.SEEK_SET)
+        return {"env": {**self.settings, **settings}, "pass_fds": [self.told.fileno()]}
+
+    def calls(self, kind):
+        """The calls of a kind (wait, send, accept, nodelay): of each the seconds since the program began, by its own clock, and the result."""
+        lines = os.pread(self.told.fileno(), 1 << 24, 0).decode().splitlines()
+        return [(int(at) / 1000, int(result)) for at, call, result in map(str.split, lines) if call == kind]
+
+    def until_idle(self):
+        """Waits until nothing is recorded for a while."""
+        before, size = None, 0
+        while before != size:
+            time.sleep(0.4)
+            before, size = size, os.fstat(self.told.fileno()).st_size
+
+    def passed(self):
+        """The seconds from the beginning of a program to its last wait, by its own clock."""
+        return max([at for at, _ in self.calls("wait")], default=0)
+
+    def __enter__(self):
+        return self
+
+    def __exit__(self, *_):
+        self.told.close()
+        self.folder.cleanup()
 
 
 def listens(server):
@@ -116,12 +170,20 @@ def check_bodies(checks, programs):
         with open(sent, "wb") as it:
             it.write(body)
         checks.same("put of a file", client(programs.client, ["-m", "put", "-f", sent, server.uri("/a")]), (0, b"", b""))
+        # what stood there before, which is longer
+        with open(got, "wb") as it:
+            it.write(body + body)
         checks.same("get into a file", client(programs.client, ["-o", got, server.uri("/a")]), (0, b"", b""))
         with open(got, "rb") as it:
             checks.same("the file", it.read() == body, True)
         checks.same("put of standard input", client(programs.client, ["-m", "put", "-f", "-", server.uri("/b")], body), (0, b"", b""))
         checks.same("get", client(programs.client, [server.uri("/b")]) == (0, body, b""), True)
         checks.same("get into standard output", client(programs.client, ["-o", "-", server.uri("/b")]) == (0, body, b""), True)
+        largest = bytes(1 << 20)
+        done = client(programs.client, ["-m", "put", "-f", "-", server.uri("/c")], largest)
+        checks.same("the largest payload, which no request has room for", done, (3, b"", b"request fault 3\n"))
+        done = client(programs.client, ["-m", "put", "-f", "-", server.uri("/c")], largest + b"x")
+        checks.same("a file that is longer than a payload may be", done, (1, b"", b"coap-client: bad value for -f\n"))
         with open("/dev/full", "wb") as full:
             done = subprocess.run([programs.client, server.uri("/a")], stdout=full, stderr=subprocess.PIPE, timeout=LIMIT)
             checks.same("writing fails", (done.returncode, done.stderr), (3, b"coap-client: cannot write\n"))
@@ -174,7 +236,7 @@ def check_silent(checks, programs):
             _, status, usage = os.wait4(process.pid, 0)
             process.returncode = os.waitstatus_to_exitcode(status)
         checks.same("status of the client", process.returncode, 4)
-        checks.same("it waits so long", 2 <= time.monotonic() - began < 4, True)
+        checks.same("it waits so long", 2 <= time.monotonic() - began < 3, True)
         checks.same("an idle client", usage.ru_utime + usage.ru_stime < 0.5, True)
 
 
@@ -194,9 +256,9 @@ def check_address(checks, programs):
 
 
 def check_files(checks, programs):
-    """A server that may open few files takes no connection where there are none left, and uses no processor; once one closes it
-    goes on."""
-    with Server(programs.server, files=16) as server, contextlib.ExitStack() as stack:
+    """A server that may open few files takes no connection if none are left, tries again after a second, whatever else comes, and uses no
+    processor; once one closes it goes on."""
+    with Waits() as waits, Server(programs.server, files=16, **waits.how()) as server, contextlib.ExitStack() as stack:
         peers = []
         while len(peers) < 16:
             peer = stack.enter_context(server.connect())
@@ -204,20 +266,33 @@ def check_files(checks, programs):
             peers.append(peer)
             if is_silent(peer):
                 break
+            read_bytes(peer, len(GREETED))
         checks.same("some are served, and not all", 1 < len(peers) < 16, True)
         before = server.processor_time()
         checks.same("it is served once there is room, and not before", is_silent(peers[-1], 1.2), True)
         checks.same("no processor time is used", server.processor_time() - before < 0.2, True)
+        pongs = []
+        for _ in range(10):
+            peers[0].sendall(PING)
+            pongs.append(read_bytes(peers[0], len(PONG)))
+        checks.same("others are served", pongs, [PONG] * 10)
         peers[0].close()
         checks.same("there is room", read_bytes(peers[-1], len(GREETED)), GREETED)
+        accepts = waits.calls("accept")
+        pauses = [later - at for (at, result), (later, _) in zip(accepts, accepts[1:]) if result == -errno.EMFILE]
+        checks.same("it tries again after a second", (len(pauses) > 1, [it for it in pauses if not 0.99 < it < 1.9]), (True, []))
 
 
 def check_close(checks, programs):
     """That a connection which the server stops is told so and then ended, with no reset for the bytes that nobody reads."""
-    with Server(programs.server) as server:
-        with server.connect() as peer:
-            peer.sendall(bytes.fromhex("00e1" "f0ffffffff01") + bytes(40_000))
-            checks.same("too much", read_to_end(peer), (bytes.fromhex(CSM + ABORTS["message too large"]), "the end"))
+    with Server(programs.server) as server, server.connect() as peer:
+        # so that the server finds all of it at once
+        server.process.send_signal(signal.SIGSTOP)
+        peer.sendall(bytes.fromhex("00e1" "f0ffffffff01") + bytes(50_000))
+        server.process.send_signal(signal.SIGCONT)
+        checks.same("too much", read_to_end(peer), (bytes.fromhex(CSM + ABORTS["message too large"]), "the end"))
+        time.sleep(0.1)
+        checks.same("no reset", peer.getsockopt(socket.SOL_SOCKET, socket.SO_ERROR), 0)
 
 
 def silent_port(stack, hosts):
@@ -242,14 +317,13 @@ def check_addresses(checks, programs):
     """A name with several addresses: how long each is tried, which of them are, and what is said of the last one."""
     silent = ["127.0.0.%d" % number for number in range(2, 5)]
     good, unreachable = "127.0.0.5", "127.0.0.6"
-    with tempfile.TemporaryDirectory(prefix="names-") as room, contextlib.ExitStack() as stack:
-        shim = "%s/names.so" % room
-        subprocess.run(["gcc", "-O2", "-shared", "-fPIC", "-o", shim, "%s/names.c" % TESTS], check=True)
+    with Waits("names", at_most=200, UNREACHABLE=unreachable) as waits, contextlib.ExitStack() as stack:
         port = silent_port(stack, silent)
         stack.enter_context(Server(programs.server, host=good, port=port))
         rows = [
             # (the addresses, -B, what it comes to, and after how many seconds)
             ([good], 5, "coap+tcp", 0), ([silent[0], good], 4, "coap+tcp", 2), ([*silent, good], 4, "coap+tcp", 3),
+            ([silent[0], good], 1000, "coap+tcp", 500), ([silent[0], silent[1], good], 1000, "coap+tcp", 1000 / 3 + 1000 / 3),
             ([silent[0], good, *["127.0.0.7"] * 8], 3, "coap+tcp", 1), ([silent[0], good], 1, "timed out", 1), (silent, 3, "timed out", 3),
             (["127.0.0.7", silent[0]], 1, "timed out", 1), ([unreachable, "127.0.0.7"], 1, "connection refused", 0),
             (["127.0.0.7", unreachable], 1, "host unreachable", 0), ([], 1, "unknown name", 0),
@@ -257,13 +331,92 @@ def check_addresses(checks, programs):
         ]
         for addresses, seconds, told, after in rows:
             names = {"NAMES": " ".join(addresses)} if addresses else {}
-            environment = {**os.environ, "LD_PRELOAD": shim, "UNREACHABLE": unreachable, **names}
-            began = time.monotonic()
-            done = client(programs.client, ["-B", str(seconds), "coap+tcp://many.test:%d/" % port], environment=environment)
-            passed = time.monotonic() - began
+            done = client(programs.client, ["-B", str(seconds), "coap+tcp://many.test:%d/" % port], **waits.how(**names))
             wanted = (0, told.encode(), b"") if told == "coap+tcp" else (3, b"", cannot_connect(told))
             checks.same("a name for %r, -B %d" % (addresses, seconds), done, wanted)
-            checks.same("a name for %r, -B %d: %.2f s" % (addresses, seconds, passed), after <= passed + 0.01 < after + 0.9, True)
+            checks.same("a name for %r, -B %d: %.2f s" % (addresses, seconds, waits.passed()), after <= waits.passed() + 0.01 < after + 0.9, True)
+
+
+def check_timeouts(checks, programs):
+    """That -B is how long a client tries to connect, and then how long it waits for a response: by its own clock, in which hours pass at once."""
+    silent, mute = "127.0.0.2", LOCAL
+    with Waits("names", at_most=5, NAMES="%s %s" % (silent, mute)) as waits, contextlib.ExitStack() as stack:
+        port = silent_port(stack, [silent])
+        # a peer that says nothing at the same port, but at an address that connects
+        stack.enter_context(socket.create_server((mute, port)))
+        unconnected, unanswered = (3, b"", cannot_connect("timed out")), (4, b"", b"")
+        rows = [(silent, seconds, unconnected, seconds) for seconds in (1, 2, 3, 100, 100_000)]
+        rows += [(mute, seconds, unanswered, seconds) for seconds in (1, 2, 3, 100)]
+        # half of the time for the first address, and all of it for the response once the second one connects
+        rows += [("many.test", seconds, unanswered, seconds // 2 + seconds) for seconds in (2, 4, 100)]
+        for host, seconds, wanted, after in rows:
+            done = client(programs.client, ["-B", str(seconds), "coap+tcp://%s:%d/" % (host, port)], **waits.how())
+            checks.same("%s, -B %d" % (host, seconds), done, wanted)
+            checks.same("%s, -B %d: %.2f s" % (host, seconds, waits.passed()), after <= waits.passed() + 0.01 < after + 0.5, True)
+            if host == mute:
+                checks.same("%s, -B %d: it speaks at once" % (host, seconds), [at < 0.5 for at, _ in waits.calls("send")], [True])
+
+
+def check_connections(checks, programs):
+    """That as many connections are served as --connections says, and one more only once one of them leaves."""
+    for count in (1, 9, 256):
+        with Server(programs.server, ["--connections", str(count)]) as server, contextlib.ExitStack() as stack:
+            peers = [stack.enter_context(server.connect()) for _ in range(count + 1)]
+            for it in peers:
+                it.sendall(HELLO)
+            served = sum(1 for _ in itertools.takewhile(lambda it: read_bytes(it, len(GREETED)) == GREETED, peers[:count]))
+            checks.same("--connections %d: so many are served" % count, served, count)
+            checks.same("--connections %d: one more is not" % count, is_silent(peers[count]), True)
+            peers[0].close()
+            checks.same("--connections %d: it is served as one leaves" % count, read_bytes(peers[count], len(GREETED)), GREETED)
+
+
+def etag_of(peer, number):
+    """The ETag of /a, as a number, once it was put."""
+    # PUT with a byte of payload, and GET, each with a token of one byte
+    peer.sendall(bytes.fromhex("410301b161ff%02x" "210102b161" % number))
+    read_bytes(peer, 3)
+    size = read_bytes(peer, 1)
+    _, _, options, _ = messages.parse(size + read_bytes(peer, 2 + (size[0] >> 4)))
+    return int.from_bytes(dict(options)[ETAG], "big")
+
+
+def etags_of(programs, count):
+    """The ETags of so many PUTs to a server that is started for them."""
+    with Server(programs.server, ["-d", "1"]) as server, server.connect() as peer:
+        peer.sendall(HELLO)
+        read_bytes(peer, len(GREETED))
+        return [etag_of(peer, number) for number in range(count)]
+
+
+def check_versions(checks, programs):
+    """That a server that is started again a second later gives no ETag that it gave before."""
+    first = etags_of(programs, 3)
+    time.sleep(1.05)
+    second = etags_of(programs, 3)
+    checks.same("ETags rise within a run", [sorted(set(it)) == it for it in (first, second)], [True, True])
+    checks.same("no ETag comes again in a later run", min(second) > max(first), True)
+
+
+def check_room(checks, programs):
+    """That both programs write on as soon as there is room again for what they have to write."""
+    with Waits(at_most=200) as waits, Server(programs.server) as server:
+        for count in range(4):
+            done = client(programs.client, ["-B", "5", server.uri()], **waits.how(SENDS_WITHOUT_ROOM=str(count)))
+            checks.same("a client that finds no room %d times" % count, done, (0, b"coap+tcp", b""))
+            checks.same("a client waits no second for room, %d times: %.2f s" % (count, waits.passed()), waits.passed() < 0.9, True)
+            checks.same("a client sends without delay", [result for _, result in waits.calls("nodelay")], [1])
+    # more than the system keeps between the two
+    body, count = bytes(65_000), 100
+    with Waits() as waits, Server(programs.server, ["-d", "1"], **waits.how()) as server:
+        client(programs.client, ["-m", "put", "-f", "-", server.uri("/a")], body)
+        checks.same("a server sends without delay", [result for _, result in waits.calls("nodelay")], [1])
+        with server.connect() as peer:
+            peer.sendall(bytes.fromhex(CSM) + bytes.fromhex("210102b161") * count)
+            waits.until_idle()
+            taken = sum(result for _, result in waits.calls("send") if result > 0)
+            checks.same("a peer that does not read is not sent all", taken < count * len(body), True)
+            checks.same("once it reads it gets the rest", len(read_bytes(peer, count * len(body))), count * len(body))
 
 
 def closing(numbers):
@@ -374,7 +527,7 @@ class Programs:
 
 CHECKS = [
     check_requests, check_tokens, check_observers, check_bodies, check_connecting, check_ended, check_silent, check_address, check_files, check_close,
-    check_flooded_client, check_addresses, check_closed, check_urgent,
+    check_flooded_client, check_addresses, check_closed, check_urgent, check_timeouts, check_connections, check_versions, check_room,
 ]
 
 

@@ -3,7 +3,7 @@
 The words are those of the command line. The clock tells the moments one after the other, and the last one behind them. A read gives
 bytes, `later`, `end` or `failed`, and `later` behind them. Before the words may stand `deaf` for a wire that takes nothing, `slow` for one
 that takes a byte at once, `torn` for one whose writes fail, `shut` for one whose writes come to an end, `full` for an outlet that takes no
-byte, and `mute` for a place for errors that takes none. What was written to both outlets is told as text, with `\\n` for a newline.
+byte, and `mute` for a place for errors that takes none. `{9*a}` in the words stands for 9 times `a`. What was written to both outlets is told as text, with `\\n` for a newline.
 Numbers and texts of faults are compared where a row has them.
 """
 
@@ -11,6 +11,7 @@ import re
 
 from layers import Step
 from layers.client import wanted_of
+from layers.target import repeated
 from spelling import spelled
 
 PROBE = "coap_client_probe"
@@ -21,6 +22,7 @@ KINDS = ("deaf", "slow", "torn", "shut", "full", "mute")
 def event_of(text):
     """An event as the probe reads it."""
     line, moments, reads = spelled(text).split(" | ")
+    line = repeated(line)
     kind, _, rest = line.partition(" ")
     kind, line = (kind, rest) if kind in KINDS else ("-", line)
     words = reads.split(" ") if reads else []

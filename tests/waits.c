@@ -1,0 +1,84 @@
+/* Waits as a run sets them. WAIT_AT_MOST: a wait for events takes so many milliseconds at most. If it was to last longer and nothing came, the
+   clocks of the program are put forward by the rest: so a wait of hours ends at once, and the program finds that hours have passed.
+   SENDS_WITHOUT_ROOM: so many calls of send find no room at first.
+   WAITS_TOLD: a descriptor to which each call is written as a line, `MILLISECONDS CALL RESULT`: the time since the program began, by its own
+   clock, and the calls `wait`, `send` and `accept`, of which one that fails has its error's number as a negative result, and `nodelay`, which
+   sets TCP_NODELAY to that. */
+#define _GNU_SOURCE
+#include <errno.h>
+#include <netinet/in.h>
+#include <netinet/tcp.h>
+#include <stdio.h>
+#include <stdlib.h>
+#include <sys/epoll.h>
+#include <sys/socket.h>
+#include <sys/syscall.h>
+#include <time.h>
+#include <unistd.h>
+
+#define MILLION 1000000L
+#define BILLION 1000000000L
+
+/* How many nanoseconds the clocks are put forward, when the program began, and how many calls of send there were. */
+static long ahead, begun, sendings;
+
+static long set(const char *name) {
+    const char *value = getenv(name);
+    return value ? atol(value) : -1;
+}
+
+int clock_gettime(clockid_t clock, struct timespec *time) {
+    int result = syscall(SYS_clock_gettime, clock, time);
+    if (!result) {
+        long nanoseconds = time->tv_nsec + ahead % BILLION;
+        time->tv_sec += ahead / BILLION + nanoseconds / BILLION;
+        time->tv_nsec = nanoseconds % BILLION;
+    }
+    return result;
+}
+
+static long now(void) {
+    struct timespec time = {0, 0};
+    clock_gettime(CLOCK_MONOTONIC, &time);
+    return time.tv_sec * BILLION + time.tv_nsec;
+}
+
+__attribute__((constructor)) static void begin(void) { begun = now(); }
+
+static long tell(const char *call, long result) {
+    char text[96];
+    long file = set("WAITS_TOLD"), number = errno;
+    if (file >= 0) {
+        long told = result < 0 ? -number : result;
+        syscall(SYS_write, (int)file, text, snprintf(text, sizeof text, "%ld %s %ld\n", (now() - begun) / MILLION, call, told));
+    }
+    errno = number;
+    return result;
+}
+
+int epoll_wait(int file, struct epoll_event *events, int room, int limit) {
+    long most = set("WAIT_AT_MOST");
+    int is_cut = most >= 0 && limit > most;
+    int count = syscall(SYS_epoll_wait, file, events, room, is_cut ? (int)most : limit);
+    if (is_cut && !count)
+        ahead += (limit - most) * MILLION;
+    return tell("wait", count);
+}
+
+ssize_t send(int socket, const void *bytes, size_t size, int flags) {
+    long count = -1;
+    errno = EAGAIN;
+    if (sendings++ >= set("SENDS_WITHOUT_ROOM"))
+        count = syscall(SYS_sendto, socket, bytes, size, flags, NULL, 0);
+    return tell("send", count);
+}
+
+int accept4(int socket, struct sockaddr *address, socklen_t *size, int flags) {
+    return tell("accept", syscall(SYS_accept4, socket, address, size, flags));
+}
+
+int setsockopt(int socket, int level, int name, const void *value, socklen_t size) {
+    if (level == IPPROTO_TCP && name == TCP_NODELAY)
+        tell("nodelay", *(const int *)value);
+    return syscall(SYS_setsockopt, socket, level, name, value, size);
+}
