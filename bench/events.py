@@ -3,8 +3,9 @@
 They are events of a script. From what 1,000 of them cost is taken what 1,000 lines cost that do nothing: the same bytes for a
 connection that is not there, and ticks that leave the moment. So neither reading a line nor starting the program counts.
 
-Last it counts what a notification costs together with the drain that takes it away: 255 connections observe what is changed, against
-the same changes and drains where they observe something else.
+Then it counts what a notification costs together with the drain that takes it away: 255 connections observe what is changed, against
+the same changes and drains where they observe something else. Last it counts the same for the observers of one connection, after a tick
+and after a PUT.
 """
 
 import collections
@@ -35,8 +36,13 @@ PUT_TIMES, TICK_EACH = 1.5, 20
 # what a notification may cost with its drain, how many connections are told one, and how often
 NOTIFIED_EACH, TOLD, CHANGES = 1_500, 255, 20
 
+# the program where a connection may have as many observers as it can, how many one has, and what a notification may cost with its drain: so
+# many instructions, and so many times what it costs with the fewest observers
+MANY_OBSERVERS = [*COMMAND[:-2], "--observers", "256", *COMMAND[-2:]]
+TOGETHER, TOGETHER_EACH, TOGETHER_TIMES = (16, 64, 255), 1_300, 1.2
+
 # the resource that observers observe, and the one that is asked for and changed
-SEEN, ASKED = b"seen", b"0000"
+SEEN, ASKED, MOMENT = b"seen", b"0000", b"time"
 
 CSM = "00e1"
 
@@ -105,6 +111,33 @@ def notified():
     return met
 
 
+def told_together(count, path, changes):
+    """What a notification of this path costs with its drain, where one connection has so many observers and these lines change it."""
+    totals = []
+    for observed in (path, SEEN):
+        observers = [f"in 1 {observation(it, observed)}" for it in range(1, count + 1)]
+        lines = [*before(Setting(1, 0, 1)), *observers, "drain 1", *[it for change in changes for it in (change, "drain 1", "drain 2")], ""]
+        totals.append(counted_alone(MANY_OBSERVERS, "\n".join(lines).encode()))
+    return round((totals[0] - totals[1]) / (count * len(changes)))
+
+
+def together():
+    """Tells what a notification costs beside others of its connection, and whether that is what it may."""
+    print("\n| observers of one connection | a notification after a tick | after a PUT |\n|---|---|---|")
+    rows = []
+    for count in TOGETHER:
+        ticked = told_together(count, MOMENT, [f"tick {it}" for it in range(1, CHANGES + 1)])
+        rows.append((ticked, told_together(count, ASKED, [f"in 2 {PUT}"] * CHANGES)))
+        print(f"| {count} | {rows[-1][0]:,} | {rows[-1][1]:,} |", flush=True)
+    all_met = True
+    for kind, costs_of in zip(("a tick", "a PUT"), zip(*rows)):
+        met = max(costs_of) <= TOGETHER_EACH and costs_of[-1] <= TOGETHER_TIMES * costs_of[0]
+        all_met = met and all_met
+        print(f"{'met' if met else 'MISSED'}: a notification after {kind}, {max(costs_of):,} instructions, at most {TOGETHER_EACH:,}, and "
+              f"{costs_of[-1] / costs_of[0]:.2f} times with {TOGETHER[-1]} observers, at most {TOGETHER_TIMES}", flush=True)
+    return all_met
+
+
 def over_settings():
     """Tells the tables, keeps them and draws them, and tells whether they are drawn and the targets met."""
     tables, met = [], True
@@ -117,5 +150,6 @@ def over_settings():
         met = judged(rows) and met if changed == "observers" else met
         tables.append(pictures.table(title, [changed, "GET", "PUT", "tick"], rows))
     met = notified() and met
+    met = together() and met
     pictures.keep("instructions", tables)
     return pictures.draw("instructions") and met
