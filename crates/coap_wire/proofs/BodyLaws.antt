@@ -5,7 +5,8 @@ use Rattle.std.proofs.lemmas.List.{append-nil, length-take, length-append, take-
 use Rattle.coap_wire.specs.Prelude.{CoapOption, AreOrdered, last_number, AreBytes, IsOptionForm, IsOptionHead}
 use Rattle.coap_wire.specs.Prelude.{IsOneOption, IsOptionBytes, payload_bytes, FormatFault, OptionDelta}
 use Rattle.coap_wire.specs.Prelude.{OptionLength, OptionCut, OptionNumber, EmptyPayload, ◌>>=◌, option_number_at}
-use Rattle.coap_wire.specs.Prelude.{or_cut, both_at, option_head_at, value_at, option_at, body_at}
+use Rattle.coap_wire.specs.Prelude.{or_cut, both_at, option_head_at, value_at, option_at, body_at, IsOk}
+use Rattle.coap_wire.specs.Prelude.{options_in, options_read}
 use Rattle.coap_wire.proofs.BodyLemmas.{with_front}
 use Rattle.coap_wire.proofs.BodySteps.{bind_ok, ok_is, or_cut_ok, option_shorter, body_end, body_marker, body_empty_payload, body_option, body_fault}
 use Rattle.coap_wire.proofs.NumberLaws.{AreBytes-rest, AreBytes-tail, option_number_again, option_form_nibble, option_number_takes}
@@ -302,6 +303,14 @@ ordered_cases = record {
 pub options_ordered : (base : ℕ) (s : List ℕ) (x : List CoapOption × List ℕ) → body_at base s ≡ Ok x → AreOrdered base x.0
 unfolding Ordered
 options_ordered base s x e = body_induction Ordered ordered_cases base s x e
+
+ordered_if_read : (base : ℕ) (s : List ℕ) (r : Body) → body_at base s ≡ r → IsOk r → AreOrdered base (options_read r)
+ordered_if_read base s (Ok x) is ok = options_ordered base s x is
+ordered_if_read base s (Err e) is ok = absurd cc
+
+-- so do those of a body of which each can be read
+pub options_in_order : (s : List ℕ) → IsOk (body_at 0 s) → AreOrdered 0 (options_in 0 s)
+options_in_order s ok = ordered_if_read 0 s (body_at 0 s) refl ok
 
 -- ---- a body that is spelled
 

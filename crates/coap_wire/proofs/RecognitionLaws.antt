@@ -2,7 +2,7 @@
 use Rattle.coap_wire.specs.Prelude.{All, IsTrue, ◌↔◌, unwrap_or, not, ◌||◌, ◌&&◌, ◌==◌, CoapOption, AreOrdered}
 use Rattle.coap_wire.specs.Prelude.{kind_of, IsFirstWithNumber, IsRecognised, is_first_with_number, has_kind}
 use Rattle.coap_wire.specs.Prelude.{is_recognised, known_behind, is_critical, first_critical_behind, option_before}
-use Rattle.coap_wire.specs.Prelude.{OptionKind}
+use Rattle.coap_wire.specs.Prelude.{OptionKind, CheckedOptionValue, checked_behind}
 use Rattle.std.proofs.Common.{◌≡◌, ◌≢◌, ℕ, ◌%◌, ◌≤◌, List, [], ◌∷◌, ◌++◌, length, Bool, true, false, Option, Some, None, refl, sym, ap, subst, ◌∙◌, arith}
 use Rattle.std.proofs.lemmas.Bool.{and_parts, and_from, and_left, and_right, leb-true, le-leb, eqb-false, eq-eqb, ne_eqb, not-true}
 use Rattle.std.proofs.lemmas.Bool.Decides.{nat_tests}
@@ -91,6 +91,15 @@ known_later : (earlier : List CoapOption) (o : CoapOption) (os : List CoapOption
 unfolding known_behind
 known_later earlier o os not_recognised = rw not_recognised refl
 
+pub checked_end : (earlier : List CoapOption) → checked_behind earlier [] ≡ []
+unfolding checked_behind
+checked_end earlier = refl
+
+checked_here : (earlier : List CoapOption) (o : CoapOption) (os : List CoapOption) (recognised : Bool) → recognised ≡ is_recognised earlier o
+    → checked_behind earlier (o ∷ os) ≡ record { option = o; recognised = recognised } ∷ checked_behind (earlier ++ o ∷ []) os
+unfolding checked_behind
+checked_here earlier o os recognised is = rw is refl
+
 pub critical_end : (earlier : List CoapOption) → first_critical_behind earlier [] ≡ None
 unfolding first_critical_behind
 critical_end earlier = refl
@@ -135,6 +144,14 @@ known_agrees base xs ys (o ∷ os) ordered agree =
     known_agrees_at (is_recognised ys o) xs ys o os (recognised_agrees base xs ys o agree ordered.0) refl
     (known_agrees o.number (xs ++ o ∷ []) (ys ++ o ∷ []) os ordered.1 (agree_push base xs ys o agree ordered.0))
 
+checked_agrees : (base : ℕ) (xs ys os : List CoapOption) → AreOrdered base os → AgreeFrom base xs ys → checked_behind xs os ≡ checked_behind ys os
+checked_agrees base xs ys [] ordered agree = checked_end xs ∙ sym (checked_end ys)
+checked_agrees base xs ys (o ∷ os) ordered agree =
+    checked_here xs o os (is_recognised ys o) (sym (recognised_agrees base xs ys o agree ordered.0))
+    ∙ ap (λ (cs : List CheckedOptionValue). record { option = o; recognised = is_recognised ys o } ∷ cs)
+    (checked_agrees o.number (xs ++ o ∷ []) (ys ++ o ∷ []) os ordered.1 (agree_push base xs ys o agree ordered.0))
+    ∙ sym (checked_here ys o os (is_recognised ys o) refl)
+
 critical_agrees_at : (critical : Bool) (xs ys : List CoapOption) (o : CoapOption) (os : List CoapOption) → (is_critical o && not (is_recognised xs o)) ≡ critical → (is_critical o && not (is_recognised ys o)) ≡ critical
     → first_critical_behind (xs ++ o ∷ []) os ≡ first_critical_behind (ys ++ o ∷ []) os → first_critical_behind xs (o ∷ os) ≡ first_critical_behind ys (o ∷ os)
 critical_agrees_at true xs ys o os in_xs in_ys rest = critical_here xs o os in_xs ∙ sym (critical_here ys o os in_ys)
@@ -173,6 +190,15 @@ passes_over before all os o is ordered not_recognised =
     let both : AreOrdered (unwrap_or before 0) (o ∷ os) = subst (AreOrdered (unwrap_or before 0)) is ordered in
     ap (known_behind (option_before before)) is ∙ known_later (option_before before) o os (sym not_recognised)
     ∙ known_agrees o.number (option_before before ++ o ∷ []) (option_before (Some o.number)) os both.1 (one_is_enough before o both.0)
+
+-- with any option at the front
+pub checks : (before : Option ℕ) (all os : List CoapOption) (o : CoapOption) (recognised : Bool) → all ≡ o ∷ os → AreOrdered (unwrap_or before 0) all → recognised ≡ is_recognised (option_before before) o
+    → checked_behind (option_before before) all ≡ record { option = o; recognised = recognised } ∷ checked_behind (option_before (Some o.number)) os
+checks before all os o recognised is ordered test =
+    let both : AreOrdered (unwrap_or before 0) (o ∷ os) = subst (AreOrdered (unwrap_or before 0)) is ordered in
+    ap (checked_behind (option_before before)) is ∙ checked_here (option_before before) o os recognised test
+    ∙ ap (λ (cs : List CheckedOptionValue). record { option = o; recognised = recognised } ∷ cs)
+    (checked_agrees o.number (option_before before ++ o ∷ []) (option_before (Some o.number)) os both.1 (one_is_enough before o both.0))
 
 pub stays_ordered : (base : ℕ) (all os : List CoapOption) (o : CoapOption) → all ≡ o ∷ os → AreOrdered base all → AreOrdered o.number os
 stays_ordered base all os o is ordered = let both : AreOrdered base (o ∷ os) = subst (AreOrdered base) is ordered in both.1

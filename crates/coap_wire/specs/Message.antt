@@ -13,6 +13,14 @@ pub record Message : Type 0 where
   pub options : List CoapOption
   pub payload : List ℕ
 
+-- the options and the payload of a message
+pub record BodyValue : Type 0 where
+  pub options : List CoapOption
+  pub payload : List ℕ
+
+abbrev pub body_of : Message → BodyValue
+body_of m = record { options = m.options; payload = m.payload }
+
 -- a byte
 abbrev pub IsByte : ℕ → Type 0
 IsByte b = b < 256

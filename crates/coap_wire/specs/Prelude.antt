@@ -21,15 +21,18 @@ pub use Rattle.coap_wire.specs.Frames.{frames_on, AreAtMost, AreFrames, FramesEn
 pub use Rattle.coap_wire.specs.Frames.{frames_then, size_behind, sizes_first, with_frame}
 unfoldable pub use Rattle.coap_wire.specs.Frames.{sized_frames, frames_within}
 pub use Rattle.coap_wire.specs.Message.{last_number, Message, CoapOption, AreBytes, AreOrdered, IsByte}
+pub use Rattle.coap_wire.specs.Message.{BodyValue, body_of}
 pub use Rattle.coap_wire.specs.Reading.{options_in, token_length_at, Head, both_at, head_behind, head_from, head_with}
 pub use Rattle.coap_wire.specs.Reading.{options_read, or_cut, plus, size_from, size_with, value_at, ◌>>=◌}
+pub use Rattle.coap_wire.specs.Reading.{payload_read, body_read}
 unfoldable pub use Rattle.coap_wire.specs.Reading.{declared_of, message_of, body_at, one_byte_at, two_bytes_at}
 unfoldable pub use Rattle.coap_wire.specs.Reading.{four_bytes_at, length_at, option_number_at, head_at}
 unfoldable pub use Rattle.coap_wire.specs.Reading.{option_head_at, option_at, body_within}
 pub use Rattle.coap_wire.specs.Recognition.{kind_of, once, repeated, IsFirstWithNumber, IsRecognised, known_options}
 pub use Rattle.coap_wire.specs.Recognition.{first_critical, option_before, has_kind, is_critical}
-pub use Rattle.coap_wire.specs.Recognition.{is_first_with_number}
+pub use Rattle.coap_wire.specs.Recognition.{is_first_with_number, CheckedOptionValue, checked_options}
 unfoldable pub use Rattle.coap_wire.specs.Recognition.{is_recognised, first_critical_behind, known_behind}
+unfoldable pub use Rattle.coap_wire.specs.Recognition.{checked_behind}
 pub use Rattle.coap_wire.specs.Refusal.{RefusedBy}
 pub use Rattle.coap_wire.specs.Size.{IsDeclaredSize, IsFrame, Declares, HasBadToken, IsSizeHead, IsTokenLengthFault}
 pub use Rattle.coap_wire.specs.Size.{StatesLengths, code_and_extension}
@@ -45,7 +48,7 @@ unfoldable pub use Rattle.coap_wire.specs.Stream.{sized_split, split}
 pub use Rattle.coap_wire.specs.Uint.{uint_of, without_leading_zeros}
 unfoldable pub use Rattle.coap_wire.specs.Uint.{bytes_of_uint}
 pub use Rattle.coap_wire.specs.Views.{coap_options, CanBeBuilt, option_refusal, payload_refusal, with_option}
-pub use Rattle.coap_wire.specs.Views.{coap_option, Gives, GivesPayload, most_options}
+pub use Rattle.coap_wire.specs.Views.{coap_option, Gives, GivesPayload, most_options, checked_option}
 pub use Rattle.coap_wire.specs.CompactViews.{compact_message, encoded_size, IsEncoding}
 -- ---- coap_wire, declared
 pub use Rattle.coap_wire.specs.declared.fault.FormatFault.{FormatFault}

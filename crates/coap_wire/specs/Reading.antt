@@ -1,7 +1,7 @@
 -- Reading from left to right: what the bytes of a frame mean, or the first fault that is met.
 use Rattle.std.specs.Prelude.{ℕ, zero, suc, ◌+◌, ◌-◌, ◌/◌, ◌%◌, List, [], ◌∷◌, length, take, drop, Option, Some, None, Result, Ok, Err, nat_lt, ◌==◌, if◌then◌else◌}
 use Rattle.std.specs.Int.{w16, w32, from_be_bytes}
-use Rattle.coap_wire.specs.Message.{CoapOption, Message}
+use Rattle.coap_wire.specs.Message.{CoapOption, Message, BodyValue}
 use Rattle.coap_wire.specs.Forms.{greatest_token}
 use Rattle.coap_wire.specs.declared.frame.Declared.{Declared}
 use Rattle.coap_wire.specs.declared.frame.Declared.TheVariants as declared
@@ -148,3 +148,12 @@ options_read (Err e) = []
 
 abbrev pub options_in : ℕ → List ℕ → List CoapOption
 options_in base s = options_read (body_at base s)
+
+-- the payload that such a body has
+abbrev pub payload_read : Result (List CoapOption × List ℕ) FormatFault → List ℕ
+payload_read (Ok x) = x.1
+payload_read (Err e) = []
+
+-- the options and the payload of such a body
+abbrev pub body_read : List ℕ → BodyValue
+body_read s = record { options = options_in 0 s; payload = payload_read (body_at 0 s) }

@@ -105,6 +105,23 @@ first_critical_behind earlier os =
 abbrev pub first_critical : List CoapOption → Option ℕ
 first_critical os = first_critical_behind [] os
 
+-- an option, and whether it is recognised
+pub record CheckedOptionValue : Type 0 where
+  pub option : CoapOption
+  pub recognised : Bool
+
+-- an option among those before it, as the test says
+abbrev pub checked_at : Placed → CheckedOptionValue
+checked_at p = record { option = p.option; recognised = is_recognised p.before p.option }
+
+-- each of os, in order, with whether it is recognised, if the earlier ones stand before them
+unfoldable pub checked_behind : List CoapOption → List CoapOption → List CheckedOptionValue
+checked_behind earlier os = map checked_at (placed earlier os)
+
+-- each option of a message, in order, with whether it is recognised
+abbrev pub checked_options : List CoapOption → List CheckedOptionValue
+checked_options os = checked_behind [] os
+
 -- ---- going from option to option
 
 -- an option with this number, where there is one; its value does not matter

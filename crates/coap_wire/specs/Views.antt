@@ -6,14 +6,20 @@ use Rattle.coap_wire.specs.Message.{CoapOption, Message, AreOrdered, last_number
 use Rattle.coap_wire.specs.Forms.{greatest_token, greatest_option_form}
 use Rattle.coap_wire.specs.Spelling.{HasOptionForm}
 use Rattle.coap_wire.specs.Reading.{options_read}
+use Rattle.coap_wire.specs.Recognition.{CheckedOptionValue}
 use Rattle.coap_wire.specs.declared.fault.FormatFault.{FormatFault}
 use Rattle.coap_wire.specs.declared.fault.BuildFault.{BuildFault}
 use Rattle.coap_wire.specs.declared.fault.BuildFault.TheVariants.{Order, TooLong, Full}
 use Rattle.coap_wire.specs.declared.options.OptionRef.{OptionRef}
+use Rattle.coap_wire.specs.declared.recognition.CheckedOption.{CheckedOption}
 
 -- an option without where its value lies in memory
 abbrev pub coap_option : OptionRef → CoapOption
 coap_option o = record { number = o.number; value = o.value.now }
+
+-- the same of one with whether it is recognised
+abbrev pub checked_option : CheckedOption → CheckedOptionValue
+checked_option o = record { option = coap_option o.option; recognised = o.is_recognised }
 
 abbrev pub coap_options : List OptionRef → List CoapOption
 coap_options os = map coap_option os

@@ -2,6 +2,7 @@
 //! section 3.1, RFC 8974 section 2.1).
 #![tactic(auto)]
 
+mod body;
 mod builder;
 mod code;
 mod compact;
@@ -21,6 +22,7 @@ mod token;
 mod uint;
 mod writing;
 
+pub use body::Body;
 pub use builder::{Builder, MessageBuilder};
 pub use code::Code;
 pub use compact::{CompactBuilder, SHORT_OPTIONS, ShortBuilder};
@@ -29,7 +31,7 @@ pub use frame::Declared;
 pub use kinds::{OptionKind, kind};
 pub use message::{MessageRef, parse};
 pub use options::{OptionRef, Options};
-pub use recognition::Known;
+pub use recognition::{CheckedOption, CheckedOptions, Known};
 pub use sink::{Sink, SliceSink};
 pub use size::declared;
 pub use token::{Token, TokenRef, copy_of};

@@ -1,13 +1,14 @@
 //! A message within the bytes that spell it.
 
 ghost use Rattle.std.specs.Prelude.{◌≡◌, Ok, IfOk, IfErr};
-ghost use Rattle.coap_wire.specs.Prelude.{Message, Spells, IsFirstFault, message_of, AreOrdered, known_options, first_critical};
+ghost use Rattle.coap_wire.specs.Prelude.{Message, body_of, Spells, IsFirstFault, message_of, AreOrdered, known_options, checked_options, first_critical};
 
+use crate::body::Body;
 use crate::code::Code;
 use crate::fault::FormatFault;
 use crate::options::Options;
 use crate::reading::{head_of, payload_of};
-use crate::recognition::{Known, critical_of};
+use crate::recognition::{CheckedOptions, Known, critical_of};
 use crate::token::TokenRef;
 use std::marker::Model;
 
@@ -46,6 +47,13 @@ impl<'a> MessageRef<'a> {
         }
     }
 
+    /// Returns the options and the payload, which borrow the bytes of the frame and not `self`.
+    pub fn body(&self) -> Body<'a>
+        ensures { result ≡ body_of self.now }
+    {
+        Body::of_bytes(self.body)
+    }
+
     /// The code.
     pub fn code(&self) -> Code
         ensures { result ≡ self.now.code }
@@ -74,6 +82,13 @@ impl<'a> MessageRef<'a> {
         ensures { result ≡ known_options self.now.options }
     {
         Known::of_options(self.options())
+    }
+
+    /// Returns all options, in order of number, each with whether it is recognised.
+    pub fn checked_options(&self) -> CheckedOptions<'a>
+        ensures { result ≡ checked_options self.now.options }
+    {
+        CheckedOptions::of_options(self.options())
     }
 
     /// The number of the first critical option that is not recognised (RFC 7252 sections 5.4.1, 5.4.6).

@@ -1,7 +1,7 @@
 //! The recognised options of a message (RFC 7252 section 5.4).
 
 ghost use Rattle.std.specs.Prelude.{◌≡◌};
-ghost use Rattle.coap_wire.specs.Prelude.{AreOrdered, is_recognised, option_before, first_critical, coap_option, known_options, YieldsFirstBy, item_count};
+ghost use Rattle.coap_wire.specs.Prelude.{AreOrdered, is_recognised, option_before, first_critical, coap_option, known_options, checked_option, checked_options, YieldsFirstBy, item_count};
 
 use crate::kinds::kind;
 use crate::options::{OptionRef, Options};
@@ -85,5 +85,65 @@ impl<'a> Iterator for Known<'a> {
             }
         }
         None
+    }
+}
+
+/// An option of a message, with whether it is recognised.
+#[derive(Clone, Copy)]
+pub struct CheckedOption<'a> {
+    /// The option.
+    pub option: OptionRef<'a>,
+    /// `true` if the option is recognised.
+    pub is_recognised: bool,
+}
+
+/// All options of a message, in order of number, each with whether it is recognised. Contracts see the list of those
+/// that are left.
+#[derive(Drop)]
+pub struct CheckedOptions<'a> {
+    before: Option<u16>,
+    options: Options<'a>,
+}
+
+impl<'a> Model for CheckedOptions<'a> {
+    ghost use Rattle.std.specs.Prelude.{List, unwrap_or};
+    ghost use Rattle.coap_wire.specs.Message.{AreOrdered};
+    ghost use Rattle.coap_wire.specs.Recognition.{CheckedOptionValue, checked_behind, option_before};
+
+    ghost Value = { List CheckedOptionValue };
+
+    ghost view = { λ k. checked_behind (option_before k.before) k.options };
+
+    ghost invariant = { λ k. AreOrdered (unwrap_or k.before 0) k.options };
+}
+
+impl<'a> CheckedOptions<'a> {
+    /// Returns all options of a message, each with whether it is recognised.
+    pub(crate) fn of_options(options: Options<'a>) -> CheckedOptions<'a>
+        requires { AreOrdered 0 options }
+        ensures { result ≡ checked_options options.entry }
+    {
+        CheckedOptions {
+            before: None,
+            options,
+        }
+    }
+}
+
+impl<'a> Iterator for CheckedOptions<'a> {
+    type Item = CheckedOption<'a>;
+
+    ghost next_gives = { YieldsFirstBy checked_option (λ os. os) };
+
+    ghost remaining = { item_count (λ os. os) };
+
+    fn next(&mut self) -> Option<CheckedOption<'a>> {
+        let option = self.options.next()?;
+        let is_recognised = recognises(self.before, &option);
+        self.before = Some(option.number);
+        Some(CheckedOption {
+            option,
+            is_recognised,
+        })
     }
 }
