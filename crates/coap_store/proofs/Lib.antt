@@ -6,6 +6,7 @@ mod TargetLemmas
 mod GetLemmas
 pub mod RequestLemmas
 pub mod UriPathLemmas
+pub mod CheckedLemmas
 pub mod NotingLemmas
 pub mod CatalogueLemmas
 pub mod EscapeLemmas

@@ -1,10 +1,13 @@
 -- How a request whose options were noted is kept, and seen: as its message.
+use Rattle.std.specs.Prelude.{◌≡◌, is_some}
 use Rattle.coap_wire.specs.Message.{Message}
+use Rattle.coap_wire.specs.Recognition.{first_critical}
 use Rattle.coap_store.specs.Noting.{AreNotesOf, notes_value}
 use Rattle.coap_store.specs.declared.request.Asked.TheInside.{Inside}
 
 abbrev pub message_of : Inside → Message
 message_of a = a.request.now
 
-abbrev pub is_asked : Inside → Type 0
-is_asked a = AreNotesOf a.request.now (notes_value a.notes)
+pub record IsAsked (a : Inside) : Type 0 where
+  pub notes : AreNotesOf a.request.now (notes_value a.notes)
+  pub bad : a.has_bad_option ≡ is_some (first_critical a.request.now.options)

@@ -1,7 +1,7 @@
 -- How the code's values are seen in contracts.
 use Rattle.std.specs.Prelude.{◌≡◌, ◌≢◌, ℕ, Bool, true, false, List, [], Option, Some, None}
 use Rattle.coap_store.specs.Paths.{Path, is_path}
-use Rattle.coap_store.specs.Requests.{path_of}
+use Rattle.coap_store.specs.UriPaths.{path_told}
 use Rattle.coap_store.specs.Answer as answer
 use Rattle.coap_store.specs.declared.plan.Bytes.{Bytes}
 use Rattle.coap_store.specs.declared.plan.Bytes.TheVariants.{Stored, Decimal}
@@ -23,21 +23,21 @@ change_value (changes.Delete path) = answer.Delete path
 -- what a request changes at its path
 abbrev pub effect_value : Effect → answer.Change
 effect_value effects.Nothing = answer.Nothing
-effect_value (effects.Put request format) = answer.Put (path_of request) format request.payload
-effect_value (effects.Delete request) = answer.Delete (path_of request)
+effect_value (effects.Put body format) = answer.Put (path_told body) format body.payload
+effect_value (effects.Delete body) = answer.Delete (path_told body)
 
 -- that path is one of a resource
 abbrev pub IsAtPath : Effect → Type 0
 IsAtPath effects.Nothing = Unit {0}
-IsAtPath (effects.Put request format) = is_path (path_of request) ≡ true
-IsAtPath (effects.Delete request) = is_path (path_of request) ≡ true
+IsAtPath (effects.Put body format) = is_path (path_told body) ≡ true
+IsAtPath (effects.Delete body) = is_path (path_told body) ≡ true
 
 -- what is told is no path of the root
 abbrev pub IsToldNamed : Bool → Effect → Type 0
 IsToldNamed false effect = Unit {0}
 IsToldNamed true effects.Nothing = Unit {0}
-IsToldNamed true (effects.Put request format) = path_of request ≢ []
-IsToldNamed true (effects.Delete request) = Unit {0}
+IsToldNamed true (effects.Put body format) = path_told body ≢ []
+IsToldNamed true (effects.Delete body) = Unit {0}
 
 -- no path stands for the root
 abbrev pub path_or_root : Option Path → Path

@@ -20,7 +20,9 @@ pub use Rattle.std.specs.Vec.{vec_capacity}
 -- ---- coap_wire
 pub use Rattle.coap_wire.specs.Message.{Message, CoapOption}
 pub use Rattle.coap_wire.specs.Recognition.{known_options, first_critical, Placed, has_kind, once, placed}
+pub use Rattle.coap_wire.specs.Recognition.{checked_options, checked_at, CheckedOptionValue, is_critical}
 unfoldable pub use Rattle.coap_wire.specs.Recognition.{first_critical_behind, is_recognised, kind_of, known_behind}
+unfoldable pub use Rattle.coap_wire.specs.Recognition.{checked_behind}
 pub use Rattle.coap_wire.specs.Refusal.{RefusedBy}
 unfoldable pub use Rattle.coap_wire.specs.Spelling.{spelling}
 pub use Rattle.coap_wire.specs.Uint.{uint_of}
@@ -72,7 +74,7 @@ unfoldable pub use Rattle.coap_store.specs.Store.{found_in, put_at, removed_at}
 pub use Rattle.coap_store.specs.StoreViews.{store_value}
 pub use Rattle.coap_store.specs.TargetViews.{found_value, target_value}
 pub use Rattle.coap_store.specs.Trails.{first_trail, trail_with, place_at, trail_behind}
-pub use Rattle.coap_store.specs.UriPaths.{segments_told}
+pub use Rattle.coap_store.specs.UriPaths.{segments_told, path_told}
 pub use Rattle.coap_store.specs.Watching.{MayWatch}
 -- ---- coap_store, declared
 pub use Rattle.coap_store.specs.declared.fault.StoreFault.{StoreFault}

@@ -28,12 +28,11 @@ impl Store {
     {
         self.is_kept();
         let asked = Asked::by(request);
-        let plan = self.checked(&asked, now);
+        let mut plan = self.checked(&asked, now);
         if removes_watch(&asked) {
-            plan.with_watch(Watch::Drop)
-        } else {
-            plan
+            plan.set_watch(Watch::Drop);
         }
+        plan
     }
 
     /// The answer by the checks of the request alone, and then those of the resource.
@@ -304,7 +303,7 @@ fn stored<'s, 'r>(asked: &Asked<'_, 'r>, is_new: bool) -> Plan<'s, 'r>
     let tells_location = is_new && asked.code() == Code::POST;
     let code = if is_new { Code::CREATED } else { Code::CHANGED };
     let effect = Effect::Put {
-        request: asked.request().again(),
+        body: asked.body(),
         format: asked.content_format(),
     };
     Plan::changing(code, tells_location, effect)
@@ -318,8 +317,6 @@ fn delete<'s, 'r>(asked: &Asked<'_, 'r>, target: Target) -> Plan<'s, 'r>
     if !target.is_path || target.state.is_none() {
         return Plan::only(Code::DELETED);
     }
-    let effect = Effect::Delete {
-        request: asked.request().again(),
-    };
+    let effect = Effect::Delete { body: asked.body() };
     Plan::changing(Code::DELETED, false, effect)
 }

@@ -9,7 +9,7 @@ use crate::request::path_in;
 use crate::target::Found;
 use crate::uri_path::UriPath;
 use arrayvec::ArrayVec;
-use coap_wire::{Code, MessageRef};
+use coap_wire::{Body, Code};
 use std::marker::Model;
 
 /// The bytes of a representation: they lie elsewhere, or are a decimal number.
@@ -72,22 +72,22 @@ impl<'r> Change<'r> {
     }
 }
 
-/// The change that a request makes, with the request that names its path.
+/// The change that a request makes, with the request's options, which have its path.
 #[derive(Drop)]
 pub(crate) enum Effect<'r> {
     /// Nothing.
     Nothing,
     /// The payload is stored at the path.
     Put {
-        /// The request.
-        request: MessageRef<'r>,
+        /// The request's options and payload.
+        body: Body<'r>,
         /// Its Content-Format, where it has one.
         format: Option<u16>,
     },
     /// The resource at the path goes.
     Delete {
-        /// The request.
-        request: MessageRef<'r>,
+        /// The request's options.
+        body: Body<'r>,
     },
 }
 
@@ -218,11 +218,11 @@ impl<'s, 'r> Plan<'s, 'r> {
         }
     }
 
-    /// The same answer, which asks something else of the observers.
-    pub(crate) fn with_watch(self, watch: Watch) -> Plan<'s, 'r>
-        ensures { result ≡ record self.entry { watch = watch } }
+    /// Sets what the answer asks of the observers.
+    pub(crate) fn set_watch(&mut self, watch: Watch)
+        ensures { self.new ≡ record self.old { watch = watch } }
     {
-        Plan { watch, ..self }
+        self.watch = watch;
     }
 
     /// The same answer, which is held for so many seconds.
@@ -275,7 +275,7 @@ impl<'s, 'r> Plan<'s, 'r> {
             return None;
         }
         match &self.effect {
-            Effect::Put { request, .. } => Some(UriPath::of(request)),
+            Effect::Put { body, .. } => Some(UriPath::of(body)),
             Effect::Nothing => None,
             Effect::Delete { .. } => None,
         }
@@ -301,12 +301,12 @@ impl<'s, 'r> Plan<'s, 'r> {
     {
         match &self.effect {
             Effect::Nothing => Change::Nothing,
-            Effect::Put { request, format } => Change::Put {
-                path: path_in(request),
+            Effect::Put { body, format } => Change::Put {
+                path: path_in(body),
                 format: *format,
-                bytes: request.payload(),
+                bytes: body.payload(),
             },
-            Effect::Delete { request } => Change::Delete(path_in(request)),
+            Effect::Delete { body } => Change::Delete(path_in(body)),
         }
     }
 

@@ -1,7 +1,7 @@
 //! What a request asks for, by its recognised options (RFC 7252 sections 5.4, 5.10).
 
 ghost use Rattle.std.specs.Prelude.{◌≡◌, ◌≤◌, ◌<◌, true, Option, length, is_some, IfNone, IfSome, ◌||◌, option_map};
-ghost use Rattle.coap_store.specs.Prelude.{uint_of, known_options, is_path, segment_list, digits_mean, path_of as path_asked, key_for as key_named, nothing, all_noted, notes_value, first_critical, list_any, same_bytes, Representation, place_of};
+ghost use Rattle.coap_store.specs.Prelude.{uint_of, known_options, is_path, segment_list, digits_mean, path_of as path_asked, path_told, key_for as key_named, nothing, all_noted, notes_value, first_critical, list_any, same_bytes, Representation, place_of};
 ghost use Rattle.coap_store.specs.Requests as spec;
 ghost use Rattle.coap_wire.specs.OptionNumbers as numbers;
 
@@ -11,7 +11,7 @@ use crate::place::Place;
 use crate::uri_path::UriPath;
 use arrayvec::ArrayVec;
 use coap_wire::option_numbers::{ETAG, IF_MATCH};
-use coap_wire::{Code, MessageRef, uint_bytes, uint_value};
+use coap_wire::{Body, Code, MessageRef, uint_bytes, uint_value};
 use std::marker::Model;
 
 /// A request whose recognised options were read once. Contracts see its message.
@@ -19,6 +19,8 @@ use std::marker::Model;
 pub(crate) struct Asked<'q, 'r> {
     request: &'q MessageRef<'r>,
     notes: Notes<'r>,
+    /// `true` if an option is critical and not recognised.
+    has_bad_option: bool,
 }
 
 impl<'q, 'r> Model for Asked<'q, 'r> {
@@ -26,31 +28,37 @@ impl<'q, 'r> Model for Asked<'q, 'r> {
 
     ghost Value = { Message };
 
-    ghost use Rattle.coap_store.specs.AskedViews.{message_of, is_asked};
+    ghost use Rattle.coap_store.specs.AskedViews.{message_of, IsAsked};
 
     ghost view = { message_of };
 
-    ghost invariant = { is_asked };
+    ghost invariant = { IsAsked };
 }
 
-/// Notes what the recognised options of a request say.
-fn notes_of<'r>(request: &MessageRef<'r>) -> Notes<'r>
-    ensures { notes_value result ≡ all_noted nothing (known_options request.now.options) }
+/// Notes what the recognised options of a request say, and whether another option is critical, in one pass over all.
+fn notes_of<'r>(request: &MessageRef<'r>) -> (Notes<'r>, bool)
+    ensures notes { notes_value result.0 ≡ all_noted nothing (known_options request.now.options) }
+    ensures bad { result.1 ≡ is_some (first_critical request.now.options) }
 {
     let mut notes = Notes::nothing();
-    for option in request.known() {
-        notes.note(&option);
+    let mut has_bad_option = false;
+    for checked in request.checked_options() {
+        if checked.is_recognised {
+            notes.note(&checked.option);
+        } else if checked.option.number % 2 == 1 {
+            has_bad_option = true;
+        }
     }
-    notes
+    (notes, has_bad_option)
 }
 
-/// The segments of the path that a request asks for, `None` where there are more than a path has.
-fn segments_of<'r>(request: &MessageRef<'r>) -> Option<ArrayVec<&'r [u8], MAX_SEGMENTS>>
-    ensures all { IfSome result (λ segments. segment_list segments.items ≡ path_asked request.now) }
-    ensures many { IfNone result (16 < length (path_asked request.now)) }
+/// Returns the segments of the path in a request's options, or `None` if there are more than a path has.
+fn segments_of<'r>(body: &Body<'r>) -> Option<ArrayVec<&'r [u8], MAX_SEGMENTS>>
+    ensures all { IfSome result (λ segments. segment_list segments.items ≡ path_told body.now) }
+    ensures many { IfNone result (16 < length (path_told body.now)) }
 {
     let mut segments = ArrayVec::new();
-    for segment in UriPath::of(request) {
+    for segment in UriPath::of(body) {
         if segments.is_full() {
             return None;
         }
@@ -59,20 +67,20 @@ fn segments_of<'r>(request: &MessageRef<'r>) -> Option<ArrayVec<&'r [u8], MAX_SE
     Some(segments)
 }
 
-/// The path that a request asks for, where it is one of a resource (RFC 7252 section 5.10.1).
-pub(crate) fn key_of(request: &MessageRef) -> Option<PathKey>
-    ensures { result ≡ key_named (path_asked request.now) }
+/// Returns the path in a request's options if it is the path of a resource (RFC 7252 section 5.10.1).
+pub(crate) fn key_of(body: &Body) -> Option<PathKey>
+    ensures { result ≡ key_named (path_told body.now) }
 {
-    let segments = segments_of(request)?;
+    let segments = segments_of(body)?;
     PathKey::from_segments(segments.as_slice())
 }
 
-/// The path that a request asks for, which is one of a resource.
-pub(crate) fn path_in(request: &MessageRef) -> PathKey
-    requires { is_path (path_asked request.now) ≡ true }
-    ensures { result ≡ path_asked request.now }
+/// Returns the path in a request's options, which is the path of a resource.
+pub(crate) fn path_in(body: &Body) -> PathKey
+    requires { is_path (path_told body.now) ≡ true }
+    ensures { result ≡ path_told body.now }
 {
-    let Some(path) = key_of(request) else {
+    let Some(path) = key_of(body) else {
         unreachable!()
     };
     path
@@ -98,17 +106,21 @@ impl<'q, 'r> Asked<'q, 'r> {
     pub(crate) fn by(request: &'q MessageRef<'r>) -> Asked<'q, 'r>
         ensures { result ≡ request.now }
     {
+        let (notes, has_bad_option) = notes_of(request);
         Asked {
             request,
-            notes: notes_of(request),
+            notes,
+            has_bad_option,
         }
     }
 
-    /// The request.
-    pub(crate) fn request(&self) -> &'q MessageRef<'r>
-        ensures { result.now ≡ self.now }
+    /// Returns the request's options and payload.
+    #[tactic(auto, unfolding(crate::specs::Requests::values_of))]
+    pub(crate) fn body(&self) -> Body<'r>
+        ensures path { path_told result ≡ path_asked self.now }
+        ensures payload { result.payload ≡ self.now.payload }
     {
-        self.request
+        self.request.body()
     }
 
     /// The code.
@@ -129,7 +141,7 @@ impl<'q, 'r> Asked<'q, 'r> {
     pub(crate) fn has_bad_option(&self) -> bool
         ensures { result ≡ is_some (first_critical self.now.options) }
     {
-        self.request.first_critical().is_some()
+        self.has_bad_option
     }
 
     /// Whether the request asks a proxy (RFC 7252 section 5.10.2).
@@ -144,7 +156,7 @@ impl<'q, 'r> Asked<'q, 'r> {
     pub(crate) fn key(&self) -> Option<PathKey>
         ensures { result ≡ key_for (spec.path_of self.now) }
     {
-        key_of(self.request)
+        key_of(&self.body())
     }
 
     /// Which resource the path names.

@@ -52,10 +52,11 @@ impl<'s> Found<'s> {
 
 /// The path that a request asks for, by its Uri-Path options: `None` where it is none of a resource (RFC 7252 section
 /// 5.10.1).
+#[tactic(auto, unfolding(crate::specs::Requests::values_of))]
 pub fn request_path(request: &MessageRef) -> Option<PathKey>
     ensures { result ≡ key_for (path_asked request.now) }
 {
-    key_of(request)
+    key_of(&request.body())
 }
 
 /// Which resource the path names.

@@ -1,10 +1,10 @@
 //! The path that a request asks for, segment by segment.
 
 ghost use Rattle.std.specs.Prelude.{◌≡◌};
-ghost use Rattle.coap_store.specs.Prelude.{path_of, YieldsFirstBy, item_count};
+ghost use Rattle.coap_store.specs.Prelude.{path_told, YieldsFirstBy, item_count};
 
 use coap_wire::option_numbers::URI_PATH;
-use coap_wire::{Known, MessageRef};
+use coap_wire::{Body, Known};
 use std::marker::Model;
 
 /// The segments of the path that a request asks for, in order: the values of its Uri-Path options (RFC 7252 section
@@ -25,13 +25,12 @@ impl<'r> Model for UriPath<'r> {
 }
 
 impl<'r> UriPath<'r> {
-    /// All segments of a request's path.
-    #[tactic(auto, unfolding(crate::specs::Requests::values_of))]
-    pub(crate) fn of(request: &MessageRef<'r>) -> UriPath<'r>
-        ensures { result ≡ path_of request.now }
+    /// Returns all segments of the path in a request's options.
+    pub(crate) fn of(body: &Body<'r>) -> UriPath<'r>
+        ensures { result ≡ path_told body.now }
     {
         UriPath {
-            options: request.known(),
+            options: body.known(),
         }
     }
 }

@@ -1,11 +1,13 @@
-use Rattle.std.proofs.Common.{◌≡◌}
-use Rattle.coap_store.specs.Prelude.{known_options, nothing, all_noted, notes_value}
+use Rattle.std.proofs.Common.{◌≡◌, ◌||◌}
+use Rattle.coap_store.specs.Prelude.{is_some, known_options, first_critical, nothing, all_noted, notes_value}
+use Rattle.coap_store.proofs.CheckedLemmas.{recognised_in, has_bad}
 use Rattle.coap_store.proofs.request.notes_of.Given as goal
 
--- what is noted so far, with what is left, is all
-abbrev pub invariant-loop-option : goal.invariant-loop-option
-invariant-loop-option l = record {
-  goes : (goal.iterator-loop-option).can_next l.option-iterator;
-  ends : (goal.iterator-loop-option).is_finite l.option-iterator;
-  all : all_noted (notes_value l.notes) l.option-iterator ≡ all_noted nothing (known_options l.request.options);
+-- what is noted so far, with what is left, is all, and so is what was seen
+abbrev pub invariant-loop-checked : goal.invariant-loop-checked
+invariant-loop-checked l = record {
+  goes : (goal.iterator-loop-checked).can_next l.checked-iterator;
+  ends : (goal.iterator-loop-checked).is_finite l.checked-iterator;
+  all : all_noted (notes_value l.notes) (recognised_in l.checked-iterator) ≡ all_noted nothing (known_options l.request.options);
+  bad : (l.has_bad_option || has_bad l.checked-iterator) ≡ is_some (first_critical l.request.options);
 }

@@ -8,9 +8,9 @@ use Rattle.coap_store.proofs.store.Store.answer.Goals as goal
 abbrev without_watch : Answer → Answer
 without_watch a = record a { watch = Drop }
 
-removed : (c : goal.After-with_watch) → c.with_watch.result ≡ answer_of c.args.self.now c.args.now c.args.request.now
+removed : (c : goal.After-set_watch) → c.set_watch.new.self ≡ answer_of c.args.self.now c.args.now c.args.request.now
 removed c =
-    c.with_watch.ensures ∙ ap without_watch c.checked-plan.ensures
+    c.set_watch.ensures ∙ ap without_watch c.checked-plan.ensures
     ∙ answer_removes _ _ _ (sym c.removes_watch.ensures ∙ c.if-removes_watch.true)
     ∙ ap (answer_of c.args.self.now c.args.now) c.by-asked.ensures
 
