@@ -35,18 +35,6 @@ impl<'a> Model for MessageRef<'a> {
 }
 
 impl<'a> MessageRef<'a> {
-    /// Returns the same message, which borrows the bytes of the frame and not `self`.
-    pub fn again(&self) -> MessageRef<'a>
-        ensures { result ≡ self.now }
-    {
-        MessageRef {
-            code: self.code,
-            token: self.token.again(),
-            body: self.body,
-            payload: self.payload,
-        }
-    }
-
     /// Returns the options and the payload, which borrow the bytes of the frame and not `self`.
     pub fn body(&self) -> Body<'a>
         ensures { result ≡ body_of self.now }
