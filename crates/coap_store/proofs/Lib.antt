@@ -1,5 +1,6 @@
 mod Worked
 pub mod PathLemmas
+mod FillLemmas
 mod PlaceLemmas
 mod TrailLemmas
 mod TargetLemmas

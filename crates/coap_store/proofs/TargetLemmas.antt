@@ -1,6 +1,6 @@
 -- Lemmas on what a request is about.
-use Rattle.std.proofs.Common.{◌≡◌, ◌≢◌, ℕ, ◌<◌, true, false, [], length, Option, Some, None, refl, sym, ap, ◌∙◌}
-use Rattle.std.proofs.lemmas.Bool.{cond-false, cond_both, false_from_ne_true, true_from_ne_false, both_ways, lt-leb}
+use Rattle.std.proofs.Common.{◌≡◌, ◌≢◌, ℕ, true, false, [], Option, Some, None, refl, sym, ap, ◌∙◌}
+use Rattle.std.proofs.lemmas.Bool.{cond-false, cond_both, false_from_ne_true, true_from_ne_false, both_ways}
 use Rattle.std.proofs.lemmas.Option.{none-some}
 use Rattle.coap_store.specs.Prelude.{unwrap_or, if◌then◌else◌, Path, same_path, is_path, Representation, StoreValue}
 use Rattle.coap_store.specs.Prelude.{found_in, key_for, place_of, root_path, time_path, async_path, listing_path}
@@ -13,7 +13,7 @@ pub key_is_path : (path p : Path) → Some p ≡ key_for path → p ≡ path
 unfolding key_for
 key_is_path path p e = cond_both (is_path path) (Some path) None (λ k. Some p ≡ k → p ≡ path) (λ yes same. ap (λ k. unwrap_or k p) same) (λ none same. absurd (none-some p (sym same))) e
 
-pub no_key : (path : Path) → None ≡ key_for path → is_path path ≡ false
+no_key : (path : Path) → None ≡ key_for path → is_path path ≡ false
 unfolding key_for
 no_key path e = cond_both (is_path path) (Some path) None (λ k. None ≡ k → is_path path ≡ false) (λ yes same. absurd (none-some path same)) (λ none same. none) e
 
@@ -44,17 +44,13 @@ no_key_elsewhere path e =
     let none = no_key path e in
     sym (cond-false _ _ _ (not_same path root_path none is_root) ∙ cond-false _ _ _ (not_same path time_path none is_time) ∙ cond-false _ _ _ (not_same path async_path none is_async) ∙ cond-false _ _ _ (not_same path listing_path none is_listing))
 
-pub too_many : (path : Path) → 16 < length path → None ≡ key_for path
-unfolding key_for is_path
-too_many path many = sym (cond-false (is_path path) (Some path) None (rw (lt-leb (length path) 16 many) refl))
-
 -- ---- whether there is a key
 
 pub is_path_by_key : (path p : Path) → Some p ≡ key_for path → is_path path ≡ true
 unfolding key_for
 is_path_by_key path p e = cond_both (is_path path) (Some path) None (λ k. Some p ≡ k → is_path path ≡ true) (λ yes same. yes) (λ none same. absurd (none-some p (sym same))) e
 
-without_key : (path : Path) → is_path path ≡ false → key_for path ≡ None
+pub without_key : (path : Path) → is_path path ≡ false → key_for path ≡ None
 unfolding key_for
 without_key path none = ap (λ b. if b then Some path else None) none
 

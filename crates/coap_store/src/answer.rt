@@ -76,17 +76,18 @@ impl Store {
         ensures path { result.is_path ≡ is_path (path_of asked.now) }
         ensures place { result.place ≡ Dynamic }
     {
-        match asked.key() {
-            Some(path) => Target {
-                is_path: true,
-                place: Place::Dynamic,
-                state: self.stored_at(&path),
-            },
-            None => Target {
+        let mut path = PathKey::root();
+        if !asked.fill_key(&mut path) {
+            return Target {
                 is_path: false,
                 place: Place::Dynamic,
                 state: None,
-            },
+            };
+        }
+        Target {
+            is_path: true,
+            place: Place::Dynamic,
+            state: self.stored_at(&path),
         }
     }
 

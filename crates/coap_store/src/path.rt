@@ -1,13 +1,14 @@
 //! Paths of resources.
 
-ghost use Rattle.std.specs.Prelude.{◌≡◌, ◌≤◌, true, Some, None, nat_le, if◌then◌else◌};
+ghost use Rattle.std.specs.Prelude.{◌≡◌, ◌≤◌, true, [], Some, None, nat_le, if◌then◌else◌};
 ghost use Rattle.coap_store.specs.Prelude.{list_any, is_dots, is_one_empty, is_path, written_length, segment_list, written, YieldsFirstBy, item_count};
 
+use crate::uri_path::UriPath;
 use arrayvec::ArrayVec;
 use std::marker::Model;
 
 /// The most segments of a path.
-pub(crate) const MAX_SEGMENTS: usize = 16;
+const MAX_SEGMENTS: usize = 16;
 
 /// The most bytes of a path, where each segment takes one more than it has.
 const MAX_BYTES: usize = 255;
@@ -70,6 +71,30 @@ fn bytes_of(segments: &[&[u8]]) -> ArrayVec<u8, MAX_BYTES>
     bytes
 }
 
+/// Returns `true` if these are the segments of a path, and then the bytes have each segment after a byte with its length.
+/// One pass checks and writes them.
+fn write_path(bytes: &mut ArrayVec<u8, MAX_BYTES>, segments: UriPath) -> bool
+    requires { bytes.old.items ≡ [] }
+    ensures path { result ≡ is_path segments.entry }
+    ensures written { result ≡ true → bytes.new.items ≡ written segments.entry }
+{
+    let mut count = 0;
+    for segment in segments {
+        if count == MAX_SEGMENTS
+            || segment.len() >= MAX_BYTES - bytes.len()
+            || names_dots(segment)
+        {
+            return false;
+        }
+        bytes.push(segment.len() as u8);
+        let Ok(()) = bytes.try_extend_from_slice(segment) else {
+            unreachable!()
+        };
+        count += 1;
+    }
+    !(count == 1 && bytes.len() == 1)
+}
+
 /// The path of a resource: at most 16 segments, at most 255 bytes with one more for each segment, no segment `.` or
 /// `..`, and not one empty segment alone (RFC 7252 sections 5.10.1, 6.4). No segment is the root. Contracts see the
 /// list of the segments, and equality is that of these lists.
@@ -96,6 +121,30 @@ impl Model for PathKey {
 }
 
 impl PathKey {
+    /// Returns the path of the root, which has no segment.
+    #[tactic(auto, unfolding(crate::specs::Paths::is_path, crate::specs::PathViews::written, crate::specs::PathViews::segments_at, crate::specs::PathViews::segments_by))]
+    pub(crate) fn root() -> PathKey
+        ensures { result ≡ [] }
+    {
+        PathKey {
+            bytes: ArrayVec::new(),
+        }
+    }
+
+    /// Returns `true` if these are the segments of a path, and then becomes that path. A key is large and costly to move,
+    /// so this fills it in place.
+    pub(crate) fn fill(&mut self, segments: UriPath) -> bool
+        ensures path { result ≡ is_path segments.entry }
+        ensures filled { result ≡ true → self.new ≡ segments.entry }
+    {
+        self.bytes.clear();
+        let is_path = write_path(&mut self.bytes, segments);
+        if !is_path {
+            self.bytes.clear();
+        }
+        is_path
+    }
+
     /// The path with these segments. A slash in a segment is a byte like any other, so the one segment `a/b` and the
     /// two segments `a` and `b` are different paths (RFC 7252 section 5.10.1). `None` where these are not the segments
     /// of a path: more than 16, more than 255 bytes with one more for each segment, a segment `.` or `..`, or one empty

@@ -1,15 +1,14 @@
 //! What a request asks for, by its recognised options (RFC 7252 sections 5.4, 5.10).
 
-ghost use Rattle.std.specs.Prelude.{◌≡◌, ◌≤◌, ◌<◌, true, Option, length, is_some, IfNone, IfSome, ◌||◌, option_map};
-ghost use Rattle.coap_store.specs.Prelude.{uint_of, known_options, is_path, segment_list, digits_mean, path_of as path_asked, path_told, key_for as key_named, nothing, all_noted, notes_value, first_critical, list_any, same_bytes, Representation, place_of};
+ghost use Rattle.std.specs.Prelude.{◌≡◌, ◌≤◌, true, Option, length, is_some, IfSome, ◌||◌, option_map};
+ghost use Rattle.coap_store.specs.Prelude.{uint_of, known_options, is_path, digits_mean, path_of as path_asked, path_told, nothing, all_noted, notes_value, first_critical, list_any, same_bytes, Representation, place_of};
 ghost use Rattle.coap_store.specs.Requests as spec;
 ghost use Rattle.coap_wire.specs.OptionNumbers as numbers;
 
 use crate::notes::Notes;
-use crate::path::{MAX_SEGMENTS, PathKey};
+use crate::path::PathKey;
 use crate::place::Place;
 use crate::uri_path::UriPath;
-use arrayvec::ArrayVec;
 use coap_wire::option_numbers::{ETAG, IF_MATCH};
 use coap_wire::{Body, Code, MessageRef, uint_bytes, uint_value};
 use std::marker::Model;
@@ -52,37 +51,13 @@ fn notes_of<'r>(request: &MessageRef<'r>) -> (Notes<'r>, bool)
     (notes, has_bad_option)
 }
 
-/// Returns the segments of the path in a request's options, or `None` if there are more than a path has.
-fn segments_of<'r>(body: &Body<'r>) -> Option<ArrayVec<&'r [u8], MAX_SEGMENTS>>
-    ensures all { IfSome result (λ segments. segment_list segments.items ≡ path_told body.now) }
-    ensures many { IfNone result (16 < length (path_told body.now)) }
-{
-    let mut segments = ArrayVec::new();
-    for segment in UriPath::of(body) {
-        if segments.is_full() {
-            return None;
-        }
-        segments.push(segment);
-    }
-    Some(segments)
-}
-
-/// Returns the path in a request's options if it is the path of a resource (RFC 7252 section 5.10.1).
-pub(crate) fn key_of(body: &Body) -> Option<PathKey>
-    ensures { result ≡ key_named (path_told body.now) }
-{
-    let segments = segments_of(body)?;
-    PathKey::from_segments(segments.as_slice())
-}
-
 /// Returns the path in a request's options, which is the path of a resource.
 pub(crate) fn path_in(body: &Body) -> PathKey
     requires { is_path (path_told body.now) ≡ true }
     ensures { result ≡ path_told body.now }
 {
-    let Some(path) = key_of(body) else {
-        unreachable!()
-    };
+    let mut path = PathKey::root();
+    let _filled = path.fill(UriPath::of(body));
     path
 }
 
@@ -100,8 +75,6 @@ fn small_value(bytes: &[u8]) -> u16
 }
 
 impl<'q, 'r> Asked<'q, 'r> {
-    ghost use Rattle.coap_store.specs.Prelude.{key_for};
-
     /// Reads the recognised options of a request.
     pub(crate) fn by(request: &'q MessageRef<'r>) -> Asked<'q, 'r>
         ensures { result ≡ request.now }
@@ -152,11 +125,13 @@ impl<'q, 'r> Asked<'q, 'r> {
         self.notes.has_proxy_uri || self.notes.has_proxy_scheme
     }
 
-    /// The path that is asked for, where it is one of a resource (RFC 7252 section 5.10.1).
-    pub(crate) fn key(&self) -> Option<PathKey>
-        ensures { result ≡ key_for (spec.path_of self.now) }
+    /// Returns `true` if the path that is asked for is that of a resource, and then sets the key to it (RFC 7252 section
+    /// 5.10.1).
+    pub(crate) fn fill_key(&self, key: &mut PathKey) -> bool
+        ensures path { result ≡ is_path (spec.path_of self.now) }
+        ensures filled { result ≡ true → key.new ≡ spec.path_of self.now }
     {
-        key_of(&self.body())
+        key.fill(UriPath::of(&self.body()))
     }
 
     /// Which resource the path names.

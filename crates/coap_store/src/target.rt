@@ -6,7 +6,7 @@ ghost use Rattle.coap_store.specs.Prelude.{Path, path_of as path_asked, key_for,
 use crate::path::PathKey;
 use crate::place::{Place, place_of};
 use crate::plan::Bytes;
-use crate::request::key_of;
+use crate::uri_path::UriPath;
 use coap_wire::MessageRef;
 
 /// The Content-Format text/plain (RFC 7252 section 12.3).
@@ -52,11 +52,15 @@ impl<'s> Found<'s> {
 
 /// The path that a request asks for, by its Uri-Path options: `None` where it is none of a resource (RFC 7252 section
 /// 5.10.1).
-#[tactic(auto, unfolding(crate::specs::Requests::values_of))]
+#[tactic(auto, unfolding(crate::specs::Requests::values_of, crate::specs::State::key_for))]
 pub fn request_path(request: &MessageRef) -> Option<PathKey>
     ensures { result ≡ key_for (path_asked request.now) }
 {
-    key_of(&request.body())
+    let mut path = PathKey::root();
+    if !path.fill(UriPath::of(&request.body())) {
+        return None;
+    }
+    Some(path)
 }
 
 /// Which resource the path names.

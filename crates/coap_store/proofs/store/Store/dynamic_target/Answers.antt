@@ -1,15 +1,13 @@
-use Rattle.std.proofs.Common.{sym}
-use Rattle.coap_store.proofs.TargetLemmas.{is_path_by_key, no_key, stored_target, no_target}
+use Rattle.std.proofs.Common.{Some, sym, ap, ◌∙◌}
+use Rattle.coap_store.proofs.StateLemmas.{own_key}
+use Rattle.coap_store.proofs.TargetLemmas.{without_key, stored_target, no_target}
 use Rattle.coap_store.proofs.store.Store.dynamic_target.Goals as goal
 
-pub returns-in-Some-clause-value : goal.returns-in-Some-clause-value
-returns-in-Some-clause-value c now = stored_target _ _ _ _ _ c.in-Some.ensures c.requires c.stored_at.ensures
+pub returns-then-not-fill_key-clause-value : goal.returns-then-not-fill_key-clause-value
+returns-then-not-fill_key-clause-value c now =
+    no_target _ _ _ (sym (without_key _ (sym c.fill_key.ensures.path ∙ c.if-not-fill_key.true))) c.requires
 
-pub returns-in-Some-clause-path : goal.returns-in-Some-clause-path
-returns-in-Some-clause-path c = sym (is_path_by_key _ _ c.in-Some.ensures)
-
-pub returns-in-None-clause-value : goal.returns-in-None-clause-value
-returns-in-None-clause-value c now = no_target _ _ _ c.in-None.ensures c.requires
-
-pub returns-in-None-clause-path : goal.returns-in-None-clause-path
-returns-in-None-clause-path c = sym (no_key _ c.in-None.ensures)
+pub returns-clause-value : goal.returns-clause-value
+returns-clause-value c now =
+    let is = sym c.fill_key.ensures.path ∙ c.if-not-fill_key.false in
+    stored_target _ _ _ _ _ (ap Some (c.fill_key.ensures.filled c.if-not-fill_key.false) ∙ sym (own_key _ is)) c.requires c.stored_at.ensures
