@@ -68,13 +68,15 @@ impl Store {
         })
     }
 
-    /// Formats a moment, in seconds, once: a request or a notification of `/time` at this moment then costs no formatting.
-    /// The value of the store stays the same.
+    /// Formats a moment, in seconds, unless its text is kept already: a request or a notification of `/time` at this
+    /// moment then costs no formatting. The value of the store stays the same.
     pub fn keep_moment(&mut self, now: u64)
         ensures value { self.new ≡ self.old }
         ensures store { IsStore self.new }
     {
-        self.moment = Decimal::of(now);
+        if self.moment.text_of(now).is_none() {
+            self.moment = Decimal::of(now);
+        }
     }
 
     /// Returns the text of a moment.
