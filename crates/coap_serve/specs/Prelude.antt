@@ -208,7 +208,7 @@ pub use Rattle.coap_serve.specs.streams.Wires.{count_passed, IsTold, Answered, W
 pub use Rattle.coap_serve.specs.streams.Wires.{IsWrittenOnce, read_room}
 -- ---- coap_serve, values
 pub use Rattle.coap_serve.specs.values.Causes.{change_hash, ObservesNone, hash_behind, path_hash, AreSettledUntouched}
-pub use Rattle.coap_serve.specs.values.Causes.{AreOthersSettled, IsUntouched, segments_hash, is_concerned}
+pub use Rattle.coap_serve.specs.values.Causes.{AreOthersSettled, IsUntouched, AreUntouched, segments_hash, is_concerned}
 pub use Rattle.coap_serve.specs.values.Causes.{ConcernsNone, mark_anew, marks_after, IsMarkedBut, AreMarkedBut, AreMarkedAfter}
 unfoldable pub use Rattle.coap_serve.specs.values.Causes.{marks_anew}
 pub use Rattle.coap_serve.specs.values.Dues.{same_stamp, stamp_of, WaitsForWhatIsDue, outlook_of, tells_time, sooner}

@@ -21,6 +21,8 @@ use std::alloc::AllocError;
 /// # Errors
 ///
 /// Where memory is refused for the representation that it stores. All is then as before.
+// Apart from `handle`, since a function clears all its locals: a message that is no request needs none of these.
+#[inline(never)]
 pub(crate) fn answer(
     link: &mut Link,
     observers: &mut Observers,

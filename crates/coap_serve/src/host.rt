@@ -28,22 +28,27 @@ impl Host {
     {
         let moment = config.moment();
         let starts = config.starts();
-        let mut store = Store::new(
+        let store = Store::new(
             alloc,
             config.dynamic_max(),
             config.rep_max(),
             starts.versions,
         )?;
-        store.keep_moment(moment);
         Ok(Host { store, now: moment })
     }
 
-    /// Moves to a moment, in seconds. Its text is formatted here, once for all observers.
+    /// Moves to a moment, in seconds.
     pub(crate) fn move_to(&mut self, now: u64)
         ensures { self.new ≡ record self.old { now = now } }
     {
-        self.store.keep_moment(now);
         self.now = now;
+    }
+
+    /// Formats the moment if its text is not kept yet: once, for all requests and observers that are sent it.
+    pub(crate) fn keep_moment(&mut self)
+        ensures { self.new ≡ self.old }
+    {
+        self.store.keep_moment(self.now);
     }
 
     /// Returns the mark of the state of a path, which tells it from the others that the path has in time, or `None` if

@@ -218,12 +218,16 @@ impl Observers {
     }
 
     /// The entry with this token goes. The others keep their changed marks.
+    #[tactic(auto, unfolding(crate::specs::values::Sessions::without_entry))]
     pub(crate) fn forget(&mut self, token: &TokenRef)
         ensures entries { self.new.entries ≡ without_entry token.now self.old.entries }
         ensures marks { (mark : ObserverValue → Option ℕ) → self.old.marks ≡ map mark self.old.entries →
             self.new.marks ≡ map mark self.new.entries }
         ensures room { self.new.room ≡ self.old.room }
     {
+        if self.entries.is_empty() {
+            return;
+        }
         if keep_others(&mut self.entries, token) {
             self.paths = paths_of(&self.entries);
             self.unmarked = 0;

@@ -145,7 +145,21 @@ impl Session {
 
     /// Sends what is held and due, and notifies the observers that are due, one after the other, as long as there is
     /// room for the greatest message sent (RFC 8323 section 5.4.1, RFC 7641 section 4.2).
+    #[inline]
     pub(crate) fn settle(&mut self, host: &Host)
+        requires { IsMarked host.now self.old }
+        ensures after { self.new.session ≡ session_settled host.entry.now self.old.session }
+        ensures settled { IsSettled host.entry.now self.new.session }
+        ensures marked { IsMarked host.entry.now self.new }
+    {
+        if self.more() > 0 {
+            self.settle_each(host);
+        }
+    }
+
+    /// Settles as `settle`, turn by turn. (Apart from `settle`, so that a connection with nothing to send costs a test.)
+    #[inline(never)]
+    fn settle_each(&mut self, host: &Host)
         requires { IsMarked host.now self.old }
         ensures after { self.new.session ≡ session_settled host.entry.now self.old.session }
         ensures settled { IsSettled host.entry.now self.new.session }
@@ -158,23 +172,8 @@ impl Session {
         }
     }
 
-    /// Marks the observers that what changed concerns, and settles, if it may have made something due here. Otherwise
-    /// the connection must be settled and its marks as they are to be.
-    pub(crate) fn settle_where_touched(&mut self, host: &Host, cause: Cause)
-        requires settled { IsUntouched cause host.now.now self.old.session → IsSettled host.now self.old.session }
-        requires marked { IsMarkedBut cause host.now self.old }
-        ensures after { self.new.session ≡ session_settled host.entry.now self.old.session }
-        ensures marked { IsMarked host.entry.now self.new }
-    {
-        if self.is_touched(cause, host.now) {
-            self.mark_and_settle(host, cause);
-        }
-    }
-
-    /// Marks the observers that what changed concerns, and settles. (Apart from `settle_where_touched`, so that a
-    /// connection that is not touched costs a look alone.)
-    #[inline(never)]
-    fn mark_and_settle(&mut self, host: &Host, cause: Cause)
+    /// Marks the observers that a change concerns, and settles.
+    pub(crate) fn mark_and_settle(&mut self, host: &Host, cause: Cause)
         requires { IsMarkedBut cause host.now self.old }
         ensures after { self.new.session ≡ session_settled host.entry.now self.old.session }
         ensures marked { IsMarked host.entry.now self.new }
@@ -183,9 +182,9 @@ impl Session {
         self.settle(host);
     }
 
-    /// Returns `true` if what changed may make something due: an observer of such a path or of the moment may be
-    /// there, or the moment of what is held came.
-    fn is_touched(&self, cause: Cause, now: u64) -> bool
+    /// Returns `true` if a change may make something due: an observer of such a path or of the moment may be there, or
+    /// the moment of a pending answer came.
+    pub(crate) fn is_touched(&self, cause: Cause, now: u64) -> bool
         ensures untouched { result ≡ false → IsUntouched cause now self.now.session }
         ensures unmarked { result ≡ false → ConcernsNone cause self.now.session.observers }
     {
@@ -479,7 +478,10 @@ fn handle(
     ensures kept { OnErr result (observers.new ≡ observers.old) }
 {
     match link.on(message) {
-        Verdict::Request => answer(link, observers, host, message),
+        Verdict::Request => {
+            host.keep_moment();
+            answer(link, observers, host, message)
+        }
         _ => Ok(None),
     }
 }

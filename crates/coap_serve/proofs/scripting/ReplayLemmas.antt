@@ -9,12 +9,12 @@ use Rattle.coap_serve.specs.Prelude.{IsErr, AllocError, Path, StoreValue, remove
 use Rattle.coap_serve.specs.Prelude.{event_value, Ran, fed_turns, fed, event_ran, replayed, IsPartlyFed, IsUnrun}
 use Rattle.coap_serve.specs.Prelude.{IsRefusedAt, IsCutAt, where_there, took_turns, took, events_ran, ShowsMore}
 use Rattle.coap_serve.specs.Prelude.{ShowsPart, events_made, ShowsRefusedAt, AddsBytes, WritesPart, SessionValue}
-use Rattle.coap_serve.specs.Prelude.{ServerValue, server_taken, count_taken, is_there, session_of, IsNotTaken, IsRun}
+use Rattle.coap_serve.specs.Prelude.{Fed, ServerValue, server_taken, count_taken, is_there, session_of, IsNotTaken, IsRun}
 use Rattle.coap_serve.specs.Prelude.{IsDrainable, Took, Drained, Line, Shows}
 use Rattle.coap_serve.specs.declared.event.Event.{Event}
 use Rattle.coap_serve.specs.script.Replay.{goes_on, behind}
 use Rattle.coap_serve.proofs.streams.DeviceLemmas.{bytes_then}
-use Rattle.coap_serve.proofs.scripting.ShownLemmas.{shows_then, shows_as, events_ran_on}
+use Rattle.coap_serve.proofs.scripting.ShownLemmas.{shows_same, shows_then, shows_as, events_ran_on}
 use Rattle.coap_serve.specs.world.Events as world
 use Rattle.coap_serve.specs.declared.server.TakeFault.TheVariants as taking
 
@@ -144,6 +144,37 @@ module _ (v : ServerValue) (id : ℕ) (bytes : List ℕ) (now : ServerValue) (ta
 
   pub used_up_shows : ShowsMore v now (took v id bytes)
   used_up_shows = shows_as v now _ _ (sym all_used.1) feeds.shows
+
+-- no connection has the number
+module _ (v : ServerValue) (id : ℕ) (none : session_of id v.sessions ≡ None) where
+  feeds_nothing : (bytes : List ℕ) → Feeds v id bytes v 0
+  unfolding fed_turns took_turns
+  feeds_nothing bytes = record { turns = 0; few = omega arith; within = omega arith; so_far = refl; shows = shows_same v v refl }
+
+  takes_nothing : (bytes : List ℕ) → count_taken v id bytes ≡ 0
+  unfolding count_taken
+  takes_nothing bytes = rw none refl
+
+  stays_as_it_is : (bytes : List ℕ) → v ≡ server_taken v id bytes
+  unfolding server_taken
+  stays_as_it_is bytes = rw none refl
+
+  pub fed_nothing : (bytes : List ℕ) → ((fed v id bytes).count ≡ 0) × ((fed v id bytes).server ≡ v) × ShowsMore v v (took v id bytes)
+  fed_nothing bytes = fed_cases (length bytes) refl
+    where
+      fed_cases : (n : ℕ) → length bytes ≡ n → ((fed v id bytes).count ≡ 0) × ((fed v id bytes).server ≡ v) × ShowsMore v v (took v id bytes)
+      fed_cases zero is =
+          let none_left : length bytes ≤ 0 = omega (arith, is) in
+          let all = used_up v id bytes v 0 (feeds_nothing bytes) none_left in
+          (ap (λ (f : Fed). f.count) all, ap (λ (f : Fed). f.server) all, used_up_shows v id bytes v 0 (feeds_nothing bytes) none_left)
+      fed_cases (suc n) is =
+          let left : 0 < length bytes = omega (arith, is) in
+          let rest = drop 0 bytes in
+          let all = fed_and_stopped v id bytes v 0 (feeds_nothing bytes) left v (takes_nothing rest) (stays_as_it_is rest) in (
+            ap (λ (f : Fed). f.count) all,
+            ap (λ (f : Fed). f.server) all,
+            stopped_shows v id bytes v 0 (feeds_nothing bytes) left v (takes_nothing rest) (stays_as_it_is rest) (rw none (shows_same v v refl)),
+          )
 
 -- ---- one event after the other
 

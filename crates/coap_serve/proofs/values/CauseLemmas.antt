@@ -1,15 +1,15 @@
 -- What a change of a path, or of the moment, cannot touch stays settled.
-use Rattle.std.proofs.Common.{◌≡◌, ◌≢◌, ℕ, zero, suc, ◌+◌, ◌<◌, ◌≤◌, ◌^◌, false, List, [], ◌∷◌, length, Option, Some, None, is_some, refl, sym, ap, subst, ◌∙◌, arith, ◌==◌, if◌then◌else◌}
-use Rattle.coap_serve.specs.Prelude.{find, map, not, slice_get, AllByRecursion, values_of, set_value_at, Path}
+use Rattle.std.proofs.Common.{◌≡◌, ◌≢◌, true, ℕ, zero, suc, ◌+◌, ◌-◌, add-zero, ◌<◌, ◌≤◌, ◌^◌, false, List, [], ◌∷◌, length, Option, Some, None, is_some, refl, sym, ap, subst, ◌∙◌, arith, ◌==◌, if◌then◌else◌}
+use Rattle.coap_serve.specs.Prelude.{find, map, not, nat_lt, slice_get, AllByRecursion, values_of, set_value_at, Path}
 use Rattle.coap_serve.specs.Prelude.{StoreValue, found_in, put_in, removed_in, place_of, key_for, state_at, Root}
 use Rattle.coap_serve.specs.Prelude.{Time, Async, Listing, Dynamic, Change, Nothing, Put, Delete, changed, changes}
 use Rattle.coap_serve.specs.Prelude.{IsStore, Host, Cause, ObserverValue, SessionValue, is_marked, is_stale}
 use Rattle.coap_serve.specs.Prelude.{host_changed, session_settled, IsSettled, AreSettled, changed_at, settled_entry}
 use Rattle.coap_serve.specs.Prelude.{path_hash, change_hash, ObservesNone, IsUntouched, AreSettledUntouched}
-use Rattle.coap_serve.specs.Prelude.{AreOthersSettled}
+use Rattle.coap_serve.specs.Prelude.{AreOthersSettled, AreUntouched, unmarked, unmarked_entry}
 use Rattle.coap_serve.specs.Prelude.{mark_of, state_on, changed_mark, MarkedSession, IsMarked, is_concerned}
 use Rattle.coap_serve.specs.Prelude.{AreMarked, marks_after, ConcernsNone, marks_anew, IsMarkedBut, AreMarkedBut, AreAllMarked, AreMarkedAfter}
-use Rattle.std.proofs.lemmas.Bool.{both_ways, eq-eqb}
+use Rattle.std.proofs.lemmas.Bool.{both_ways, eq-eqb, ltb-true, ltb-false}
 use Rattle.coap_serve.proofs.values.MarkLemmas.{anew_same, anew_after, anew_unconcerned}
 use Rattle.coap_serve.proofs.world.EntryLemmas.{all_to}
 use Rattle.coap_store.specs.declared.place.Place.{Place}
@@ -18,7 +18,11 @@ use Rattle.coap_store.proofs.ChangeLaws.{other_is_kept_on_put, other_is_kept_on_
 use Rattle.coap_serve.specs.declared.cause.Cause.TheVariants as cause
 use Rattle.coap_serve.proofs.values.SettleLemmas.{settled_is_settled, settled_stays, settled_still}
 use Rattle.coap_serve.proofs.world.EntryLemmas.{none_due}
-use Rattle.coap_serve.proofs.values.ServerLemmas.{Entries, MarkedEntries, all_written, one_of_all, written_at_index, settled_up_to}
+use Rattle.coap_serve.proofs.values.OptionLemmas.{there_at, same_there}
+use Rattle.coap_serve.proofs.values.ServerLemmas.{Entries, MarkedEntries, all_written, one_of_all, written_at_index, settled_up_to, none_settled}
+use Rattle.coap_serve.proofs.values.ServerLemmas.{unmarked_at, same_written, one_more_settled, set_unmarked, as_many_settled, all_settled}
+use Rattle.std.proofs.lemmas.List.{length-map}
+use Rattle.std.proofs.lemmas.Map.Entries.{length-values_of}
 use Rattle.coap_serve.proofs.values.DueLemmas.{at_moment, stays_settled, mark_later}
 
 -- ---- the hash of a change
@@ -154,6 +158,21 @@ all_up (suc n) why host [] many marked = tt
 all_up zero why host (e ∷ es) many marked = absurd (omega (arith, many))
 all_up (suc n) why host (e ∷ es) many marked = (marked.0, all_up n why host es (omega (arith, many)) marked.1)
 
+-- ---- the search for the next one that is touched
+
+pub none_passed : (why : Cause) (now from : ℕ) (es : MarkedEntries) → AreUntouched why now from from es
+none_passed why now from es i s first last at = absurd (omega (arith, first, last))
+
+pub one_passed : (why : Cause) (now from n : ℕ) (es : MarkedEntries) (s : MarkedSession) → slice_get (values_of es) n ≡ Some s → IsUntouched why now s.session × ConcernsNone why s.session.observers → AreUntouched why now from n es → AreUntouched why now from (n + 1) es
+one_passed why now from n es s here calm before i t first last at =
+    elim (nat_lt i n) as (λ b. nat_lt i n ≡ b → IsUntouched why now t.session × ConcernsNone why t.session.observers) [
+      | true ↦ λ less. before i t first (ltb-true i n less) at
+      | false ↦ λ not_less.
+          let same : i ≡ n = omega (arith, ltb-false i n not_less, last) in
+          let one : s ≡ t = same_there s t (sym here ∙ ap (slice_get (values_of es)) (sym same) ∙ at) in
+          subst (λ (u : MarkedSession). IsUntouched why now u.session × ConcernsNone why u.session.observers) one calm
+    ] refl
+
 -- ---- all connections
 
 pub untouched_by_change : (host : Host) (c : Change) (hash : ℕ) (es : Entries) → change_hash c ≡ Some hash → AreSettled host es → AreSettledUntouched (cause.Path hash) (host_changed host c) es
@@ -184,6 +203,54 @@ pub next_untouched : (why : Cause) (n : ℕ) (host : Host) (es now : Entries) (s
 next_untouched why n host es now s is all at untouched =
     let before : slice_get (values_of es) n ≡ Some s = sym (ap (λ (fs : Entries). slice_get (values_of fs) n) is ∙ not_yet_settled n host es) ∙ at in
     one_of_all (λ u. IsUntouched why host.now u → IsSettled host u) n es s all before untouched
+
+-- the connections before an index are settled, and their marks are as they are to be
+abbrev pub AreUpTo : ℕ → Cause → Host → MarkedEntries → MarkedEntries → Type 0
+AreUpTo n why host es now = (unmarked now ≡ settled_up_to n host (unmarked es)) × AreMarkedUpTo n why host now
+
+-- the next one is not touched
+pass_one : (n : ℕ) (why : Cause) (host : Host) (es now : MarkedEntries) (s : MarkedSession) → AreUpTo n why host es now → AreSettledUntouched why host (unmarked es) → slice_get (values_of now) n ≡ Some s → IsUntouched why host.now s.session × ConcernsNone why s.session.observers
+    → AreUpTo (n + 1) why host es now
+pass_one n why host es now s before untouched at calm =
+    let here = unmarked_at now n s at in
+    let settled = next_untouched why n host (unmarked es) (unmarked now) s.session before.0 untouched here calm.0 in
+    let marked = marked_untouched why host s calm.1 (next_but n why host now s before.1 at) in (
+      sym (same_written (unmarked now) n s.session here) ∙ one_more_settled n host (unmarked es) (unmarked now) s.session s.session before.0 here (sym (settled_stays host s.session settled)),
+      subst (AreMarkedUpTo (n + 1) why host) (same_written now n s at) (one_more_up n why host now s before.1 marked),
+    )
+
+-- the next ones are not touched
+pass_some : (k n : ℕ) (why : Cause) (host : Host) (es now : MarkedEntries) → n + k ≤ length now → AreUpTo n why host es now → AreSettledUntouched why host (unmarked es) → AreUntouched why host.now n (n + k) now → AreUpTo (n + k) why host es now
+pass_some zero n why host es now within before untouched calm = rw add-zero before
+pass_some (suc k) n why host es now within before untouched calm =
+    let up = pass_some k n why host es now (omega (arith, within)) before untouched (λ i s from to at. calm i s from (omega (arith, to)) at) in
+    let there = there_at (values_of now) (n + k) (omega (arith, within, length-values_of now)) in
+    let one = pass_one (n + k) why host es now there.0 up untouched there.1 (calm (n + k) there.0 (omega arith) (omega arith) there.1) in
+    subst (λ (m : ℕ). AreUpTo m why host es now) (let next : n + k + 1 ≡ n + suc k = omega arith in next) one
+
+pub passed : (n m : ℕ) (why : Cause) (host : Host) (es now : MarkedEntries) → n ≤ m → m ≤ length now → AreUpTo n why host es now → AreSettledUntouched why host (unmarked es) → AreUntouched why host.now n m now → AreUpTo m why host es now
+passed n m why host es now from within before untouched calm =
+    let to : n + (m - n) ≡ m = omega (arith, from) in
+    subst (λ (k : ℕ). AreUpTo k why host es now) to
+    (pass_some (m - n) n why host es now (omega (arith, within, to)) before untouched (subst (λ (k : ℕ). AreUntouched why host.now n k now) (sym to) calm))
+
+-- a connection is settled, and the ones before it are
+pub one_more : (n : ℕ) (why : Cause) (host : Host) (es now : MarkedEntries) (s after : MarkedSession) → AreUpTo n why host es now → slice_get (values_of now) n ≡ Some s → after.session ≡ session_settled host s.session → IsMarked host after → AreUpTo (n + 1) why host es (set_value_at now n after)
+one_more n why host es now s after before at settles marked = (
+  set_unmarked now n after after.session refl ∙ one_more_settled n host (unmarked es) (unmarked now) s.session after.session before.0 (unmarked_at now n s at) settles,
+  one_more_up n why host now after before.1 marked,
+)
+
+-- all are
+pub none_left : (n : ℕ) (why : Cause) (host : Host) (es now : MarkedEntries) → length now ≡ n → AreUpTo n why host es now → (unmarked now ≡ map (settled_entry host) (unmarked es)) × AreAllMarked host now
+none_left n why host es now all up =
+    let many = as_many_settled n host es now up.0 in
+    (all_settled n host (unmarked es) (unmarked now) up.0 (omega (arith, all, many, length-map es unmarked_entry)), all_up n why host now (omega (arith, all)) up.1)
+
+-- a change that touches no connection
+pub none_touched : (why : Cause) (host : Host) (es : MarkedEntries) → AreSettledUntouched why host (unmarked es) → AreMarkedBut why host es → AreUntouched why host.now 0 (length es) es → (unmarked es ≡ map (settled_entry host) (unmarked es)) × AreAllMarked host es
+none_touched why host es untouched marked calm =
+    none_left (length es) why host es es refl (passed 0 (length es) why host es es (omega arith) (omega arith) (none_settled host (unmarked es), marked) untouched calm)
 
 -- ---- the one that changed something
 

@@ -125,6 +125,12 @@ pub written_unmarked : (f : SessionValue → SessionValue) (es : MarkedEntries) 
 written_unmarked f es i s after at is =
     unmarked_written es i after ∙ ap (set_value_at (unmarked es) i) is ∙ written_at_index f (unmarked es) i s.session (unmarked_at es i s at)
 
+-- where the value that is there is written, all stays
+pub same_written : {S : Type 0} (es : List (ℕ × S)) (i : ℕ) (s : S) → slice_get (values_of es) i ≡ Some s → set_value_at es i s ≡ es
+same_written [] i s at = refl
+same_written (e ∷ es) zero s at = ap (λ v. (e.0, v) ∷ es) (let is : e.1 ≡ s = cc in sym is)
+same_written (e ∷ es) (suc i) s at = ap (λ rest. e ∷ rest) (same_written es i s at)
+
 pub length-written : {S : Type 0} (es : List (ℕ × S)) (i : ℕ) (s : S) → length (set_value_at es i s) ≡ length es
 length-written [] i s = refl
 length-written (e ∷ es) zero s = refl

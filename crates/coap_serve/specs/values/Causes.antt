@@ -1,6 +1,7 @@
 -- What makes connections due, and which of them it cannot touch.
-use Rattle.std.specs.Prelude.{◌≡◌, ◌≢◌, ℕ, ◌+◌, ◌*◌, ◌%◌, Bool, false, List, [], ◌∷◌, map, Option, Some, None, ◌==◌, if◌then◌else◌}
+use Rattle.std.specs.Prelude.{◌≡◌, ◌≢◌, ◌≤◌, ◌<◌, slice_get, ℕ, ◌+◌, ◌*◌, ◌%◌, Bool, false, List, [], ◌∷◌, map, Option, Some, None, ◌==◌, if◌then◌else◌}
 use Rattle.std.specs.List.{AllByRecursion, list_any}
+use Rattle.std.specs.Map.{values_of}
 use Rattle.coap_store.specs.Paths.{Path}
 use Rattle.coap_store.specs.Answer.{Change, Nothing, Put, Delete}
 use Rattle.coap_serve.specs.declared.host.Host.{Host}
@@ -63,6 +64,11 @@ is_concerned (cause.Moment before) o = tells_time o
 abbrev pub ConcernsNone : Cause → List ObserverValue → Type 0
 ConcernsNone (cause.Path hash) observers = ObservesNone hash observers
 ConcernsNone (cause.Moment before) observers = list_any tells_time observers ≡ false
+
+-- no connection from one index up to another one is touched
+abbrev pub AreUntouched : Cause → ℕ → ℕ → ℕ → List (ℕ × MarkedSession) → Type 0
+AreUntouched why now from to sessions =
+    (i : ℕ) (s : MarkedSession) → from ≤ i → i < to → slice_get (values_of sessions) i ≡ Some s → IsUntouched why now s.session × ConcernsNone why s.session.observers
 
 abbrev pub mark_anew : Cause → Host → ObserverValue → Option ℕ → Option ℕ
 mark_anew why host o mark = if is_concerned why o then changed_mark host o else mark

@@ -8,7 +8,7 @@ use std::alloc::AllocError;
 
 impl Server {
     ghost use Rattle.std.specs.Prelude.{◌≡◌, ◌+◌, ◌≤◌, ◌++◌, ◌∷◌, ⊤, List, [], length, take, true, false, is_err, is_some, IfOk, IfErr, IfSome, OnOk, OnErr, option_copied};
-    ghost use Rattle.coap_serve.specs.Prelude.{sem, follows_so, none, RefusedBy, IsPartlyFed, fed, took, ShowsMore, ShowsPart, AddsBytes, WritesPart, waiting_at, more_at, IsFlushedOnce, session_of, is_there, count_taken, server_taken, server_written, can_take_on, handled_by, IsNotTaken, written_refusal, front_of, stop_on, Event, Took, Wrote, takes, handled_in, Shows, ShowsRefused, IsRefusedFor};
+    ghost use Rattle.coap_serve.specs.Prelude.{sem, follows_so, none, RefusedBy, IsPartlyFed, fed, took, ShowsMore, ShowsPart, AddsBytes, WritesPart, waiting_at, more_at, IsFlushedOnce, session_of, is_there, count_taken, server_taken, server_written, can_take_on, handled_by, IsNotTaken, written_refusal, front_of, stop_on, LiesAt, Event, Took, Wrote, takes, handled_in, Shows, ShowsRefused, IsRefusedFor};
     ghost use Rattle.coap_serve.specs.contracts.server.Server.{the_row};
     ghost use Rattle.coap_serve.specs.script.Events as event;
 
@@ -55,6 +55,35 @@ impl Server {
         let Some(at) = find(&self.sessions, id) else {
             return Err(TakeFault::NoSuch);
         };
+        self.take_at(at, id, piece)
+    }
+
+    /// Takes bytes as `take`, on the connection with this number, whose index is known.
+    ///
+    /// # Errors
+    ///
+    /// `Memory` as `take`.
+    #[inline(always)]
+    fn take_at(&mut self, at: usize, _id: ConnId, piece: &[u8]) -> Result<Taken, TakeFault>
+        requires { LiesAt _id at self.old.sessions }
+        ensures within { IfOk result (λ t. t.bytes ≤ length piece.now) }
+        ensures count { IfOk result (λ t. t.bytes ≡ count_taken self.old _id piece.now) }
+        ensures takes { IfOk result (λ t. (events : List Event) → Shows self.old events →
+            t.bytes ≡ takes self.old.config events _id piece.now) }
+        ensures handled { IfOk result (λ t. t.handled ≡ handled_by self.old _id piece.now) }
+        ensures says { IfOk result (λ t. (events : List Event) → Shows self.old events →
+            t.handled ≡ handled_in self.old.config events (Took _id (take t.bytes piece.now)) _id) }
+        ensures there { OnOk result (is_there (session_of _id self.old.sessions) ≡ true) }
+        ensures ok { OnOk result (self.new ≡ server_taken self.old _id piece.now) }
+        ensures shows { IfOk result (λ t. (events : List Event) → Shows self.old events →
+            Shows self.new (events ++ Took _id (take t.bytes piece.now) ∷ [])) }
+        ensures refused { IfErr result (λ fault. IsNotTaken self.old _id piece.now fault self.new) }
+        ensures shows_refused { IfErr result (λ fault. (events : List Event) → Shows self.old events →
+            ShowsRefused events _id piece.now fault self.new) }
+        ensures refused_for { IfErr result (λ fault.
+            (events : List Event) → Shows self.old events → IsRefusedFor self.old.config events _id piece.now fault) }
+        ensures lies { OnOk result (LiesAt _id at self.new.sessions) }
+    {
         let takes = self.sessions[at].takes();
         match self.sessions[at].take(&mut self.host, piece) {
             Err(bytes) => Err(TakeFault::Memory { bytes }),
@@ -82,9 +111,12 @@ impl Server {
         ensures err { OnErr result (IsPartlyFed self.old id bytes.now self.new) }
         ensures shows_refused { OnErr result (ShowsPart self.old (event.In id bytes.now) self.new) }
     {
+        let Some(at) = find(&self.sessions, id) else {
+            return Ok(0);
+        };
         let mut taken = 0;
         while taken < bytes.len() {
-            match self.take(id, &bytes[taken..]) {
+            match self.take_at(at, id, &bytes[taken..]) {
                 Ok(piece) => {
                     if piece.bytes == 0 {
                         return Ok(taken);

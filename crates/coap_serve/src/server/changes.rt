@@ -1,6 +1,6 @@
 //! What changes for every connection of a server: the moment, and what is stored.
 
-use super::sessions::settle_touched;
+use super::sessions::{next_touched, settle_touched};
 use super::{Backwards, Server, Stamp};
 use crate::cause::Cause;
 use crate::path_set::hash_of;
@@ -27,9 +27,14 @@ impl Server {
             return Err(Backwards);
         }
         let before = self.stamp();
-        if now > before.moment {
-            self.host.move_to(now);
-            settle_touched(&mut self.sessions, &self.host, Cause::Moment(before.moment));
+        if now == before.moment {
+            return Ok(());
+        }
+        let cause = Cause::Moment(before.moment);
+        self.host.move_to(now);
+        if next_touched(&self.sessions, 0, cause, now).is_some() {
+            self.host.keep_moment();
+            settle_touched(&mut self.sessions, &self.host, cause);
         }
         Ok(())
     }

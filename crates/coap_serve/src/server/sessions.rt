@@ -1,7 +1,7 @@
 //! What is done to the connections that a server holds, each by its index.
 
-ghost use Rattle.std.specs.Prelude.{◌≡◌, ◌<◌, ◌≤◌, false, None, Some, length, map, slice_get, if◌then◌else◌, is_err, is_some, IfNone, IfSome, IfOk, OnOk, OnErr};
-ghost use Rattle.coap_serve.specs.Prelude.{values, values_of, SessionValue, IsMarked, unmarked, AreAllMarked, AreMarkedBut, AreMarkedAfter, RefusedBy, AddsBytes, WritesPart, IsFlushedAt, session_written, session_ended, session_released, session_announced, session_settled, LiesAt, session_of, changed_at, settled_entry, AreSettled, AreSettledUntouched, AreOthersSettled, settled_held, released_refusal_on, IsAnnounced, handled_so};
+ghost use Rattle.std.specs.Prelude.{◌≡◌, ◌<◌, ◌≤◌, ◌+◌, ◌^◌, false, None, Some, length, map, slice_get, if◌then◌else◌, is_err, is_some, IfNone, IfSome, IfOk, OnOk, OnErr};
+ghost use Rattle.coap_serve.specs.Prelude.{values, values_of, SessionValue, IsMarked, unmarked, AreAllMarked, AreMarkedBut, AreMarkedAfter, RefusedBy, AddsBytes, WritesPart, IsFlushedAt, session_written, session_ended, session_released, session_announced, session_settled, LiesAt, session_of, changed_at, settled_entry, AreSettled, AreSettledUntouched, AreUntouched, AreOthersSettled, settled_held, released_refusal_on, IsAnnounced, handled_so};
 
 use super::{AnnounceFault, ConnId, Handled, ReleaseFault, Sessions};
 use crate::cause::Cause;
@@ -18,8 +18,30 @@ pub(super) fn find(sessions: &Sessions, id: ConnId) -> Option<usize>
     sessions.get_index_of(&id)
 }
 
-/// Every connection marks the observers that a change concerns, and settles. Those that the change does not touch are
-/// settled already, and cost a look.
+/// Returns the index of the first connection, from an index on, that a change may touch. A connection that it passes
+/// costs a look at one or two bytes.
+pub(super) fn next_touched(
+    sessions: &Sessions,
+    from: usize,
+    cause: Cause,
+    now: u64,
+) -> Option<usize>
+    ensures none { IfNone result (AreUntouched cause now from (length sessions.now.entries) sessions.now.entries) }
+    ensures some { IfSome result (λ at. AreUntouched cause now from at sessions.now.entries) }
+    ensures within { IfSome result (λ at. at < length sessions.now.entries) }
+    ensures from { IfSome result (λ at. from ≤ at) }
+    ensures next { IfSome result (λ at. at + 1 < 2 ^ 64) }
+{
+    for at in from..sessions.len() {
+        if sessions[at].is_touched(cause, now) {
+            return Some(at);
+        }
+    }
+    None
+}
+
+/// Every connection that a change may touch marks the observers that it concerns, and settles. The others are settled
+/// already.
 pub(super) fn settle_touched(sessions: &mut Sessions, host: &Host, cause: Cause)
     requires settled { AreSettledUntouched cause host.now (unmarked sessions.old.entries) }
     requires marked { AreMarkedBut cause host.now sessions.old.entries }
@@ -27,8 +49,10 @@ pub(super) fn settle_touched(sessions: &mut Sessions, host: &Host, cause: Cause)
         ≡ map (settled_entry host.entry.now) (unmarked sessions.old.entries) }
     ensures marked { AreAllMarked host.entry.now sessions.new.entries }
 {
-    for at in 0..sessions.len() {
-        sessions[at].settle_where_touched(host, cause);
+    let mut from = 0;
+    while let Some(at) = next_touched(sessions, from, cause, host.now) {
+        sessions[at].mark_and_settle(host, cause);
+        from = at + 1;
     }
 }
 

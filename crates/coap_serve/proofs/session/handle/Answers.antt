@@ -11,7 +11,7 @@ pub returns-in-Request-clause-after : goal.returns-in-Request-clause-after
 returns-in-Request-clause-after c =
     let v : SessionValue = record { frame = []; link = c.args.link.now; observers = c.args.observers.now.entries } in
     on_request c.answer.result c.args.host.now v c.args.message.now c.on.new.self c.answer.new.link c.args.observers.now c.answer.new.observers
-    (ap is_request (sym c.in-Request.ensures.verdict)) c.in-Request.ensures.after c.requires.room refl c.answer.ensures.link c.answer.ensures.entries
+    (ap is_request (sym c.in-Request.ensures.verdict)) c.in-Request.ensures.after c.requires.room refl (rw c.keep_moment.ensures at c.answer.ensures.link) (rw c.keep_moment.ensures at c.answer.ensures.entries)
 
 pub returns-in_default : goal.returns-in_default
 returns-in_default c =

@@ -1,36 +1,39 @@
-use Rattle.std.proofs.Common.{refl, ◌∙◌, arith}
-use Rattle.std.proofs.lemmas.List.{length-map}
-use Rattle.coap_serve.specs.Prelude.{unmarked, unmarked_entry}
-use Rattle.coap_serve.proofs.values.ServerLemmas.{none_settled, as_many_settled, one_more_settled, all_settled, unmarked_at, set_unmarked}
-use Rattle.coap_serve.proofs.values.CauseLemmas.{next_untouched, next_but, one_more_up, all_up}
+use Rattle.std.proofs.Common.{refl, arith, length}
+use Rattle.coap_serve.specs.Prelude.{unmarked}
+use Rattle.coap_serve.proofs.values.ServerLemmas.{none_settled, length-written}
+use Rattle.coap_serve.proofs.values.CauseLemmas.{AreUpTo, next_but, passed, one_more, none_left}
+use Rattle.coap_serve.proofs.server.sessions.settle_touched.Goals.{After-index_mut}
 use Rattle.coap_serve.proofs.server.sessions.settle_touched.Goals as goal
 
 pub loop-at-init : goal.loop-at-init
-loop-at-init c = (none_settled c.args.host.now (unmarked c.args.sessions.now.entries), c.requires.marked)
+loop-at-init c = (omega arith, (none_settled c.args.host.now (unmarked c.args.sessions.now.entries), c.requires.marked))
 
-pub index_mut-requires : goal.index_mut-requires
-index_mut-requires c = omega (arith, c.loop-at-test.true, c.len-at-end.ensures.len, as_many_settled c.loop-at.at c.args.host.now c.args.sessions.now.entries c.loop-at.sessions.entries c.loop-at.invariant.0)
+-- those before the one that is found are settled
+up_to_found : (c : After-index_mut) → AreUpTo c.in-Some.at c.args.cause c.args.host.now c.args.sessions.now.entries c.loop-at.sessions.entries
+up_to_found c =
+    let e = c.in-Some.ensures in
+    passed c.loop-at.from c.in-Some.at c.args.cause c.args.host.now c.args.sessions.now.entries c.loop-at.sessions.entries e.from (omega (arith, e.within)) c.loop-at.invariant.1 c.requires.settled e.some
 
-pub settle_where_touched-requires : goal.settle_where_touched-requires
-settle_where_touched-requires c =
-    let here = c.index_mut.ensures.value in
-    record {
-      settled = next_untouched c.args.cause c.loop-at.at c.args.host.now _ _ _ c.loop-at.invariant.0 c.requires.settled (unmarked_at c.loop-at.sessions.entries c.loop-at.at c.index_mut.result.now here);
-      marked = next_but c.loop-at.at c.args.cause c.args.host.now _ _ c.loop-at.invariant.1 here;
-    }
+pub mark_and_settle-requires : goal.mark_and_settle-requires
+mark_and_settle-requires c = next_but c.in-Some.at c.args.cause c.args.host.now c.loop-at.sessions.entries _ (up_to_found c).1 c.index_mut.ensures.value
 
 pub loop-at-preserved : goal.loop-at-preserved
 loop-at-preserved c =
-    let here = c.index_mut.ensures.value in
-    let e = c.settle_where_touched.ensures in
-    let settles = one_more_settled c.loop-at.at c.args.host.now _ _ _ _ c.loop-at.invariant.0 (unmarked_at c.loop-at.sessions.entries c.loop-at.at c.index_mut.result.now here) e.after in
-    (set_unmarked c.loop-at.sessions.entries c.loop-at.at c.settle_where_touched.new.self c.settle_where_touched.new.self.session refl ∙ settles, one_more_up c.loop-at.at c.args.cause c.args.host.now _ _ c.loop-at.invariant.1 e.marked)
+    let es = c.loop-at.sessions.entries in
+    let after = c.mark_and_settle.new.self in
+    let e = c.mark_and_settle.ensures in (
+      omega (arith, c.in-Some.ensures.within, length-written es c.in-Some.at after),
+      one_more c.in-Some.at c.args.cause c.args.host.now c.args.sessions.now.entries es _ after (up_to_found (goal.at.loop-at-preserved c).After-index_mut) c.index_mut.ensures.value e.after e.marked,
+    )
+
+pub loop-at-smaller : goal.loop-at-smaller
+loop-at-smaller c =
+    let es = c.loop-at.sessions.entries in
+    omega (arith, c.in-Some.ensures.within, c.in-Some.ensures.from, length-written es c.in-Some.at c.mark_and_settle.new.self)
 
 pub returns : goal.returns
 returns c =
-    let all = c.len-at-end.ensures.len in
-    let many = as_many_settled c.loop-at.at c.args.host.now c.args.sessions.now.entries c.loop-at.sessions.entries c.loop-at.invariant.0 in
-    record {
-      after = all_settled c.loop-at.at c.args.host.now _ _ c.loop-at.invariant.0 (omega (arith, all, length-map c.args.sessions.now.entries unmarked_entry));
-      marked = all_up c.loop-at.at c.args.cause c.args.host.now _ (omega (arith, all, many)) c.loop-at.invariant.1;
-    }
+    let es = c.loop-at.sessions.entries in
+    let up = passed c.loop-at.from (length es) c.args.cause c.args.host.now c.args.sessions.now.entries es c.loop-at.invariant.0 (omega arith) c.loop-at.invariant.1 c.requires.settled c.in_default.ensures.none in
+    let all = none_left (length es) c.args.cause c.args.host.now c.args.sessions.now.entries es refl up in
+    record { after = all.0; marked = all.1 }

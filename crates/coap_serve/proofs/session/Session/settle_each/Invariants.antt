@@ -1,6 +1,6 @@
 use Rattle.std.proofs.Common.{◌≡◌, ◌-◌}
 use Rattle.coap_serve.specs.Prelude.{session_settled, session_settled_within, IsMarked}
-use Rattle.coap_serve.proofs.session.Session.settle.Given as goal
+use Rattle.coap_serve.proofs.session.Session.settle_each.Given as goal
 
 -- the turns that are left lead to where all turns lead
 abbrev pub invariant-loop : goal.invariant-loop
