@@ -20,9 +20,9 @@ bin/coap-server bin/coap-client &: $(SOURCES)
 # Runs the main job on short recorded streams, and tells what each message means: at once the same source unproved, where the program
 # is not built yet; then the proofs; then the program that is built from them.
 run:
-	@$(MAKE) --silent --question bin/coap-server || python3 tests/show.py --try
+	@$(MAKE) --silent --question bin/coap-server || python3 tests/vectors/show.py --try
 	@$(MAKE) --silent bin/coap-server
-	@python3 tests/show.py bin/coap-server
+	@python3 tests/vectors/show.py bin/coap-server
 
 # The gate: every proof, row, test and program from nothing, what was built, from outside, and a third of the edits.
 test:
@@ -30,24 +30,24 @@ test:
 
 # Tries all wrong bodies, of which the gate tries a third, or those of some crates: make edits CRATES="coap_conn coap_wire".
 edits:
-	tests/edits.py --all $(CRATES)
+	tests/mutants/edits.py --all $(CRATES)
 
 # What takes too long for the gate: all 16,777,216 streams of three bytes, of which it plays a quarter, in some minutes of all processors;
 # and the proved tests that must pass with each allocation refused, in about an hour.
 faults: bin/coap-server
-	tests/bytes.py bin/coap-server --all
-	tests/fail_alloc.py
+	tests/vectors/bytes.py bin/coap-server --all
+	tests/tools/fail_alloc.py
 
 # Measures the server beside libcoap's, then through HAProxy and beside observers that nobody reads, and then counts instructions, copies
 # and memory; draws what it measured anew in docs/pictures. It fails where a target is missed.
 bench: bin/coap-server
 	tests/build coap_probe
-	bench/throughput; missed=$$?; bench/front || missed=1; tests/flood.py bin/coap-server observers || missed=1; \
+	bench/throughput; missed=$$?; bench/front || missed=1; tests/system/flood.py bin/coap-server observers || missed=1; \
 	bench/instructions && exit $$missed
 
 # UNPROVED: runs the program on the recorded stream before any proof, in up to a minute, for work in progress.
 try:
-	python3 tests/show.py --try
+	python3 tests/vectors/show.py --try
 
 # Installs what `make all` built, and builds nothing, so that it can be run by another user.
 install:

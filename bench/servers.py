@@ -11,7 +11,7 @@ import tempfile
 import time
 
 ROOT = os.path.dirname(os.path.dirname(os.path.abspath(__file__)))
-sys.path.insert(0, f"{ROOT}/tests")
+sys.path.insert(0, f"{ROOT}/tests/harness")
 from packages import install  # noqa: E402
 from peers import LOCAL as HOST  # noqa: E402
 from peers import free_port  # noqa: E402

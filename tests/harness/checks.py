@@ -1,0 +1,32 @@
+"""Counts checks, and the bytes that many tests compare with: our Capabilities and Settings, each Abort, the greeting."""
+
+CSM = "60e1230100004140"
+
+ABORTS = {
+    "bad message": "c0e5ff626164206d657373616765",
+    "message too large": "d005e5ff6d65737361676520746f6f206c61726765",
+    "bad token length": "d004e5ff62616420746f6b656e206c656e677468",
+    "reserved code": "d001e5ff726573657276656420636f6465",
+    "CSM expected": "d000e5ff43534d206578706563746564",
+    "bad CSM option 1": "d004e52101ff6261642043534d206f7074696f6e",
+    "bad CSM option 2": "d004e52102ff6261642043534d206f7074696f6e",
+    "bad signal option": "d005e5ff626164207369676e616c206f7074696f6e",
+}
+
+# 2.05 of the root, behind its token: Content-Format 0 and the greeting
+GREETING = "c0ff636f61702b746370"
+
+
+class Checks:
+    """Counts what passed."""
+
+    def __init__(self):
+        self.passed = 0
+        self.failed = 0
+
+    def same(self, name, got, wanted):
+        if got == wanted:
+            self.passed += 1
+        else:
+            self.failed += 1
+            print("FAILED %s: got %r, wanted %r" % (name, got, wanted))

@@ -1,0 +1,223 @@
+#!/usr/bin/env python3
+"""Plays files of rows on the probes, two proved programs, and compares what these tell.
+
+    tests/harness/rows.py [--by-rattle] [--refuse] [FILE..]
+
+A file is tests/vectors/rows/LAYER/NAME.rows. Its lines are rows `EVENT => WANTED`; `= OPENING` opens the value that the rows below it are
+about; `#` begins a comment. How the rows of a layer are spelled for the probe stands in tests/harness/layers/LAYER.py, and what its words mean;
+bytes may be written as text and as messages in words (tests/harness/spelling.py).
+
+--by-rattle plays them on the programs as Rattle's own compiler made them. --refuse refuses each allocation of each file in turn: the row
+that was struck must tell `memory`, all that only asks must tell what it told before, and the row is made again, from where all goes
+as the file says; a refusal that no row tells must change nothing. A line `allocations: N` in the file is their number; where N is not a
+number, it says why they are not refused. (A line `cuts:` says why tests/vectors/cuts.py does not cut the rows of a file of servers.) Over all files
+it counts the refusals of each call, which the table of docs/TESTING.md must tell.
+The last line is 'N passed, M failed' over the rows, or over the refused allocations, and the status 0 where M is 0.
+"""
+
+import importlib
+import os
+import pathlib
+import re
+import subprocess
+import sys
+import tempfile
+from collections import Counter
+from concurrent.futures import ThreadPoolExecutor
+from dataclasses import dataclass, field
+
+HARNESS = pathlib.Path(__file__).resolve().parent
+ROOT = HARNESS.parent.parent
+ROWS = ROOT / "tests" / "vectors" / "rows"
+
+# How a row tells that memory was refused.
+MEMORY = re.compile(r"\bmemory\b", re.IGNORECASE)
+
+# Where the refusals of each call are told, behind which line, and what is said of those that no call tells.
+TABLE = ROOT / "docs" / "TESTING.md"
+BEGINS = "| Call | Growths refused | What is left, until it is made again |"
+MADE_UP_FOR = ("none, since it was made up for", "what there is without a refusal")
+
+
+@dataclass
+class RowFile:
+    """A file of rows: its values, each an opening and the rows behind it, and what it says of its allocations and of cuts."""
+
+    path: pathlib.Path
+    allocations: str = ""
+    cuts: str = ""
+    values: list = field(default_factory=list)
+
+    def name(self):
+        return f"{self.path.parent.name}/{self.path.stem}"
+
+    def layer(self):
+        return importlib.import_module(f"layers.{self.path.parent.name}")
+
+    def steps(self):
+        return [step for opening, rows in self.values for step in self.layer().steps(opening, rows)]
+
+
+def read(path):
+    """Reads a file of rows."""
+    file = RowFile(path)
+    for line in path.read_text(encoding="utf-8").splitlines():
+        if line.startswith("allocations: "):
+            file.allocations = line.partition(": ")[2]
+        elif line.startswith("cuts: "):
+            file.cuts = line.partition(": ")[2]
+        elif line.startswith("= "):
+            file.values.append((line[2:], []))
+        elif line and not line.startswith("#"):
+            file.values[-1][1].append(line)
+    return file
+
+
+def probe_of(file, ending=""):
+    """The program that plays the rows of a file, as a compiler made it."""
+    crate = file.layer().PROBE
+    return f"{ROOT}/crates/{crate}/out/{crate}{ending}"
+
+
+@dataclass
+class Ran:
+    """A run of a probe: its lines, whether it came to its end, and whether an allocation was refused."""
+
+    lines: list
+    ended: bool
+    refused: bool
+
+
+def run(probe, events, shim="", number=0):
+    """Has the probe play these events, with the allocation of a number refused."""
+    environment = {**os.environ, "LD_PRELOAD": shim, "REFUSE_ALLOCATION": str(number)} if number else None
+    sent = "".join(event + "\n" for event in events).encode()
+    ran = subprocess.run([probe], input=sent, env=environment, capture_output=True, timeout=600)
+    return Ran(ran.stdout.decode().splitlines(), ran.returncode == 0, ran.stderr.endswith(b"refused\n"))
+
+
+def differences(found, steps):
+    """What is not as wanted, one text for each row."""
+    wrong = []
+    for line, step in zip(found, steps):
+        try:
+            text = step.told(line)
+        except (ValueError, IndexError, KeyError):
+            text = line
+        if text != step.wanted:
+            wrong.append(f"{step.event[:120]}\n    wanted {step.wanted[:300]}\n    found  {text[:300]}")
+    return wrong + [f"{step.event[:120]}\n    no line" for step in steps[len(found) :]]
+
+
+def play(file, ending):
+    """Plays a file, and returns how many rows it has and what is wrong."""
+    steps = file.steps()
+    return len(steps), differences(run(probe_of(file, ending), [step.event for step in steps]).lines, steps)
+
+
+def looks_of(file):
+    """The words of a layer's events that only ask."""
+    return getattr(file.layer(), "LOOKS", ())
+
+
+def again_of(file):
+    """What a layer makes again of an event that was refused memory; the event itself where it says nothing."""
+    return getattr(file.layer(), "again", lambda probe, events, index, found: events[index])
+
+
+def struck_again(file, probe, steps, found, index, shim, number):
+    """What is made again of the event that was refused memory, and what is wrong once it was."""
+    events = [step.event for step in steps]
+    opening = max(at for at, event in enumerate(events[: index + 1]) if event.startswith("= "))
+    asking = dict.fromkeys(it for it in events[opening:] if it.split(" ")[0] in looks_of(file))
+    looks = list(asking) if index > opening else []
+    step = steps[index]
+    again = again_of(file)(lambda more: run(probe, more, shim, number).lines, events, index, found)
+    before = run(probe, events[:index] + looks).lines[index:]
+    between = looks + [it.event for it in step.meanwhile]
+    lines = run(probe, events[: index + 1] + between + [again] + events[index + 1 :], shim, number).lines
+    behind = index + 1 + len(between)
+    after, rest = lines[index + 1 : index + 1 + len(looks)], lines[:index] + lines[behind:]
+    if again != events[index]:
+        # what is made again is a part of the event, so that its line tells less, and what is kept is not as before
+        rest[index], before, after = found[index], [], []
+        steps = steps[:index] + [type(steps[index])(again, found[index].strip())] + steps[index + 1 :]
+    wrong = [] if after == before else [f"{events[index][:120]}: {before} became {after}"]
+    wrong += differences(lines[index + 1 + len(looks) : behind], step.meanwhile)
+    judge = getattr(file.layer(), "struck", lambda step, line, again, line_again: [])
+    wrong += judge(step, lines[index], again, lines[behind])
+    return again, wrong + differences(rest, steps)
+
+
+def refuse_each(file, shim):
+    """Refuses each allocation of a file's rows in turn, and returns their number, what is wrong, and how many each call was refused."""
+    probe, steps, wrong, count, calls = probe_of(file), file.steps(), [], 0, Counter()
+    events = [step.event for step in steps]
+    usual = run(probe, events).lines
+    # the first ones are the probe's own room, which is had before the first row
+    first = next(it for it in range(1, 100) if run(probe, [], shim, it).ended)
+    while True:
+        ran = run(probe, events, shim, first + count)
+        if not ran.refused:
+            return count, wrong, calls
+        index = next((at for at, (line, before) in enumerate(zip(ran.lines, usual)) if line != before), None)
+        if index is None:
+            calls[MADE_UP_FOR] += 1
+        else:
+            again, found = struck_again(file, probe, steps, ran.lines, index, shim, first + count)
+            calls[file.layer().refused(events[index], ran.lines[index], again)] += 1
+            told = [] if MEMORY.search(ran.lines[index]) else [f"{events[index][:120]}: no memory is told: {ran.lines[index][:120]}"]
+            wrong += [f"allocation {count + 1}: {text}" for text in told + found]
+        count += 1
+
+
+def refuse(file, shim):
+    """Refuses each allocation of a file, whose number must be the one that the file says."""
+    if not file.allocations.isdigit():
+        return 0, [] if file.allocations else ["it does not say how many allocations it makes"], Counter()
+    count, wrong, calls = refuse_each(file, shim)
+    if count != int(file.allocations):
+        wrong.append(f"it makes {count} allocations, and says {file.allocations}")
+    return count, wrong, calls
+
+
+def untold(calls, is_program=False):
+    """What the table does not tell of the refusals of each call, or tells besides: of those in the programs, or of all others."""
+    _, _, behind = TABLE.read_text(encoding="utf-8").partition(BEGINS + "\n")
+    told = [it for it in behind.split("\n\n")[0].splitlines()[1:] if (", in `coap-" in it) == is_program]
+    wanted = [f"| {call} | {count} | {left} |" for (call, left), count in sorted(calls.items())]
+    lines = [f"there is no line {it}" for it in wanted if it not in told] + [f"nobody tells {it}" for it in told if it not in wanted]
+    return [f"{TABLE.name}: {it}" for it in lines]
+
+
+def compiled_shim(room):
+    shim = f"{room}/refuse.so"
+    subprocess.run(["gcc", "-O2", "-shared", "-fPIC", "-o", shim, f"{HARNESS}/refuse.c"], check=True)
+    return shim
+
+
+def main(words):
+    flags, named = [it for it in words if it.startswith("--")], [it for it in words if not it.startswith("--")]
+    files = [read(pathlib.Path(it).resolve()) for it in named] or [read(it) for it in sorted(ROWS.glob("*/*.rows"))]
+    with tempfile.TemporaryDirectory(prefix="rows-") as room, ThreadPoolExecutor(len(os.sched_getaffinity(0))) as pool:
+        shim = compiled_shim(room) if "--refuse" in flags else ""
+        ending = ".by-rattle" if "--by-rattle" in flags else ""
+        results = pool.map(lambda file: refuse(file, shim) if shim else (*play(file, ending), Counter()), files)
+        count, failed, calls = 0, 0, Counter()
+        for file, (rows, wrong, refused) in zip(files, results):
+            count, failed, calls = count + rows, failed + len(wrong), calls + refused
+            for text in wrong[:3]:
+                print(f"{file.name()}: {text}")
+            if len(wrong) > 3:
+                print(f"{file.name()}: and {len(wrong) - 3} more")
+    if shim and not named:
+        wrong = untold(calls)
+        failed += len(wrong)
+        print("".join(f"{text}\n" for text in wrong), end="")
+    print(f"{max(count - failed, 0)} passed, {failed} failed")
+    return 1 if failed else 0
+
+
+if __name__ == "__main__":
+    sys.path.insert(0, str(HARNESS))
+    sys.exit(main(sys.argv[1:]))

@@ -1,0 +1,647 @@
+#!/usr/bin/env python3
+"""Tries wrong bodies, many in a check: the prover must refuse each.
+
+    tests/mutants/edits.py               the edits of the gate, and that it tells a harmless edit from a wrong body (the control)
+    tests/mutants/edits.py --all         all edits, and the control
+    tests/mutants/edits.py [--all] CRATE ..  those of these crates
+    tests/mutants/edits.py --control     the control alone
+    tests/mutants/edits.py --rows [CRATE ..]  those alone that rows tell
+    tests/mutants/edits.py --tests [CRATE ..]  those alone that tests of the programs tell
+    tests/mutants/edits.py --types [CRATE ..]  tries nothing: whether all edits are well typed
+    tests/mutants/edits.py --list [CRATE ..]  tries nothing: a line for each edit, with the function and the clause that refuse it, and its name
+
+An edit is a file tests/mutants/edits/CRATE/NAME.edit. Its first line says which clause refuses it and whether the gate tries it. Each of
+its parts has four lines:
+
+    gate: refused by 'after' of Link::on      or `all: refused by ..`, where the gate does not try it; or
+    rows: told by tests/vectors/rows/script/a_mebibyte.rows     where no clause refuses it, since it only tells refused memory
+    server: told by tests/system/sockets.py files     or `client: ..`, if no clause can refuse it: the program that is built with it, and the test
+    file: src/limits.rt          a file of the crate
+    in: Limits::queue            a function of that file, as a check names it without crate and module (the impl of a trait
+                                 for a type is both names in one, as SliceSinkSink::push), or `const NAME`
+    old: self.queue              a text that stands once in the function's body, or in the constant
+    new: self.max_sent           what stands there in the wrong body
+
+Whatever is tried, the first line of every edit must quote a clause that the function has which it names (tests/mutants/quotes.py has the forms), and
+the function must be one that the edit changes, or one that names a constant that it changes. And every edit must be well typed: all edits
+of a crate are put into a few copies of it, each with one type error of this script's own, so that the compiler tells all type errors and
+proves nothing.
+
+An edit of the layer `rows` is told where a row of the file that it names comes to something else, once the probe that plays it is built with
+the wrong body, unproved (`rt try`). --all tries these too, each in a build of its own; --rows tries them alone.
+An edit of the layer `server` or `client` is told if the test that it names fails with that program built with the wrong body, unproved, and
+passes with the program built alike without it (tests/mutants/unproved.py). --all tries these too, in one to three minutes each; --tests tries them
+alone.
+
+Edits of different functions go into one copy of the crate, a round, which is checked once over what earlier checks proved: what
+the crate's own check keeps in out/incremental, or, where there is none, a folder of this run, in which the crate's first round
+is proved from nothing, and the second one behind it. So a crate is proved once here, with the wrong bodies in it.
+An edit is refused if a goal of a function that it edits stays open, which is then named. That the function calls one that is not proved
+does not count. Nor does an error in a file of its proof that stands in no answer to a goal, or that only says that a name is gone, of the
+code or of a lemma, since that tells nothing of the contract: such an edit is told as NOT REFUSED. Where a function that nobody edited has an open goal of
+its own, the round is cut in two. An edit that no round refused is tried alone, and so is one of a constant, for which any
+function's goal and any lemma counts. Rounds run side by side, one for each processor, those of the largest crates first.
+The libraries below a crate are taken from out/rlib, and proved where they are not there or older than their files.
+The last line is 'N passed, M failed', and the status 0 where M is 0.
+"""
+
+import os
+import pathlib
+import re
+import resource
+import shutil
+import subprocess
+import sys
+import tempfile
+from concurrent.futures import FIRST_COMPLETED, ThreadPoolExecutor, wait
+from dataclasses import dataclass, field
+
+sys.path.insert(0, os.path.join(os.path.dirname(os.path.abspath(__file__)), "..", "harness"))
+import quotes  # noqa: E402
+import rows  # noqa: E402
+from rooms import PARTS, ROOT, crates, furnish, is_program, listed  # noqa: E402
+from unproved import Unproved  # noqa: E402
+
+KIT = os.path.dirname(os.path.dirname(os.path.realpath(shutil.which("rt") or "/opt/rattle/bin/rt")))
+# How many rounds of a crate without kept work run in turn over its folder: behind two, nearly every function was once proved.
+IN_TURN = 2
+FUNCTION = re.compile(r"( *)(?:pub(?:\([a-z ]+\))? )?(?:const )?fn (\w+)")
+BLOCK = re.compile(r"(?:pub(?:\([a-z]+\))? )?(?:impl\b *(.*?)|trait (\w+).*?) ?\{?$")
+# The layers of the edits that tests of a program tell.
+PROGRAMS = ("server", "client")
+VERDICT = re.compile(r"fn (\w+)::(.*?): (no proof|not proved)(.*)")
+# What is said of a file of a proof where it names something that is not there, and where it cites what was refused for that.
+GONE = re.compile(r"has no field|is not in scope|has no `|was not admitted")
+# Where an error stands in the proofs of a crate, and what is stated there: an answer to a goal, or a lemma.
+PLACE = re.compile(r"\./(proofs/[^:]+\.antt):(\d+)\b.*: error: ")
+STATED = re.compile(r"(?:pub |abbrev |unfoldable )*(\S+) : (?:goal\.(\S+))?")
+
+
+class BadEdit(Exception):
+    """Why an edit cannot be tried."""
+
+
+def words_of(text, parameters):
+    """The name that a check gives a type or a trait: its words, but for those in parameters and lifetimes."""
+    words = re.findall(r"\w+", re.sub(r"'\w+", "", text))
+    return "".join(it[0].upper() + it[1:] for it in words if it not in parameters)
+
+
+def split_parameters(text):
+    """The parameters that stand in brackets at the beginning of a text, and what is behind them."""
+    if not text.startswith("<"):
+        return "", text
+    depth = 0
+    for at, letter in enumerate(text):
+        depth += (letter == "<") - (letter == ">" and text[at - 1] not in "-=")
+        if not depth:
+            return text[1:at], text[at + 1 :].strip()
+    raise BadEdit(f"not understood: {text}")
+
+
+def names_of(parameters):
+    """The names of parameters, without their bounds."""
+    while (bare := re.sub(r"<[^<>]*>|\([^()]*\)", "", parameters)) != parameters:
+        parameters = bare
+    return [re.sub(r"^const ", "", it.partition(":")[0].strip()) for it in parameters.split(",")]
+
+
+def block_name(line):
+    """The name under which a check names the functions of this impl or trait."""
+    head = BLOCK.match(line)
+    if not head:
+        raise BadEdit(f"not understood: {line}")
+    if head[2]:
+        return head[2]
+    parameters, text = split_parameters(head[1])
+    names, (trait, is_for, of) = names_of(parameters), text.partition(" for ")
+    return words_of(of, names) + words_of(trait, names) if is_for else words_of(text, names)
+
+
+def body_of(text, name):
+    """Where the body of a function begins and ends in the text of its file, as `rt fmt` lays it out."""
+    if name.startswith("const "):
+        begin = text.index(f"{name}:")
+        return begin, text.index(";", begin)
+    found, block, at = [], "", 0
+    lines = text.splitlines(keepends=True)
+    for number, line in enumerate(lines):
+        at += len(line)
+        if re.match(r"(pub )?(impl|trait)\b", line):
+            block = block_name(line.rstrip()) + "::"
+        elif line.startswith("}"):
+            block = ""
+        head = FUNCTION.match(line)
+        if not head or f"{block if head[1] else ''}{head[2]}" != name:
+            continue
+        begin, end = at, None
+        for later in lines[number + 1 :]:
+            if end is None and begin == at and later.rstrip() == head[1] + "{":
+                begin = at + text[at:].index(later) + len(later)
+            if later.rstrip() == head[1] + "}":
+                end = text.index("\n" + later, begin - 1) + 1
+                break
+        found.append((begin, end))
+    if len(found) != 1 or found[0][1] is None:
+        raise BadEdit(f"{len(found)} functions {name}")
+    return found[0]
+
+
+def told(path):
+    """The name of a function that tells it from the others of its crate: of a type's its own and the type's, which a check
+    names by the type's module and not by its impl's; of another its path; of a closure that of its function."""
+    path = [it for it in path if it]
+    if "fn" in path:
+        inside = path.index("fn")
+        path = path[:inside] + path[inside + 1 : inside + 2]
+    is_method = len(path) > 1 and path[-2][0].isupper()
+    return "::".join(path[-2:] if is_method else path)
+
+
+@dataclass
+class Part:
+    """One replacement in the body of one function."""
+
+    file: str
+    function: str
+    old: str
+    new: str
+
+    def path(self):
+        """The function as told() names it."""
+        module = re.sub(r"^src/|/?(lib|main|mod)?\.rt$", "", self.file).replace("/", "::")
+        return told([*module.split("::"), *self.function.split("::")])
+
+    def applied(self, text):
+        begin, end = body_of(text, self.function)
+        body = text[begin:end]
+        if body.count(self.old) != 1:
+            raise BadEdit(f"the old text stands {body.count(self.old)} times in {self.function}: {self.old}")
+        return text[:begin] + body.replace(self.old, self.new) + text[end:]
+
+
+@dataclass
+class Edit:
+    """A wrong body, as a file of edits says it."""
+
+    crate: str
+    name: str
+    layer: str = ""
+    refusal: str = ""
+    parts: list = field(default_factory=list)
+
+    def row(self):
+        """The function whose clause refuses it, that clause, and the edit. Where no one function does, the first that is edited."""
+        clause, _, function = self.refusal.rpartition(" of ")
+        if not clause or " " in function:
+            clause, function = self.refusal, self.parts[0].function
+        return f"{self.crate} {function}", clause, f"{self.name} ({self.layer})"
+
+    def functions(self):
+        return {it.path() for it in self.parts}
+
+    def is_constant(self):
+        return any(it.function.startswith("const ") for it in self.parts)
+
+    def applied(self, texts):
+        """The texts of the crate's files with this edit. Files that are not in texts are read."""
+        texts = dict(texts)
+        for part in self.parts:
+            if part.file not in texts:
+                with open(f"{ROOT}/crates/{self.crate}/{part.file}", encoding="utf-8") as it:
+                    texts[part.file] = it.read()
+            texts[part.file] = part.applied(texts[part.file])
+        return texts
+
+
+def read_edit(crate, file):
+    edit, said = Edit(crate, os.path.basename(file).removesuffix(".edit")), {}
+    with open(file, encoding="utf-8") as lines:
+        for number, line in enumerate(lines.read().splitlines()):
+            word, colon, text = line.partition(":")
+            if number == 0 and re.fullmatch(r"(gate|all): refused by \S.*|rows: told by tests/vectors/rows/\S+\.rows|(server|client): told by tests/system/\w+\.py( \w+)+|control: \S.*", line):
+                edit.layer, edit.refusal = word, text.removeprefix(" refused by ")
+                continue
+            if not colon or word not in ("file", "in", "old", "new"):
+                raise BadEdit(f"{file}: not understood: {line}")
+            said[word] = text.removeprefix(" ")
+            if word == "new":
+                edit.parts.append(Part(said["file"], said["in"], said["old"], said["new"]))
+    if not edit.layer:
+        raise BadEdit(f"{file}: its first line does not say which clause refuses it")
+    if not edit.parts:
+        raise BadEdit(f"{file}: nothing is edited")
+    return edit
+
+
+def wrong_quote(edit):
+    """What is wrong with the clause that an edit's first line quotes, or nothing."""
+    said, files = quotes.Quotes(edit.crate, block_name), {it.file for it in edit.parts}
+    if wrong := said.why_not(edit.refusal, files):
+        return wrong
+    name = re.search(r"([\w:]+)$", edit.refusal)[1]
+    named = said.contracts(name, files)
+    for part in edit.parts:
+        constant = part.function.removeprefix("const ")
+        if constant != part.function:
+            is_of_it = any(re.search(rf"\b{constant}\b", it.body) for it in named)
+        else:
+            own = said.contracts(part.function, {part.file})
+            is_of_it = any(it in named or it.implements == name for it in own)
+        if is_of_it:
+            return ""
+    return f"it does not change {name}"
+
+
+def tell_wrong_quotes(edits):
+    """Tells of each edit that quotes no clause of what it changes, and returns how many there are."""
+    wrong = {f"{it.crate}/{it.name}": wrong_quote(it) for it in edits if it.layer in ("gate", "all")}
+    for name, why in wrong.items():
+        if why:
+            print(f"edit {name}: {why}", flush=True)
+    return sum(map(bool, wrong.values()))
+
+
+def edits_of(folder, names, layers):
+    """The edits of these layers in a folder with one folder for each crate."""
+    found = []
+    for crate in names:
+        if os.path.isdir(f"{folder}/{crate}"):
+            for name in sorted(os.listdir(f"{folder}/{crate}")):
+                found.append(read_edit(crate, f"{folder}/{crate}/{name}"))
+    return [it for it in found if it.layer in layers]
+
+
+def rounds_of(edits):
+    """Shares the edits of one crate out: no two of a round edit one function."""
+    rounds = []
+    for edit in edits:
+        for one in rounds:
+            if not any(it.is_constant() or edit.is_constant() or edit.functions() & it.functions() for it in one):
+                one.append(edit)
+                break
+        else:
+            rounds.append([edit])
+    return rounds
+
+
+def words_to_check(name):
+    """The words of a check of the crate over the libraries in out/rlib."""
+    uses, below = listed()[name], crates()[name]
+    words = [f"{KIT}/bin/rattle", "check", "--crate-name", name, "src/main.rt" if is_program(name) else "src/lib.rt"]
+    for it in ["std", *uses]:
+        words += ["--extern", f"{it}={rlib(it) if it in listed() else f'{KIT}/rlibs/{it}.rlib'}"]
+    for folder in [f"{KIT}/rlibs", *(os.path.dirname(rlib(it)) for it in below)]:
+        words += ["-L", f"dependency={folder}"]
+    words += ["--antt-project", f"{KIT}/rattle/logic/antt-project.json", "--logic-built", f"{KIT}/logic_built"]
+    return [*words, "--links", f"{name}=", "--jobs", "1"]
+
+
+def check(name, kept, edits):
+    """The lines of a check of the crate with these edits, over what is kept in that folder."""
+    texts = {}
+    for edit in edits:
+        texts = edit.applied(texts)
+    return check_texts(name, texts, ["--incremental", kept])
+
+
+def check_texts(name, texts, more):
+    """The lines of a check of the crate with these texts in place of its own files."""
+    with tempfile.TemporaryDirectory(prefix="edits-", ignore_cleanup_errors=True) as room:
+        for part in PARTS:
+            if os.path.isdir(f"{ROOT}/crates/{name}/{part}"):
+                shutil.copytree(f"{ROOT}/crates/{name}/{part}", f"{room}/{part}")
+        for file, text in texts.items():
+            with open(f"{room}/{file}", "w", encoding="utf-8") as it:
+                it.write(text)
+        how = {"cwd": room, "stdin": subprocess.DEVNULL, "stdout": subprocess.PIPE, "stderr": subprocess.STDOUT}
+        ran = subprocess.run([*words_to_check(name), *more], text=True, errors="replace", **how)
+    return ran.stdout.splitlines()
+
+
+def typed_rounds(edits):
+    """Shares the edits of one crate out so that no two of a round change one function or constant."""
+    rounds = []
+    for edit in edits:
+        one = next((it for it in rounds if not any(other.functions() & edit.functions() for other in it)), None)
+        if one is None:
+            rounds.append([edit])
+        else:
+            one.append(edit)
+    return rounds
+
+
+def type_errors(name, edits):
+    """The compiler's errors in a crate with these edits, but for the one that is put in so that nothing is proved."""
+    texts = {}
+    for edit in edits:
+        texts = edit.applied(texts)
+    root = "src/main.rt" if is_program(name) else "src/lib.rt"
+    if root not in texts:
+        with open(f"{ROOT}/crates/{name}/{root}", encoding="utf-8") as it:
+            texts[root] = it.read()
+    own = f"{root}:{texts[root].count(chr(10)) + 3}:"
+    texts[root] += "\nfn no_type() -> u8 {\n    true\n}\n"
+    lines = check_texts(name, texts, [])
+    errors = [it for it in lines if re.match(r"src/\S+: error", it)]
+    others = [it for it in errors if not it.startswith(own)]
+    return others if others or errors else [f"the compiler does not tell the error that was put in: {lines[-1:]}"]
+
+
+def wrong_types(name, edits):
+    """The edits of a round that are not well typed, each with the first error."""
+    try:
+        errors = type_errors(name, edits)
+    except (BadEdit, ValueError, OSError) as why:
+        errors = [str(why)]
+    if not errors:
+        return []
+    if len(edits) == 1:
+        return [(edits[0], errors[0])]
+    half = len(edits) // 2
+    return wrong_types(name, edits[:half]) + wrong_types(name, edits[half:])
+
+
+def tell_wrong_types(edits):
+    """Tells of each edit that is not well typed, and returns how many there are."""
+    names = dict.fromkeys(it.crate for it in edits)
+    with ThreadPoolExecutor(len(os.sched_getaffinity(0))) as pool:
+        found = [pool.submit(wrong_types, name, one) for name in names for one in typed_rounds([it for it in edits if it.crate == name])]
+        wrong = [it for one in found for it in one.result()]
+    for edit, why in wrong:
+        print(f"edit {edit.crate}/{edit.name}: not well typed: {why}", flush=True)
+    return len(wrong)
+
+
+def is_real(line):
+    """Whether this tells of an error, and of none that is there only since something that it names is gone or was refused itself."""
+    return ": error: " in line and not GONE.search(line)
+
+
+def goal_at(name, line):
+    """The goal whose answer, or else the lemma whose proof, an error of a crate's proofs stands in; nothing where it stands in neither, as in
+    a line that imports what is not there."""
+    at = PLACE.match(line)
+    if not at:
+        return ""
+    with open(f"{ROOT}/crates/{name}/{at[1]}", encoding="utf-8") as it:
+        above = it.read().splitlines()[: int(at[2])]
+    if above[-1].startswith("use "):
+        return ""
+    stated = next((found for it in reversed(above) if (found := STATED.match(it))), None)
+    return (stated[2] or stated[1]) if stated else ""
+
+
+def open_functions(name, lines):
+    """The functions that have an open goal of their own, each with the goals that are named, and those of which only a file of the proof
+    names what is not there. A goal of a closure is its function's."""
+    goals, cites = {}, set()
+    for line in lines:
+        at = VERDICT.match(line)
+        if not at:
+            continue
+        answers = "./proofs/" + at[2].replace("::", "/") + "/"
+        said = [it for it in lines if it.startswith(answers) and ": error: " in it]
+        unproved = re.findall(r"`([^`]+)`", at[4].partition("did not prove")[2])
+        named = unproved + [goal for it in filter(is_real, said) if (goal := goal_at(name, it))]
+        if named:
+            goals.setdefault(told(at[2].split("::")), []).extend(named)
+        elif said:
+            cites.add(told(at[2].split("::")))
+    return goals, cites - goals.keys()
+
+
+def all_functions(lines):
+    """The functions that the check speaks of."""
+    found = (re.match(r"fn \w+::(.*?): ", it) for it in lines)
+    return {told(it[1].split("::")) for it in found if it}
+
+
+@dataclass
+class Outcome:
+    """What a round showed: the edits that it refused, those that are left to be tried, why an edit cannot be tried, the edits of which
+    only a proof's names are gone, and the goals that are open of each function."""
+
+    refused: list
+    left: list
+    bad: str = ""
+    cited: tuple = ()
+    goals: dict = field(default_factory=dict)
+
+    def goal(self, edit):
+        """A goal that refuses an edit, in words."""
+        named = [goal for it in sorted(edit.functions()) for goal in self.goals.get(it, [])]
+        return f"by the goal {named[0]}, " if named else ""
+
+
+def try_round(name, kept, is_own, edits):
+    """Checks a round over a folder of what is kept, or, where it is not the round's own, over a copy of it."""
+    try:
+        if is_own:
+            lines = check(name, kept, edits)
+        else:
+            with tempfile.TemporaryDirectory(prefix="edits-", ignore_cleanup_errors=True) as room:
+                lines = check(name, shutil.copytree(kept, f"{room}/kept"), edits)
+    except (BadEdit, OSError, shutil.Error) as why:
+        # what the machine refused may be had by a smaller round
+        return Outcome([], edits, str(why) or repr(why))
+    judged = any(it.startswith(("logic=not-proved", "logic=proved")) for it in lines)
+    if not judged:
+        return Outcome([], edits, next((it for it in lines if "error" in it), f"the check gave no verdict: {lines[-1:]}"))
+    (goals, cites), known = open_functions(name, lines), all_functions(lines)
+    strange = [it for edit in edits for it in edit.functions() - known if not edit.is_constant()]
+    if strange:
+        return Outcome([], edits, f"the check names no function {strange[0]}")
+    if edits[0].is_constant():
+        # what a constant is may be said by a lemma of its own
+        named = [goal for it in goals.values() for goal in it] or [goal for it in filter(is_real, lines) if (goal := goal_at(name, it))]
+        return Outcome(edits, [], goals={it: named for it in edits[0].functions()}) if named else Outcome([], edits)
+    if (goals.keys() | cites) - {it for edit in edits for it in edit.functions()}:
+        return Outcome([], edits)
+    refused = [it for it in edits if it.functions() & goals.keys()]
+    cited = [it for it in edits if it not in refused and it.functions() & cites]
+    return Outcome(refused, [it for it in edits if it not in refused and it not in cited], cited=tuple(cited), goals=goals)
+
+
+def tell(edit, refused, how):
+    print(f"edit {edit.crate}/{edit.name}: {'refused' if refused else 'NOT REFUSED'} ({how})", flush=True)
+    return refused
+
+
+@dataclass
+class Work:
+    """What is left to be tried of a crate, and over what."""
+
+    crate: str
+    kept: str
+    rounds: list
+    # how many more rounds run in turn over the folder itself
+    in_turn: int
+    is_busy: bool = False
+
+    def may_start(self):
+        return self.rounds and not (self.in_turn and self.is_busy)
+
+
+def work_on(crate, edits, room):
+    """A crate's rounds, over what its own check kept or over a new folder."""
+    kept = f"{ROOT}/crates/{crate}/out/incremental"
+    if os.path.isdir(kept) and os.listdir(kept):
+        return Work(crate, kept, rounds_of(edits), 0)
+    os.mkdir(f"{room}/{crate}")
+    return Work(crate, f"{room}/{crate}", rounds_of(edits), IN_TURN)
+
+
+def size_of(crate):
+    """How many bytes its files have, by which the dearest crate is told."""
+    return sum(os.path.getsize(it) for it in files_of(crate))
+
+
+def left_of(one, outcome):
+    """The rounds in which what this one left is tried."""
+    if len(one) == 1 or not outcome.left:
+        return []
+    if outcome.refused or outcome.cited:
+        return [[it] for it in outcome.left]
+    half = len(outcome.left) // 2
+    return [outcome.left[:half], outcome.left[half:]]
+
+
+def judge(edits):
+    """Tries all edits, rounds side by side, and returns for each whether it was refused."""
+    verdicts, running, lanes = {}, {}, len(os.sched_getaffinity(0))
+    with tempfile.TemporaryDirectory(prefix="edits-", ignore_cleanup_errors=True) as room, ThreadPoolExecutor(lanes) as pool:
+        names = sorted(dict.fromkeys(it.crate for it in edits), key=size_of, reverse=True)
+        works = [work_on(it, [edit for edit in edits if edit.crate == it], room) for it in names]
+        while running or any(it.rounds for it in works):
+            for work in works:
+                while len(running) < lanes and work.may_start():
+                    one, is_own = work.rounds.pop(0), work.in_turn > 0
+                    work.is_busy = is_own
+                    running[pool.submit(try_round, work.crate, work.kept, is_own, one)] = work, one, is_own
+            for done in wait(running, return_when=FIRST_COMPLETED).done:
+                (work, one, is_own), outcome = running.pop(done), done.result()
+                if is_own:
+                    work.is_busy, work.in_turn = False, work.in_turn - (not outcome.bad)
+                for edit in outcome.refused:
+                    verdicts[edit.crate, edit.name] = tell(edit, True, f"{outcome.goal(edit)}one of {len(one)} in a check")
+                for edit in outcome.cited:
+                    verdicts[edit.crate, edit.name] = tell(edit, False, "only a name that its proof cites is gone")
+                if len(one) == 1 and outcome.left:
+                    verdicts[one[0].crate, one[0].name] = tell(one[0], False, outcome.bad or "alone")
+                work.rounds += left_of(one, outcome)
+    return verdicts
+
+
+def is_told(edit):
+    """Whether the rows that an edit names tell its wrong body: what is built with it, unproved, plays them otherwise."""
+    file = rows.read(pathlib.Path(ROOT, edit.refusal.removeprefix(" told by ")))
+    steps, probe = file.steps(), file.layer().PROBE
+    sent = "".join(step.event + "\n" for step in steps)
+    with tempfile.TemporaryDirectory(prefix="edits-", ignore_cleanup_errors=True) as room:
+        furnish(room, probe, [], kept=False)
+        for name, text in edit.applied({}).items():
+            with open(f"{room}/crates/{edit.crate}/{name}", "w", encoding="utf-8") as it:
+                it.write(text)
+        how = {"cwd": f"{room}/crates/{probe}", "input": sent, "capture_output": True, "text": True, "errors": "replace"}
+        ran = subprocess.run(["rt", "try"], **how)
+    # a line that is not there tells nothing: the build may have failed
+    lines = ran.stdout.splitlines()[: len(steps)]
+    return bool(rows.differences(lines, steps[: len(lines)]))
+
+
+def judge_by_rows(edits):
+    """Tries the edits that rows tell, and returns for each whether they did."""
+    return {(it.crate, it.name): tell(it, is_told(it), "by rows") for it in edits}
+
+
+def judge_by_tests(edits):
+    """Tries the edits that tests of the programs tell, and returns for each whether they did."""
+    if not edits:
+        return {}
+    with tempfile.TemporaryDirectory(prefix="edits-", ignore_cleanup_errors=True) as room:
+        unproved = Unproved(room)
+        whys = ((it, unproved.missed(it)) for it in edits)
+        return {(it.crate, it.name): tell(it, not why, why or "by a test") for it, why in whys}
+
+
+def rlib(library):
+    return f"{ROOT}/crates/{library}/out/rlib/{library}.rlib"
+
+
+def files_of(crate):
+    return [f"{at}/{it}" for part in PARTS for at, _, names in os.walk(f"{ROOT}/crates/{crate}/{part}") for it in names]
+
+
+def is_made(library, below):
+    """Whether the library lies there as `rt ci` leaves it, with no stamp by which `rt` could tell, and nothing of it or below it
+    is newer."""
+    made = rlib(library)
+    if not os.path.isdir(made) or os.path.exists(f"{os.path.dirname(made)}/stamp"):
+        return False
+    from_what = [*files_of(library), *(file for it in below for file in [rlib(it), *files_of(it)])]
+    return all(os.path.getmtime(it) <= os.path.getmtime(made) for it in from_what)
+
+
+def make_libraries(names, below):
+    """Proves the libraries below these crates where they are not there, lowest first. A proof that ended for want of memory is
+    begun again."""
+    for library in dict.fromkeys(it for name in names for it in below[name]):
+        if is_made(library, below[library]):
+            continue
+        make = ["rt", "lib"]
+        for _ in range(2):
+            ran = subprocess.run(make, cwd=f"{ROOT}/crates/{library}", stdin=subprocess.DEVNULL, capture_output=True, text=True, errors="replace")
+            if not ran.returncode:
+                break
+        else:
+            raise SystemExit(f"{ran.stdout}{library} is not proved\n0 passed, 1 failed")
+
+
+def wrong_in(control, verdicts):
+    """The control edits that were told as what they are not: those named harmless_ must not be refused, the others must."""
+    wrong = [it for it in control if verdicts[it.crate, it.name] == it.name.startswith("harmless_")]
+    for edit in wrong:
+        print(f"control {edit.name}: told as what it is not")
+    return len(wrong)
+
+
+def main(words):
+    below, is_all = crates(), "--all" in words
+    names = [it for it in words if not it.startswith("--")]
+    unknown = [it for it in words if it not in below and it not in ("--all", "--control", "--list", "--rows", "--tests", "--types")]
+    if unknown:
+        raise SystemExit(f"no crate {unknown[0]}\n0 passed, 1 failed")
+    whole = edits_of(f"{ROOT}/tests/mutants/edits", names or below, ["gate", "all", "rows", *PROGRAMS])
+    unquoted = tell_wrong_quotes(whole)
+    if "--list" in words:
+        print("\n".join("  ".join(it) for it in sorted(it.row() for it in whole)))
+        return 1 if unquoted else 0
+    control = [] if names else edits_of(f"{ROOT}/tests/mutants/edits/control", below, ["control"])
+    edits = edits_of(f"{ROOT}/tests/mutants/edits", names or below, ["gate", "all"] if is_all else ["gate"])
+    by_rows = [it for it in whole if it.layer == "rows"] if is_all or "--rows" in words else []
+    by_tests = [it for it in whole if it.layer in PROGRAMS] if is_all or "--tests" in words else []
+    if {"--control", "--types"} & set(words):
+        edits = []
+    if {"--rows", "--tests", "--types"} & set(words):
+        control, edits = [], []
+    typed = [] if {"--control", "--rows", "--tests"} & set(words) else whole
+    make_libraries(dict.fromkeys(it.crate for it in control + edits + typed), below)
+    untyped = tell_wrong_types(typed)
+    told_of = f", and {len(typed) - untyped} of {len(typed)} are well typed" if typed else ""
+    quoting = sum(it.layer in ("gate", "all") for it in whole)
+    print(f"{quoting - unquoted} of {quoting} edits quote a clause{told_of}", flush=True)
+    if control:
+        print("The edits named harmless_ are a control, and must be told as NOT REFUSED.", flush=True)
+    verdicts = {**judge(control + edits), **judge_by_rows(by_rows), **judge_by_tests(by_tests)}
+    edits += by_rows + by_tests
+    wrong = wrong_in(control, verdicts) + sum(not verdicts[it.crate, it.name] for it in edits)
+    used = resource.getrusage(resource.RUSAGE_CHILDREN)
+    print(f"{used.ru_utime + used.ru_stime:.0f} s of processor time, and at most {used.ru_maxrss // 1000} MB in a process")
+    tried = len(typed) if "--types" in words else len(control) + len(edits)
+    print(f"{max(tried - wrong - unquoted - untyped, 0)} passed, {wrong + unquoted + untyped} failed")
+    return 1 if wrong or unquoted or untyped else 0
+
+
+if __name__ == "__main__":
+    sys.exit(main(sys.argv[1:]))

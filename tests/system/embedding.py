@@ -1,0 +1,74 @@
+#!/usr/bin/env python3
+"""Runs the example of a program that embeds the server, and reads by coap-client what it measures.
+
+    tests/system/embedding.py bin/example-gateway bin/coap-client
+
+A file of this script is the sensor. Each wait ends after some seconds.
+"""
+
+import os
+import subprocess
+import sys
+import tempfile
+
+sys.path.insert(0, os.path.join(os.path.dirname(os.path.abspath(__file__)), "..", "harness"))
+from checks import Checks  # noqa: E402
+from peers import LIMIT, LOCAL, line_of  # noqa: E402
+from sockets import client  # noqa: E402
+
+
+class Sensor:
+    """A file with a measured value, which changes at once."""
+
+    def __init__(self, folder):
+        self.name = f"{folder}/sensor"
+
+    def tell(self, value):
+        with open(f"{self.name}.new", "w", encoding="ascii") as it:
+            it.write(value)
+        os.replace(f"{self.name}.new", self.name)
+
+
+def check_gateway(checks, program, uri, sensor):
+    """A value, the next one, and how an observer is told one more."""
+    checks.same("the value", client(program, [uri]), (0, b"20.5", b""))
+    sensor.tell("21.0")
+    checks.same("the value that changed", client(program, [uri]), (0, b"21.0", b""))
+    observer = subprocess.Popen([program, "-s", "3", "-w", uri], stdin=subprocess.DEVNULL, stdout=subprocess.PIPE, stderr=subprocess.PIPE)
+    first = line_of(observer.stdout)
+    sensor.tell("21.5")
+    told, complained = observer.communicate(timeout=LIMIT)
+    values = [first.decode().strip(), *told.decode().split()]
+    checks.same("what an observer is told", (list(dict.fromkeys(values)), observer.returncode, complained), (["21.0", "21.5"], 0, b""))
+    # one resource is all that it has a place for
+    checks.same("a second resource", client(program, ["-m", "put", "-e", "x", uri + "/else"]), (2, b"", b"4.06\n"))
+    checks.same("a path where nothing is", client(program, [uri + "/else"]), (2, b"", b"4.04\n"))
+
+
+def check_end(checks, gateway, sensor):
+    """It ends where the sensor cannot be read."""
+    os.remove(sensor.name)
+    checks.same("it ends without a sensor", gateway.wait(LIMIT), 1)
+
+
+def main(program, client_program):
+    checks = Checks()
+    with tempfile.TemporaryDirectory(prefix="embedding-") as folder:
+        sensor = Sensor(folder)
+        sensor.tell("20.5")
+        gateway = subprocess.Popen([program, f"{LOCAL}:0", sensor.name], stdin=subprocess.DEVNULL, stdout=subprocess.DEVNULL, stderr=subprocess.PIPE)
+        try:
+            said = line_of(gateway.stderr).decode()
+            checks.same("line", said.rpartition(" ")[0], "example_gateway: listening on")
+            check_gateway(checks, client_program, "coap+tcp://%s/measured" % said.rpartition(" ")[2].strip(), sensor)
+            check_end(checks, gateway, sensor)
+        finally:
+            gateway.kill()
+            gateway.wait(LIMIT)
+            gateway.stderr.close()
+    print(f"{checks.passed} passed, {checks.failed} failed")
+    return 1 if checks.failed else 0
+
+
+if __name__ == "__main__":
+    sys.exit(main(*sys.argv[1:]))

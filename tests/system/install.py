@@ -1,0 +1,182 @@
+"""Installs the programs, their manuals, the unit and HAProxy's configuration into temporary folders, and takes them away again.
+
+    tests/system/install.py bin/coap-server bin/coap-client
+
+`make` runs over a copy of what is installed, whose sources are newer than the programs and whose builder fails, so that
+nothing can be built on the way. Where systemd-analyze is there, it looks at the unit; it is not installed for that.
+"""
+
+import os
+import re
+import shutil
+import stat
+import subprocess
+import sys
+import tempfile
+
+sys.path.insert(0, os.path.join(os.path.dirname(os.path.abspath(__file__)), "..", "harness"))
+from checks import Checks  # noqa: E402
+from rooms import ROOT  # noqa: E402
+
+PROGRAMS = ["coap-server", "coap-client"]
+
+UNIT = "lib/systemd/system/coap-server.service"
+
+FRONT = "share/doc/coap-server/examples/haproxy.cfg"
+
+# what systemd-analyze says of the unit's exposure, at most, of 10; what is left is that it speaks to every network
+EXPOSURE = 1.1
+
+LIMIT = 60
+
+
+def wanted_files():
+    """What is installed below the prefix, each with its mode."""
+    files = {"bin/%s" % name: 0o755 for name in PROGRAMS}
+    files.update({"share/man/man1/%s.1" % name: 0o644 for name in PROGRAMS})
+    files.update({UNIT: 0o644, FRONT: 0o644})
+    return files
+
+
+def run(words, folder):
+    """The status of a run whose files are the owner's alone where nothing else is said, and what it wrote."""
+    done = subprocess.run(words, cwd=folder, stdin=subprocess.DEVNULL, stdout=subprocess.PIPE, stderr=subprocess.STDOUT,
+                          umask=0o077, timeout=LIMIT)
+    return done.returncode, done.stdout.decode(errors="replace")
+
+
+def make(folder, target, prefix, destination):
+    """Runs a target of the Makefile; without a prefix it is the Makefile's own."""
+    words = ["make", target] + (["PREFIX=" + prefix] if prefix else []) + (["DESTDIR=" + destination] if destination else [])
+    return run(words, folder)
+
+
+def copy_tree(folder, programs):
+    """Copies what is installed, with sources that are newer and a builder that fails."""
+    os.makedirs(os.path.join(folder, "bin"))
+    for name, program in zip(PROGRAMS, programs):
+        shutil.copy(program, os.path.join(folder, "bin", name))
+        os.utime(os.path.join(folder, "bin", name), (0, 0))
+    for name in ("man", "install"):
+        shutil.copytree(os.path.join(ROOT, name), os.path.join(folder, name))
+    for name in ("Makefile", "crates.txt"):
+        shutil.copy(os.path.join(ROOT, name), folder)
+    os.makedirs(os.path.join(folder, "crates"))
+    os.makedirs(os.path.join(folder, "tests"))
+    with open(os.path.join(folder, "tests", "build"), "w", encoding="utf-8") as builder:
+        builder.write("#!/bin/sh\nexit 1\n")
+        os.chmod(builder.name, 0o755)
+
+
+def files_below(folder):
+    """The files below a folder, each with its mode."""
+    found = {}
+    for place, _, names in os.walk(folder):
+        for name in names:
+            path = os.path.join(place, name)
+            found[os.path.relpath(path, folder)] = stat.S_IMODE(os.lstat(path).st_mode)
+    return found
+
+
+def folder_modes(folder):
+    """The modes of the folders below a folder."""
+    return {stat.S_IMODE(os.lstat(os.path.join(place, name)).st_mode) for place, names, _ in os.walk(folder) for name in names}
+
+
+def read(*parts):
+    with open(os.path.join(*parts), "rb") as file:
+        return file.read()
+
+
+def check_prefix(checks, tree, prefix):
+    """One installation: what is there then, what is in it, and what is left of it once it was taken away."""
+    told = prefix or "/usr/local"
+    with tempfile.TemporaryDirectory(prefix="a folder ") as destination:
+        checks.same("%s: install" % told, make(tree, "install", prefix, destination)[0], 0)
+        below = {"%s/%s" % (told[1:], name): mode for name, mode in wanted_files().items()}
+        checks.same("%s: files" % told, files_below(destination), below)
+        checks.same("%s: folders" % told, folder_modes(destination), {0o755})
+        place = destination + told
+        for name in PROGRAMS:
+            checks.same("%s: %s" % (told, name), read(place, "bin", name) == read(tree, "bin", name), True)
+            checks.same("%s: %s.1" % (told, name), read(place, "share/man/man1", name + ".1") == read(tree, "man", name + ".1"), True)
+        checks.same("%s: HAProxy's configuration" % told, read(place, FRONT) == read(tree, "install", "haproxy.cfg"), True)
+        unit = read(place, UNIT).decode()
+        starts = re.findall(r"(?m)^ExecStart=(.*)$", unit)
+        checks.same("%s: what the unit starts" % told, starts, ["%s/bin/coap-server $COAP_SERVER_OPTIONS" % told])
+        checks.same("%s: what is left to be written into the unit" % told, re.findall(r"@\w+@", unit), [])
+        others = [os.path.join(os.path.dirname(name), "other") for name in below]
+        for name in others:
+            with open(os.path.join(destination, name), "w", encoding="utf-8"):
+                pass
+        checks.same("%s: uninstall" % told, make(tree, "uninstall", prefix, destination)[0], 0)
+        checks.same("%s: what uninstall leaves" % told, sorted(files_below(destination)), sorted(set(others)))
+        for name in set(others):
+            os.remove(os.path.join(destination, name))
+        checks.same("%s: nothing but folders" % told, files_below(destination), {})
+
+
+def check_unbuilt(checks, tree):
+    """That nothing is installed, and nothing built, where a program is missing."""
+    with tempfile.TemporaryDirectory() as destination:
+        missing = os.path.join(tree, "bin", "coap-client")
+        os.rename(missing, missing + ".away")
+        status, said = make(tree, "install", "", destination)
+        os.rename(missing + ".away", missing)
+        checks.same("a missing program", (status != 0, "make all" in said, files_below(destination)), (True, True, {}))
+
+
+def check_unit(checks, tree):
+    """What systemd says of the unit, installed where it is to run."""
+    with tempfile.TemporaryDirectory() as prefix:
+        make(tree, "install", prefix, "")
+        unit = os.path.join(prefix, UNIT)
+        status, said = run(["systemd-analyze", "verify", "--man=no", unit], prefix)
+        remarks = [line for line in said.splitlines() if "coap-server" in line]
+        checks.same("what systemd-analyze verifies", (status, remarks), (0, []))
+        status, said = run(["systemd-analyze", "security", "--offline=true", "--no-pager", unit], prefix)
+        exposure = re.search(r"Overall exposure level for coap-server\.service: ([\d.]+)", said)
+        checks.same("the unit's exposure of at most %s" % EXPOSURE, (status, bool(exposure) and float(exposure[1]) <= EXPOSURE), (0, True))
+
+
+def check_numbered_unit(checks, tree):
+    """What systemd says of the unit of several servers, which docs/DEPLOYING.md makes of the installed one."""
+    changes = re.findall(r"-e ('[^']*')", read(ROOT, "docs", "DEPLOYING.md").decode())
+    with tempfile.TemporaryDirectory() as prefix:
+        make(tree, "install", prefix, "")
+        unit = os.path.join(prefix, "coap-server@.service")
+        run(["sh", "-c", "sed -e %s %s > %s" % (" -e ".join(changes), os.path.join(prefix, UNIT), unit)], prefix)
+        said = read(unit).decode().splitlines()
+        for line in ("EnvironmentFile=-/etc/default/coap-server-%i", "ExecStartPre=/bin/sleep %i"):
+            checks.same("%s in the numbered unit" % line, said.count(line), 1)
+        status, said = run(["systemd-analyze", "verify", "--man=no", unit.replace("@", "@1")], prefix)
+        checks.same("what systemd-analyze verifies of it", (status, [line for line in said.splitlines() if "coap-server" in line]), (0, []))
+
+
+def check(programs):
+    checks = Checks()
+    with tempfile.TemporaryDirectory() as folder:
+        tree = os.path.join(folder, "tree")
+        copy_tree(tree, programs)
+        for prefix in ("", "/opt/coap"):
+            check_prefix(checks, tree, prefix)
+        check_unbuilt(checks, tree)
+        if shutil.which("systemd-analyze"):
+            check_unit(checks, tree)
+            check_numbered_unit(checks, tree)
+        else:
+            print("systemd-analyze is not there: it did not look at the unit")
+    print("install: %d passed, %d failed" % (checks.passed, checks.failed))
+    return 1 if checks.failed else 0
+
+
+def main(words):
+    try:
+        return check([os.path.abspath(word) for word in words])
+    except (OSError, subprocess.SubprocessError) as trouble:
+        print("FAILED install: %s" % trouble)
+        return 1
+
+
+if __name__ == "__main__":
+    sys.exit(main(sys.argv[1:]))

@@ -1,0 +1,340 @@
+"""Lets libcoap's client talk to our server and our client to libcoap's server, over sockets, and lets tshark read what both sent.
+
+    tests/system/interop.py bin/coap-server bin/coap-client
+
+It needs Debian's packages libcoap3-bin and tshark, and installs what is missing. Each run of a client has a relay of its own between
+itself and the server, which keeps every byte of both directions.
+"""
+
+import collections
+import os
+import random
+import re
+import struct
+import subprocess
+import sys
+import tempfile
+
+sys.path.insert(0, os.path.join(os.path.dirname(os.path.abspath(__file__)), "..", "harness"))
+import messages  # noqa: E402
+from capture import decode, faults, of_side  # noqa: E402
+from checks import Checks  # noqa: E402
+from packages import install  # noqa: E402
+from peers import LIMIT, Server  # noqa: E402
+from relay import Relay  # noqa: E402
+
+PACKAGES = {"coap-client-notls": "libcoap3-bin", "coap-server-notls": "libcoap3-bin", "tshark": "tshark"}
+
+# The codes of CoAP that are wanted here.
+CREATED, DELETED, CHANGED, CONTENT, NOT_FOUND, SETTINGS = 0x41, 0x42, 0x44, 0x45, 0x84, 0xE1
+
+OBSERVE = 6
+
+# Resources that the servers have: a path, and what its content is like.
+OUR_RESOURCES = [
+    ("/", rb"coap\+tcp"),
+    ("/time", rb"[1-9][0-9]{9}"),
+    ("/async?0", rb"done"),
+    ("/async?1", rb"done"),
+    ("/.well-known/core", re.escape(b"</>;ct=0,</time>;ct=0;obs,</async>;ct=0")),
+]
+
+LIBCOAP_RESOURCES = [
+    ("/", rb"This is a test server made with libcoap .*"),
+    ("/time", rb"[A-Z][a-z]{2} [0-9]{2} [0-9]{2}:[0-9]{2}:[0-9]{2}"),
+    ("/async?1", rb"done"),
+    ("/.well-known/core", rb'</>;title="General Info";ct=0,</time>.*'),
+    ("/example_data", rb"(?:[a-z]123456789)+"),
+]
+
+# What is done with one stored resource: a method, its payload, the code of the answer, and what the client prints.
+STORED = [
+    ("put", "one", CREATED, rb""),
+    ("put", "two", CHANGED, rb""),
+    ("get", "", CONTENT, rb"two"),
+    ("delete", "", DELETED, rb""),
+    ("get", "", NOT_FOUND, rb""),
+]
+
+# What an observer of a stored resource is told: its first state, and three changes.
+STATES = [b"first", b"second", b"third", b"fourth"]
+
+# Seconds of that observation, of one of the moment by libcoap's client, and of one by ours.
+WATCHES_STATES = 3
+LIBCOAP_WATCHES_TIME = 2
+WE_WATCH_TIME = 3
+
+BODY = random.Random(8323).randbytes(65_000)
+
+# How long a client waits for an answer.
+WAITS = ["-B", "5"]
+
+Told = collections.namedtuple("Told", "status output error")
+
+
+def finish(process):
+    """What a client tells until it ends."""
+    try:
+        output, error = process.communicate(timeout=LIMIT)
+        return Told(process.returncode, output, error.decode(errors="replace"))
+    except subprocess.TimeoutExpired:
+        process.kill()
+        output, error = process.communicate()
+        return Told("no end within %d s" % LIMIT, output, error.decode(errors="replace"))
+
+
+def start(client, words, uri):
+    """Runs a client."""
+    return subprocess.Popen([client, *words, uri], stdin=subprocess.DEVNULL, stdout=subprocess.PIPE, stderr=subprocess.PIPE)
+
+
+def like(pattern, output):
+    """The pattern where the output is like it, else the output."""
+    return pattern if re.fullmatch(pattern, output, re.DOTALL) else output
+
+
+def first_word(text):
+    return " ".join(text.split()[:1])
+
+
+def parsed(frame):
+    """Code, token, options and payload of a message, or nothing where it cannot be read."""
+    try:
+        return messages.parse(frame)
+    except (messages.Malformed, IndexError):
+        return None, b"", [], b""
+
+
+def parsed_of(conversation, from_server):
+    """The messages of one side, each as `parsed` gives it."""
+    return [parsed(frame) for side, frame in conversation.messages() if side == from_server]
+
+
+def code_text(code):
+    return "%d.%02d" % (code >> 5, code & 31)
+
+
+class Ends:
+    """A client, the server that it asks, and what they have sent in all their conversations."""
+
+    # What our client adds to content that it prints, its status for an answer that is not 2.xx, and whether it waits for the
+    # answer to the end of an observation.
+    ending = b""
+    declined = 2
+    waits_for_the_end = True
+
+    def __init__(self, checks, name, client, server):
+        self.checks = checks
+        self.name = name
+        self.client = client
+        self.server = server
+        self.conversations = []
+
+    def relay(self, name):
+        """A relay for one client, and its conversation under a name."""
+        relay = Relay(self.server.host, self.server.port)
+        self.conversations.append((name, relay.conversation))
+        return relay
+
+    def run(self, name, words, path):
+        """Runs the client once: what it tells, and the conversation."""
+        with self.relay(name) as relay:
+            told = finish(start(self.client, WAITS + words, relay.origin + path))
+        return told, relay.conversation
+
+    def expect(self, words, path, code, pattern):
+        """Runs the client once, checks what it tells and the code that the server sends, and gives the conversation."""
+        name = " ".join([self.name + ":", *words, path])
+        told, conversation = self.run(name, words, path)
+        pattern += self.ending if pattern else b""
+        is_error = code >= NOT_FOUND
+        wanted = (self.declined if is_error else 0, pattern, code_text(code) if is_error else "")
+        got = (told.status, like(pattern, told.output), first_word(told.error))
+        self.checks.same(name + ": the client's status, output and error", got, wanted)
+        self.checks.same(name + ": the server's codes", [it[0] for it in parsed_of(conversation, True)], [SETTINGS, code])
+        return conversation
+
+    def put(self, path, text, code):
+        return self.expect(["-m", "put", "-e", text], path, code, b"")
+
+
+class LibcoapAsks(Ends):
+    """libcoap's client and the server that it asks."""
+
+    ending = b"\n"
+    declined = 0
+    waits_for_the_end = False
+
+
+def check_resources(ends, resources):
+    """Resources that the server has, and one that it does not have."""
+    for path, pattern in resources:
+        ends.expect([], path, CONTENT, pattern)
+    ends.expect([], "/none", NOT_FOUND, b"")
+
+
+def check_stored(ends):
+    """A resource that a client makes, changes, reads and deletes."""
+    for method, payload, code, pattern in STORED:
+        ends.expect(["-m", method] + (["-e", payload] if payload else []), "/stored", code, pattern)
+
+
+def content_of(name):
+    """The bytes of a file, where there is one."""
+    if not os.path.exists(name):
+        return None
+    with open(name, "rb") as file:
+        return file.read()
+
+
+def check_body(ends):
+    """A great body, in one message, and back."""
+    with tempfile.TemporaryDirectory() as folder:
+        there, back = os.path.join(folder, "there"), os.path.join(folder, "back")
+        with open(there, "wb") as file:
+            file.write(BODY)
+        sent = ends.expect(["-m", "put", "-t", "42", "-f", there], "/body", CREATED, b"")
+        payloads = [it[3] for it in parsed_of(sent, False)]
+        ends.checks.same(ends.name + ": the body is sent in one message", [len(it) for it in payloads if it == BODY], [len(BODY)])
+        ends.expect(["-o", back], "/body", CONTENT, b"")
+        ends.checks.same(ends.name + ": the body comes back", content_of(back) == BODY, True)
+
+
+def watch(ends, path, seconds, states):
+    """Observes a resource, lets another client put these states one by one, each as the one before was told, and gives what the
+    observer tells and its conversation."""
+    name = "%s: -s %d %s" % (ends.name, seconds, path)
+    with ends.relay(name) as relay:
+        process = start(ends.client, WAITS + ["-s", str(seconds)], relay.origin + path)
+        for state in states[:1]:
+            ends.checks.same(name + ": told %r" % state, relay.conversation.wait_for(True, state), True)
+        for state in states[1:]:
+            ends.put(path, state.decode(), CHANGED)
+            ends.checks.same(name + ": told %r" % state, relay.conversation.wait_for(True, state), True)
+        told = finish(process)
+    return name, told, relay.conversation
+
+
+def check_end(ends, name, conversation):
+    """How an observation ends in the bytes, and the contents of which it told while it lasted."""
+    asked = [it for it in parsed_of(conversation, False) if it[0] != SETTINGS]
+    answered = [it for it in parsed_of(conversation, True) if it[0] != SETTINGS]
+    first = asked[0][1] if asked else None
+    asks = [(code, token == first, [value for number, value in options if number == OBSERVE]) for code, token, options, _ in asked]
+    ends.checks.same(name + ": GET with Observe 0, and then 1, with one token", asks, [(1, True, [b""]), (1, True, [b"\x01"])])
+    tells = [[number for number, _ in options if number == OBSERVE] for _, _, options, _ in answered]
+    ends.checks.same(name + ": Observe in all answers but the last", tells, [[OBSERVE]] * (len(answered) - 1) + [[]])
+    kinds = {(code, token == first) for code, token, _, _ in answered}
+    ends.checks.same(name + ": every answer is content for that token", kinds, {(CONTENT, True)})
+    return [it[3] for it in answered]
+
+
+def check_watched(ends, name, told, contents):
+    """What the observer prints, of these contents of which the last one came at its end."""
+    printed = contents if ends.waits_for_the_end else contents[:-1]
+    wanted = (0, b"".join(printed) + ends.ending, "")
+    ends.checks.same(name + ": the client's status, output and error", tuple(told), wanted)
+
+
+def check_states(ends):
+    """An observation of a stored resource that another client changes."""
+    ends.put("/watched", STATES[0].decode(), CREATED)
+    name, told, conversation = watch(ends, "/watched", WATCHES_STATES, STATES)
+    contents = check_end(ends, name, conversation)
+    ends.checks.same(name + ": each state once, and the last one again at the end", contents, STATES + STATES[-1:])
+    check_watched(ends, name, told, contents)
+
+
+def check_time(ends, seconds):
+    """An observation of the moment."""
+    name, told, conversation = watch(ends, "/time", seconds, [])
+    contents = check_end(ends, name, conversation)
+    moments = contents[:-1]
+    ends.checks.same(name + ": moments enough, and each told once", len(set(moments)) == len(moments) >= seconds or moments, True)
+    check_watched(ends, name, told, contents)
+    return name, moments
+
+
+def check_rising(ends, name, moments):
+    """That our server tells seconds, each behind the one before."""
+    ends.checks.same(name + ": seconds", [re.sub(rb"[0-9]+", b"", it) for it in moments], [b""] * len(moments))
+    ends.checks.same(name + ": one behind the other", moments, sorted(moments))
+
+
+def check_read(checks, conversations):
+    """That tshark reads every message of both sides, with no remark."""
+    sent = [conversation.messages() for _, conversation in conversations]
+    for (name, conversation), frames, rows in zip(conversations, sent, decode(sent)):
+        for side, whose in ((False, "the client's"), (True, "the server's")):
+            read = "".join(row["tcp.payload"] for row in of_side(rows, side))
+            checks.same("%s: tshark is given %s bytes" % (name, whose), read == conversation.stream(side).hex(), True)
+        codes = [str(parsed(frame)[0]) for _, frame in frames]
+        checks.same(name + ": the codes that tshark reads", [row["coap.code"] for row in rows], codes)
+        checks.same(name + ": what tshark remarks", faults(rows), [])
+
+
+def check_our_server(checks, program):
+    """libcoap's client against our server: all that was said."""
+    with Server(program, ["-d", "16"]) as server:
+        ends = LibcoapAsks(checks, "libcoap's client, our server", "coap-client-notls", server)
+        check_resources(ends, OUR_RESOURCES)
+        check_stored(ends)
+        check_body(ends)
+        check_states(ends)
+        check_rising(ends, *check_time(ends, LIBCOAP_WATCHES_TIME))
+        checks.same("our server still runs", server.process.poll(), None)
+    return ends.conversations
+
+
+def check_our_server_at_6(checks, program):
+    """The same over IPv6, as far as that matters."""
+    with Server(program, ["-d", "16"], "::1") as server:
+        ends = LibcoapAsks(checks, "libcoap's client, our server, IPv6", "coap-client-notls", server)
+        check_resources(ends, OUR_RESOURCES)
+        check_stored(ends)
+    return ends.conversations
+
+
+def check_our_client(checks, client):
+    """Our client against libcoap's server: all that was said."""
+    with Server("coap-server-notls", ["-d", "16"], says=False) as server:
+        checks.same("libcoap's server listens", server.accepts(), True)
+        ends = Ends(checks, "our client, libcoap's server", client, server)
+        check_resources(ends, LIBCOAP_RESOURCES)
+        check_stored(ends)
+        check_body(ends)
+        check_states(ends)
+        check_time(ends, WE_WATCH_TIME)
+    return ends.conversations
+
+
+def check_our_client_at_6(checks, client):
+    """The same over IPv6, as far as that matters."""
+    with Server("coap-server-notls", ["-d", "16"], "::1", says=False) as server:
+        checks.same("libcoap's server listens, IPv6", server.accepts(), True)
+        ends = Ends(checks, "our client, libcoap's server, IPv6", client, server)
+        check_resources(ends, LIBCOAP_RESOURCES)
+        check_stored(ends)
+    return ends.conversations
+
+
+def check_all(checks, server, client):
+    """Both directions, and then every byte that was said."""
+    conversations = check_our_server(checks, server) + check_our_server_at_6(checks, server)
+    conversations += check_our_client(checks, client) + check_our_client_at_6(checks, client)
+    check_read(checks, conversations)
+
+
+def main(words):
+    checks = Checks()
+    try:
+        checks.same("packages can be installed", install(PACKAGES), True)
+        check_all(checks, *(os.path.abspath(it) for it in words))
+    except (OSError, struct.error, subprocess.SubprocessError) as trouble:
+        checks.same("all checks are made", trouble, None)
+    print("interop: %d passed, %d failed" % (checks.passed, checks.failed))
+    return 1 if checks.failed else 0
+
+
+if __name__ == "__main__":
+    sys.exit(main(sys.argv[1:]))

@@ -1,0 +1,135 @@
+"""Lets a real client, libcoap's, talk to the built program, and lets tshark read what both sent.
+
+It needs Debian's packages libcoap3-bin (its client without TLS is called `coap-client-notls`) and tshark, and installs
+what is missing. Each case is a connection of its own: this script takes it, starts the program for it, hands the
+bytes on both ways and keeps them.
+"""
+
+import concurrent.futures
+import os
+import socket
+import struct
+import subprocess
+import sys
+
+sys.path.insert(0, os.path.join(os.path.dirname(os.path.abspath(__file__)), "..", "harness"))
+from capture import Conversation, decode, faults, messages_of, of_side  # noqa: E402
+from checks import Checks  # noqa: E402
+from packages import install  # noqa: E402
+from peers import LIMIT, LOCAL  # noqa: E402
+
+PACKAGES = {"coap-client-notls": "libcoap3-bin", "tshark": "tshark"}
+
+CASES = [
+    # method, path, payload, what the client prints, the error that it tells, the code that the server sends
+    ("get", "/", "", "coap+tcp", "", 0x45),
+    ("get", "/time", "", "0", "", 0x45),
+    ("get", "/.well-known/core", "", "</>;ct=0,</time>;ct=0;obs,</async>;ct=0", "", 0x45),
+    ("get", "/none", "", "", "4.04", 0x84),
+    ("get", "/async?0", "", "done", "", 0x45),
+    ("put", "/a", "x", "", "4.04", 0x84),
+    ("put", "/time", "x", "", "4.05", 0x85),
+    ("delete", "/a", "", "", "", 0x42),
+]
+
+BROKEN = [
+    # what a server must not send, and what `fault` has to say of it
+    ("an option that runs past the end", "31450159ff30", "malformed"),
+    ("the same in Capabilities and Settings", "50e12301000029", "malformed"),
+    ("half a message", "614501c0ff", "unread"),
+    ("a token length of 15", "0fe1", "unread"),
+]
+
+# Seconds for an answer to the client.
+CLIENT_WAITS = 5
+
+
+def status_of(process):
+    try:
+        return process.wait(LIMIT)
+    except subprocess.TimeoutExpired:
+        process.kill()
+        process.wait()
+        return "no end within %d s" % LIMIT
+
+
+def serve(listener, program, conversation):
+    """Joins the client that connects with a program of its own, and gives the program's status."""
+    connection, _ = listener.accept()
+    ours, theirs = socket.socketpair()
+    with connection, ours:
+        with theirs:
+            process = subprocess.Popen([program, "--stdio"], stdin=theirs, stdout=theirs)
+        conversation.join(connection, ours)
+    return status_of(process)
+
+
+def ask(port, method, path, payload):
+    """Runs the client once: its status, what it prints, and the first word of what it tells as an error."""
+    command = ["coap-client-notls", "-m", method, "-B", str(CLIENT_WAITS)]
+    if payload:
+        command += ["-e", payload]
+    done = subprocess.run(command + ["coap+tcp://%s:%d%s" % (LOCAL, port, path)], stdin=subprocess.DEVNULL,
+                          capture_output=True, encoding="utf-8", errors="replace", timeout=LIMIT)
+    return done.returncode, done.stdout.rstrip("\n"), " ".join(done.stderr.split()[:1])
+
+
+def talk(program, case):
+    """One case: what the client tells, the program's status, and what both sent."""
+    conversation = Conversation()
+    with socket.create_server((LOCAL, 0)) as listener, concurrent.futures.ThreadPoolExecutor(1) as pool:
+        listener.settimeout(LIMIT)
+        status = pool.submit(serve, listener, program, conversation)
+        told = ask(listener.getsockname()[1], *case[:3])
+        return told, status.result(), conversation
+
+
+def check_client(checks, name, case, told, status):
+    """What the client tells, and how the program ends."""
+    _, _, _, output, error, _ = case
+    checks.same(name + ": the client's status, output and error", told, (0, output, error))
+    checks.same(name + ": the server's status", status, 0)
+
+
+def check_bytes(checks, name, code, sent, rows):
+    """That tshark reads every byte that the server sent, with no remark, as two messages."""
+    checks.same(name + ": the bytes that tshark is given", "".join(row["tcp.payload"] for row in rows), sent.hex())
+    checks.same(name + ": the codes that tshark reads", [row["coap.code"] for row in rows], [str(0xE1), str(code)])
+    checks.same(name + ": what tshark remarks", faults(rows), [])
+
+
+def check_broken(checks, name, wanted, rows):
+    """That a broken message does not get past `fault`."""
+    checks.same("broken, %s" % name, faults(rows), [wanted])
+
+
+def check(program):
+    checks = Checks()
+    with concurrent.futures.ThreadPoolExecutor(len(CASES)) as pool:
+        talks = list(pool.map(lambda case: talk(program, case), CASES))
+    live = [conversation.messages() for _, _, conversation in talks]
+    broken = [messages_of([(True, bytes.fromhex(stream))]) for _, stream, _ in BROKEN]
+    decoded = [of_side(rows, True) for rows in decode(live + broken)]
+    for case, (told, status, conversation), rows in zip(CASES, talks, decoded):
+        name = "%s %s" % case[:2]
+        check_client(checks, name, case, told, status)
+        check_bytes(checks, name, case[5], conversation.stream(True), rows)
+    for (name, _, wanted), rows in zip(BROKEN, decoded[len(CASES):]):
+        check_broken(checks, name, wanted, rows)
+    print("libcoap's client, and tshark: %d passed, %d failed" % (checks.passed, checks.failed))
+    return 1 if checks.failed else 0
+
+
+def main(words):
+    try:
+        if not install(PACKAGES):
+            print("FAILED libcoap: the packages %s cannot be installed" % ", ".join(PACKAGES.values()))
+            return 1
+        return check(os.path.abspath(words[0]))
+    except (OSError, struct.error, subprocess.SubprocessError) as trouble:
+        print("FAILED libcoap: %s" % trouble)
+        return 1
+
+
+if __name__ == "__main__":
+    sys.exit(main(sys.argv[1:]))

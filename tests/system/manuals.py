@@ -1,0 +1,358 @@
+"""Holds the manuals against the programs and their sources: form, options, ranges, defaults, statuses, lines and examples.
+
+    tests/system/manuals.py bin/coap-server bin/coap-client
+
+It needs Debian's package mandoc, and installs it where it is missing.
+"""
+
+import contextlib
+import glob
+import os
+import re
+import signal
+import socket
+import subprocess
+import sys
+import tempfile
+import textwrap
+
+sys.path.insert(0, os.path.join(os.path.dirname(os.path.abspath(__file__)), "..", "harness"))
+from checks import Checks  # noqa: E402
+from packages import install  # noqa: E402
+from peers import Server  # noqa: E402
+from rooms import ROOT  # noqa: E402
+
+PACKAGES = {"mandoc": "mandoc"}
+
+SECTIONS = ["NAME", "SYNOPSIS", "DESCRIPTION", "EXIT STATUS", "EXAMPLES", "DIAGNOSTICS", "SEE ALSO", "STANDARDS", "LIMITATIONS"]
+
+# the status for words that are not understood
+USAGE = 1
+
+# Seconds: for an example, which may listen or wait; for one of the client whose server answers, of which the longest observes
+# for ten; and for everything else, which ends by itself.
+EXAMPLE_LASTS = 1
+ANSWERED_LASTS = 30
+LIMIT = 30
+
+# what both programs have of libraries that tell faults
+LIBRARIES = ["coap_serve/src/*.rt", "coap_sockets/src/*.rt", "coap_client/src/words.rt"]
+
+SOURCES = {
+    # where a program has its lines and statuses
+    "coap-server": ["coap_server/src/*.rt"] + LIBRARIES,
+    "coap-client": ["coap_client_main/src/*.rt", "coap_client/src/run.rt", "coap_client/src/say.rt"] + LIBRARIES,
+}
+
+# what a plan that the words cannot ask for would be told, which is no matter of a manual
+UNREACHED = {"a limit is out of its range"}
+
+URI = "coap+tcp://127.0.0.1:%d/"
+
+
+def server_faults(port):
+    """Words, standard input, and the line of the manual that they lead to. The port cannot be listened at."""
+    return [
+        (["-p", "0"], b"", "bad value for option"),
+        (["--stdio", "--script", "-"], b"", "options exclude each other"),
+        (["--script", "-"], b"open\nx\n", "bad script line n"),
+        ([b"\xff"], b"", "words that are not UTF-8"),
+        (["-A", "127.0.0.1", "-p", str(port)], b"", "cannot listen"),
+        (["--script", "/nothing/here"], b"", "cannot open file"),
+        (["--script", "/"], b"", "cannot read"),
+        (["--turns", "1", "--stdio"], b"\x00\xe1", "too many turns"),
+    ]
+
+
+def client_faults(port):
+    """Words, standard input, and the line of the manual that they lead to. Nobody listens at the port."""
+    uri = URI % port
+    return [
+        (["x"], b"", "bad target n"),
+        (["-B", "0", uri], b"", "bad value for option"),
+        (["-f", "/dev/zero", uri], b"", "bad value for option"),
+        (["-e", "x", "-f", "y", uri], b"", "options exclude each other"),
+        ([b"\xff"], b"", "words that are not UTF-8"),
+        ([uri], b"", "cannot connect"),
+        (["-f", "/nothing/here", uri], b"", "cannot open file"),
+        (["-f", "/", uri], b"", "cannot read"),
+    ]
+
+
+def run(words, stream=b""):
+    """The status of a run that ends by itself, and what it wrote to standard output and to standard error."""
+    done = subprocess.run(words, input=stream, capture_output=True, timeout=LIMIT)
+    return done.returncode, done.stdout.decode(errors="replace"), done.stderr.decode(errors="replace")
+
+
+class Manual:
+    """A manual: the lines of its sections."""
+
+    def __init__(self, name):
+        self.name = name
+        self.path = os.path.join(ROOT, "man", "%s.1" % name)
+        with open(self.path, encoding="utf-8") as file:
+            parts = re.split(r"(?m)^\.Sh (.*)\n", file.read())
+        self.sections = dict(zip(parts[1::2], (part.splitlines() for part in parts[2::2])))
+
+    def items(self, section):
+        """The items of the outer lists of a section: the words behind `.It`, and the lines up to the next item."""
+        found, depth = [], 0
+        for line in self.sections[section]:
+            depth += line.startswith(".Bl") - line.startswith(".El")
+            if depth == 1 and line.startswith(".It "):
+                found.append((line.split()[1:], []))
+            elif depth and found:
+                found[-1][1].append(line)
+        return found
+
+    def options(self):
+        """The options that are described: name, name of the value or nothing, and description."""
+        found = []
+        for words, lines in self.items("DESCRIPTION"):
+            text = " ".join(line for line in lines if not line.startswith("."))
+            for part in " ".join(words).split(" , "):
+                flag, name, *value = part.split()
+                assert flag == "Fl", words
+                found.append(("-" + name, " ".join(value[1:]), text))
+        return found
+
+    def called_with(self):
+        """The options of the synopsis in their order: name, and name of the value or nothing."""
+        text = "\n".join(self.sections["SYNOPSIS"])
+        return [("-" + name, value or "") for name, value in re.findall(r"\bFl (\S+)(?: Ar (\S+))?", text)]
+
+    def lines_told(self):
+        """The lines that are listed as diagnostics, each with its status."""
+        found, status, depth = {}, None, 0
+        for line in self.sections["DIAGNOSTICS"]:
+            depth += line.startswith(".Bl") - line.startswith(".El")
+            if named := re.fullmatch(r"With status (\d):", line):
+                status = int(named[1])
+            elif depth == 1 and line.startswith(".It "):
+                found[line[4:].replace("Ar ", "")] = status
+        return found
+
+    def examples(self):
+        """The blocks of examples as they are shown: each a list of commands with the lines that they write."""
+        shown = re.split(r"(?m)^(?=\S)", self.rendered()[1])
+        text = next(part for part in shown if part.startswith("EXAMPLES\n"))
+        blocks = [textwrap.dedent(block) for block in text.split("\n\n") if block.lstrip().startswith("$ ")]
+        return [[command.partition("\n")[::2] for command in re.split(r"(?m)^\$ ", block)[1:]] for block in blocks]
+
+    def rendered(self):
+        """The status of mandoc, and the manual as a text without bold and underlined letters."""
+        status, text, _ = run(["mandoc", "-T", "ascii", self.path])
+        return status, re.sub(r".\x08", "", text)
+
+
+def source_of(patterns):
+    """The text of these source files of crates."""
+    files = sorted(name for pattern in patterns for name in glob.glob(os.path.join(ROOT, "crates", pattern)))
+    text = ""
+    for name in files:
+        with open(name, encoding="utf-8") as file:
+            text += file.read()
+    return text
+
+
+def front_of(line):
+    """A line up to the first of its parts that differ from run to run."""
+    return re.split(r"[{]| (?:n|file|option|address|-\w)$", line)[0].strip()
+
+
+def known_options(program):
+    """The options that the program lists itself: name, and name of the value or nothing."""
+    _, output, error = run([program, "--help"])
+    rows = re.findall(r"(?m)^ +(-[^\s,]+(?:, --\S+)?)(?: <(.*?)>)?", output + error)
+    return {(name, value) for names, value in rows for name in names.split(", ")}
+
+
+def check_form(checks, manual):
+    """That mandoc has nothing to say against the page, and shows it with all its sections."""
+    done = run(["mandoc", "-T", "lint", "-W", "warning", manual.path])
+    checks.same("%s: what mandoc says" % manual.name, done, (0, "", ""))
+    status, text = manual.rendered()
+    checks.same("%s: mandoc's status" % manual.name, status, 0)
+    checks.same("%s: sections that are missing" % manual.name, [it for it in SECTIONS if "\n%s\n" % it not in text], [])
+
+
+def check_options(checks, manual, program):
+    """That the program has the options of its manual and no others, and names their values alike."""
+    described = {(name, value.upper()) for name, value, _ in manual.options()}
+    checks.same("%s: options" % manual.name, sorted(described), sorted(known_options(program)))
+    called = {(name, value.upper()) for name, value in manual.called_with()} | {("-h", ""), ("-V", "")}
+    checks.same("%s: options of the synopsis" % manual.name, sorted(called), sorted(described))
+    status, output, error = run([program, "--nothing"])
+    checks.same("%s: an option that is not there" % manual.name, (status, output, error[:6]), (USAGE, "", "error:"))
+
+
+def check_order(checks, manual, program, more):
+    """That of bad values the first one in the order of the synopsis is told."""
+    left = [name for name, value in manual.called_with() if value and name not in ("-e", "-f", "-o", "--script")]
+    while left:
+        words = [program] + [word for name in reversed(left) for word in (name, "x")] + more
+        told = "%s: bad value for %s\n" % (manual.name, left[0])
+        checks.same("%s: bad values of %r" % (manual.name, left), run(words), (USAGE, "", told))
+        left = left[1:]
+
+
+def check_ranges(checks, manual, program, more):
+    """That the ends of each range are taken, and what lies beyond them is not."""
+    ranges = [(name, found) for name, _, text in manual.options() if (found := re.search(r"([\d,]+) to ([\d,]+)", text))]
+    for name, found in ranges:
+        low, high = (int(end.replace(",", "")) for end in found.groups())
+        for number in [low - 1, low, high, high + 1]:
+            if number < 0:
+                continue
+            value = "%d,a" % number if name == "-O" else str(number)
+            status, _, error = run([program, name, value] + more)
+            refused = error == "%s: bad value for %s\n" % (manual.name, name) and status == USAGE
+            checks.same("%s: %s %d is refused" % (manual.name, name, number), refused, not low <= number <= high)
+    return len(ranges)
+
+
+def check_defaults(checks, manual, source):
+    """That the default of each option with a number is that of the source."""
+    rows = re.findall(r'number\(matches, "(-[\w-]+)", \w+, [\d_]+, ([\d_]+)\)', source)
+    checks.same("%s: options with numbers are found" % manual.name, bool(rows), True)
+    texts = {name: text for name, _, text in manual.options()}
+    for name, value in rows:
+        found = re.search(r"default is ([\d,]*\d)", texts[name])
+        checks.same("%s: default of %s" % (manual.name, name), found and found[1].replace(",", ""), value.replace("_", ""))
+
+
+def check_formats(checks, manual, program, more):
+    """That the content formats by name are those of the source, and are taken."""
+    _, lines = next(item for item in manual.items("DESCRIPTION") if item[0][:2] == ["Fl", "t"])
+    named = re.findall(r"\.Dq (\S+)\n\((\d+)\)", "\n".join(lines))
+    source = source_of(["coap_client/src/words/client.rt"])
+    checks.same("content formats", named, re.findall(r'text == "(\w+/\S+)" \{\s*Some\((\d+)\)', source))
+    for name, _ in named:
+        checks.same("content format %s" % name, run([program, "-t", name, "-A", name] + more)[0] == USAGE, False)
+
+
+def check_statuses(checks, manual, source):
+    """That the statuses are those that the program has a name for."""
+    listed = {int(words[0]) for words, _ in manual.items("EXIT STATUS")}
+    checks.same("%s: statuses" % manual.name, listed, {int(it) for it in re.findall(r"const [A-Z]+: u8 = (\d);", source)})
+
+
+def check_lines(checks, manual, source):
+    """That each line of the manual stands in the source, and each line that the source tells in the manual."""
+    said = {front_of(text.removeprefix(manual.name + ": ")) for text in re.findall(r'b?"([^"\n]+?)(?:\\n)?"', source)}
+    told = set(re.findall(r'tell\(rt, "([^"]+)"', source)) | set(re.findall(r'"%s: ([^"{]+)' % manual.name, source))
+    listed = {front_of(line) for line in manual.lines_told()}
+    checks.same("%s: lines that the source has not" % manual.name, sorted(listed - said), [])
+    checks.same("%s: lines that the manual has not" % manual.name, sorted({front_of(it) for it in told} - UNREACHED - listed), [])
+
+
+def check_hindrances(checks, manual):
+    """That the second lines of a client that cannot connect are those of the source."""
+    text = "\n".join(next(lines for words, lines in manual.items("DIAGNOSTICS") if words == ["cannot", "connect"]))
+    wanted = re.findall(r'#\[error\("([^"]+)"\)\]', source_of(["coap_sockets/src/answers.rt"]))
+    checks.same("%s: what hinders a connection" % manual.name, re.findall(r"(?m)^\.It (.*)", text), wanted)
+
+
+def check_faults(checks, manual, program, faults):
+    """That what goes wrong is told by the line and the status of the manual."""
+    statuses = manual.lines_told()
+    for words, stream, line in faults:
+        status, _, error = run([program] + words, stream)
+        told = error.startswith("%s: %s" % (manual.name, front_of(line)))
+        checks.same("%s %r: %r is told, and the status" % (manual.name, words, line), (told, status), (True, statuses[line]))
+
+
+def play(command, folder, programs, lasts=EXAMPLE_LASTS):
+    """The status of an example, nothing where it had to be ended, and what it wrote to standard output and to standard error."""
+    words = dict(os.environ, PATH=programs + os.pathsep + os.environ["PATH"])
+    ran = subprocess.Popen(["sh", "-c", command], cwd=folder, env=words, stdin=subprocess.DEVNULL, stdout=subprocess.PIPE,
+                           stderr=subprocess.PIPE, start_new_session=True)
+    try:
+        output, error = ran.communicate(timeout=lasts)
+        status = ran.returncode
+    except subprocess.TimeoutExpired:
+        # it listens, or waits for an answer
+        os.killpg(ran.pid, signal.SIGKILL)
+        output, error = ran.communicate()
+        status = None
+    return status, output.decode(errors="replace"), error.decode(errors="replace")
+
+
+def check_examples(checks, manual, programs):
+    """That the program takes the words of each example, and that an example whose output is shown writes it."""
+    blocks = manual.examples()
+    checks.same("%s: examples are found" % manual.name, bool(blocks), True)
+    for block in blocks:
+        with tempfile.TemporaryDirectory() as folder:
+            for command, shown in block:
+                status, output, error = play(command, folder, programs)
+                checks.same("%s: %r is understood" % (manual.name, command), (status == USAGE, "error:" in error), (False, False))
+                if shown.strip():
+                    checks.same("%s: what %r writes" % (manual.name, command), (status, output.rstrip()), (0, shown.rstrip()))
+
+
+def check_answered(checks, manual, server, programs):
+    """That the client's examples end well with a server that answers, where they name its port."""
+    with Server(server, ["-d", "100"]) as listening, tempfile.TemporaryDirectory() as folder:
+        for command, _ in (example for block in manual.examples() for example in block):
+            there = re.sub(r"//(127\.0\.0\.1|\[::1\]:5700)/", "//127.0.0.1:%d/" % listening.port, command)
+            status, _, error = play(there, folder, programs, ANSWERED_LASTS)
+            checks.same("%s: %r is answered" % (manual.name, command), (str(listening.port) in there, status, error), (True, 0, ""))
+
+
+@contextlib.contextmanager
+def named_programs(server, client):
+    """A folder in which the programs have their names, whatever the files are called."""
+    with tempfile.TemporaryDirectory() as folder:
+        os.symlink(server, os.path.join(folder, "coap-server"))
+        os.symlink(client, os.path.join(folder, "coap-client"))
+        yield folder
+
+
+@contextlib.contextmanager
+def closed_port():
+    """A port of this machine at which nobody listens, and nobody else can."""
+    with socket.socket() as taken:
+        taken.bind(("127.0.0.1", 0))
+        yield taken.getsockname()[1]
+
+
+def check(server, client):
+    checks = Checks()
+    with closed_port() as port, named_programs(server, client) as programs:
+        for name, program, faults, more in (
+            ("coap-server", server, server_faults(port), ["--stdio"]),
+            ("coap-client", client, client_faults(port), [URI % port]),
+        ):
+            manual = Manual(name)
+            source = source_of(SOURCES[name])
+            check_form(checks, manual)
+            check_options(checks, manual, program)
+            check_order(checks, manual, program, more)
+            checks.same("%s: ranges are found" % name, check_ranges(checks, manual, program, more) > 0, True)
+            check_defaults(checks, manual, source_of(["coap_client/src/words/%s.rt" % name.removeprefix("coap-")]))
+            check_statuses(checks, manual, source)
+            check_lines(checks, manual, source)
+            check_faults(checks, manual, program, faults)
+            check_examples(checks, manual, programs)
+        check_formats(checks, Manual("coap-client"), client, [URI % port])
+        check_hindrances(checks, Manual("coap-client"))
+        check_answered(checks, Manual("coap-client"), server, programs)
+    print("manuals: %d passed, %d failed" % (checks.passed, checks.failed))
+    return 1 if checks.failed else 0
+
+
+def main(words):
+    try:
+        if not install(PACKAGES):
+            print("FAILED manuals: the packages %s cannot be installed" % ", ".join(PACKAGES.values()))
+            return 1
+        return check(*(os.path.abspath(word) for word in words))
+    except (OSError, subprocess.SubprocessError) as trouble:
+        print("FAILED manuals: %s" % trouble)
+        return 1
+
+
+if __name__ == "__main__":
+    sys.exit(main(sys.argv[1:]))

@@ -1,0 +1,272 @@
+"""Runs the built programs from outside: their words, their bytes, their fault lines and their statuses.
+
+    tests/system/program.py bin/coap-server bin/coap-client
+"""
+
+import errno
+import os
+import re
+import socket
+import subprocess
+import sys
+import tempfile
+
+sys.path.insert(0, os.path.join(os.path.dirname(os.path.abspath(__file__)), "..", "harness"))
+from checks import ABORTS, CSM, GREETING, Checks  # noqa: E402
+from rooms import ROOT  # noqa: E402
+
+def run(program, words, stream=b"", stdin=None, stdout=subprocess.PIPE):
+    source = {"input": stream} if stdin is None else {"stdin": stdin}
+    return subprocess.run([program] + words, stdout=stdout, stderr=subprocess.PIPE, timeout=60, **source)
+
+
+STREAMS = [
+    # what the peer sends, and what it gets behind our Capabilities and Settings; tests/vectors/stdio.py plays the rows of such runs
+    ("00e1" "0000" "11e20720", "11e30720"),
+    ("70e123100000202108" "00e2", "00e3"),
+    ("f0ffffffff01" "00e1" "00e2", ABORTS["message too large"]),
+    # the resources: the moment, the listing, an absent one; nothing can be stored, and what is held at the end is given up
+    ("00e1" "510107b474696d65", "514507c02101ff30"),
+    ("00e1" "d1040106bb2e77656c6c2d6b6e6f776e04636f7265", "d11d4506c128ff" + b"</>;ct=0,</time>;ct=0;obs,</async>;ct=0".hex()),
+    ("00e1" "210102b161", "018402"),
+    ("00e1" "410301b161ff78", "018401"),
+    ("00e1" "210403b161", "014203"),
+    ("00e1" "610104b56173796e63" "11e20620" "01e207", "01e307"),
+    ("00e1" "810104b56173796e634130" "11e20620", "614504c0ff646f6e65" "11e30620"),
+    ("00e1" "b10104b56173796e634433363031", "018004"),
+    # a request between Pings
+    ("00e1" "01e201" "01e202" "0001" "01e203", "01e301" "01e302" "a045" + GREETING + "01e303"),
+    # more than one read takes
+    ("00e1" + "01e205" * 3000, "01e305" * 3000),
+    # the greatest message, nearly all of it options of no length, and one that is a byte longer
+    ("00e1" "e0feef01" + "00" * 65532 + "01e203", "a045" + GREETING + "01e303"),
+    ("00e1" "e0fef001", ABORTS["message too large"]),
+    # stops, each with more bytes behind it
+    ("00e1" "1001ff" "00e2", ABORTS["bad message"]),
+    ("00e1" "10e210" "00e2", ABORTS["bad signal option"]),
+    ("10e110" "00e2", ABORTS["bad CSM option 1"]),
+    ("60e1250000000001" "00e2", ABORTS["bad CSM option 2"]),
+    ("00e1" "00e2" "00e4" "00e2", "00e3"),
+    # the peer takes few bytes, and less from one message on to the next
+    ("20e12103" "11e20620" "010107", "01e306" "01a007"),
+    ("20e12114" "20e12102" "0001" "010107" "0001", "00a0"),
+]
+
+SCRIPTS = [
+    # a script, and what is written: the line of each event
+    ("", ""),
+    ("\n# open\n\n", ""),
+    ("open\ndrain 1\n", f"open 1\nout 1 {CSM}\n"),
+    ("open\n# é\n\nopen\ndrain 2 3\nstatus 1\nin 3 00\n", "open 1\nopen 2\nout 2 60e123\nstatus 1 waiting kept 0 waiting 8 pending 0 observers 0\nin 3 fault 1\n"),
+    # the program's settings: 16 connections, no dynamic resource, counts that begin at 0
+    ("open\n" * 17, "".join(f"open {it}\n" for it in range(1, 17)) + "open fault 1\n"),
+    ("put /a - 00\nremove /a\ntick 0\n", "put fault 3\nremove fault 1\ntick 0\n"),
+    # connections see the same moment
+    (
+        "open\ndrain 1\nopen\ndrain 2\nin 1 00e16101076054" "74696d65\nin 2 00e1510108b4" "74696d65\ntick 5\ndrain 1\ndrain 2\n",
+        f"open 1\nout 1 {CSM}\nopen 2\nout 2 {CSM}\nin 1 11\nin 2 10\ntick 5\nout 1 61450760602101ff3061450760602101ff35\nout 2 514508c02101ff30\n",
+    ),
+    # a Pong with Custody waits for an answer that is held, also once the peer released the connection
+    (
+        "open\ndrain 1\nin 1 00e1\nin 1 810105b56173796e634133\nin 1 11e20620\nin 1 00e4\ntick 2\ndrain 1\ntick 3\ndrain 1\nstatus 1\n",
+        f"open 1\nout 1 {CSM}\nin 1 2\nin 1 11\nin 1 4\nin 1 2 stop 9\ntick 2\nout 1 -\ntick 3\nout 1 614505c0ff646f6e6511e30620\n"
+        "status 1 releasing 9 kept 0 waiting 0 pending 0 observers 0\n",
+    ),
+    # 10,000 answers are held and sent on one connection, and nothing is left
+    (
+        "open\ndrain 1\nin 1 00e1\n" + "".join(f"in 1 810105b56173796e634131\ntick {it}\ndrain 1\n" for it in range(1, 10001)) + "status 1\n",
+        f"open 1\nout 1 {CSM}\nin 1 2\n" + "".join(f"in 1 11\ntick {it}\nout 1 614505c0ff646f6e65\n" for it in range(1, 10001))
+        + "status 1 open kept 0 waiting 0 pending 0 observers 0\n",
+    ),
+    # more than one read takes, and a line that is longer than one write
+    (
+        "open\ndrain 1\nin 1 00e1" + "01e205" * 20000 + "\ndrain 1\n" + "status 1\n" * 3000,
+        f"open 1\nout 1 {CSM}\nin 1 60002\nout 1 " + "01e305" * 20000 + "\n" + "status 1 open kept 0 waiting 0 pending 0 observers 0\n" * 3000,
+    ),
+]
+
+BAD_SCRIPTS = [
+    # a script, and the number of the first line that is no event
+    ("opens\n", 1),
+    ("open\n\n# in\nin 1\nopen\n", 4),
+    ("open\ndrain 1", 2),
+    ("open\r\n", 1),
+    ("open\n" * 1000 + "é\n", 1001),
+]
+
+# the words of coap-server and of coap-client, the status, and what is told behind the program's name; None is a text of clap's
+SERVER_WORDS = [
+    (["--stdio", "--stdio"], 1, None), (["--script"], 1, None), (["--stdio=1"], 1, None), (["-"], 1, None), (["stdio"], 1, None), ([""], 1, None),
+    (["--script", "-", "-"], 1, None), (["-", "--script"], 1, None), (["-x"], 1, None), (["--stdio", "--Queue", "70000"], 1, None), (["-d"], 1, None),
+    (["x", "--help"], 1, None), (["--help=x"], 1, None), (["-x", "-V"], 1, None),
+    (["--script", "-", "--stdio"], 1, "options exclude each other"), (["--stdio", "--script", "-"], 1, "options exclude each other"),
+    (["-A", "localhost", "--stdio"], 1, "bad value for -A"), (["-A", "1.2.3", "--stdio"], 1, "bad value for -A"), (["-A", "::1::"], 1, "bad value for -A"),
+    (["-p", "0"], 1, "bad value for -p"), (["-p", "65536"], 1, "bad value for -p"), (["-p", "+1"], 1, "bad value for -p"), (["-p", ""], 1, "bad value for -p"),
+    (["-d", "1001", "--stdio"], 1, "bad value for -d"), (["-d", "a"], 1, "bad value for -d"),
+    (["--max-message", "1151"], 1, "bad value for --max-message"), (["--max-message", "1048577"], 1, "bad value for --max-message"),
+    (["--max-sent", "1151"], 1, "bad value for --max-sent"), (["--max-sent", "65537"], 1, "bad value for --max-sent"),
+    (["--queue", "65535"], 1, "bad value for --queue"), (["--queue", "4194305"], 1, "bad value for --queue"),
+    (["--max-sent", "1152", "--queue", "1151"], 1, "bad value for --queue"),
+    (["--pending", "257"], 1, "bad value for --pending"), (["--observers", "257"], 1, "bad value for --observers"),
+    (["--connections", "0"], 1, "bad value for --connections"), (["--connections", "257"], 1, "bad value for --connections"),
+    (["--turns", "0"], 1, "bad value for --turns"), (["--turns", "1000000000001"], 1, "bad value for --turns"),
+    (["--turns", "0", "-p", "0", "--script", "-", "--stdio"], 1, "bad value for -p"),
+    (["--queue", "1000", "--stdio"], 1, "bad value for --queue"),
+    # addresses for documentation, which no machine has
+    (["-A", "192.0.2.1"], 3, "cannot listen"), (["-A", "2001:db8::1", "-p", "0005683"], 3, "cannot listen"),
+    (["-A", "192.0.2.1", "-p", "1", "--turns", "1"], 3, "cannot listen"),
+]
+
+
+
+def hindrance_v6():
+    """What hinders a connection to port 1 of this machine over IPv6, which a system may not have."""
+    unreachable = dict.fromkeys((errno.EADDRNOTAVAIL, errno.ENETUNREACH, errno.EHOSTUNREACH), "host unreachable")
+    try:
+        with socket.socket(socket.AF_INET6) as it:
+            code = it.connect_ex(("::1", 1))
+    except OSError as trouble:
+        code = trouble.errno
+    return {errno.ECONNREFUSED: "connection refused", **unreachable}.get(code, "system fault")
+
+
+# what is told behind the program's name where nobody listens, and of a name that is not known
+REFUSED, REFUSED_V6, UNKNOWN = (
+    "cannot connect\ncoap-client: %s" % why for why in ("connection refused", hindrance_v6(), "unknown name")
+)
+
+CLIENT_WORDS = [
+    (["x"], 1, "bad target 1"), (["coap://h/"], 1, "bad target 2"), (["coap+tcp:///"], 1, "bad target 3"), (["coap+tcp://u@h/"], 1, "bad target 4"),
+    (["coap+tcp://h/#f"], 1, "bad target 5"), (["coap+tcp://h/" + "a" * 256], 1, "bad target 6"), (["coap+tcp://h" + "/a" * 17], 1, "bad target 7"),
+    ([], 1, None), (["coap+tcp://h/", "coap+tcp://h/"], 1, None), (["-x", "coap+tcp://h/"], 1, None), (["-O", "1,a", "-O", "2,b", "coap+tcp://h/"], 1, None),
+    (["-x", "--help"], 1, None), (["coap+tcp://h/", "coap+tcp://h/", "-V"], 1, None), (["--version=x"], 1, None),
+    (["-m", "GET", "coap+tcp://h/"], 1, "bad value for -m"), (["-B", "0", "coap+tcp://h/"], 1, "bad value for -B"),
+    (["-B", "4294967296", "coap+tcp://h/"], 1, "bad value for -B"), (["-s", "4294967296", "coap+tcp://h/"], 1, "bad value for -s"),
+    (["-t", "65536", "coap+tcp://h/"], 1, "bad value for -t"), (["-A", "json", "coap+tcp://h/"], 1, "bad value for -A"),
+    (["-O", "1", "coap+tcp://h/"], 1, "bad value for -O"), (["-O", "65536,a", "coap+tcp://h/"], 1, "bad value for -O"),
+    (["-O", "1,0x0", "coap+tcp://h/"], 1, "bad value for -O"), (["-O", "1," + "a" * 1035, "coap+tcp://h/"], 1, "bad value for -O"),
+    (["-s", "1", "-m", "put", "coap+tcp://h/"], 1, "options exclude each other"), (["-e", "x", "-f", "y", "coap+tcp://h/"], 1, "options exclude each other"),
+    (["-e", "x", "-f", "y", "-B", "0", "coap+tcp://h/"], 1, "bad value for -B"), (["-B", "0", "coap://h/"], 1, "bad target 2"),
+    (["-f", "/nothing/here", "-m", "put", "coap+tcp://h/"], 3, "cannot open /nothing/here"), (["-f", "/", "coap+tcp://h/"], 3, "cannot read"),
+    (["-f", "/dev/zero", "coap+tcp://h/"], 1, "bad value for -f"), (["-o", "/nothing/here", "coap+tcp://127.0.0.1:1/"], 3, REFUSED),
+    (["coap+tcp://127.0.0.1:1/"], 3, REFUSED), (["-f", "-", "-m", "put", "-t", "application/cbor", "coap+tcp://[::1]:1/a"], 3, REFUSED_V6),
+    # names that no host has
+    (["coap+tcp://%ff/"], 3, UNKNOWN), (["coap+tcp://a%00b/"], 3, UNKNOWN),
+]
+
+# how the help of each program begins, and what it explains, each in one line
+SERVER_HELP = (
+    b"A CoAP server over TCP (RFC 8323)\n\nUsage: coap-server [OPTIONS]\n\nOptions:\n",
+    ["-A <ADDRESS>", "-p <PORT>", "-d <MAX>", "--stdio", "--script <FILE>", "--max-message <N>", "--max-sent <N>", "--queue <N>", "--pending <N>"]
+    + ["--observers <N>", "--connections <N>", "--turns <N>", "-h, --help", "-V, --version"],
+)
+
+CLIENT_HELP = (
+    b"A CoAP client over TCP (RFC 8323)\n\nUsage: coap-client [OPTIONS] <URI>\n\nArguments:\n",
+    ["<URI>", "-m <METHOD>", "-e <TEXT>", "-f <FILE>", "-o <FILE>", "-t <FORMAT>", "-A <FORMAT>", "-s <SECONDS>", "-B <SECONDS>", "-O <NUM,TEXT>"]
+    + ["-U", "-w", "-h, --help", "-V, --version"],
+)
+
+# the words before --stdio, what is sent, and what is answered behind our Capabilities and Settings
+STDIO_WORDS = [
+    (["--max-message", "1152"], "00e1", "50e12204804140", ""),
+    (["-d", "1"], "00e1410301b161ff78210102b161", CSM, "0141014145024101ff78"),
+    (["--pending", "0"], "00e1610105b56173796e63", CSM, "01a305"),
+    (["--observers", "0", "-d", "1"], "00e1410301b161ff78310102605161", CSM, "0141014145024101ff78"),
+]
+
+
+def stored(name):
+    """A file beside the program's sources."""
+    with open(os.path.join(ROOT, "crates", "coap_server", name), "rb") as it:
+        return it.read()
+
+
+def replay(program, script):
+    """What comes of a script on standard input, and of the same script in a file."""
+    with tempfile.NamedTemporaryFile() as file:
+        file.write(script)
+        file.flush()
+        both = [run(program, ["--script", "-"], script), run(program, ["--script", file.name])]
+    return [(it.returncode, it.stdout, it.stderr) for it in both]
+
+
+def check_scripts(program, checks):
+    """Scripts that are run, and those that are not."""
+    checks.same("stored script", replay(program, stored("stdin")), [(0, stored("stdout"), b"")] * 2)
+    for script, lines in SCRIPTS:
+        checks.same("lines for %r" % script, replay(program, script.encode()), [(0, lines.encode(), b"")] * 2)
+    for script, number in BAD_SCRIPTS:
+        told = b"coap-server: bad script line %d\n" % number
+        checks.same("bad script %r" % script, replay(program, script.encode()), [(1, b"", told)] * 2)
+    for name in ["/nothing/here", "nothing", ""]:
+        done = run(program, ["--script", name])
+        told = b"coap-server: cannot open %s\n" % name.encode()
+        checks.same("no script %r" % name, (done.returncode, done.stdout, done.stderr), (3, b"", told))
+    done = run(program, ["--script", "/"])
+    checks.same("script that cannot be read", (done.returncode, done.stdout, done.stderr), (3, b"", b"coap-server: cannot read\n"))
+    reader, writer = os.pipe()
+    os.close(reader)
+    done = run(program, ["--script", "-"], b"open\n", stdout=writer)
+    os.close(writer)
+    checks.same("script with a closed pipe", (done.returncode, done.stderr), (3, b"coap-server: cannot write\n"))
+
+
+def check_words(program, name, rows, checks):
+    """What words come to that ask for nothing that the program does."""
+    for words, status, told in rows:
+        done = run(program, words, b"open\n")
+        # clap's own text is some lines, whatever they say
+        wanted = (done.stderr or None) if told is None else b"%s: %s\n" % (name.encode(), told.encode())
+        checks.same("%s %r" % (name, words), (done.returncode, done.stdout, done.stderr), (status, b"", wanted))
+
+
+def check_help(program, name, told, checks):
+    """Help and the version, which go to standard output."""
+    begins, explained = told
+    for words in [["--help"], ["-h"], ["--help", "x", "-x"]]:
+        done = run(program, words)
+        checks.same("%s %r" % (name, words), (done.returncode, done.stdout[: len(begins)], done.stderr), (0, begins, b""))
+        lines = done.stdout.decode().splitlines()
+        for option in explained:
+            found = [it for it in lines if re.match(r" +%s  +\S" % re.escape(option), it)]
+            checks.same("%s explains %s" % (name, option), len(found), 1)
+    for words in [["--version"], ["-V"], ["-V", "--help"]]:
+        done = run(program, words)
+        checks.same("%s %r" % (name, words), (done.returncode, done.stdout, done.stderr), (0, b"%s 0.1.0\n" % name.encode(), b""))
+    with open("/dev/full", "wb") as full:
+        for words in [["--help"], ["--version"]]:
+            done = run(program, words, stdout=full)
+            checks.same("%s %r into what is full" % (name, words), (done.returncode, done.stderr), (3, b"%s: cannot write\n" % name.encode()))
+
+
+def main(words):
+    program = os.path.abspath(words[0])
+    checks = Checks()
+    for sent, answered in STREAMS:
+        done = run(program, ["--stdio"], bytes.fromhex(sent))
+        checks.same("bytes for %r" % sent, done.stdout.hex(), CSM + answered)
+        checks.same("status for %r" % sent, (done.returncode, done.stderr), (0, b""))
+    check_scripts(program, checks)
+    check_words(program, "coap-server", SERVER_WORDS, checks)
+    check_words(os.path.abspath(words[1]), "coap-client", CLIENT_WORDS, checks)
+    check_help(program, "coap-server", SERVER_HELP, checks)
+    check_help(os.path.abspath(words[1]), "coap-client", CLIENT_HELP, checks)
+    for said, sent, greeting, answered in STDIO_WORDS:
+        done = run(program, said + ["--stdio"], bytes.fromhex(sent))
+        checks.same("bytes for %r" % said, (done.returncode, done.stdout.hex()), (0, greeting + answered))
+    done = run(program, ["--turns", "1", "--stdio"], bytes.fromhex("00e1"))
+    checks.same("too many turns", (done.returncode, done.stderr), (3, b"coap-server: too many turns\n"))
+    with open("/dev/full", "wb") as full:
+        done = run(program, ["--stdio"], stdout=full)
+        checks.same("writing fails", (done.returncode, done.stderr), (3, b"coap-server: cannot write\n"))
+    folder = os.open("/", os.O_RDONLY)
+    done = run(program, ["--stdio"], stdin=folder)
+    os.close(folder)
+    checks.same("reading fails", (done.returncode, done.stdout.hex(), done.stderr), (3, CSM, b"coap-server: cannot read\n"))
+    print("programs from outside: %d passed, %d failed" % (checks.passed, checks.failed))
+    return 1 if checks.failed else 0
+
+
+if __name__ == "__main__":
+    sys.exit(main(sys.argv[1:]))

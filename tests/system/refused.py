@@ -1,0 +1,317 @@
+#!/usr/bin/env python3
+"""Refuses the programs each allocation in turn.
+
+    tests/system/refused.py bin/coap-server bin/coap-client [NAME..]
+
+tests/harness/refuse.c is preloaded into a program and refuses it one allocation: the first, then the second, until a run makes fewer. A run that
+is refused ends with status 3 and `no memory`, and has written a front of what it writes otherwise, on standard output and over its
+connection; where the refusal was made up for, it is as any other. How many are told the table of docs/TESTING.md must tell. Besides, the
+server is refused every allocation once its connections are open, and must answer as ever: over standard streams one, over sockets two. And
+the programs run at their greatest inputs with nothing refused, and must not tell otherwise. The last line is 'N passed, M failed' over the
+runs, and the status 0 where M is 0.
+"""
+
+import contextlib
+import os
+import socket
+import subprocess
+import sys
+import tempfile
+import threading
+from concurrent.futures import ThreadPoolExecutor
+from dataclasses import dataclass
+
+sys.path.insert(0, os.path.join(os.path.dirname(os.path.abspath(__file__)), "..", "harness"))
+import rows  # noqa: E402
+from checks import CSM, GREETING  # noqa: E402
+from peers import free_port, line_of  # noqa: E402
+from spelling import encoded  # noqa: E402
+
+# Where the clients' peers listen, and where the servers do, so that no peer takes the port that was free for a server.
+HOST, SERVER_HOST = "127.0.0.1", "127.0.0.2"
+
+# Seconds for each wait.
+LIMIT = 20
+
+MEBIBYTE = 1 << 20
+
+# More allocations than a server makes until two connections are open.
+MOST_MADE = 1 << 10
+
+# What is left of a program that was refused memory.
+LEFT = "a front of what it writes with memory"
+
+# What a peer sends: Capabilities and Settings, a GET of the root, and a PUT of `x` at `a`; and what it is answered.
+SENT = bytes.fromhex("00e1" "010101" "410302b161ff78")
+ANSWERED = bytes.fromhex(CSM + "a14501" + GREETING + "014102")
+
+SCRIPT = b"open\ndrain 1\nin 1 00e1010101410302b161ff78\ndrain 1\nput /b 0 787878\nput /b 0 79\nstatus 1\nremove /b\nopen\ndrop 2\nend 1\n"
+LINES = (f"open 1\nout 1 {CSM}\nin 1 12\nout 1 a14501{GREETING}014102\nput 2\nput 3\nstatus 1 open kept 0 waiting 0 pending 0 observers 0\n"
+         "remove /b\nopen 2\ndrop 2\nend 1\n").encode()
+
+# The client's words and what it sends for them; what the peer answers, and what is written of that.
+ASKING = ["-m", "put", "-e", "a%20b", "-t", "0", "-O", "2048,0x0102", "-w"]
+ASKED = bytes.fromhex(CSM + "c10301b17810e206e70102ff612062")
+SETTINGS, RESPONSE = bytes.fromhex("00e1"), bytes.fromhex("314401ff6869")
+
+
+@dataclass
+class Ran:
+    """A run of a program: its status, what it wrote to standard output and over its connection, and what it said."""
+
+    status: int
+    written: bytes
+    said: bytes
+    sent: bytes = b""
+
+    def is_refused(self):
+        return b"refused\n" in self.said
+
+    def fault(self):
+        """What it said of itself: how a server begins, and that memory was refused, aside."""
+        lines = self.said.decode().splitlines()
+        return [it for it in lines if it != "refused" and " listening on " not in it]
+
+
+def over_streams(*command, stream):
+    """What runs a program over standard streams."""
+
+    def run(environment):
+        with tempfile.TemporaryFile() as file:
+            file.write(stream)
+            file.seek(0)
+            ran = subprocess.run(command, stdin=file, capture_output=True, env=environment, timeout=LIMIT)
+        return Ran(ran.returncode, ran.stdout, ran.stderr)
+
+    return run
+
+
+def received(peer, ends, least=0):
+    """What comes of a peer until this end, after so many bytes at least, or the connection's."""
+    told = b""
+    peer.settimeout(LIMIT)
+    with contextlib.suppress(ConnectionError):
+        while (len(told) < least or not told.endswith(ends)) and (piece := peer.recv(65_536)):
+            told += piece
+    return told
+
+
+def asked_once(port, process):
+    """What a server answers one peer. Where that is not all, or it takes none, it must end by itself."""
+    sent = b""
+    with contextlib.suppress(ConnectionError), socket.create_connection((SERVER_HOST, port), LIMIT) as peer:
+        peer.sendall(SENT)
+        sent = received(peer, ANSWERED[-6:])
+    if sent != ANSWERED:
+        process.wait(LIMIT)
+    return sent
+
+
+def asked_two(port, sent, answered):
+    """What a server writes to two peers that send this once both are greeted. A server that is refused memory ends."""
+    told, greeting = [], bytes.fromhex(CSM)
+    with contextlib.suppress(ConnectionError), contextlib.ExitStack() as stack:
+        peers = [stack.enter_context(socket.create_connection((SERVER_HOST, port), LIMIT)) for _ in range(2)]
+        told += [received(peer, greeting) for peer in peers]
+        for peer in peers:
+            peer.sendall(sent)
+            told.append(received(peer, answered) if sent else b"")
+    return b"".join(told)
+
+
+def listened(server, port, environment, ask):
+    """A run of a server that listens at a port, until its peers are answered."""
+    command = [server, "-A", SERVER_HOST, "-p", str(port), "-d", "1"]
+    with subprocess.Popen(command, stdin=subprocess.DEVNULL, stdout=subprocess.PIPE, stderr=subprocess.PIPE, env=environment) as process:
+        said = line_of(process.stderr)
+        while said.endswith(b"refused\n"):
+            said += line_of(process.stderr)
+        sent = ask(port, process) if b"listening" in said else b""
+        status = process.wait(LIMIT) if b"listening" not in said else process.poll()
+        process.kill()
+        written, rest = process.communicate()
+    return Ran(status or 0, written, said.replace(b" (and then the end)", b"") + rest, sent)
+
+
+def listening(server, ask=asked_once):
+    """What runs a server that listens, and asks it so. Where somebody else has its port by then, it runs once more."""
+
+    def run(environment):
+        for _ in range(3):
+            ran = listened(server, free_port(SERVER_HOST), environment, ask)
+            if b"cannot listen" not in ran.said:
+                break
+        return ran
+
+    return run
+
+
+def answer(listener, got, settings=SETTINGS, asked=ASKED, response=RESPONSE):
+    """Answers a client as a server would, if one comes and asks this."""
+    try:
+        peer = listener.accept()[0]
+    except OSError:
+        return
+    with peer:
+        peer.sendall(settings)
+        # the payload may be one byte over and over, so that its end stands in the middle too
+        got.append(received(peer, asked[-20:], len(asked)))
+        if got[0] == asked:
+            peer.sendall(response)
+
+
+def asking(client):
+    """What runs a client over a connection."""
+
+    def run(environment):
+        got = []
+        with socket.create_server((HOST, 0)) as listener:
+            peer = threading.Thread(target=answer, args=(listener, got))
+            peer.start()
+            command = [client, *ASKING, "coap+tcp://%s:%d/x" % listener.getsockname()]
+            ran = subprocess.run(command, stdin=subprocess.DEVNULL, capture_output=True, env=environment, timeout=LIMIT)
+            # (wakes the peer where no client came)
+            listener.shutdown(socket.SHUT_RDWR)
+            peer.join()
+        return Ran(ran.returncode, ran.stdout, ran.stderr, b"".join(got))
+
+    return run
+
+
+def wrong_at_the_greatest_script(server):
+    """What is wrong with a script of 1,048,576 bytes, or nothing."""
+    put = b"put /a - " + b"78" * 65_000 + b"\n"
+    script = b"open\n" + put + b"status 1\n" * ((MEBIBYTE - len(put) - 5) // 9)
+    script += b"#" * (MEBIBYTE - len(script) - 1) + b"\n"
+    status = b"status 1 waiting kept 0 waiting 8 pending 0 observers 0\n"
+    ran = over_streams(server, "--script", "-", "-d", "1", stream=script)(dict(os.environ))
+    wanted = b"open 1\nput 1\n" + status * script.count(b"status")
+    return "" if (len(script), ran.status, ran.written) == (MEBIBYTE, 0, wanted) else f"status {ran.status}: {ran.said[-200:]}"
+
+
+def wrong_at_the_greatest_door(server):
+    """What is wrong with a server of the greatest limits over sockets, or nothing."""
+    port = free_port(SERVER_HOST)
+    limits = ["--max-message", "1048576", "--max-sent", "65536", "--queue", "4194304", "--pending", "256", "--observers", "256"]
+    command = [server, "-A", SERVER_HOST, "-p", str(port), "-d", "1000", "--connections", "256", *limits]
+    greatest = encoded(3, b"\1", [(11, b"a")], b"x" * 1_048_566)
+    puts = [encoded(3, bytes([2 + number]), [(11, b"a")], b"x" * 65_000) for number in range(12)]
+    wanted = bytes.fromhex("60e1231000004140" "418d01d22ffde8" "014102") + b"".join(bytes([1, 0x44, 3 + number]) for number in range(11))
+    with subprocess.Popen(command, stdin=subprocess.DEVNULL, stderr=subprocess.PIPE) as process:
+        line_of(process.stderr)
+        with contextlib.ExitStack() as stack:
+            peers = [stack.enter_context(socket.create_connection((SERVER_HOST, port), LIMIT)) for _ in range(256)]
+            peers[-1].sendall(SETTINGS + greatest + b"".join(puts))
+            told = received(peers[-1], wanted[-3:])
+        status = process.poll()
+        process.kill()
+        said = process.communicate()[1]
+    return "" if (told, status) == (wanted, None) else f"status {status}, told {told.hex()}: {said[-200:]}"
+
+
+def wrong_at_the_greatest_words(client):
+    """What is wrong with a client of the longest words, whose response is the greatest, or nothing."""
+    got, payload = [], b"y" * 65_000
+    target = "coap+tcp://%s:%d" + ("/" + "p" * 255) * 16 + "?" + "&".join(["q" * 255] * 16)
+    paths, queries = [(11, b"p" * 255)] * 16, [(15, b"q" * 255)] * 16
+    options = [*paths, (12, b"\xff\xff"), *queries, (17, b"\xff\xff"), (65_535, b"J" * 1_034)]
+    sent = encoded(3, b"\1", options, b"x" * 56_000)
+    words = ["-m", "put", "-e", "x" * 56_000, "-t", "65535", "-A", "65535", "-O", "65535,0x" + "4a" * 1_034, "-B", "4294967295"]
+    with socket.create_server((HOST, 0)) as listener:
+        response = encoded(0x44, b"\1", [], payload)
+        peer = threading.Thread(target=answer, args=(listener, got, bytes.fromhex("30e122ffff"), bytes.fromhex(CSM) + sent, response))
+        peer.start()
+        ran = subprocess.run([client, *words, target % listener.getsockname()], stdin=subprocess.DEVNULL, capture_output=True, timeout=LIMIT)
+        listener.shutdown(socket.SHUT_RDWR)
+        peer.join()
+    is_right = (ran.returncode, ran.stdout, ran.stderr) == (0, payload, b"") and b"".join(got) == bytes.fromhex(CSM) + sent
+    return "" if is_right else f"status {ran.returncode}, {len(b''.join(got))} bytes sent, {len(ran.stdout)} written: {ran.stderr[-200:]}"
+
+
+def wrong_of(ran, usual):
+    """What is wrong with a run that was refused, or nothing."""
+    is_usual = (ran.status, ran.written, ran.sent, ran.fault()) == (usual.status, usual.written, usual.sent, usual.fault())
+    is_front = usual.written.startswith(ran.written) and usual.sent.startswith(ran.sent)
+    is_told = ran.status == 3 and [it.partition(": ")[2] for it in ran.fault()] == ["no memory"]
+    return "" if is_usual or (is_told and is_front) else f"{ran}, and not as {usual}"
+
+
+def refuse_each(name, run, wanted, shim):
+    """Refuses each allocation of a run in turn; gives how many were refused, how many of these were told, and what is wrong."""
+    usual, wrong, count, told = run(dict(os.environ)), [], 0, 0
+    if (usual.status, usual.written, usual.sent) != (0, *wanted):
+        return 0, 0, [f"{name}: {usual}"]
+    while True:
+        ran = run({**os.environ, "LD_PRELOAD": shim, "REFUSE_ALLOCATION": str(count + 1)})
+        if not ran.is_refused():
+            return count, told, wrong + ([f"{name}: {trouble}"] if (trouble := wrong_of(ran, usual)) else [])
+        count, told = count + 1, told + (ran.status == 3)
+        trouble = wrong_of(ran, usual)
+        wrong += [f"{name}, allocation {count}: {trouble}"] if trouble else []
+
+
+def made(run, shim):
+    """How many allocations a run makes: behind fewer of them one is refused."""
+    least, most = 0, MOST_MADE
+    while least < most:
+        middle = (least + most) // 2
+        is_refused = run(refusing_behind(middle, shim)).is_refused()
+        least, most = (middle + 1, most) if is_refused else (least, middle)
+    return least
+
+
+def refusing_behind(count, shim):
+    return {**os.environ, "LD_PRELOAD": shim, "REFUSE_BEHIND": str(count)}
+
+
+def wrong_without_growth(opens, run, wanted, shim):
+    """What is wrong with a run that is refused every allocation behind those of a run that opens its connections alone, or nothing."""
+    ran = run(refusing_behind(made(opens, shim), shim))
+    return "" if (ran.status, ran.written, ran.sent) == (0, *wanted) else f"{ran}"
+
+
+def without_growth(server, shim):
+    """The same over standard streams and over sockets, by name."""
+    greeting, asked, answered = bytes.fromhex(CSM), bytes.fromhex("00e1" "010101"), bytes.fromhex("a14501" + GREETING)
+    streams = [over_streams(server, "--stdio", stream=it) for it in (b"", asked)]
+    yield "standard streams", wrong_without_growth(*streams, (greeting + answered, b""), shim)
+    peers = [listening(server, lambda port, _, sent=it: asked_two(port, sent, answered)) for it in (b"", asked)]
+    yield "sockets", wrong_without_growth(*peers, (b"", 2 * greeting + 2 * answered), shim)
+
+
+def main(server, client, *named):
+    server, client = os.path.abspath(server), os.path.abspath(client)
+    runs = {
+        "serve_one": (over_streams(server, "--stdio", "-d", "1", stream=SENT), (ANSWERED, b"")),
+        "replay": (over_streams(server, "--script", "-", "-d", "2", stream=SCRIPT), (LINES, b"")),
+        "serve_door": (listening(server), (b"", ANSWERED)),
+        "run_client": (asking(client), (b"hi\n", ASKED)),
+    }
+    passed, failed, calls = 0, 0, {}
+    with tempfile.TemporaryDirectory(prefix="refused-") as room, ThreadPoolExecutor(len(runs)) as pool:
+        shim = rows.compiled_shim(room)
+        chosen = {name: run for name, run in runs.items() if not named or name in named}
+        running = {name: pool.submit(refuse_each, name, *run, shim) for name, run in chosen.items()}
+        for name, it in running.items():
+            count, told, wrong = it.result()
+            passed, failed = passed + count - min(count, len(wrong)), failed + len(wrong)
+            calls[f"`{name}`, in `{'coap-client' if name == 'run_client' else 'coap-server'}`", LEFT] = told
+            print(f"{name}: {count} allocations refused, of which {told} end the program")
+            for text in wrong[:3]:
+                print(text)
+        for name, trouble in without_growth(server, shim):
+            passed, failed = passed + (not trouble), failed + bool(trouble)
+            print(f"no growth behind the opens, over {name}: {trouble or 'the same bytes'}")
+    wrong = [] if named else rows.untold(calls, is_program=True)
+    failed += len(wrong)
+    print("".join(f"{text}\n" for text in wrong), end="")
+    for name, wrong in (("script", wrong_at_the_greatest_script(server)), ("door", wrong_at_the_greatest_door(server)),
+                        ("words", wrong_at_the_greatest_words(client))):
+        passed, failed = passed + (not wrong), failed + bool(wrong)
+        print(f"the greatest {name}: {wrong or 'no memory is told'}")
+    print(f"{passed} passed, {failed} failed")
+    return 1 if failed else 0
+
+
+if __name__ == "__main__":
+    sys.exit(main(*sys.argv[1:]))

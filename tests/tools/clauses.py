@@ -1,0 +1,132 @@
+#!/usr/bin/env python3
+"""Compares what public functions promise with what they promised at an earlier commit:
+
+    tests/tools/clauses.py REV         of every library: the functions that went, and the clauses that went or came
+    tests/tools/clauses.py REV CRATE ..  of these crates
+
+A clause is a `requires` or an `ensures` with its name and its text, white space made one. A function is known by its
+crate, its type and its name. One that is no longer there is followed: to a new function of another crate with its type
+and name, else to one of its crate with its name, else to one of any crate with its name, if there is exactly one. What
+is told is for reading: a clause that went must have another one which says as much, and a `requires` that came must be
+asked for.
+The last line counts the functions: those with equal clauses, with more, with others, and those that went or came.
+"""
+
+import os
+import re
+import subprocess
+import sys
+
+sys.path.insert(0, os.path.join(os.path.dirname(os.path.abspath(__file__)), "..", "harness"))
+from rooms import ROOT, is_program, listed  # noqa: E402
+
+FUNCTION = re.compile(r" *(pub )?(?:const )?fn (\w+)")
+BLOCK = re.compile(r"(?:pub )?(?:impl|trait)\b *(.*?) *\{?$")
+CLAUSE = re.compile(r"(?:ensures|requires)\b")
+
+
+def files_at(revision, crate):
+    """The texts of the code of a crate, as it is in the folder or at a commit."""
+    folder = f"crates/{crate}/src"
+    words = ["git", "-C", ROOT, "ls-tree", "-r", "--name-only", revision, folder] if revision else ["git", "-C", ROOT, "ls-files", folder]
+    for name in subprocess.run(words, capture_output=True, text=True, check=True).stdout.split():
+        if revision:
+            yield subprocess.run(["git", "-C", ROOT, "show", f"{revision}:{name}"], capture_output=True, text=True, check=True).stdout
+        else:
+            with open(f"{ROOT}/{name}", encoding="utf-8") as it:
+                yield it.read()
+
+
+def type_of(head):
+    """The type or the trait whose functions a block has, without its parameters."""
+    bare = re.sub(r"^<[^>]*>\s*", "", head).partition(" for ")
+    return re.sub(r"[<(].*", "", bare[2] or bare[0]).strip()
+
+
+def clauses_of(lines):
+    """The clauses behind the head of a function, up to its body, or to the end of one that has none."""
+    found, is_open = [], False
+    for line in lines:
+        text = line.strip()
+        if is_open:
+            found[-1] += " " + text
+        elif CLAUSE.match(text):
+            found.append(text)
+        elif found or text in ("{", "{}", ";", "}") or text.endswith((" {", "}", ";")):
+            break
+        is_open = bool(found) and found[-1].count("{") > found[-1].count("}")
+        if found and not is_open and text.endswith(";"):
+            break
+    return {re.sub(r"\s*;\s*(?=})|\s+", " ", it.removesuffix(";")).strip() for it in found}
+
+
+def promises(revision, crate):
+    """The clauses of each public function and of each one of a trait, by its type and name."""
+    found = {}
+    for text in files_at(revision, crate):
+        block, is_trait, lines = "", False, re.sub(r"^\s*//.*\n", "", text, flags=re.M).splitlines()
+        for number, line in enumerate(lines):
+            if line.startswith("}"):
+                block, is_trait = "", False
+            elif (head := BLOCK.match(line)) and not line.startswith(" "):
+                block, is_trait = type_of(head[1]), "trait " in line
+            elif (head := FUNCTION.match(line)) and (head[1] or is_trait):
+                found[block, head[2]] = clauses_of([] if line.endswith(("{", "}")) else lines[number + 1 :])
+    return found
+
+
+def libraries(revision):
+    """The libraries that crates.txt lists now, and those that it listed at a commit."""
+    now = [it for it in listed() if not is_program(it)]
+    lines = subprocess.run(["git", "-C", ROOT, "show", f"{revision}:crates.txt"], capture_output=True, text=True, check=True).stdout.splitlines()
+    earlier = [it.partition(":")[0].split()[0] for it in lines if it.strip() and not it.startswith("#")]
+    return now + [it for it in earlier if it not in listed()]
+
+
+def moved(crate, name, before, now):
+    """The crate and the name of a function that is no longer where it was, if exactly one new function can be it."""
+    new = [(other, it) for other in now for it in now[other] if it not in before[other]]
+    for is_it in (
+        lambda other, it: other != crate and it == name,
+        lambda other, it: other == crate and it[1] == name[1],
+        lambda other, it: it[1] == name[1],
+    ):
+        found = [it for it in new if is_it(*it)]
+        if found:
+            return found[0] if len(found) == 1 else None
+    return None
+
+
+def compare(crate, before, now, seen, counts):
+    """Tells what became of the functions of a crate, and counts it."""
+    for name, clauses in sorted(before[crate].items()):
+        place, title = (crate, name) if name in now[crate] else moved(crate, name, before, now), f"{crate} {'::'.join(filter(None, name))}"
+        if place is None:
+            counts["went"] += 1
+            print(f"{title}: went")
+            continue
+        seen.add(place)
+        title += f", now of {place[0]}" if place[0] != crate else ""
+        promised = now[place[0]][place[1]]
+        went, came = clauses - promised, promised - clauses
+        counts["equal" if not went | came else "more" if not went else "others"] += 1
+        if went | came:
+            print(f"{title}:", *(f"  - {it}" for it in sorted(went)), *(f"  + {it}" for it in sorted(came)), sep="\n")
+
+
+def main(words):
+    if not words:
+        raise SystemExit(__doc__)
+    counts = dict.fromkeys(("equal", "more", "others", "went", "came"), 0)
+    every = libraries(words[0])
+    before, now = ({it: promises(revision, it) for it in every} for revision in (words[0], None))
+    seen, wanted = set(), words[1:] or every
+    for crate in wanted:
+        compare(crate, before, now, seen, counts)
+    counts["came"] = sum((crate, name) not in seen for crate in wanted for name in now[crate])
+    print(", ".join(f"{number} {what}" for what, number in counts.items()))
+    return 0
+
+
+if __name__ == "__main__":
+    sys.exit(main(sys.argv[1:]))

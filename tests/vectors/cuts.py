@@ -1,0 +1,71 @@
+#!/usr/bin/env python3
+"""Replays the rows of servers with each `in` cut in two at every place.
+
+    tests/vectors/cuts.py [FILE..]
+
+A file is tests/vectors/rows/serve/NAME.rows or tests/vectors/rows/calls/NAME.rows. Every line must be as the file says, but for those of
+the two parts: their counts add up, and the last one tells the same stop. All cuts of an `in` are made in one run of the probe. A file
+with a line `cuts:`, which says why, is left out, and so are events that stand in one row with others. The last line is 'N passed, M
+failed' over the replays, and the status 0 if M is 0.
+"""
+
+import os
+import pathlib
+import sys
+from concurrent.futures import ThreadPoolExecutor
+
+sys.path.insert(0, os.path.join(os.path.dirname(os.path.abspath(__file__)), "..", "harness"))
+import rows  # noqa: E402
+from layers import serve  # noqa: E402
+
+
+def cuts_of(event):
+    """The events that stand for an `in`, two for each place where it is cut."""
+    word, _, rest = event.partition(" ")
+    connection, _, digits = rest.partition(" ")
+    if word == "in" and "|" not in event:
+        for place in range(2, len(digits), 2):
+            yield [f"in {connection} {digits[:place]}", f"in {connection} {digits[place:]}"]
+
+
+def wrong_of(steps, at, found):
+    """What is wrong with the lines of a replay whose event at this place was cut."""
+    first, second = found[at : at + 2]
+    wrong = rows.differences(found[:at] + found[at + 2 :], steps[:at] + steps[at + 1 :])
+    (count, _), (more, stop) = serve.count_of(first), serve.count_of(second)
+    if (count + more, stop) != serve.count_of(steps[at].wanted):
+        wrong.append(f"{steps[at].event}\n    wanted {steps[at].wanted}\n    found  {first}, {second}")
+    return wrong
+
+
+def replay(file, steps, at):
+    """Replays a section with the event at this place cut at every place, and returns how many replays these are and what is wrong."""
+    events = [step.event for step in steps]
+    cuts = list(cuts_of(events[at]))
+    sent = [event for cut in cuts for event in events[:at] + cut + events[at + 1 :]]
+    found = rows.run(rows.probe_of(file), sent).lines if cuts else []
+    size, wrong = len(events) + 1, []
+    for number, cut in enumerate(cuts):
+        told = wrong_of(steps, at, found[number * size : (number + 1) * size])
+        wrong += [f"{cut[0]} and {cut[1]}: {text}" for text in told[:1]]
+    return len(cuts), wrong
+
+
+def main(named):
+    files = [rows.read(pathlib.Path(it).resolve()) for it in named] or [
+        rows.read(it) for layer in ("serve", "calls") for it in sorted(rows.ROWS.glob(f"{layer}/*.rows"))
+    ]
+    sections = [(file, list(serve.steps(opening, lines))) for file in files if not file.cuts for opening, lines in file.values]
+    places = [(file, steps, at) for file, steps in sections for at in range(len(steps))]
+    count = failed = 0
+    with ThreadPoolExecutor(len(os.sched_getaffinity(0))) as pool:
+        for (file, _, _), (replays, wrong) in zip(places, pool.map(lambda place: replay(*place), places)):
+            count, failed = count + replays, failed + len(wrong)
+            for text in wrong[:3]:
+                print(f"{file.name()}: {text}")
+    print(f"{count - failed} passed, {failed} failed")
+    return 1 if failed else 0
+
+
+if __name__ == "__main__":
+    sys.exit(main(sys.argv[1:]))

@@ -1,0 +1,165 @@
+#!/usr/bin/env python3
+"""Checks the list of worked rows, tests/vectors/rows/README.md: each row is where the list says, and a step of the gate plays it.
+
+    tests/vectors/row_list.py
+
+A row of the list names a file and lines of it. In a file of rows these are whole lines in this order below one opening, which
+tests/harness/rows.py plays; a line that ends in ` ..` gives the beginning of one. A test of coap_tests must have the lines in a `#[test]` function
+or in a constant that one names. A stored run must be that of a program in crates.txt, and a Python test a step of the gate. `refused` and
+`cut` in the last column ask that tests/harness/rows.py --refuse and tests/vectors/cuts.py play the file too.
+The last line is 'N passed, M failed' over the places of the list, and the status 0 if M is 0.
+"""
+
+import importlib.machinery
+import importlib.util
+import os
+import re
+import sys
+from dataclasses import dataclass
+
+sys.path.insert(0, os.path.join(os.path.dirname(os.path.abspath(__file__)), "..", "harness"))
+import rows  # noqa: E402
+from rooms import ROOT, is_program, listed  # noqa: E402
+
+LIST = rows.ROWS / "README.md"
+HEADER = ["Row", "Shows", "File", "Lines", "Also"]
+
+
+@dataclass
+class Place:
+    """A place where a row is played."""
+
+    name: str
+    file: str
+    lines: list
+    also: list
+
+    def is_in(self, found):
+        """Whether the lines are among these, in their order."""
+        left = iter(found)
+        return all(any(is_line(line, text) for text in left) for line in self.lines)
+
+
+def is_line(wanted, text):
+    """Whether a text is the line that the list gives, or begins as it."""
+    return text.startswith(wanted.removesuffix("..").rstrip()) if wanted.endswith(" ..") else text == wanted
+
+
+def steps_of_the_gate():
+    """The steps of the gate, each with its words."""
+    loader = importlib.machinery.SourceFileLoader("gate", f"{ROOT}/tests/gate")
+    gate = importlib.util.module_from_spec(importlib.util.spec_from_loader("gate", loader))
+    loader.exec_module(gate)
+    return gate.STEPS
+
+
+def places():
+    """The places of the list, and what is wrong with the list itself."""
+    found, wrong, name = [], [], ""
+    for line in LIST.read_text(encoding="utf-8").splitlines():
+        if not line.startswith("|") or line.startswith("|---"):
+            continue
+        cells = [it.strip().replace("\\|", "|") for it in re.split(r"(?<!\\)\|", line)[1:-1]]
+        if cells == HEADER:
+            continue
+        lines = re.findall(r"`(.*?)`(?:<br>|$)", cells[3]) if len(cells) == len(HEADER) else []
+        if not lines or "<br>".join(f"`{it}`" for it in lines) != cells[3]:
+            wrong.append(f"not understood: {line[:120]}")
+            continue
+        if cells[0] and any(it.name == cells[0] for it in found):
+            wrong.append(f"two rows have one name: {cells[0]}")
+        name = cells[0] or name
+        found.append(Place(name, cells[2], lines, [it for it in cells[4].split(", ") if it]))
+    return found, wrong
+
+
+def wrong_in_rows(place, steps):
+    """What is wrong with a place in a file of rows."""
+    path = rows.ROOT / place.file
+    if ["python3", "tests/harness/rows.py"] not in steps or path not in rows.ROWS.glob("*/*.rows"):
+        return "no step of the gate plays this file"
+    file = rows.read(path)
+    if not any(place.is_in([f"= {opening}", *below]) for opening, below in file.values):
+        return "these lines are not there below one opening"
+    if not file.steps():
+        return "nothing of this file is played"
+    return wrong_besides(place, file, steps)
+
+
+def wrong_besides(place, file, steps):
+    """What is wrong with what is said to be played besides."""
+    for word in place.also:
+        if word == "refused":
+            is_played = ["python3", "tests/harness/rows.py", "--refuse"] in steps and file.allocations.isdigit()
+        else:
+            is_played = word == "cut" and ["python3", "tests/vectors/cuts.py"] in steps and file.path.parent.name in ("serve", "calls") and not file.cuts
+        if not is_played:
+            return f"the file is not played as '{word}'"
+    return ""
+
+
+def texts_of_tests(text):
+    """The text of each `#[test]` function, and of each constant that one names."""
+    tests = re.findall(r"^#\[test\]\nfn .*?^\}$", text, re.MULTILINE | re.DOTALL)
+    constants = re.findall(r'^const (\w+): &str = "(.*?)";$', text, re.MULTILINE | re.DOTALL)
+    return tests + [value for name, value in constants if any(re.search(rf"\b{name}\b", it) for it in tests)]
+
+
+def wrong_in_tests(place, text, steps):
+    """What is wrong with a place in the tests of coap_tests."""
+    module = place.file.removeprefix("crates/coap_tests/src/").removesuffix(".rt")
+    with open(f"{ROOT}/crates/coap_tests/src/lib.rt", encoding="utf-8") as it:
+        is_module = f"mod {module};" in it.read().splitlines()
+    if ["rt", "ci"] not in steps or "coap_tests" not in listed() or not is_module:
+        return "no step of the gate runs these tests"
+    return "" if any(place.is_in(it.splitlines()) for it in texts_of_tests(text)) else "these lines are in no test"
+
+
+def wrong_in_run(place, text, steps):
+    """What is wrong with a place in a stored run."""
+    crate = place.file.split("/")[1]
+    if ["rt", "ci"] not in steps or crate not in listed() or not is_program(crate):
+        return "no step of the gate plays this run"
+    return "" if place.is_in(text.splitlines()) else "these lines are not there"
+
+
+def wrong_in_script(place, text, steps):
+    """What is wrong with a place in a Python test."""
+    if not any(step[:2] == ["python3", place.file] for step in steps):
+        return "this is no step of the gate"
+    left = iter(text.splitlines())
+    is_there = all(any(line.removesuffix(" ..").removesuffix("..") in it for it in left) for line in place.lines)
+    return "" if is_there else "these lines are not there"
+
+
+def wrong_of(place, steps):
+    """What is wrong with a place, or nothing."""
+    try:
+        with open(f"{ROOT}/{place.file}", encoding="utf-8") as it:
+            text = it.read()
+    except OSError:
+        return "there is no such file"
+    if place.file.endswith(".rows"):
+        return wrong_in_rows(place, steps)
+    if place.also:
+        return "this is no file of rows"
+    if place.file.startswith("crates/coap_tests/src/"):
+        return wrong_in_tests(place, text, steps)
+    if re.fullmatch(r"crates/\w+/(args|stdin|stdout|status)", place.file):
+        return wrong_in_run(place, text, steps)
+    return wrong_in_script(place, text, steps) if place.file.endswith(".py") else "no step of the gate plays files of this kind"
+
+
+def main():
+    steps, (found, wrong) = steps_of_the_gate(), places()
+    for place in found:
+        if trouble := wrong_of(place, steps):
+            wrong.append(f"{place.name}: {place.file}: {trouble}")
+    print("".join(f"{it}\n" for it in wrong), end="")
+    names = len({it.name for it in found})
+    print(f"{names} worked rows in {len(found)} places: {max(len(found) - len(wrong), 0)} passed, {len(wrong)} failed")
+    return 1 if wrong or not found else 0
+
+
+if __name__ == "__main__":
+    sys.exit(main())

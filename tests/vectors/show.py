@@ -1,0 +1,129 @@
+"""Shows the main jobs: recorded streams through `coap-server --stdio`, with what each message means, and a script of events on
+one server through `coap-server --script -`, with what each line means.
+
+    tests/vectors/show.py bin/coap-server
+    tests/vectors/show.py --try                 the first stream alone, by `rt try`, which runs the same source before any proof
+"""
+
+import os
+import subprocess
+import sys
+import tempfile
+
+sys.path.insert(0, os.path.join(os.path.dirname(os.path.abspath(__file__)), "..", "harness"))
+import messages  # noqa: E402
+from rooms import ROOT  # noqa: E402
+
+CRATE = os.path.join(ROOT, "crates", "coap_server")
+
+# Capabilities and Settings with nothing in it, Empty, a Ping with the token 07 and Custody, and GET of the root, of the
+# moment, of the listing and of an absent path.
+RECORDED = bytes.fromhex(
+    "00e1" "0000" "11e20720" "010109" "51010ab474696d65"
+    "d104010bbb2e77656c6c2d6b6e6f776e04636f7265" "21010cb178"
+)
+
+# Capabilities and Settings, and then the first bytes of a message of 4,295,033,106 bytes; a Ping behind them.
+HOSTILE = bytes.fromhex("00e1" "f0ffffffff01" "01e201")
+
+STREAMS = [
+    ("A peer that keeps to the rules: Capabilities and Settings, Empty, a Ping with Custody, requests.", RECORDED),
+    ("A hostile one: a size of 4,295,033,106 bytes, and more behind it.", HOSTILE),
+]
+
+SCRIPT_TITLE = "A script on one server: two connections observe /time, and the second one is not drained. Each event, its line, what that means."
+
+# Some more Pings than there is room for Pongs.
+PINGS = 22_000
+
+# Each event, and what its line means; of bytes that are written their messages are told.
+SCRIPT = [
+    ("open", "a connection, which gets the number 1"),
+    ("drain 1", ""),
+    ("in 1 00e1" "6101076054" "74696d65", "its Capabilities and Settings, and GET of /time with Observe: all 11 bytes are taken"),
+    ("drain 1", ""),
+    ("open", "a second connection"),
+    ("in 2 00e1" "6101086054" "74696d65", "it observes /time too"),
+    ("drain 2", ""),
+    ("put /a 0 31", "a put from inside is refused: this program has places for no resources but the built-in ones"),
+    ("tick 5", "the moment is 5 now, and each observer is to be told"),
+    ("drain 1", ""),
+    ("drain 2", ""),
+    ("in 2 " + "01e201" * PINGS, f"of {PINGS:,} Pings those are taken whose Pongs have room, as connection 2 is not drained"),
+    ("status 2", "so many bytes of Pongs wait, and there is no room for one more greatest message"),
+    ("tick 6", "the observer on connection 1 is told; the one on connection 2 has to wait"),
+    ("drain 1", ""),
+    ("tick 7", "and again"),
+    ("drain 1", ""),
+    (f"drain 2 {3 * PINGS}", "all Pongs that wait, and now there is room for what the observer is to be told"),
+    ("drain 2", ""),
+    ("drop 1", "connection 1 is forgotten"),
+    ("status 1", "so nothing is known of it"),
+]
+
+
+def show(title, stream):
+    print(title, stream.hex())
+    frames, rest = messages.split(stream)
+    for frame in frames:
+        print("    %-26s %s" % (frame.hex(), messages.tell(frame)))
+    if rest:
+        print("    %-26s (unfinished)" % rest.hex())
+
+
+def run(command, title, stream, folder=None):
+    print(title, flush=True)
+    with tempfile.TemporaryFile() as source:
+        source.write(stream)
+        source.seek(0)
+        done = subprocess.run(command, stdin=source, capture_output=True, cwd=folder)
+    show("input: ", stream)
+    show("output:", done.stdout)
+    sys.stdout.flush()
+    sys.stderr.buffer.write(done.stderr)
+    print("status: %d" % done.returncode)
+    return done.returncode
+
+
+def shortened(line):
+    """A line without the middle of its bytes, where they are many."""
+    return line if len(line) <= 60 else line[:22] + ".." + line[-6:]
+
+
+def meaning(line, sentence):
+    """The sentence on a line or, where there is none, what the bytes of the line mean."""
+    if sentence:
+        return sentence
+    frames, rest = messages.split(bytes.fromhex(line.split()[2]))
+    return "; ".join([messages.tell(it) for it in frames] + ["(unfinished)"] * bool(rest))
+
+
+def run_script(command):
+    print(SCRIPT_TITLE, flush=True)
+    script = "".join(event + "\n" for event, _ in SCRIPT)
+    done = subprocess.run(command, input=script.encode(), capture_output=True)
+    for (event, sentence), line in zip(SCRIPT, done.stdout.decode().splitlines()):
+        print("    %-31s %-41s %s" % (shortened(event), shortened(line), meaning(line, sentence)))
+    sys.stdout.flush()
+    sys.stderr.buffer.write(done.stderr)
+    print("status: %d" % done.returncode)
+    return done.returncode
+
+
+def main(words):
+    if words == ["--try"]:
+        print("First the main job UNPROVED: `rt try` runs the same source before any proof, which takes up to a minute.", flush=True)
+        return run(["rt", "try", "--", "--stdio"], *STREAMS[0], folder=CRATE)
+    print(f"Now {words[0]}, built from the proved crates:")
+    statuses = []
+    for number, (title, stream) in enumerate(STREAMS):
+        if number:
+            print()
+        statuses.append(run([words[0], "--stdio"], title, stream))
+    print()
+    statuses.append(run_script([words[0], "--script", "-"]))
+    return max(statuses)
+
+
+if __name__ == "__main__":
+    sys.exit(main(sys.argv[1:]))
