@@ -1,4 +1,4 @@
-"""Counts checks, and the bytes that many tests compare with: our Capabilities and Settings, each Abort, the greeting."""
+"""Counts checks, and the bytes that many tests compare with: the server's Capabilities and Settings, each Abort, the greeting."""
 
 CSM = "60e1230100004140"
 
