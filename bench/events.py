@@ -4,8 +4,8 @@ They are events of a script. From what 1,000 of them cost is taken what 1,000 li
 connection that is not there, and ticks that leave the moment. So neither reading a line nor starting the program counts.
 
 Then it counts what a notification costs together with the drain that takes it away: 255 connections observe what is changed, against
-the same changes and drains where they observe something else. Last it counts the same for the observers of one connection, after a tick
-and after a PUT.
+the same changes and drains where they observe something else. It counts the same for the observers of one connection, after a tick
+and after a PUT, and last for one observer among others of its connection that observe something else.
 """
 
 import collections
@@ -40,6 +40,9 @@ NOTIFIED_EACH, TOLD, CHANGES = 1_500, 255, 20
 # many instructions, and so many times what it costs with the fewest observers
 MANY_OBSERVERS = [*COMMAND[:-2], "--observers", "256", *COMMAND[-2:]]
 TOGETHER, TOGETHER_EACH, TOGETHER_TIMES = (16, 64, 255), 1_300, 1.2
+
+# how many others of the connection observe something else, and how many times what it costs without them a notification may cost
+BESIDE, BESIDE_TIMES = (0, 16, 64, 255), 1.1
 
 # the resource that observers observe, and the one that is asked for and changed
 SEEN, ASKED, MOMENT = b"seen", b"0000", b"time"
@@ -138,6 +141,33 @@ def together():
     return all_met
 
 
+def told_beside(count, path, changes):
+    """What a notification of this path costs with its drain, where so many other observers of the connection observe something else."""
+    totals = []
+    for observed in (path, SEEN):
+        observers = [f"in 1 {observation(0, observed)}", *(f"in 1 {observation(it)}" for it in range(1, count + 1))]
+        lines = [*before(Setting(1, 0, 1)), *observers, "drain 1", *[it for change in changes for it in (change, "drain 1", "drain 2")], ""]
+        totals.append(counted_alone(MANY_OBSERVERS, "\n".join(lines).encode()))
+    return round((totals[0] - totals[1]) / len(changes))
+
+
+def beside():
+    """Tells what a notification costs beside observers of its connection that observe something else, and whether that is what it may."""
+    print("\n| other observers of the connection | a notification after a tick | after a PUT |\n|---|---|---|")
+    rows = []
+    for count in BESIDE:
+        ticked = told_beside(count, MOMENT, [f"tick {it}" for it in range(1, CHANGES + 1)])
+        rows.append((ticked, told_beside(count, ASKED, [f"in 2 {PUT}"] * CHANGES)))
+        print(f"| {count} | {rows[-1][0]:,} | {rows[-1][1]:,} |", flush=True)
+    all_met = True
+    for kind, costs_of in zip(("a tick", "a PUT"), zip(*rows)):
+        met = costs_of[-1] <= BESIDE_TIMES * costs_of[0]
+        all_met = met and all_met
+        print(f"{'met' if met else 'MISSED'}: a notification after {kind}, {costs_of[-1] / costs_of[0]:.2f} times with {BESIDE[-1]} others, "
+              f"at most {BESIDE_TIMES}", flush=True)
+    return all_met
+
+
 def over_settings():
     """Tells the tables, keeps them and draws them, and tells whether they are drawn and the targets met."""
     tables, met = [], True
@@ -151,5 +181,6 @@ def over_settings():
         tables.append(pictures.table(title, [changed, "GET", "PUT", "tick"], rows))
     met = notified() and met
     met = together() and met
+    met = beside() and met
     pictures.keep("instructions", tables)
     return pictures.draw("instructions") and met

@@ -13,4 +13,5 @@ pub mod FlushLemmas
 pub mod TurnLemmas
 pub mod DueLemmas
 pub mod CauseLemmas
-pub mod CoverLemmas
+pub mod FlagLemmas
+pub mod ChainLemmas

@@ -135,7 +135,7 @@ pub use Rattle.coap_serve.specs.declared.door.peer.Peer.{Peer}
 pub use Rattle.coap_serve.specs.declared.door.wants.Wants.{Wants}
 pub use Rattle.coap_serve.specs.declared.host.Host.{Host}
 pub use Rattle.coap_serve.specs.declared.observers.Stale.{Stale}
-pub use Rattle.coap_serve.specs.declared.path_set.PathSet.{PathSet}
+pub use Rattle.coap_serve.specs.declared.chains.Chains.{Chains}
 pub use Rattle.coap_serve.specs.declared.replay.Drained.{Drained}
 pub use Rattle.coap_serve.specs.declared.replay.Line.{Line}
 pub use Rattle.coap_serve.specs.declared.serve.IoFault.{IoFault}
@@ -251,9 +251,10 @@ unfoldable pub use Rattle.coap_serve.specs.values.Sessions.{session_settled_with
 -- ---- coap_serve, views
 pub use Rattle.coap_serve.specs.views.ConfigViews.{start_values}
 pub use Rattle.coap_serve.specs.views.LineViews.{line_bytes, IsRun, IsDrainable}
-pub use Rattle.coap_serve.specs.views.ObserverViews.{observer_value, AreCovered, mark_in, IsTagged}
-pub use Rattle.coap_serve.specs.views.ObserverViews.{NoneMarkedBefore}
-pub use Rattle.coap_serve.specs.views.PathSetViews.{Covers}
+pub use Rattle.coap_serve.specs.views.ChainViews.{Linked, linked, concerns_path, last_in, previous_in, next_index}
+pub use Rattle.coap_serve.specs.views.ChainViews.{IsLastBefore, AreChainedTo}
+pub use Rattle.coap_serve.specs.views.FlagViews.{flag_of, AreFlagged, AreClear, AreBlocks}
+pub use Rattle.coap_serve.specs.views.ObserverViews.{observer_value, mark_in, IsTagged}
 pub use Rattle.coap_serve.specs.views.ServerViews.{IsServer, IsMarkedServer, server_value}
 pub use Rattle.coap_serve.specs.views.SessionViews.{IsSession, session_value, marked_session}
 -- ---- coap_serve, world

@@ -1,5 +1,6 @@
 pub mod ConfigViews
-pub mod PathSetViews
+pub mod FlagViews
+pub mod ChainViews
 pub mod ObserverViews
 pub mod SessionViews
 pub mod ServerViews

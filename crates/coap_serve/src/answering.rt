@@ -7,7 +7,7 @@ ghost use Rattle.coap_conn.specs.Calls as call;
 use crate::cause::Cause;
 use crate::host::{Host, mark_at};
 use crate::observers::{Observer, Observers, Stale};
-use crate::path_set::hash_of;
+use crate::path_hash::hash_of;
 use crate::response::respond;
 use coap_conn::{Due, Link, Reply};
 use coap_store::{Change, Plan, State, Store, Watch, held_response, request_path};
@@ -214,6 +214,8 @@ fn entry_for(host: &Host, request: &MessageRef) -> Observer
         hash: hash_of(&path),
         built_in: !path.place().is_dynamic(),
         changed: None,
+        previous: None,
+        previous_built_in: None,
         path,
     }
 }

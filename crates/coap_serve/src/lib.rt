@@ -3,15 +3,17 @@
 
 mod answering;
 mod cause;
+mod chains;
 mod config;
 mod device;
 mod door;
 mod event;
+mod flags;
 mod host;
 pub mod laws;
 mod observers;
 mod output;
-mod path_set;
+mod path_hash;
 mod polled;
 mod replay;
 mod response;

@@ -1,11 +1,12 @@
 //! The observers of a connection (RFC 7641).
 
 ghost use Rattle.std.specs.Prelude.{◌≡◌, ◌<◌, ◌≤◌, None, false, length, map, is_some, IfNone, IfSome, Option, ℕ, vec_capacity, ◌++◌, ◌∷◌, [], not, nat_lt, IfOk, Some, slice_get, slice_set, remove};
-ghost use Rattle.coap_serve.specs.Prelude.{list_any, tells_time as observes_time, IsFirstMarked, NoneMarkedBefore, AllByRecursion, IsTagged, mark_in, marks_anew, is_concerned as concerns, first_index, present_mark, changed_mark, untold_by as mark_untold_by, without_entry, observer_value, ObservesNone, ObserverValue};
+ghost use Rattle.coap_serve.specs.Prelude.{list_any, tells_time as observes_time, IsFirstMarked, AllByRecursion, AreChainedTo, AreFlagged, linked, previous_in, IsTagged, mark_in, marks_anew, first_index, present_mark, changed_mark, untold_by as mark_untold_by, without_entry, observer_value, ObservesNone, ObserverValue};
 
 use crate::cause::Cause;
+use crate::chains::{Chains, chains_of};
+use crate::flags::Flags;
 use crate::host::Host;
-use crate::path_set::{PathSet, paths_of};
 use coap_store::PathKey;
 use coap_wire::{Token, TokenRef};
 use std::alloc::{AllocError, Global};
@@ -28,17 +29,20 @@ pub(crate) struct Observer {
     pub built_in: bool,
     /// The changed mark: the mark of the state now, if the observer was told another one.
     pub changed: Option<u64>,
+    /// The index of the last observer before it whose path has the same hash.
+    pub previous: Option<u8>,
+    /// If its path is built in: the index of the last observer before it whose path is built in too.
+    pub previous_built_in: Option<u8>,
 }
 
 impl Observer {
-    /// Returns `true` if what changed may have made it stale.
-    fn is_concerned(&self, cause: Cause) -> bool
-        requires { IsTagged self.now }
-        ensures { result ≡ concerns cause (observer_value self.now) }
+    /// Returns the index of the last observer before it that the same change concerns, which concerns this one.
+    fn previous(&self, cause: Cause) -> Option<u8>
+        ensures { result ≡ previous_in cause (linked self.now) }
     {
         match cause {
-            Cause::Path(hash) => self.hash == hash,
-            Cause::Moment(_) => self.built_in,
+            Cause::Path(_) => self.previous,
+            Cause::Moment(_) => self.previous_built_in,
         }
     }
 
@@ -90,9 +94,10 @@ pub(crate) struct Stale {
 pub(crate) struct Observers {
     room: usize,
     entries: Vec<Observer>,
-    paths: PathSet,
-    /// No entry before this index has a changed mark.
-    unmarked: usize,
+    /// The entries that a change concerns.
+    chains: Chains,
+    /// Which entries have a changed mark.
+    marked: Flags,
 }
 
 impl Model for Observers {
@@ -114,13 +119,14 @@ impl Observers {
     ///
     /// Where the room is refused.
     pub(crate) fn new(alloc: Global, room: usize) -> Result<Observers, AllocError>
+        requires { room ≤ 256 }
         ensures { IfOk result (λ o. o ≡ record { room = room; entries = []; marks = [] }) }
     {
         Ok(Observers {
             room,
             entries: Vec::with_capacity(alloc, room)?,
-            paths: PathSet::new(),
-            unmarked: 0,
+            chains: Chains::new(),
+            marked: Flags::new(),
         })
     }
 
@@ -143,21 +149,14 @@ impl Observers {
     pub(crate) fn tell_time(&self) -> bool
         ensures { result ≡ list_any observes_time self.now.entries }
     {
-        self.may_tell_time() && tells_time(&self.entries)
-    }
-
-    /// Whether one of them may observe the moment. This costs no look at any of them.
-    pub(crate) fn may_tell_time(&self) -> bool
-        ensures { result ≡ false → list_any observes_time self.now.entries ≡ false }
-    {
-        self.paths.may_have_built_in()
+        self.chains.last(Cause::Moment(0)).is_some()
     }
 
     /// Whether one of them may observe a path with this hash.
     pub(crate) fn may_observe(&self, hash: u8) -> bool
         ensures { result ≡ false → ObservesNone hash self.now.entries }
     {
-        self.paths.may_have(hash)
+        self.chains.last(Cause::Path(hash)).is_some()
     }
 
     /// Sets the changed marks of the observers that a change of their path or of the moment concerns: those that were
@@ -165,10 +164,13 @@ impl Observers {
     pub(crate) fn mark(&mut self, cause: Cause, host: &Host)
         ensures { self.new ≡ record self.old { marks = marks_anew cause host.entry.now self.old.entries self.old.marks } }
     {
-        if let Some(first) = first_concerned(&self.entries, cause) {
-            mark_from(&mut self.entries, first, cause, host);
-            self.unmarked = self.unmarked.min(first);
-        }
+        mark_chain(
+            &mut self.entries,
+            &mut self.marked,
+            &self.chains,
+            cause,
+            host,
+        );
     }
 
     /// Returns the first observer that is marked as changed.
@@ -177,12 +179,9 @@ impl Observers {
         ensures some { IfSome result (λ found. IsFirstMarked self.old.marks found) }
         ensures same { self.new ≡ self.old }
     {
-        let found = first_changed(&self.entries, self.unmarked);
-        self.unmarked = match found {
-            Some(stale) => stale.index,
-            None => self.entries.len(),
-        };
-        found
+        let index = self.marked.first()?;
+        let mark = self.entries[index].changed?;
+        Some(Stale { index, mark })
     }
 
     /// The one at an index.
@@ -204,6 +203,7 @@ impl Observers {
         let observer = &mut self.entries[index];
         observer.mark = mark;
         observer.changed = None;
+        self.marked.put(index, false);
     }
 
     /// The one at an index goes.
@@ -213,8 +213,8 @@ impl Observers {
             ≡ record self.old { entries = remove self.old.entries index; marks = remove self.old.marks index } }
     {
         self.entries.remove(index);
-        self.paths = paths_of(&self.entries);
-        self.unmarked = self.unmarked.min(index);
+        self.chains = chains_of(&mut self.entries);
+        self.marked = flags_of(&self.entries);
     }
 
     /// The entry with this token goes. The others keep their changed marks.
@@ -229,21 +229,22 @@ impl Observers {
             return;
         }
         if keep_others(&mut self.entries, token) {
-            self.paths = paths_of(&self.entries);
-            self.unmarked = 0;
+            self.chains = chains_of(&mut self.entries);
+            self.marked = flags_of(&self.entries);
         }
     }
 
     /// An entry that is not marked as changed goes last, for which there must be room.
-    pub(crate) fn enter(&mut self, observer: Observer)
+    pub(crate) fn enter(&mut self, mut observer: Observer)
         requires room { length self.old.entries < self.old.room }
         requires tagged { IsTagged observer }
+        requires unmarked { observer.changed ≡ None }
         ensures { self.new ≡ record self.old {
           entries = self.old.entries ++ observer_value observer ∷ [];
-          marks = self.old.marks ++ observer.changed ∷ [];
+          marks = self.old.marks ++ None ∷ [];
         } }
     {
-        self.paths.insert(&observer.path);
+        self.chains.link(&mut observer, self.entries.len() as u8);
         self.entries.push_reserved(observer);
     }
 
@@ -253,8 +254,8 @@ impl Observers {
     {
         if !self.entries.is_empty() {
             self.entries.clear();
-            self.paths = PathSet::new();
-            self.unmarked = 0;
+            self.chains = Chains::new();
+            self.marked = Flags::new();
         }
     }
 }
@@ -269,70 +270,70 @@ fn untold_by(present: Option<u64>, told: u64) -> Option<u64>
     }
 }
 
-/// Returns the first observer that is marked as changed. None before an index is.
-fn first_changed(observers: &[Observer], from: usize) -> Option<Stale>
-    requires within { from ≤ length observers.now }
-    requires before { NoneMarkedBefore from observers.now }
-    ensures none { IfNone result (first_index is_some (map mark_in observers.now) ≡ None) }
-    ensures all { IfNone result (NoneMarkedBefore (length observers.now) observers.now) }
-    ensures some { IfSome result (λ found. IsFirstMarked (map mark_in observers.now) found) }
-    ensures before { IfSome result (λ found. NoneMarkedBefore found.index observers.now) }
-    ensures within { IfSome result (λ found. found.index < length observers.now) }
-{
-    for index in from..observers.len() {
-        if let Some(mark) = observers[index].changed {
-            return Some(Stale { index, mark });
-        }
-    }
-    None
-}
-
-/// Returns the index of the first observer that what changed concerns.
-fn first_concerned(observers: &[Observer], cause: Cause) -> Option<usize>
-    requires { AllByRecursion IsTagged observers.now }
-    ensures first { result ≡ first_index (concerns cause) (map observer_value observers.now) }
-    ensures within { IfSome result (λ first. first < length observers.now) }
-{
-    for (index, observer) in observers.iter().enumerate() {
-        if observer.is_concerned(cause) {
-            return Some(index);
-        }
-    }
-    None
-}
-
-/// Sets the changed marks of the observers that what changed concerns, of which this is the first one.
-fn mark_from(observers: &mut Vec<Observer>, first: usize, cause: Cause, host: &Host)
+/// Sets the changed marks of the observers that what changed concerns, and their flags: the last one, and from each the one before it.
+fn mark_chain(
+    observers: &mut Vec<Observer>,
+    marked: &mut Flags,
+    chains: &Chains,
+    cause: Cause,
+    host: &Host,
+)
+    requires many { length observers.old.items ≤ 256 }
     requires tagged { AllByRecursion IsTagged observers.old.items }
-    requires first { first_index (concerns cause) (map observer_value observers.old.items) ≡ Some first }
-    requires within { first < length observers.old.items }
+    requires chained { AreChainedTo (length observers.old.items) chains.now (map linked observers.old.items) }
+    requires flagged { AreFlagged marked.old (map mark_in observers.old.items) }
     ensures tagged { AllByRecursion IsTagged observers.new.items }
     ensures entries { map observer_value observers.new.items ≡ map observer_value observers.old.items }
+    ensures linked { map linked observers.new.items ≡ map linked observers.old.items }
     ensures marks { map mark_in observers.new.items ≡ marks_anew cause host.entry.now
         (map observer_value observers.old.items) (map mark_in observers.old.items) }
+    ensures flagged { AreFlagged marked.new (map mark_in observers.new.items) }
     ensures capacity { vec_capacity observers.new ≡ vec_capacity observers.old }
-    ensures before { (index : ℕ) → index ≤ first → NoneMarkedBefore index observers.old.items →
-        NoneMarkedBefore index observers.new.items }
 {
-    let known = &observers[first];
+    let Some(last) = chains.last(cause) else {
+        return;
+    };
+    let last = usize::from(last);
+    let known = &observers[last];
     let present = known.present(host);
     let changed = untold_by(present, known.mark);
-    observers[first].changed = changed;
-    for at in first + 1..observers.len() {
-        let observer = &observers[at];
-        if observer.is_concerned(cause) {
-            let changed = observer.changed_by(&observers[first].path, present, host);
-            observers[at].changed = changed;
-        }
+    let mut at = known.previous(cause);
+    set_mark(observers, marked, last, changed);
+    while let Some(index) = at {
+        let observer = &observers[usize::from(index)];
+        let changed = observer.changed_by(&observers[last].path, present, host);
+        at = observer.previous(cause);
+        set_mark(observers, marked, usize::from(index), changed);
     }
 }
 
-/// Whether one of these observes the moment.
-fn tells_time(observers: &[Observer]) -> bool
-    requires { AllByRecursion IsTagged observers.now }
-    ensures { result ≡ list_any observes_time (map observer_value observers.now) }
+/// Sets the changed mark of the observer at an index, and its flag.
+fn set_mark(observers: &mut Vec<Observer>, marked: &mut Flags, index: usize, changed: Option<u64>)
+    requires many { length observers.old.items ≤ 256 }
+    requires within { index < length observers.old.items }
+    requires tagged { AllByRecursion IsTagged observers.old.items }
+    requires flagged { AreFlagged marked.old (map mark_in observers.old.items) }
+    ensures tagged { AllByRecursion IsTagged observers.new.items }
+    ensures entries { map observer_value observers.new.items ≡ map observer_value observers.old.items }
+    ensures linked { map linked observers.new.items ≡ map linked observers.old.items }
+    ensures marks { map mark_in observers.new.items ≡ slice_set (map mark_in observers.old.items) index changed }
+    ensures flagged { AreFlagged marked.new (map mark_in observers.new.items) }
+    ensures capacity { vec_capacity observers.new ≡ vec_capacity observers.old }
 {
-    observers.iter().any(|observer| observer.built_in)
+    observers[index].changed = changed;
+    marked.put(index, changed.is_some());
+}
+
+/// Returns flags that tell which observers have a changed mark.
+fn flags_of(observers: &[Observer]) -> Flags
+    requires { length observers.now ≤ 256 }
+    ensures { AreFlagged result (map mark_in observers.now) }
+{
+    let mut flags = Flags::new();
+    for (index, observer) in observers.iter().enumerate() {
+        flags.put(index, observer.changed.is_some());
+    }
+    flags
 }
 
 /// All stay but those with this token, and whether there were any is answered.

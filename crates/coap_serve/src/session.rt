@@ -191,8 +191,7 @@ impl Session {
         match cause {
             Cause::Path(hash) => self.observers.may_observe(hash),
             Cause::Moment(before) => {
-                self.observers.may_tell_time()
-                    || (self.may_come_due() && self.comes_due(before, now))
+                self.observers.tell_time() || (self.may_come_due() && self.comes_due(before, now))
             }
         }
     }
@@ -201,7 +200,7 @@ impl Session {
     fn may_come_due(&self) -> bool
         ensures { result ≡ false → (now : ℕ) → due_on now self.now.session ≡ None }
     {
-        self.link.pending() > 0 || self.observers.may_tell_time()
+        self.link.pending() > 0 || self.observers.tell_time()
     }
 
     /// Returns `true` if something came due after a moment, up to now.

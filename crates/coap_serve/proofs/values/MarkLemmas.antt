@@ -1,11 +1,11 @@
 -- The changed marks of observers: what each is, what a change sets anew, and what stays as it is.
-use Rattle.std.proofs.Common.{◌≡◌, ℕ, zero, suc, ◌≤◌, true, false, List, [], ◌∷◌, ◌++◌, length, map, set, Option, Some, None, is_some, refl, sym, ap, subst, ◌∙◌, arith, ◌==◌, option_map, slice_get, slice_set, not, remove, if◌then◌else◌}
+use Rattle.std.proofs.Common.{◌≡◌, ℕ, zero, suc, ◌≤◌, ◌<◌, true, false, List, [], ◌∷◌, ◌++◌, length, map, set, Option, Some, None, is_some, refl, sym, ap, subst, ◌∙◌, arith, ◌==◌, option_map, slice_get, slice_set, not, remove, if◌then◌else◌}
 use Rattle.coap_serve.specs.Prelude.{list_any, Path, StoreValue}
 use Rattle.coap_serve.specs.Prelude.{key_for, place_of, state_at, is_dynamic, Root, Time, Async, Listing, Dynamic}
 use Rattle.coap_serve.specs.Prelude.{Host, Stale, Cause, LinkValue, is_open, ObserverValue, ObserversValue}
 use Rattle.coap_serve.specs.Prelude.{mark_at, mark_of, is_marked, state_on, is_stale, present_mark, untold_by}
 use Rattle.coap_serve.specs.Prelude.{changed_mark, AreMarked, observers_left, tells_time, path_hash}
-use Rattle.coap_serve.specs.Prelude.{is_concerned, ConcernsNone, mark_anew, marks_anew}
+use Rattle.coap_serve.specs.Prelude.{is_concerned, ConcernsNone, marks_anew}
 use Rattle.coap_serve.specs.Prelude.{first_index, IsFirstStale, IsFirstMarked, goes_on, notification_of, Response}
 use Rattle.coap_wire.specs.Codes as code
 use Rattle.coap_store.proofs.NotificationLaws.{notification_tells}
@@ -141,50 +141,43 @@ none_concerned (cause.Moment before) (o ∷ os) none =
 pub anew_unconcerned : (why : Cause) (host : Host) (os : List ObserverValue) (marks : List (Option ℕ)) → ConcernsNone why os → marks_anew why host os marks ≡ marks
 anew_unconcerned why host os marks none = anew_none why host os marks (none_concerned why os none)
 
--- ---- a loop that sets them anew
+-- ---- a loop that sets them anew, from the last one on
 
--- those up to an index are
-unfoldable pub marks_up_to : ℕ → Cause → Host → List ObserverValue → List (Option ℕ) → List (Option ℕ)
-marks_up_to zero why host os marks = marks
-marks_up_to (suc n) why host [] marks = marks
-marks_up_to (suc n) why host (o ∷ os) [] = []
-marks_up_to (suc n) why host (o ∷ os) (mark ∷ marks) = mark_anew why host o mark ∷ marks_up_to n why host os marks
+-- those from an index on are
+unfoldable pub marks_from : ℕ → Cause → Host → List ObserverValue → List (Option ℕ) → List (Option ℕ)
+marks_from zero why host os marks = marks_anew why host os marks
+marks_from (suc n) why host [] marks = marks
+marks_from (suc n) why host (o ∷ os) [] = []
+marks_from (suc n) why host (o ∷ os) (mark ∷ marks) = mark ∷ marks_from n why host os marks
 
-pub up_to_first : (why : Cause) (host : Host) (os : List ObserverValue) (marks : List (Option ℕ)) (first : ℕ) → first_index (is_concerned why) os ≡ Some first → marks ≡ marks_up_to first why host os marks
-unfolding marks_up_to first_index
-up_to_first why host os marks zero is = refl
-up_to_first why host [] marks (suc n) is = refl
-up_to_first why host (o ∷ os) [] (suc n) is = refl
-up_to_first why host (o ∷ os) (mark ∷ marks) (suc n) is =
-    elim (is_concerned why o) as (λ b. (if b then Some 0 else option_map (λ i. suc i) (first_index (is_concerned why) os)) ≡ Some (suc n) → mark ∷ marks ≡ (if b then changed_mark host o else mark) ∷ marks_up_to n why host os marks) [
-      | true ↦ λ e. absurd cc
-      | false ↦ λ e. ap (λ (ms : List (Option ℕ)). mark ∷ ms) (up_to_first why host os marks n (one_less (first_index (is_concerned why) os) e))
-    ] is
-  where
-    one_less : (o : Option ℕ) → option_map (λ i. suc i) o ≡ Some (suc n) → o ≡ Some n
-    one_less None e = absurd cc
-    one_less (Some i) e = cc
+-- none is yet
+pub from_end : (n : ℕ) (why : Cause) (host : Host) (os : List ObserverValue) (marks : List (Option ℕ)) → length os ≤ n → length marks ≡ length os → marks_from n why host os marks ≡ marks
+unfolding marks_from marks_anew
+from_end zero why host [] marks many same = refl
+from_end (suc n) why host [] marks many same = refl
+from_end zero why host (o ∷ os) marks many same = absurd (omega (arith, many))
+from_end (suc n) why host (o ∷ os) [] many same = refl
+from_end (suc n) why host (o ∷ os) (mark ∷ marks) many same = ap (λ (ms : List (Option ℕ)). mark ∷ ms) (from_end n why host os marks (omega (arith, many)) (omega (arith, same)))
 
-pub next_concerned : (n : ℕ) (why : Cause) (host : Host) (os : List ObserverValue) (marks : List (Option ℕ)) (o : ObserverValue) → slice_get os n ≡ Some o → is_concerned why o ≡ true → set (marks_up_to n why host os marks) n (changed_mark host o) ≡ marks_up_to (suc n) why host os marks
-unfolding marks_up_to
-next_concerned n why host [] marks o at is = absurd cc
-next_concerned zero why host (p ∷ os) [] o at is = refl
-next_concerned (suc n) why host (p ∷ os) [] o at is = refl
-next_concerned zero why host (p ∷ os) (mark ∷ marks) o at is = let same : p ≡ o = cc in rw (same, is) refl
-next_concerned (suc n) why host (p ∷ os) (mark ∷ marks) o at is = ap (λ (ms : List (Option ℕ)). mark_anew why host p mark ∷ ms) (next_concerned n why host os marks o at is)
+-- those between two indices are not concerned
+pub passed_over : (k n : ℕ) (why : Cause) (host : Host) (os : List ObserverValue) (marks : List (Option ℕ)) → k ≤ n → ((i : ℕ) (o : ObserverValue) → k ≤ i → i < n → slice_get os i ≡ Some o → is_concerned why o ≡ false) → marks_from n why host os marks ≡ marks_from k why host os marks
+unfolding marks_from marks_anew
+passed_over zero zero why host os marks less others = refl
+passed_over (suc k) zero why host os marks less others = absurd (omega (arith, less))
+passed_over zero (suc n) why host [] marks less others = refl
+passed_over (suc k) (suc n) why host [] marks less others = refl
+passed_over zero (suc n) why host (o ∷ os) [] less others = refl
+passed_over (suc k) (suc n) why host (o ∷ os) [] less others = refl
+passed_over zero (suc n) why host (o ∷ os) (mark ∷ marks) less others =
+    rw (others 0 o (omega arith) (omega arith) refl) (ap (λ (ms : List (Option ℕ)). mark ∷ ms) (passed_over zero n why host os marks (omega arith) (λ i p low high at. others (suc i) p (omega arith) (omega (arith, high)) at)))
+passed_over (suc k) (suc n) why host (o ∷ os) (mark ∷ marks) less others =
+    ap (λ (ms : List (Option ℕ)). mark ∷ ms) (passed_over k n why host os marks (omega (arith, less)) (λ i p low high at. others (suc i) p (omega (arith, low)) (omega (arith, high)) at))
 
-pub next_unconcerned : (n : ℕ) (why : Cause) (host : Host) (os : List ObserverValue) (marks : List (Option ℕ)) (o : ObserverValue) → slice_get os n ≡ Some o → is_concerned why o ≡ false → marks_up_to n why host os marks ≡ marks_up_to (suc n) why host os marks
-unfolding marks_up_to
-next_unconcerned n why host [] marks o at is = absurd cc
-next_unconcerned zero why host (p ∷ os) [] o at is = refl
-next_unconcerned (suc n) why host (p ∷ os) [] o at is = refl
-next_unconcerned zero why host (p ∷ os) (mark ∷ marks) o at is = let same : p ≡ o = cc in rw (same, is) refl
-next_unconcerned (suc n) why host (p ∷ os) (mark ∷ marks) o at is = ap (λ (ms : List (Option ℕ)). mark_anew why host p mark ∷ ms) (next_unconcerned n why host os marks o at is)
-
-pub up_to_all : (why : Cause) (host : Host) (os : List ObserverValue) (marks : List (Option ℕ)) (n : ℕ) → length os ≤ n → marks_up_to n why host os marks ≡ marks_anew why host os marks
-unfolding marks_up_to marks_anew
-up_to_all why host [] marks zero many = refl
-up_to_all why host [] marks (suc n) many = refl
-up_to_all why host (o ∷ os) marks zero many = absurd (omega (arith, many))
-up_to_all why host (o ∷ os) [] (suc n) many = refl
-up_to_all why host (o ∷ os) (mark ∷ marks) (suc n) many = ap (λ (ms : List (Option ℕ)). mark_anew why host o mark ∷ ms) (up_to_all why host os marks n (omega (arith, many)))
+-- the one at an index is
+pub one_set : (k : ℕ) (why : Cause) (host : Host) (os : List ObserverValue) (marks : List (Option ℕ)) (o : ObserverValue) → slice_get os k ≡ Some o → is_concerned why o ≡ true → set (marks_from (suc k) why host os marks) k (changed_mark host o) ≡ marks_from k why host os marks
+unfolding marks_from marks_anew
+one_set k why host [] marks o at is = absurd cc
+one_set zero why host (p ∷ os) [] o at is = refl
+one_set (suc k) why host (p ∷ os) [] o at is = refl
+one_set zero why host (p ∷ os) (mark ∷ marks) o at is = let same : p ≡ o = cc in rw (same, is) refl
+one_set (suc k) why host (p ∷ os) (mark ∷ marks) o at is = ap (λ (ms : List (Option ℕ)). mark ∷ ms) (one_set k why host os marks o at is)

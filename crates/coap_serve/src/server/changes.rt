@@ -3,7 +3,7 @@
 use super::sessions::{next_touched, settle_touched};
 use super::{Backwards, Server, Stamp};
 use crate::cause::Cause;
-use crate::path_set::hash_of;
+use crate::path_hash::hash_of;
 use coap_store::{PathKey, StoreFault};
 
 impl Server {

@@ -9,4 +9,4 @@ returns-clause-marked c = λ marked.
     let before = c.args.observers.now in
     let entry = new_entry host c.args.request.now in
     let fresh = fresh_unmarked host entry (marked_now host entry c.requires.watched.representation c.requires.watched.there) in
-    rw (c.enter.ensures, c.entry_for.ensures.entry, c.entry_for.ensures.unmarked) (entered_marked host before.entries before.marks entry marked fresh)
+    rw (c.enter.ensures, c.entry_for.ensures.entry) (entered_marked host before.entries before.marks entry marked fresh)
