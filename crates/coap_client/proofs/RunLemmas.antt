@@ -23,7 +23,7 @@ use Rattle.coap_client.specs.Prelude.{ClientPlan, Run}
 use Rattle.std.proofs.lemmas.Bool.{eqb-true, ltb-true, lt-ltb}
 use Rattle.std.proofs.lemmas.List.{length-drop, nil_from_length}
 use Rattle.coap_conn.specs.declared.phase.Phase.TheVariants as phase
-use Rattle.coap_serve.proofs.streams.DeviceLemmas.{bytes_none, bytes_then}
+use Rattle.coap_io.proofs.streams.DeviceLemmas.{told_none, told_then, bytes_none, bytes_then}
 use Rattle.coap_client.specs.ClientValues as value
 use Rattle.coap_client.specs.RunSteps.{asking_refusal, cancelling_refusal}
 use Rattle.coap_client.specs.RunCourse.{Writes}
@@ -31,7 +31,6 @@ use Rattle.coap_client.proofs.CourseLaws.{course_taken, course_queued}
 use Rattle.coap_client.proofs.ClientShown.{took_takes, took_told, took_shown}
 use Rattle.coap_client.proofs.TakenLemmas.{client_takes_some, cancelled_takes, may_parts, may_not}
 use Rattle.coap_client.proofs.StandLemmas.{bytes_stay, bytes_same, front_length, taking_limits, sent_limits, cancelled_limits, read_limits, read_shown, asked_shown, given_up_shown, send_tells_none, cancel_tells_none}
-use Rattle.coap_serve.proofs.streams.DoorLemmas.{told_then, told_none}
 use Rattle.coap_client.proofs.TargetLemmas.{false_is_true}
 
 -- ---- small facts

@@ -5,7 +5,7 @@ use Rattle.coap_client.specs.Prelude.{framing, LimitValues, LinkValue, RequestFa
 use Rattle.coap_client.specs.Prelude.{AddsBytes, Method, TargetValue, ExtrasValue, ClientValue, Taking, taking}
 use Rattle.coap_client.specs.Prelude.{client_sent, client_cancelled, send_refusal, cancelling_refusal, ClientCall}
 use Rattle.coap_client.specs.Prelude.{Sent, Cancelled, steps_by, event_of, ClientShows, calls_read, client_read}
-use Rattle.coap_serve.proofs.streams.DeviceLemmas.{bytes_then}
+use Rattle.coap_io.proofs.streams.DeviceLemmas.{bytes_then}
 use Rattle.coap_client.proofs.TakingLemmas.{limits_found}
 use Rattle.coap_client.proofs.ClientShown.{sent_shown, cancelled_shown, ended_shown}
 use Rattle.coap_serve.proofs.values.LinkLemmas.{stays_so, end_sizes}

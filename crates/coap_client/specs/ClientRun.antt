@@ -1,10 +1,10 @@
 -- What a run of a client promises: the course that it took, by what its devices tell (our definition).
 use Rattle.std.specs.Prelude.{◌≡◌, ◌≢◌, ◌≤◌, ℕ, true, ◌⊎◌, List, ◌++◌, Option, Some, None, Result, option_map, IfOk}
 use Rattle.coap_conn.specs.LinkValue.{bytes_of}
-use Rattle.coap_serve.specs.declared.wire.Got.{Got}
-use Rattle.coap_serve.specs.declared.output.WriteFailed.{WriteFailed}
-use Rattle.coap_serve.specs.streams.Device.{AddsBytes}
-use Rattle.coap_serve.specs.streams.Telling.{TellsMore}
+use Rattle.coap_io.specs.declared.wire.Got.{Got}
+use Rattle.coap_io.specs.declared.output.WriteFailed.{WriteFailed}
+use Rattle.coap_io.specs.streams.Device.{AddsBytes}
+use Rattle.coap_io.specs.streams.Telling.{TellsMore}
 use Rattle.coap_client.specs.ClientWorld.{AreAccepted, ClientShows}
 use Rattle.coap_client.specs.RunCourse.{Course, Begins, own_limits, calls_in, history_in, token_in, moments_in, turns_in, moment_in, started_in, first_in, cancelled_in, answers_in, taken_in, given_in, rest_in, waiting_in, written_in, status_in, output_in, errors_in, has_looked, IsAskedWhereDue, IsTakenUp, IsResting, IsBetween, MayWrite, HasWritten, IsCourse}
 use Rattle.coap_client.specs.declared.plan.ClientPlan.{ClientPlan}

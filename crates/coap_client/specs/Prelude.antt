@@ -94,14 +94,15 @@ pub use Rattle.coap_conn.specs.declared.phase.Role.TheVariants.{Client, Server}
 pub use Rattle.coap_conn.specs.declared.reason.Reason.{Reason}
 pub use Rattle.coap_conn.specs.declared.reason.Reason.TheVariants.{BadSignalOption, CsmExpected, PeerAbort}
 pub use Rattle.coap_conn.specs.declared.reason.Reason.TheVariants.{ReservedCode, TokenLength}
+-- ---- coap_io
+pub use Rattle.coap_io.specs.declared.output.WriteFailed.{WriteFailed}
+pub use Rattle.coap_io.specs.declared.wire.Got.{Got}
+pub use Rattle.coap_io.specs.declared.wire.Got.TheVariants.{Bytes, End, Failed, Later}
+pub use Rattle.coap_io.specs.streams.Device.{AddsBytes}
+pub use Rattle.coap_io.specs.streams.Telling.{TellsMore}
+pub use Rattle.coap_io.specs.streams.Wires.{bytes_passed, count_passed}
 -- ---- coap_serve
-pub use Rattle.coap_serve.specs.declared.output.WriteFailed.{WriteFailed}
-pub use Rattle.coap_serve.specs.declared.wire.Got.{Got}
-pub use Rattle.coap_serve.specs.declared.wire.Got.TheVariants.{Bytes, End, Failed, Later}
 unfoldable pub use Rattle.coap_serve.specs.script.Words.{decimal_value, hex_value}
-pub use Rattle.coap_serve.specs.streams.Device.{AddsBytes}
-pub use Rattle.coap_serve.specs.streams.Telling.{TellsMore}
-pub use Rattle.coap_serve.specs.streams.Wires.{bytes_passed, count_passed}
 -- ---- coap_client
 pub use Rattle.coap_client.specs.ClientLaws.{AreDifferent, tokens_given, token_given, tokens_behind}
 pub use Rattle.coap_client.specs.ClientRun.{IsReady, IsClientRun, IsUnbegun, seen, with_outlets, with_wire, with_all}

@@ -7,8 +7,8 @@ use Rattle.coap_conn.specs.Limits.{LimitValues, limits_of}
 use Rattle.coap_conn.specs.declared.phase.Phase.{Phase}
 use Rattle.coap_conn.specs.declared.phase.RequestFault.{RequestFault}
 use Rattle.coap_conn.specs.declared.reason.Reason.{Reason}
-use Rattle.coap_serve.specs.declared.wire.Got.{Got}
-use Rattle.coap_serve.specs.streams.Wires.{bytes_passed, count_passed}
+use Rattle.coap_io.specs.declared.wire.Got.{Got}
+use Rattle.coap_io.specs.streams.Wires.{bytes_passed, count_passed}
 use Rattle.coap_client.specs.ClientValues.{ClientValue, client_takes, EventValue}
 use Rattle.coap_client.specs.ClientWorld.{ClientCall, Took, Sent, Cancelled, Pinged, Wrote, Ended, taken_by, client_after, client_of, takes, event_of}
 use Rattle.coap_client.specs.RunTexts.{stop_line}

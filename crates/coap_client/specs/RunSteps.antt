@@ -13,8 +13,8 @@ use Rattle.coap_conn.specs.declared.phase.RequestFault.TheVariants.{NotOpen, Too
 use Rattle.coap_client.specs.ClientValues.{ClientValue, client_takes, send_refusal, client_sent, EventValue, Ready, Response, Notification, Rejected, Pong, Stranger, Stopped}
 use Rattle.coap_client.specs.ClientValues as value
 use Rattle.coap_client.specs.ClientWorld.{ClientCall, Wrote, Ended}
-use Rattle.coap_serve.specs.declared.wire.Got.{Got}
-use Rattle.coap_serve.specs.declared.wire.Got.TheVariants.{Bytes, Later, End, Failed}
+use Rattle.coap_io.specs.declared.wire.Got.{Got}
+use Rattle.coap_io.specs.declared.wire.Got.TheVariants.{Bytes, Later, End, Failed}
 use Rattle.coap_conn.specs.Asking.{next_token}
 use Rattle.coap_client.specs.Requests.{ExtrasValue}
 use Rattle.coap_client.specs.RunTexts.{stop_line, fault_line, option_line, response_line, payload_text}

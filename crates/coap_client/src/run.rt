@@ -12,7 +12,7 @@ use crate::plan::ClientPlan;
 use crate::request::Extras;
 use crate::say::{say_fault, say_option, say_response, say_stop, write_payload};
 use coap_conn::{Limits, Phase, Reason, RequestFault, first_part};
-use coap_serve::{Clock, Got, Outlet, Rest, Wire, WriteFailed};
+use coap_io::{Clock, Got, Outlet, Rest, Wire, WriteFailed};
 use coap_wire::{MessageRef, Token};
 use std::alloc::{AllocError, Global};
 use thiserror::Error;

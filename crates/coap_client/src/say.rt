@@ -5,7 +5,7 @@ ghost use Rattle.coap_client.specs.Prelude.{AddsBytes};
 ghost use Rattle.coap_client.specs.RunTexts as text;
 
 use coap_conn::{Reason, RequestFault};
-use coap_serve::{Outlet, WriteFailed, write_all};
+use coap_io::{Outlet, WriteFailed, write_all};
 use coap_wire::{Code, MessageRef};
 use itoa::Buffer;
 

@@ -1,7 +1,7 @@
 //! A wire, a clock and outlets in memory, in room of their own.
 
 ghost use Rattle.std.specs.Prelude.{◌≡◌, ◌≤◌, false, None, Some, length};
-ghost use Rattle.coap_serve.specs.streams.Wires.{IsWithin};
+ghost use Rattle.coap_serve.specs.Prelude.{IsWithin};
 
 use arrayvec::ArrayVec;
 use coap_serve::{Clock, Got, Outlet, Wire};

@@ -1,12 +1,9 @@
-pub mod DeviceLemmas
-pub mod WriteLemmas
 pub mod FlushLaws
 pub mod OutputLaws
 pub mod FlushShown
 pub mod TakeLemmas
 pub mod PieceLemmas
 pub mod RunLemmas
-pub mod RestLemmas
 pub mod PeerLemmas
 pub mod AgendaLemmas
 pub mod PassedLemmas

@@ -93,6 +93,16 @@ pub use Rattle.coap_conn.specs.declared.phase.SendFault.{SendFault}
 pub use Rattle.coap_conn.specs.declared.phase.Verdict.{Verdict}
 pub use Rattle.coap_conn.specs.declared.reason.Reason.{Reason}
 pub use Rattle.coap_conn.specs.declared.reason.Reason.TheVariants.{PeerTooSmall, ReleasedHere}
+-- ---- coap_io
+pub use Rattle.coap_io.specs.declared.wire.Got.{Got}
+pub use Rattle.coap_io.specs.declared.wire.Got.TheVariants.{Bytes, End, Failed, Later}
+pub use Rattle.coap_io.specs.declared.wire.Wait.{Wait}
+pub use Rattle.coap_io.specs.declared.wire.Wait.TheVariants.{Forever, No, Until}
+pub use Rattle.coap_io.specs.streams.Device.{Told, HasGiven, pieces_read, AddsBytes, is_failed_write, WritesPart}
+pub use Rattle.coap_io.specs.streams.Device.{EndsAt, FoundEnd}
+pub use Rattle.coap_io.specs.streams.Telling.{TellsMore, DoorCall, Asked, Waited}
+pub use Rattle.coap_io.specs.streams.Wires.{IsWithin, IsOneWrite, bytes_passed, count_passed, IsTold, Answered}
+pub use Rattle.coap_io.specs.streams.Wires.{WireTrace, trace_by, IsReadOnce, IsWrittenOnce, read_room}
 -- ---- coap_store
 pub use Rattle.coap_store.specs.Answer.{changed, unheld, Change, Delete, Nothing, Put, Response, content, deletion}
 pub use Rattle.coap_store.specs.Answer.{etag_at, finally, held_response, is_among, only, read_answer, removes_watch}
@@ -151,10 +161,6 @@ pub use Rattle.coap_serve.specs.declared.server.TakeFault.{TakeFault}
 pub use Rattle.coap_serve.specs.declared.server.Taken.{Taken}
 pub use Rattle.coap_serve.specs.declared.server.WrittenFault.{WrittenFault}
 pub use Rattle.coap_serve.specs.declared.session.Session.TheInside.{Inside}
-pub use Rattle.coap_serve.specs.declared.wire.Got.{Got}
-pub use Rattle.coap_serve.specs.declared.wire.Got.TheVariants.{Bytes, End, Failed, Later}
-pub use Rattle.coap_serve.specs.declared.wire.Wait.{Wait}
-pub use Rattle.coap_serve.specs.declared.wire.Wait.TheVariants.{Forever, No, Until}
 -- ---- coap_serve, script
 pub use Rattle.coap_serve.specs.script.Cuts.{DifferInCuts, AreInTime, other_lines, IsInTime}
 unfoldable pub use Rattle.coap_serve.specs.script.Cuts.{lines_of, in_before, joined}
@@ -180,11 +186,9 @@ pub use Rattle.coap_serve.specs.script.Words.{newline, is_hyphen, parts, slash, 
 unfoldable pub use Rattle.coap_serve.specs.script.Words.{decimal_value, format_value, hex_value, path_value}
 unfoldable pub use Rattle.coap_serve.specs.script.Words.{payload_value, segments_of}
 -- ---- coap_serve, streams
-pub use Rattle.coap_serve.specs.streams.Device.{Told, HasGiven, pieces_read, AddsBytes, is_failed_write, WritesPart}
-pub use Rattle.coap_serve.specs.streams.Device.{EndsAt, FoundEnd}
 pub use Rattle.coap_serve.specs.streams.DoorRun.{IsDoorRun, waited_behind, moved_to, EndsWith, HasTurnedSo, IsCutRun}
 pub use Rattle.coap_serve.specs.streams.DoorRun.{NoneYet, OneMore}
-pub use Rattle.coap_serve.specs.streams.Faults.{is_read_fault, is_write_fault}
+pub use Rattle.coap_serve.specs.streams.Faults.{is_read_fault, is_write_fault, IsMemory, IsMemoryOrTurns}
 pub use Rattle.coap_serve.specs.streams.Notes.{true_end, AreNoted, IsNoEarlier, KeepsNotes, WhilePassedOver, AtFirst}
 pub use Rattle.coap_serve.specs.streams.Notes.{IsNoted, Served}
 pub use Rattle.coap_serve.specs.streams.Output.{only_id, stream_of, stdio_output, Outcome, more_of, outcome_on}
@@ -195,7 +199,6 @@ pub use Rattle.coap_serve.specs.streams.Serving.{AreOpened, asked_by, HadItsPart
 pub use Rattle.coap_serve.specs.streams.Serving.{IsServing, NoMore, PassedOver, opening}
 pub use Rattle.coap_serve.specs.streams.Standing.{Stands, IsGoing, IsTurn, HasRead, IsCut, IsRefused, IsWhole, Says}
 pub use Rattle.coap_serve.specs.streams.StdioRun.{IsStdioRun, AreNotEmpty, EndsRun, GoesOn, IsLastByte, LeavesNothing, LeavesNothingWaiting}
-pub use Rattle.coap_serve.specs.streams.Telling.{TellsMore, DoorCall, Asked, Waited}
 pub use Rattle.coap_serve.specs.streams.Turns.{end_of, agenda_past, IsAtRest, IsInTurn, agenda_with, wait_of}
 pub use Rattle.coap_serve.specs.streams.Turns.{IsServedOnce, IsLaidOut, is_heard, server_heard, server_wrote}
 pub use Rattle.coap_serve.specs.streams.Turns.{waiting_once, rest_left, is_over_in, has_failed, course_of, wants_of}
@@ -203,9 +206,6 @@ pub use Rattle.coap_serve.specs.streams.Turns.{IsAsked, CanGoOn, IsRestAnswer, I
 pub use Rattle.coap_serve.specs.streams.Turns.{wants_in, ComesToNothing, can_go_on, FarEnd, IsCarriedOn}
 pub use Rattle.coap_serve.specs.streams.Turns.{IsTakenAndWritten, least_with, left_behind, IsOffered, CanAnyGoOn}
 pub use Rattle.coap_serve.specs.streams.Turns.{concerns_earlier, wait_for}
-pub use Rattle.coap_serve.specs.streams.Wires.{IsMemoryOrTurns, IsWithin, IsMemory, IsOneWrite, bytes_passed}
-pub use Rattle.coap_serve.specs.streams.Wires.{count_passed, IsTold, Answered, WireTrace, trace_by, IsReadOnce}
-pub use Rattle.coap_serve.specs.streams.Wires.{IsWrittenOnce, read_room}
 -- ---- coap_serve, values
 pub use Rattle.coap_serve.specs.values.Causes.{change_hash, ObservesNone, hash_behind, path_hash, AreSettledUntouched}
 pub use Rattle.coap_serve.specs.values.Causes.{AreOthersSettled, IsUntouched, AreUntouched, segments_hash, is_concerned}

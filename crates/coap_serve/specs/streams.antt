@@ -1,11 +1,8 @@
-pub mod Device
 pub mod Output
 pub mod StdioRun
 pub mod Standing
 pub mod Faults
-pub mod Wires
 pub mod Turns
 pub mod Notes
 pub mod Serving
-pub mod Telling
 pub mod DoorRun

@@ -5,4 +5,3 @@ pub mod ObserverViews
 pub mod SessionViews
 pub mod ServerViews
 pub mod LineViews
-pub mod RestViews

@@ -10,7 +10,7 @@ mod wants;
 
 use crate::config::Config;
 use crate::serve::IoFault;
-use crate::wire::{Clock, Door, Wait};
+use coap_io::{Clock, Door, Wait};
 pub use service::Service;
 use std::alloc::Global;
 

@@ -7,14 +7,13 @@ ghost use Rattle.coap_serve.specs.script.Events as event;
 ghost use Rattle.coap_serve.specs.script.Lines as lines;
 ghost use Rattle.coap_serve.specs.world.Events as world;
 
-use crate::device::Outlet;
 use crate::event::Event;
-use crate::output::write_all;
 use crate::scripts::lines::{
     ShortLine, fault_line, in_line, open_line, out_line, put_line, remove_line, status_line,
     tick_line, word_line,
 };
 use crate::server::{ConnId, OpenFault, ReleaseFault, Server};
+use coap_io::{Outlet, write_all};
 use coap_store::{PathKey, StoreFault};
 use std::alloc::AllocError;
 use thiserror::Error;

@@ -7,8 +7,8 @@ use Rattle.std.specs.declared.io.ErrorKind.{ErrorKind}
 use Rattle.std.specs.declared.io.ErrorKind.TheVariants.{WouldBlock, Interrupted, ConnectionAborted}
 use Rattle.std.specs.declared.io.ErrorKind.TheVariants as kind
 use Rattle.std.specs.IoError.{error_kind}
-use Rattle.coap_serve.specs.declared.wire.Got.TheVariants.{Failed}
-use Rattle.coap_serve.specs.streams.Wires.{IsWithin}
+use Rattle.coap_io.specs.declared.wire.Got.TheVariants.{Failed}
+use Rattle.coap_io.specs.streams.Wires.{IsWithin}
 use Rattle.coap_sockets.specs.declared.answers.Hindrance.TheVariants.{System}
 use Rattle.coap_sockets.specs.declared.answers.Refused.TheVariants.{Full}
 use Rattle.coap_sockets.specs.Answers.{is_would_block, fault_got, accept_fault, hindrance_of, read_got, write_got}

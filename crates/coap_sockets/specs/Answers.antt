@@ -5,8 +5,8 @@ use Rattle.std.specs.declared.io.Error.{Error}
 use Rattle.std.specs.declared.io.ErrorKind.{ErrorKind}
 use Rattle.std.specs.declared.io.ErrorKind.TheVariants.{WouldBlock, Interrupted, ConnectionAborted}
 use Rattle.std.specs.declared.io.ErrorKind.TheVariants as kind
-use Rattle.coap_serve.specs.declared.wire.Got.{Got}
-use Rattle.coap_serve.specs.declared.wire.Got.TheVariants.{Bytes, Later, End, Failed}
+use Rattle.coap_io.specs.declared.wire.Got.{Got}
+use Rattle.coap_io.specs.declared.wire.Got.TheVariants.{Bytes, Later, End, Failed}
 use Rattle.coap_sockets.specs.declared.answers.Refused.{Refused}
 use Rattle.coap_sockets.specs.declared.answers.Refused.TheVariants.{NoneThere, Once, Full}
 use Rattle.coap_sockets.specs.declared.answers.Hindrance.{Hindrance}

@@ -4,7 +4,7 @@ ghost use Rattle.std.specs.Prelude.{◌≡◌};
 ghost use Rattle.std.specs.IoError.{error_kind};
 ghost use Rattle.coap_sockets.specs.Answers as spec;
 
-use coap_serve::Got;
+use coap_io::Got;
 use std::io;
 use std::io::ErrorKind;
 use thiserror::Error;

@@ -1,7 +1,7 @@
 //! The clocks of both programs.
 
 use crate::moments::to_next_second;
-use coap_serve::Clock;
+use coap_io::Clock;
 use std::time;
 use std::time::Duration;
 

@@ -3,7 +3,7 @@
 
 ghost use Rattle.std.specs.Prelude.{◌≡◌, ◌≤◌, ◌&&◌, true, false, length, Some, None, IsSome, IfSome, IfNone, IfOk, option_map};
 ghost use Rattle.std.specs.Duration.{as_nanos};
-ghost use Rattle.coap_serve.specs.declared.wire.Wait.TheVariants as asked;
+ghost use Rattle.coap_io.specs.declared.wire.Wait.TheVariants as asked;
 ghost use Rattle.coap_sockets.specs.Moments.{second};
 ghost use Rattle.coap_sockets.specs.declared.answers.Refused.TheVariants as refusal;
 ghost use Rattle.coap_sockets.specs.declared.door.ListenFault.TheVariants as fault;
@@ -12,7 +12,7 @@ use crate::answers::{Refused, accept_fault};
 use crate::clock::monotonic;
 use crate::moments::{at_most, left_of, left_until, second};
 use crate::readiness::Readiness;
-use coap_serve::{Door, Got, Ready, Wait, Wire};
+use coap_io::{Door, Got, Ready, Wait, Wire};
 use mio::net::{TcpListener, TcpStream};
 use mio::{Events, Interest, Poll, Token};
 use std::alloc::{AllocError, Global};

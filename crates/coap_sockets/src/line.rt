@@ -3,18 +3,18 @@
 ghost use Rattle.std.specs.Prelude.{◌≡◌, ◌≢◌, ℕ, length, None, [], ◌∷◌};
 ghost use Rattle.std.specs.IoError.{error_kind};
 ghost use Rattle.std.specs.declared.io.ErrorKind.TheVariants as kind;
-ghost use Rattle.coap_serve.specs.streams.Wires.{IsWithin, bytes_passed};
+ghost use Rattle.coap_io.specs.streams.Wires.{IsWithin, bytes_passed};
 ghost use Rattle.coap_sockets.specs.Ready.{is_blocked_by, is_later};
 ghost use Rattle.coap_sockets.specs.declared.answers.Hindrance.TheVariants as hindrance;
 ghost use Rattle.coap_sockets.specs.declared.line.ConnectFault.TheVariants as fault;
 ghost use Rattle.coap_sockets.specs.Answers.{hindrance_of};
-ghost use Rattle.coap_serve.specs.streams.Device.{AddsBytes};
-ghost use Rattle.coap_serve.specs.streams.Telling.{TellsMore};
+ghost use Rattle.coap_io.specs.streams.Device.{AddsBytes};
+ghost use Rattle.coap_io.specs.streams.Telling.{TellsMore};
 
 use crate::answers::{Hindrance, hindrance_of, read_got, write_got};
 use crate::clock::RunClock;
 use crate::moments::end_of_attempt;
-use coap_serve::{Got, Wire};
+use coap_io::{Got, Wire};
 use mio::net::TcpStream;
 use mio::{Events, Interest, Poll, Token};
 use std::alloc::{AllocError, Global};

@@ -1,12 +1,12 @@
 //! What is known of a socket without asking the system.
 
 ghost use Rattle.std.specs.Prelude.{◌≡◌, true, false, length};
-ghost use Rattle.coap_serve.specs.streams.Wires.{IsWithin};
-ghost use Rattle.coap_serve.specs.declared.wire.Got.TheVariants.{Later};
+ghost use Rattle.coap_io.specs.streams.Wires.{IsWithin};
+ghost use Rattle.coap_io.specs.declared.wire.Got.TheVariants.{Later};
 ghost use Rattle.coap_sockets.specs.Ready as spec;
 
 use crate::answers::{is_would_block, read_got, write_got};
-use coap_serve::Got;
+use coap_io::Got;
 use mio::event::Event;
 use std::io;
 use std::io::{Read, Write};

@@ -14,7 +14,7 @@
 //! waits: a wait until a moment ends at that moment.
 
 ghost use Rattle.std.specs.Prelude.{None, length};
-ghost use Rattle.coap_serve.specs.streams.Wires.{IsWithin};
+ghost use Rattle.coap_serve.specs.Prelude.{IsWithin};
 
 mod greatest;
 mod memory;

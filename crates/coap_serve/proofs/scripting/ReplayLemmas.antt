@@ -1,7 +1,7 @@
 -- What events come to, one by one and one after the other.
 use Rattle.std.proofs.Common.{[], ◌≡◌, ◌≢◌, ℕ, zero, suc, ◌+◌, ◌-◌, ◌<◌, ◌≤◌, true, false, ◌==◌, List, ◌∷◌, ◌++◌, length, get_or, take, drop, map, Option, Some, None, Result, Ok, Err, is_none, refl, sym, ap, ◌∙◌, append_assoc, arith, lt-ltb, add-suc, add-zero, add-one}
 use Rattle.std.proofs.lemmas.Bool.{le-ltb, ne_eqb}
-use Rattle.std.proofs.lemmas.List.{append-nil, take_all, take-append-drop, length-drop, length-take-le, length-map}
+use Rattle.std.proofs.lemmas.List.{append-nil, take-append-drop, length-drop, length-take-le, length-map}
 use Rattle.std.proofs.Math.Seq.{take-suc, drop-cons}
 use Rattle.std.proofs.Math.ListN.{get_or-map}
 use Rattle.std.proofs.Math.Bool.{and-false}
@@ -13,7 +13,7 @@ use Rattle.coap_serve.specs.Prelude.{Fed, ServerValue, server_taken, count_taken
 use Rattle.coap_serve.specs.Prelude.{IsDrainable, Took, Drained, Line, Shows}
 use Rattle.coap_serve.specs.declared.event.Event.{Event}
 use Rattle.coap_serve.specs.script.Replay.{goes_on, behind}
-use Rattle.coap_serve.proofs.streams.DeviceLemmas.{bytes_then}
+use Rattle.coap_io.proofs.streams.DeviceLemmas.{bytes_then}
 use Rattle.coap_serve.proofs.scripting.ShownLemmas.{shows_same, shows_then, shows_as, events_ran_on}
 use Rattle.coap_serve.specs.world.Events as world
 use Rattle.coap_serve.specs.declared.server.TakeFault.TheVariants as taking
@@ -48,10 +48,6 @@ none_drainable id most None is = refl
 none_drainable id most (Some s) is = absurd is
 
 -- ---- takes
-
--- the bytes behind the first n
-pub rest_of : (n : ℕ) (bytes : List ℕ) → take (length bytes - n) (drop n bytes) ≡ drop n bytes
-rest_of n bytes = take_all (length bytes - n) (drop n bytes) (omega (arith, length-drop n bytes))
 
 -- some takes took bytes, and the server is now this one
 pub record Feeds (v : ServerValue) (id : ℕ) (bytes : List ℕ) (now : ServerValue) (taken : ℕ) : Type 0 where

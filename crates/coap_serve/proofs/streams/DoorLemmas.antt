@@ -1,17 +1,10 @@
 -- What a run of a door has told so far, turn by turn.
-use Rattle.std.proofs.Common.{◌≡◌, ℕ, ◌+◌, ◌<◌, Bool, false, List, [], ◌∷◌, ◌++◌, length, Option, refl, ap, ◌∙◌, append_assoc, arith, inr}
+use Rattle.std.proofs.Common.{◌≡◌, ℕ, ◌+◌, ◌<◌, Bool, false, List, [], ◌∷◌, ◌++◌, length, Option, refl, ap, ◌∙◌, arith, inr}
 use Rattle.coap_serve.specs.Prelude.{is_none, ConfigValues, Peer, IoFault, Memory, Wait, open_refusal, ServerValue}
 use Rattle.coap_serve.specs.Prelude.{OneMore, HasTurnedSo, IsCutRun, EndsWith, moved_to, waited_behind}
 use Rattle.coap_serve.specs.Prelude.{IsTurnOf, IsAskedOnce, asked_by, TellsMore, DoorCall, IsMemory, WireTrace}
-use Rattle.std.proofs.lemmas.List.{append-nil, length-append}
-
--- ---- what a device tells
-
-pub told_none : {A : Type 0} (a : Option (List A)) → TellsMore a a []
-told_none a = grind (arith, append-nil)
-
-pub told_then : {A : Type 0} (a b c : Option (List A)) (xs ys : List A) → TellsMore a b xs → TellsMore b c ys → TellsMore a c (xs ++ ys)
-told_then a b c xs ys p q = grind (arith, append_assoc)
+use Rattle.std.proofs.lemmas.List.{length-append}
+use Rattle.coap_io.proofs.streams.DeviceLemmas.{told_then}
 
 -- ---- how far a run has come
 

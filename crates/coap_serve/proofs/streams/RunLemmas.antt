@@ -17,7 +17,7 @@ use Rattle.coap_serve.proofs.world.EntryLemmas.{all_append}
 use Rattle.coap_serve.proofs.world.HandledLaws.{HasStopped, settled_handles_none}
 use Rattle.coap_serve.proofs.world.ShowLaws.{side_there}
 use Rattle.coap_serve.proofs.world.StepLaws.{world_first, world_step}
-use Rattle.coap_serve.proofs.streams.DeviceLemmas.{bytes_none, bytes_then, given_none, given_then}
+use Rattle.coap_io.proofs.streams.DeviceLemmas.{bytes_none, bytes_then, given_none, given_then}
 use Rattle.coap_serve.proofs.streams.OutputLaws.{world_for_written, world_for_none, takes_unless_stopped, outcome_at_first, opened_alone, nothing_yet}
 use Rattle.coap_serve.proofs.streams.FlushShown.{LeadsTo, flush_stands}
 use Rattle.coap_serve.proofs.streams.TakeLemmas.{part_flush_leads, stop_told, session_going}

@@ -1,9 +1,9 @@
 -- A flush, one turn after the other, as the code makes it.
-use Rattle.std.proofs.Common.{◌≡◌, ◌≢◌, ℕ, suc, ◌≤◌, List, [], ◌∷◌, ◌++◌, Option, Result, Ok, Err, Bool, true, false, refl, sym, ap, subst, ◌∙◌, append_assoc, inl, not, OnErr}
+use Rattle.std.proofs.Common.{◌≡◌, ℕ, suc, ◌≤◌, List, [], ◌++◌, Option, Bool, true, false, refl, sym, ap, subst, ◌∙◌, append_assoc, inl, not}
 use Rattle.std.proofs.lemmas.List.{append-nil}
 use Rattle.coap_serve.specs.Prelude.{AddsBytes, WritesPart, ServerValue, waiting_at, more_at, flush_once}
 use Rattle.coap_serve.specs.Prelude.{flush_turns, IsFlushedOnce, IsFlushed, IsPartFlushed}
-use Rattle.coap_serve.proofs.streams.DeviceLemmas.{bytes_none, bytes_then}
+use Rattle.coap_io.proofs.streams.DeviceLemmas.{bytes_none, bytes_then}
 
 -- ---- turns
 
@@ -19,20 +19,6 @@ pub record Flushing (id : ℕ) (v : ServerValue) (turns : ℕ) (now : ServerValu
 pub flush_begins : (id : ℕ) (v : ServerValue) (x : Option (List ℕ)) → Flushing id v 0 v x x
 unfolding flush_turns
 flush_begins id v x = record { server = refl; written = bytes_none x }
-
-no_end_missing : (missing more : List ℕ) → missing ≢ [] → missing ++ more ≢ []
-no_end_missing [] more some = absurd (some refl)
-no_end_missing (b ∷ bs) more some = λ none. absurd cc
-
--- a part of the first bytes is a part of all
-pub part_before : (x y : Option (List ℕ)) (first second : List ℕ) → WritesPart x y first → WritesPart x y (first ++ second)
-part_before x y first second wrote =
-    (wrote.0, wrote.1 ++ second, no_end_missing wrote.1 second wrote.2, ap (λ (b : List ℕ). b ++ second) wrote.3 ∙ append_assoc wrote.0 wrote.1 second, wrote.4)
-
--- all of the first bytes and a part of the second ones are a part of all
-pub part_after : (x y z : Option (List ℕ)) (first second : List ℕ) → AddsBytes x y first → WritesPart y z second → WritesPart x z (first ++ second)
-part_after x y z first second before wrote =
-    (first ++ wrote.0, wrote.1, wrote.2, ap (λ (b : List ℕ). first ++ b) wrote.3 ∙ sym (append_assoc first wrote.0 wrote.1), bytes_then x y z first wrote.0 before wrote.4)
 
 -- a part was written in one turn more
 pub flush_cut : (id : ℕ) (v : ServerValue) (turns : ℕ) (now : ServerValue) (x y z : Option (List ℕ)) → Flushing id v turns now x y → (w : List ℕ) → suc turns ≤ suc (more_at id v) → w ≡ waiting_at id now → WritesPart y z w → IsPartFlushed id v (WritesPart x z)
@@ -50,11 +36,6 @@ flush_cut id v turns now x y z so_far w within waits wrote =
         bytes_then x y z text wrote.0 so_far.written wrote.4,
       );
     }
-
--- what holds in any case holds where a result is a fault
-pub on_any_fault : {T E : Type 0} (r : Result T E) (P : Type 0) → P → OnErr r P
-on_any_fault (Ok x) P holds = tt
-on_any_fault (Err e) P holds = holds
 
 -- ---- one turn of the code
 

@@ -4,13 +4,13 @@ use Rattle.coap_serve.specs.Configs.{ConfigValues}
 use Rattle.coap_serve.specs.declared.door.peer.Peer.{Peer}
 use Rattle.coap_serve.specs.declared.serve.IoFault.{IoFault}
 use Rattle.coap_serve.specs.declared.serve.IoFault.TheVariants.{Read, Write, Memory, Turns}
-use Rattle.coap_serve.specs.declared.wire.Wait.{Wait}
-use Rattle.coap_serve.specs.declared.wire.Wait.TheVariants.{No}
+use Rattle.coap_io.specs.declared.wire.Wait.{Wait}
+use Rattle.coap_io.specs.declared.wire.Wait.TheVariants.{No}
 use Rattle.coap_serve.specs.values.ServerAnswers.{open_refusal}
 use Rattle.coap_serve.specs.values.Servers.{ServerValue, new_server, server_ticked}
 use Rattle.coap_serve.specs.streams.Serving.{asked_by, IsTurnOf}
-use Rattle.coap_serve.specs.streams.Telling.{DoorCall, Waited}
-use Rattle.coap_serve.specs.streams.Wires.{WireTrace}
+use Rattle.coap_io.specs.streams.Telling.{DoorCall, Waited}
+use Rattle.coap_io.specs.streams.Wires.{WireTrace}
 
 -- the moment moves on to what the clock tells; where that goes back, nothing changes
 abbrev pub moved_to : ServerValue → (moment : ℕ) → ServerValue

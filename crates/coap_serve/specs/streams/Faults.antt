@@ -1,4 +1,4 @@
--- Which faults tell of a device.
+-- Which faults tell of a device, and which end the serving of wires.
 use Rattle.std.specs.Prelude.{Bool, true, false, Result, Ok, Err}
 use Rattle.coap_serve.specs.declared.serve.IoFault.{IoFault}
 use Rattle.coap_serve.specs.declared.serve.IoFault.TheVariants.{Read, Write, Memory, Turns}
@@ -16,3 +16,18 @@ is_write_fault (Err Read) = false
 is_write_fault (Err Write) = true
 is_write_fault (Err Memory) = false
 is_write_fault (Err Turns) = false
+
+-- a fault, if any, is want of memory
+abbrev pub IsMemory : IoFault → Type 0
+IsMemory Read = ⊥
+IsMemory Write = ⊥
+IsMemory Memory = Unit {0}
+IsMemory Turns = ⊥
+
+-- serving ends with a fault: want of memory, or of a further turn
+abbrev pub IsMemoryOrTurns : {T : Type 0} → Result T IoFault → Type 0
+IsMemoryOrTurns (Ok x) = ⊥
+IsMemoryOrTurns (Err Read) = ⊥
+IsMemoryOrTurns (Err Write) = ⊥
+IsMemoryOrTurns (Err Memory) = Unit {0}
+IsMemoryOrTurns (Err Turns) = Unit {0}

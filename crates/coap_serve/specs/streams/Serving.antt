@@ -3,10 +3,10 @@ use Rattle.std.specs.Prelude.{◌≡◌, ℕ, ◌+◌, Bool, true, false, List, 
 use Rattle.std.specs.List.{AllByRecursion}
 use Rattle.indexmap.specs.IndexMap.{insert_entry}
 use Rattle.coap_serve.specs.script.Shown.{ShowsMore}
-use Rattle.coap_serve.specs.streams.Telling.{DoorCall, Asked}
+use Rattle.coap_io.specs.streams.Telling.{DoorCall, Asked}
 use Rattle.coap_serve.specs.streams.Notes.{true_end}
 use Rattle.coap_serve.specs.streams.Turns.{IsServed, IsAtRest, IsInTurn, IsAgendaOf, IsWaitAfter, concerns_earlier, end_of}
-use Rattle.coap_serve.specs.streams.Wires.{WireTrace}
+use Rattle.coap_io.specs.streams.Wires.{WireTrace}
 use Rattle.coap_serve.specs.values.Dues.{stamp_of}
 use Rattle.coap_serve.specs.values.ServerAnswers.{open_refusal}
 use Rattle.coap_serve.specs.values.Servers.{ServerValue, server_opened, server_dropped}
@@ -15,7 +15,7 @@ use Rattle.coap_serve.specs.declared.door.peer.Course.{Course}
 use Rattle.coap_serve.specs.declared.door.peer.Course.TheVariants.{Open, Over}
 use Rattle.coap_serve.specs.declared.door.peer.Peer.{Peer}
 use Rattle.coap_serve.specs.declared.door.agenda.Agenda.{Agenda}
-use Rattle.coap_serve.specs.declared.wire.Wait.{Wait}
+use Rattle.coap_io.specs.declared.wire.Wait.{Wait}
 
 -- ---- what happens
 

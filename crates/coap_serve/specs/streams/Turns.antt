@@ -7,18 +7,18 @@ use Rattle.coap_serve.specs.values.ServerAnswers.{can_take_on, stop_on}
 use Rattle.coap_serve.specs.script.Replay.{fed}
 use Rattle.coap_serve.specs.values.Dues.{outlook_of, stamp_of, same_stamp, sooner}
 use Rattle.coap_serve.specs.values.Flushes.{waiting_at}
-use Rattle.coap_serve.specs.streams.Wires.{IsTold, WireTrace, IsReadOnce, IsWrittenOnce, read_room}
+use Rattle.coap_io.specs.streams.Wires.{IsTold, WireTrace, IsReadOnce, IsWrittenOnce, read_room}
 use Rattle.coap_serve.specs.declared.door.peer.Course.{Course}
 use Rattle.coap_serve.specs.declared.door.peer.Course.TheVariants.{Open, Over}
 use Rattle.coap_serve.specs.declared.door.wants.Wants.{Wants}
 use Rattle.coap_serve.specs.declared.door.peer.Peer.{Peer}
 use Rattle.coap_serve.specs.declared.door.agenda.Agenda.{Agenda}
-use Rattle.coap_serve.specs.declared.wire.Wait.{Wait}
-use Rattle.coap_serve.specs.declared.wire.Wait.TheVariants.{No, Until, Forever}
+use Rattle.coap_io.specs.declared.wire.Wait.{Wait}
+use Rattle.coap_io.specs.declared.wire.Wait.TheVariants.{No, Until, Forever}
 use Rattle.coap_serve.specs.declared.server.Outlook.{Outlook}
 use Rattle.coap_serve.specs.declared.server.Stamp.{Stamp}
-use Rattle.coap_serve.specs.declared.wire.Got.{Got}
-use Rattle.coap_serve.specs.declared.wire.Got.TheVariants.{Bytes, Later, End, Failed}
+use Rattle.coap_io.specs.declared.wire.Got.{Got}
+use Rattle.coap_io.specs.declared.wire.Got.TheVariants.{Bytes, Later, End, Failed}
 
 -- A wire is read only where it may be, nothing is left of what was read before, and its connection takes bytes.
 abbrev pub is_heard : (may_read : Bool) → ServerValue → ℕ → List ℕ → Bool

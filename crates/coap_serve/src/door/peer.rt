@@ -3,14 +3,13 @@
 ghost use Rattle.std.specs.Prelude.{◌≡◌, ◌≢◌, false, [], length, is_some, OnOk, OnErr, IfOk, IfErr};
 ghost use Rattle.coap_serve.specs.Prelude.{IsPartlyFed, fed, AddsBytes, HasServed, TellsMore, IsServedOnce, trace_by, IsLaidOut, is_heard, server_heard, server_wrote, waiting_once, rest_left, is_over_in, has_failed, course_of, wants_of, IsWithin, IsMemory, IsOneWrite, bytes_passed, stop_on, session_of, IsAsked, CanGoOn, IsRestAnswer, end_of};
 ghost use Rattle.coap_serve.specs.declared.door.peer.Course.TheVariants.{Open};
-ghost use Rattle.coap_serve.specs.declared.wire.Got.TheVariants.{Later, End};
+ghost use Rattle.coap_io.specs.declared.wire.Got.TheVariants.{Later, End};
 
 use super::wants::{Wants, wants_by};
-use crate::rest::Rest;
 use crate::serve::IoFault;
 use crate::server::{ConnId, Outlook, Server, Stamp};
-use crate::wire::{Got, Ready, Wire};
 use coap_conn::first_part;
+use coap_io::{Got, Ready, Rest, Wire};
 use indexmap::IndexMap;
 
 /// The far end of a connection.

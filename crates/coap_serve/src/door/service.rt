@@ -8,7 +8,7 @@ use super::turn::take_turn;
 use crate::config::Config;
 use crate::serve::IoFault;
 use crate::server::{Backwards, Server};
-use crate::wire::{Door, Ready, Wait, Wire};
+use coap_io::{Door, Ready, Wait, Wire};
 use coap_store::{PathKey, StoreFault};
 use indexmap::IndexMap;
 use std::alloc::{AllocError, Global};

@@ -7,10 +7,9 @@ ghost use Rattle.coap_serve.specs.declared.door.peer.Course.TheVariants.{Open};
 use super::agenda::{Agenda, Seen, concerns_others, pass_over};
 use super::peer::{Course, Peer, Peers, serve_peer};
 use super::wants::wants_on;
-use crate::rest::Rest;
 use crate::serve::IoFault;
 use crate::server::Server;
-use crate::wire::{Door, Ready, Wait, Wire};
+use coap_io::{Door, Ready, Rest, Wait, Wire};
 
 /// Makes one turn at a moment: opens one connection, if one more may be opened and the door hands out a wire, and
 /// serves each. Returns how long the door may wait then: `Wait::No` exactly if a connection was opened, a change

@@ -2,8 +2,7 @@
 
 use super::sessions::{find, flush_at, settle_after, what_was_handled, written_at};
 use super::{ConnId, Flushed, Server, TakeFault, Taken, WrittenFault};
-use crate::device::Outlet;
-use crate::output::WriteFailed;
+use coap_io::{Outlet, WriteFailed};
 use std::alloc::AllocError;
 
 impl Server {

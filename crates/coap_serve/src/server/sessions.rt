@@ -5,10 +5,9 @@ ghost use Rattle.coap_serve.specs.Prelude.{values, values_of, SessionValue, IsMa
 
 use super::{AnnounceFault, ConnId, Handled, ReleaseFault, Sessions};
 use crate::cause::Cause;
-use crate::device::Outlet;
 use crate::host::Host;
-use crate::output::{WriteFailed, write_parts};
 use coap_conn::Reason;
+use coap_io::{Outlet, WriteFailed, write_parts};
 
 /// The index of a connection.
 pub(super) fn find(sessions: &Sessions, id: ConnId) -> Option<usize>

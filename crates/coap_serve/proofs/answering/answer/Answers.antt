@@ -7,7 +7,7 @@ use Rattle.coap_serve.specs.Prelude.{entries_replied, AreMarked, changed_mark, m
 use Rattle.coap_store.specs.Answer.{Answer}
 use Rattle.coap_serve.proofs.values.AnsweringLemmas.{nothing_changed, late_link, late_entries, prompt_is, change_link, change_entries, may_watch, late_quiet, prompt_link, prompt_entries}
 use Rattle.coap_serve.proofs.values.CauseLemmas.{marked_after}
-use Rattle.coap_serve.proofs.values.FlushLemmas.{on_any_fault}
+use Rattle.coap_io.proofs.streams.WriteLemmas.{on_any_fault}
 use Rattle.coap_serve.proofs.answering.answer.Goals.{After-respond-reply, then-asks_entry, else-asks_entry, else-observes-via-then-observes+else-is_whole, else-observes-via-else-observes}
 use Rattle.coap_serve.proofs.answering.answer.Goals as goal
 

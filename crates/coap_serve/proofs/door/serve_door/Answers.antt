@@ -1,7 +1,8 @@
 use Rattle.coap_serve.specs.Prelude.{NoneYet, trace_by}
 use Rattle.std.proofs.Common.{[], refl, ap, arith, ◌∙◌}
 use Rattle.std.proofs.lemmas.Result.{err_from_is_err_and}
-use Rattle.coap_serve.proofs.streams.DoorLemmas.{told_none, turned_once_more, cut_in_a_turn, ended_by_memory}
+use Rattle.coap_io.proofs.streams.DeviceLemmas.{told_none}
+use Rattle.coap_serve.proofs.streams.DoorLemmas.{turned_once_more, cut_in_a_turn, ended_by_memory}
 use Rattle.coap_serve.proofs.door.serve_door.Goals as goal
 
 pub loop-turn-init : goal.loop-turn-init

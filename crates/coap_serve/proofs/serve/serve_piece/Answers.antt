@@ -1,6 +1,6 @@
 use Rattle.std.proofs.Common.{◌≤◌, sym, ◌∙◌, arith}
 use Rattle.std.proofs.lemmas.List.{length-drop}
-use Rattle.coap_serve.proofs.scripting.ReplayLemmas.{rest_of}
+use Rattle.coap_io.proofs.streams.WriteLemmas.{rest_of}
 use Rattle.coap_serve.proofs.streams.TakeLemmas.{front_served, front_cut, front_some, handled_few}
 use Rattle.coap_serve.proofs.streams.PieceLemmas.{serves_none, served_all, serves_more, serves_last, cut_off, piece_refused, is_filled, is_used_up}
 use Rattle.coap_serve.proofs.serve.serve_piece.Given.{Over}

@@ -1,5 +1,5 @@
 use Rattle.std.proofs.Common.{Some}
-use Rattle.coap_serve.proofs.streams.DeviceLemmas.{bytes_none}
+use Rattle.coap_io.proofs.streams.DeviceLemmas.{bytes_none}
 use Rattle.coap_client.specs.Prelude.{calls_in, turns_in, with_wire, IsFlushed, LeadsOn}
 use Rattle.coap_client.proofs.RunLemmas.{answers_so, some_waits, write_leads_on, wrote_last}
 use Rattle.coap_client.proofs.run.Run.flush.Goals as goal

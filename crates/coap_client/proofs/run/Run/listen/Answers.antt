@@ -1,6 +1,6 @@
 use Rattle.std.proofs.Common.{Some, None, sym, ap, ◌∙◌}
 use Rattle.coap_client.specs.Prelude.{Phase, turns_in, stop_behind, with_wire, IsHeard, LeadsOn}
-use Rattle.coap_serve.proofs.streams.DeviceLemmas.{bytes_none}
+use Rattle.coap_io.proofs.streams.DeviceLemmas.{bytes_none}
 use Rattle.coap_client.proofs.RunLemmas.{answers_so, rest_is_empty, heard_on}
 use Rattle.coap_client.proofs.run.Run.listen.Goals as goal
 

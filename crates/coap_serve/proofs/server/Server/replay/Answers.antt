@@ -1,7 +1,7 @@
 use Rattle.coap_serve.specs.Prelude.{event_value, replayed, events_ran}
 use Rattle.std.proofs.Common.{map, rules, refl}
 use Rattle.std.proofs.lemmas.List.{length-map, take_all}
-use Rattle.coap_serve.proofs.streams.DeviceLemmas.{bytes_none}
+use Rattle.coap_io.proofs.streams.DeviceLemmas.{bytes_none}
 use Rattle.coap_serve.proofs.scripting.ReplayLemmas.{stands, refused_at, cut_at, one_replayed, one_shown, cut_shown, refused_shown}
 use Rattle.coap_serve.proofs.server.Server.replay.Goals as goal
 use Rattle.coap_serve.proofs.scripting.ShownLemmas.{shows_same}

@@ -1,8 +1,8 @@
 use Rattle.std.proofs.Common.{◌≡◌, length, refl, sym, ap, ◌∙◌}
 use Rattle.std.proofs.lemmas.List.{nil_from_length}
 use Rattle.coap_serve.specs.Prelude.{SessionValue, IsMarked, unmarked, session_settled, session_written}
-use Rattle.coap_serve.proofs.streams.DeviceLemmas.{bytes_none}
-use Rattle.coap_serve.proofs.values.FlushLemmas.{on_any_fault}
+use Rattle.coap_io.proofs.streams.DeviceLemmas.{bytes_none}
+use Rattle.coap_io.proofs.streams.WriteLemmas.{on_any_fault}
 use Rattle.coap_serve.proofs.values.ServerLemmas.{written_back, written_unmarked, unmarked_at, all_written, one_of_all}
 use Rattle.coap_serve.proofs.values.TurnLemmas.{same_session, for_one_on_fault}
 use Rattle.coap_serve.proofs.server.sessions.flush_at.Goals as goal

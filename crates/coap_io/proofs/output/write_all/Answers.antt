@@ -1,7 +1,6 @@
-use Rattle.coap_serve.proofs.scripting.ReplayLemmas.{rest_of}
-use Rattle.coap_serve.proofs.streams.DeviceLemmas.{not_failed_write}
-use Rattle.coap_serve.proofs.streams.WriteLemmas.{more_written}
-use Rattle.coap_serve.proofs.output.write_all.Goals as goal
+use Rattle.coap_io.proofs.streams.DeviceLemmas.{not_failed_write}
+use Rattle.coap_io.proofs.streams.WriteLemmas.{rest_of, more_written}
+use Rattle.coap_io.proofs.output.write_all.Goals as goal
 
 pub loop-left-preserved : goal.loop-left-preserved
 loop-left-preserved g c = record {

@@ -1,7 +1,7 @@
 -- How the bytes read from a wire that are not taken yet are seen in contracts.
 use Rattle.std.specs.Prelude.{◌≡◌, ℕ, ◌≤◌, ◌-◌, List, length, take, drop}
-use Rattle.coap_serve.specs.declared.rest.Rest.TheInside.{Inside}
-use Rattle.coap_serve.specs.streams.Wires.{read_room}
+use Rattle.coap_io.specs.declared.rest.Rest.TheInside.{Inside}
+use Rattle.coap_io.specs.streams.Wires.{read_room}
 
 abbrev pub rest_value : Inside → List ℕ
 rest_value r = take (r.to - r.from) (drop r.from r.buffer.items)

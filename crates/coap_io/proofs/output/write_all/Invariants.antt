@@ -1,6 +1,6 @@
 use Rattle.std.proofs.Common.{◌≡◌, false, length}
-use Rattle.coap_serve.proofs.streams.WriteLemmas.{WritesFront}
-use Rattle.coap_serve.proofs.output.write_all.Given as goal
+use Rattle.coap_io.proofs.streams.WriteLemmas.{WritesFront}
+use Rattle.coap_io.proofs.output.write_all.Given as goal
 
 abbrev pub invariant-loop-left : goal.invariant-loop-left
 invariant-loop-left g l =

@@ -1,7 +1,7 @@
 //! Bytes read from a wire that no connection has taken yet.
 
 ghost use Rattle.std.specs.Prelude.{◌≡◌, ◌≤◌, length, ◌==◌, ◌-◌, [], ◌∷◌, drop, IfOk};
-ghost use Rattle.coap_serve.specs.Prelude.{AddsBytes, TellsMore, count_passed, read_room};
+ghost use Rattle.coap_io.specs.Prelude.{AddsBytes, TellsMore, count_passed, read_room};
 
 use crate::wire::{Got, Wire};
 use std::alloc::{AllocError, Global};
@@ -23,7 +23,7 @@ impl Model for Rest {
 
     ghost Value = { List ℕ };
 
-    ghost use Rattle.coap_serve.specs.views.RestViews.{rest_value, is_rest};
+    ghost use Rattle.coap_io.specs.views.RestViews.{rest_value, is_rest};
 
     ghost view = { rest_value };
 

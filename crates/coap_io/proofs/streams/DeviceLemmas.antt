@@ -1,10 +1,16 @@
 -- What devices passed on, one call after another.
-use Rattle.std.proofs.Common.{◌≡◌, ◌≢◌, ℕ, Bool, false, ◌||◌, List, [], ◌∷◌, ◌++◌, Option, Some, None, arith}
+use Rattle.std.proofs.Common.{◌≡◌, ◌≢◌, ℕ, Bool, false, ◌||◌, List, [], ◌∷◌, ◌++◌, Option, Some, None, append_assoc, arith}
 use Rattle.std.proofs.KnownBytes.{Consumes-nil, Consumes-trans}
+use Rattle.std.proofs.lemmas.List.{append-nil}
 use Rattle.std.proofs.lemmas.List.Folds.{concat-append}
-use Rattle.coap_serve.specs.Prelude.{concat, Consumes, IsAtEnd, AddsBytes, Told, FoundEnd, EndsAt, HasGiven}
-use Rattle.coap_serve.specs.Prelude.{is_failed_write}
-use Rattle.coap_serve.proofs.streams.DoorLemmas.{told_none, told_then}
+use Rattle.coap_io.specs.Prelude.{concat, Consumes, IsAtEnd, AddsBytes, Told, FoundEnd, EndsAt, HasGiven}
+use Rattle.coap_io.specs.Prelude.{is_failed_write, TellsMore}
+
+pub told_none : {A : Type 0} (a : Option (List A)) → TellsMore a a []
+told_none a = grind (arith, append-nil)
+
+pub told_then : {A : Type 0} (a b c : Option (List A)) (xs ys : List A) → TellsMore a b xs → TellsMore b c ys → TellsMore a c (xs ++ ys)
+told_then a b c xs ys p q = grind (arith, append_assoc)
 
 pub bytes_none : (a : Option (List ℕ)) → AddsBytes a a []
 bytes_none a = told_none a

@@ -1,6 +1,6 @@
 -- What devices tell of their calls.
 use Rattle.std.specs.Prelude.{◌≡◌, Bool, List, ◌++◌, Option, Some, None}
-use Rattle.coap_serve.specs.declared.wire.Wait.{Wait}
+use Rattle.coap_io.specs.declared.wire.Wait.{Wait}
 
 -- A device that tells what it did so far tells this more now, in order. One that does not tell claims nothing.
 abbrev pub TellsMore : {A : Type 0} → Option (List A) → Option (List A) → List A → Type 0

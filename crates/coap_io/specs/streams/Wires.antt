@@ -1,11 +1,9 @@
--- What wires pass on, and how serving them ends.
-use Rattle.std.specs.Prelude.{◌≡◌, ℕ, ◌≤◌, Bool, List, [], ◌∷◌, length, take, Option, Some, None, Result, Ok, Err}
-use Rattle.coap_serve.specs.declared.wire.Got.{Got}
-use Rattle.coap_serve.specs.declared.wire.Got.TheVariants.{Bytes, Later, End, Failed}
-use Rattle.coap_serve.specs.streams.Device.{AddsBytes}
-use Rattle.coap_serve.specs.streams.Telling.{TellsMore}
-use Rattle.coap_serve.specs.declared.serve.IoFault.{IoFault}
-use Rattle.coap_serve.specs.declared.serve.IoFault.TheVariants as fault
+-- What wires pass on.
+use Rattle.std.specs.Prelude.{◌≡◌, ℕ, ◌≤◌, Bool, List, [], ◌∷◌, length, take, Option, Some, None}
+use Rattle.coap_io.specs.declared.wire.Got.{Got}
+use Rattle.coap_io.specs.declared.wire.Got.TheVariants.{Bytes, Later, End, Failed}
+use Rattle.coap_io.specs.streams.Device.{AddsBytes}
+use Rattle.coap_io.specs.streams.Telling.{TellsMore}
 
 -- where bytes were passed on, there is at least one, and at most as many as there is room
 abbrev pub IsWithin : ℕ → Got → Type 0
@@ -77,18 +75,3 @@ pub record IsWrittenOnce (bytes : List ℕ) (before after : WireTrace) (wrote : 
 abbrev pub IsTold : (told : Option Bool) (answer : Bool) → Type 0
 IsTold None answer = Unit {0}
 IsTold (Some told) answer = answer ≡ told
-
--- a fault, if any, is want of memory
-abbrev pub IsMemory : IoFault → Type 0
-IsMemory fault.Read = ⊥
-IsMemory fault.Write = ⊥
-IsMemory fault.Memory = Unit {0}
-IsMemory fault.Turns = ⊥
-
--- serving ends with a fault: want of memory, or of a further turn
-abbrev pub IsMemoryOrTurns : {T : Type 0} → Result T IoFault → Type 0
-IsMemoryOrTurns (Ok x) = ⊥
-IsMemoryOrTurns (Err fault.Read) = ⊥
-IsMemoryOrTurns (Err fault.Write) = ⊥
-IsMemoryOrTurns (Err fault.Memory) = Unit {0}
-IsMemoryOrTurns (Err fault.Turns) = Unit {0}

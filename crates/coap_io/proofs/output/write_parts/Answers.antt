@@ -1,5 +1,5 @@
-use Rattle.coap_serve.proofs.values.FlushLemmas.{part_before, part_after, on_any_fault}
-use Rattle.coap_serve.proofs.output.write_parts.Goals as goal
+use Rattle.coap_io.proofs.streams.WriteLemmas.{part_before, part_after, on_any_fault}
+use Rattle.coap_io.proofs.output.write_parts.Goals as goal
 
 pub returns-in_err-write_all-clause-part : goal.returns-in_err-write_all-clause-part
 returns-in_err-write_all-clause-part g c = on_any_fault _ _ (part_before _ _ c.args.first.now c.args.second.now c.in_err-write_all.ensures.part)

@@ -1,0 +1,3 @@
+pub mod streams
+pub mod views
+pub mod Prelude

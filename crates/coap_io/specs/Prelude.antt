@@ -1,0 +1,12 @@
+-- What the contracts and the proofs of the crate name, passed on from one place. Declares nothing.
+
+-- ---- std
+pub use Rattle.std.specs.Io.KnownBytes.{Consumes, IsAtEnd}
+pub use Rattle.std.specs.List.{concat}
+-- ---- coap_io
+pub use Rattle.coap_io.specs.streams.Device.{Told, HasGiven, pieces_read, AddsBytes, is_failed_write, WritesPart}
+pub use Rattle.coap_io.specs.streams.Device.{EndsAt, FoundEnd}
+pub use Rattle.coap_io.specs.streams.Telling.{TellsMore, DoorCall, Asked, Waited}
+pub use Rattle.coap_io.specs.streams.Wires.{IsWithin, bytes_passed, count_passed, IsTold, read_room}
+-- ---- coap_io, declared
+pub use Rattle.coap_io.specs.declared.wire.Got.{Got}
