@@ -7,50 +7,33 @@
 ghost use Rattle.std.specs.Prelude.{◌≡◌, ◌≤◌, IfSome, IfNone};
 ghost use Rattle.std.specs.Str.{IsUtf8};
 
-mod files;
-
-use coap_client::{ClientPlan, Target, WordsFault, client_words, run_client};
+use coap_client::{ClientPlan, Target, client_words, run_client};
+use coap_program::{FAULT, Program, Trouble, USAGE, hold_standard, read_whole};
 use coap_serve::WriteOutlet;
-use coap_sockets::{ConnectFault, Hindrance, Line, hold_standard};
-use files::Trouble;
-use std::alloc::{AllocError, Global};
-use std::env::Args;
-use std::fmt::Display;
-use std::io::{ErrorKind, Write};
+use coap_sockets::{ConnectFault, Hindrance, Line};
+use std::io::Write;
 use std::net::Net;
 use std::process::ExitCode;
 use std::rt::{Env, Files};
-use std::{env, io, str, time};
+use std::{fs, io, str, time};
 
-/// The status for help and the version.
-const SHOWN: u8 = 0;
+/// The program, by its name.
+const PROGRAM: Program = Program {
+    name: "coap-client",
+};
 
-/// The status for words that are not understood.
-const USAGE: u8 = 1;
-
-/// The status for a connection, a device or memory.
-const FAULT: u8 = 3;
-
-/// Writes the program's line for what went wrong to standard error, and answers the status.
-fn tell(rt: &impl Eprint, what: impl Display + Drop, status: u8) -> u8
-    ensures { result ≡ status }
-{
-    let _ = eprintln!(rt; "coap-client: {what}");
-    status
-}
+/// The bytes of a payload, at most.
+const MAX_PAYLOAD: usize = 1_048_576;
 
 /// Tells what is wrong with a file, and answers the status.
 fn tell_trouble(rt: &impl Eprint, trouble: Trouble, name: &str) -> u8
     ensures { result ≤ 4 }
 {
     match trouble {
-        Trouble::Open => {
-            let _ = eprintln!(rt; "coap-client: cannot open {name}");
-            FAULT
-        }
-        Trouble::Read => tell(rt, "cannot read", FAULT),
-        Trouble::TooLong => tell(rt, "bad value for -f", USAGE),
-        Trouble::Memory => tell(rt, "no memory", FAULT),
+        Trouble::Open => PROGRAM.tell(rt, format_args!("cannot open {name}"), FAULT),
+        Trouble::Read => PROGRAM.tell(rt, "cannot read", FAULT),
+        Trouble::TooLong => PROGRAM.tell(rt, "bad value for -f", USAGE),
+        Trouble::Memory => PROGRAM.tell(rt, "no memory", FAULT),
     }
 }
 
@@ -59,10 +42,18 @@ fn tell_trouble(rt: &impl Eprint, trouble: Trouble, name: &str) -> u8
 fn tell_unconnected(rt: &impl Eprint, fault: ConnectFault) -> u8
     ensures { result ≡ 3 }
 {
-    let status = tell(rt, fault, FAULT);
+    let status = PROGRAM.tell(rt, fault, FAULT);
     match fault {
-        ConnectFault::Socket(hindrance) => tell(rt, hindrance, status),
+        ConnectFault::Socket(hindrance) => PROGRAM.tell(rt, hindrance, status),
         ConnectFault::Memory => status,
+    }
+}
+
+/// Opens the file of this name for responses, with nothing in it.
+fn create<R: Files>(rt: &R, name: &str) -> Result<R::File, Trouble> {
+    match fs::create(rt, name) {
+        Ok(file) => Ok(file),
+        Err(fault) => Err(Trouble::of_opening(&fault)),
     }
 }
 
@@ -103,7 +94,7 @@ fn converse<R: Eprint + Net + time::Clock + AllocGlobal>(
     let mut err = WriteOutlet::new(err);
     match run_client(rt.alloc(), &mut line, &mut clock, &mut out, &mut err, plan) {
         Ok(status) => status,
-        Err(fault) => tell(rt, fault, FAULT),
+        Err(fault) => PROGRAM.tell(rt, fault, FAULT),
     }
 }
 
@@ -117,7 +108,7 @@ fn run(
     ensures { result ≤ 4 }
 {
     if let Some(name) = &plan.input {
-        match files::payload(rt, name.as_str()) {
+        match read_whole(rt, name.as_str(), MAX_PAYLOAD) {
             Ok(bytes) => plan.payload = bytes,
             Err(trouble) => return tell_trouble(rt, trouble, name.as_str()),
         }
@@ -127,7 +118,7 @@ fn run(
         Err(fault) => return tell_unconnected(rt, fault),
     };
     match &plan.output {
-        Some(name) if name.as_str() != "-" => match files::create(rt, name.as_str()) {
+        Some(name) if name.as_str() != "-" => match create(rt, name.as_str()) {
             Ok(file) => converse(rt, line, file, err, &plan),
             Err(trouble) => tell_trouble(rt, trouble, name.as_str()),
         },
@@ -135,65 +126,20 @@ fn run(
     }
 }
 
-/// The words behind the program's name.
-fn words_of(alloc: Global, mut words: Args) -> Result<Vec<String>, AllocError> {
-    let _name = words.next();
-    words.collect(alloc)
-}
-
-/// The plan of these words.
-fn plan_of(alloc: Global, words: Args) -> Result<ClientPlan, WordsFault> {
-    let Ok(words) = words_of(alloc, words) else {
-        return Err(WordsFault::Memory);
-    };
-    let Ok(words) = words
-        .iter()
-        .map(|word| word.as_str())
-        .collect::<Vec<&str>>(alloc)
-    else {
-        return Err(WordsFault::Memory);
-    };
-    client_words(alloc, &words)
-}
-
-/// Writes help or the version, where the words ask for it, to standard output, and answers the status. Else it tells
-/// why words are refused; what `clap` says of them has lines of its own.
-fn refuse(rt: &(impl Print + Eprint), fault: &WordsFault) -> u8
-    ensures { result ≤ 4 }
-{
-    if fault.is_help_or_version() {
-        return match print!(rt; "{fault}") {
-            Ok(()) => SHOWN,
-            Err(_) => tell(rt, "cannot write", FAULT),
-        };
-    }
-    match fault {
-        WordsFault::Usage(text) => {
-            let _ = eprint!(rt; "{text}");
-            USAGE
-        }
-        WordsFault::Memory => tell(rt, "no memory", FAULT),
-        _ => {
-            let _ = eprintln!(rt; "coap-client: {fault}");
-            USAGE
-        }
-    }
-}
-
-/// Does what the program's words say, and answers the status. Words that are not UTF-8 are not understood.
+/// Does what the program's words say, and returns the status.
 fn start(
     rt: &(impl Input + Print + Eprint + Env + Files + Net + time::Clock + AllocGlobal),
     err: impl Write + Drop,
 ) -> u8
     ensures { result ≤ 4 }
 {
-    match env::args(rt) {
-        Ok(words) => match plan_of(rt.alloc(), words) {
-            Ok(plan) => run(rt, err, plan),
-            Err(fault) => refuse(rt, &fault),
-        },
-        Err(fault) if fault.kind() == ErrorKind::OutOfMemory => tell(rt, "no memory", FAULT),
-        Err(_) => tell(rt, "words that are not UTF-8", USAGE),
+    let words = match PROGRAM.words(rt) {
+        Ok(words) => words,
+        Err(status) => return status,
+    };
+    match client_words(rt.alloc(), &words) {
+        Ok(plan) => run(rt, err, plan),
+        Err(fault) => PROGRAM.refuse(rt, &fault),
     }
 }
 

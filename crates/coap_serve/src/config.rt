@@ -1,6 +1,6 @@
 //! The configuration of a server.
 
-ghost use Rattle.std.specs.Prelude.{◌≡◌, ◌≤◌, IfOk};
+ghost use Rattle.std.specs.Prelude.{◌≡◌, ◌≤◌, ◌*◌, ◌-◌, ◌^◌, min, IfOk};
 ghost use Rattle.coap_serve.specs.Prelude.{RefusedBy, config_of, config_refusal, start_values};
 
 use coap_conn::Limits;
@@ -41,6 +41,26 @@ pub struct Starts {
     pub versions: u64,
     /// The number before that of the first connection.
     pub ids: u64,
+}
+
+/// How many versions a second has, so that a server that starts again gives none that it gave before.
+const VERSIONS_A_SECOND: u64 = 65_536;
+
+impl Starts {
+    /// Returns where the counts of a server begin that starts at this moment, in seconds since the epoch. A version is an
+    /// ETag, and the versions begin at 65,536 times the moment (at most 2^64 - 1): so a server that starts again gives no
+    /// ETag that it gave before, unless it changed its resources more than 65,536 times a second.
+    pub fn at(moment: u64) -> Starts
+        ensures moment { result.moment ≡ moment }
+        ensures versions { result.versions ≡ min (moment * 65_536) (2 ^ 64 - 1) }
+        ensures ids { result.ids ≡ 0 }
+    {
+        Starts {
+            moment,
+            versions: moment.saturating_mul(VERSIONS_A_SECOND),
+            ids: 0,
+        }
+    }
 }
 
 /// The configuration of a server. Contracts see its values by name.

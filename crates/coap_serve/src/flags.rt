@@ -16,6 +16,8 @@ pub(crate) struct Flags {
     blocks: [bool; 16],
     /// No flag before this index is set.
     from: usize,
+    /// No flag from this index on is set.
+    to: usize,
 }
 
 impl Model for Flags {
@@ -39,6 +41,7 @@ impl Flags {
             flags: [false; 256],
             blocks: [false; 16],
             from: 256,
+            to: 0,
         }
     }
 
@@ -52,6 +55,9 @@ impl Flags {
         if flag {
             self.blocks[index / BLOCK] = true;
             self.from = self.from.min(index);
+            self.to = self.to.max(index + 1);
+        } else if index + 1 == self.to {
+            self.to = index;
         }
     }
 
@@ -62,27 +68,31 @@ impl Flags {
         ensures before { IfSome result (λ first. (i : ℕ) → i < first → get_or self.old i false ≡ false) }
         ensures same { self.new ≡ self.old }
     {
-        self.from = first_from(&self.flags, &mut self.blocks, self.from);
-        if self.from < 256 {
-            Some(self.from)
-        } else {
-            None
+        self.from = first_from(&self.flags, &mut self.blocks, self.from, self.to);
+        if self.from < self.to {
+            return Some(self.from);
         }
+        self.from = 256;
+        self.to = 0;
+        None
     }
 }
 
-/// Returns the index of the first flag that is set, or 256 if none is. None before an index is.
-fn first_from(flags: &[bool; 256], blocks: &mut [bool; 16], from: usize) -> usize
+/// Returns the index of the first flag that is set, or one from `to` on if none is. None before `from` is, and none from `to`
+/// on.
+fn first_from(flags: &[bool; 256], blocks: &mut [bool; 16], from: usize, to: usize) -> usize
     requires within { from ≤ 256 }
     requires before { AreClear 0 from flags.now }
+    requires end { to ≤ 256 }
+    requires after { AreClear to 256 flags.now }
     requires blocks { AreBlocks flags.now blocks.old }
     ensures within { result ≤ 256 }
     ensures before { AreClear 0 result flags.now }
-    ensures some { result < 256 → get_or flags.now result false ≡ true }
+    ensures some { result < to → get_or flags.now result false ≡ true }
     ensures blocks { AreBlocks flags.now blocks.new }
 {
     let mut at = from;
-    while at < 256 && !flags[at] {
+    while at < to && !flags[at] {
         let block = at / BLOCK;
         let end = (block + 1) * BLOCK;
         at = if blocks[block] { at + 1 } else { end };

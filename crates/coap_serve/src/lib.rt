@@ -25,6 +25,7 @@ pub use coap_io::{
     Clock, Door, Got, Outlet, Polled, ReadSource, Ready, Rest, Source, Tried, Wait, Wire, Wires,
     WriteFailed, WriteOutlet, write_all,
 };
+pub use coap_store::{PathKey, StoreFault};
 pub use config::{Config, ConfigFault, Starts};
 pub use door::{Service, serve_door};
 pub use event::Event;

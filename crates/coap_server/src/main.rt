@@ -13,40 +13,21 @@ ghost use Rattle.coap_server.specs.Planned.{planned};
 mod listening;
 mod script;
 
-use coap_client::{Mode, ServerPlan, WordsFault, server_words};
+use coap_client::{Mode, ServerPlan, server_words};
+use coap_program::{ENDED, FAULT, Program, USAGE, hold_standard};
 use coap_serve::{Config, ReadSource, Starts, WriteOutlet, serve_one};
-use coap_sockets::hold_standard;
-use std::alloc::{AllocError, Global};
-use std::env::Args;
-use std::fmt::Display;
-use std::io::ErrorKind;
 use std::net::{Net, SocketAddr};
 use std::process::ExitCode;
 use std::rt::{Env, Files};
-use std::{env, io, time};
+use std::{io, time};
 
-/// The status of a run that ended of itself.
-pub(crate) const ENDED: u8 = 0;
-
-/// The status for help and the version.
-const SHOWN: u8 = 0;
-
-/// The status for words that are not understood.
-pub(crate) const USAGE: u8 = 1;
-
-/// The status for a device, memory or turns.
-pub(crate) const FAULT: u8 = 3;
+/// The program, by its name.
+pub(crate) const PROGRAM: Program = Program {
+    name: "coap-server",
+};
 
 /// The bytes of a representation, at most.
 const REP_MAX: usize = 65_000;
-
-/// Writes the program's line for what went wrong to standard error, and answers the status.
-pub(crate) fn tell(rt: &impl Eprint, what: impl Display + Drop, status: u8) -> u8
-    ensures { result ≡ status }
-{
-    let _ = eprintln!(rt; "coap-server: {what}");
-    status
-}
 
 /// Counts that begin at 0.
 const FROM_ZERO: Starts = Starts {
@@ -82,7 +63,7 @@ fn serve(rt: &(impl Input + Print + Eprint + AllocGlobal), config: &Config) -> u
     let mut output = WriteOutlet::new(io::writer(rt));
     match serve_one(rt.alloc(), &mut input, &mut output, config) {
         Ok(_) => ENDED,
-        Err(fault) => tell(rt, fault, FAULT),
+        Err(fault) => PROGRAM.tell(rt, fault, FAULT),
     }
 }
 
@@ -95,7 +76,7 @@ fn run(
         return listening::run(rt, SocketAddr::new(*address, *port), plan);
     }
     let Some(config) = config_of(plan, FROM_ZERO) else {
-        return tell(rt, "a limit is out of its range", USAGE);
+        return PROGRAM.tell(rt, "a limit is out of its range", USAGE);
     };
     match &plan.mode {
         Mode::Script(name) => script::run(rt, name.as_str(), &config),
@@ -103,58 +84,15 @@ fn run(
     }
 }
 
-/// The words behind the program's name.
-fn words_of(alloc: Global, mut words: Args) -> Result<Vec<String>, AllocError> {
-    let _name = words.next();
-    words.collect(alloc)
-}
-
-/// The plan of these words.
-fn plan_of(alloc: Global, words: Args) -> Result<ServerPlan, WordsFault> {
-    let Ok(words) = words_of(alloc, words) else {
-        return Err(WordsFault::Memory);
-    };
-    let Ok(words) = words
-        .iter()
-        .map(|word| word.as_str())
-        .collect::<Vec<&str>>(alloc)
-    else {
-        return Err(WordsFault::Memory);
-    };
-    server_words(alloc, &words)
-}
-
-/// Writes help or the version, where the words ask for it, to standard output, and answers the status. Else it tells
-/// why words are refused; what `clap` says of them has lines of its own.
-fn refuse(rt: &(impl Print + Eprint), fault: &WordsFault) -> u8 {
-    if fault.is_help_or_version() {
-        return match print!(rt; "{fault}") {
-            Ok(()) => SHOWN,
-            Err(_) => tell(rt, "cannot write", FAULT),
-        };
-    }
-    match fault {
-        WordsFault::Usage(text) => {
-            let _ = eprint!(rt; "{text}");
-            USAGE
-        }
-        WordsFault::Memory => tell(rt, "no memory", FAULT),
-        _ => {
-            let _ = eprintln!(rt; "coap-server: {fault}");
-            USAGE
-        }
-    }
-}
-
-/// Does what the program's words say, and answers the status. Words that are not UTF-8 are not understood.
+/// Does what the program's words say, and returns the status.
 fn start(rt: &(impl Input + Print + Eprint + Env + Files + Net + time::Clock + AllocGlobal)) -> u8 {
-    match env::args(rt) {
-        Ok(words) => match plan_of(rt.alloc(), words) {
-            Ok(plan) => run(rt, &plan),
-            Err(fault) => refuse(rt, &fault),
-        },
-        Err(fault) if fault.kind() == ErrorKind::OutOfMemory => tell(rt, "no memory", FAULT),
-        Err(_) => tell(rt, "words that are not UTF-8", USAGE),
+    let words = match PROGRAM.words(rt) {
+        Ok(words) => words,
+        Err(status) => return status,
+    };
+    match server_words(rt.alloc(), &words) {
+        Ok(plan) => run(rt, &plan),
+        Err(fault) => PROGRAM.refuse(rt, &fault),
     }
 }
 

@@ -1,46 +1,21 @@
 //! Runs scripts.
 
-use crate::{ENDED, FAULT, USAGE};
+use crate::PROGRAM;
+use coap_program::{ENDED, FAULT, Trouble as FileTrouble, USAGE, read_whole};
 use coap_serve::{Config, Event, ReplayFault, ScriptFault, Server, WriteOutlet, script};
-use std::alloc::Global;
-use std::io::{ErrorKind, Read};
+use std::io;
 use std::rt::Files;
-use std::{fs, io};
 
 /// Why a script was not run to its end.
 enum Trouble {
-    /// The file cannot be opened.
-    Open,
-    /// The script cannot be read.
-    Read,
+    /// Its file is not read.
+    File(FileTrouble),
     /// The line with this number, from 1, is no event.
     Line(u64),
     /// A line cannot be written.
     Write,
     /// Memory was refused.
     Memory,
-}
-
-/// All bytes of a reader.
-fn all_of(alloc: Global, reader: &mut impl Read) -> Result<Vec<u8>, Trouble> {
-    let mut bytes = Vec::new(alloc);
-    match reader.read_to_end(&mut bytes) {
-        Ok(_) => Ok(bytes),
-        Err(fault) if fault.kind() == ErrorKind::OutOfMemory => Err(Trouble::Memory),
-        Err(_) => Err(Trouble::Read),
-    }
-}
-
-/// The text of the script in the file with this name, or in standard input where it is `-`.
-fn text_of(rt: &(impl Input + Files + AllocGlobal), name: &str) -> Result<Vec<u8>, Trouble> {
-    if name == "-" {
-        return all_of(rt.alloc(), &mut rt.reader());
-    }
-    match fs::open(rt, name) {
-        Ok(mut file) => all_of(rt.alloc(), &mut file),
-        Err(fault) if fault.kind() == ErrorKind::OutOfMemory => Err(Trouble::Memory),
-        Err(_) => Err(Trouble::Open),
-    }
 }
 
 /// Runs events on a new server, and writes the line of each to standard output.
@@ -66,7 +41,10 @@ fn read_and_run(
     name: &str,
     config: &Config,
 ) -> Result<(), Trouble> {
-    let text = text_of(rt, name)?;
+    let text = match read_whole(rt, name, usize::MAX) {
+        Ok(text) => text,
+        Err(trouble) => return Err(Trouble::File(trouble)),
+    };
     match script(rt.alloc(), &text) {
         Ok(events) => replay(rt, &events, config),
         Err(ScriptFault::Line(number)) => Err(Trouble::Line(number)),
@@ -85,25 +63,18 @@ pub(crate) fn run(
         return ENDED;
     };
     match trouble {
-        Trouble::Open => {
-            let _ = eprintln!(rt; "coap-server: cannot open {name}");
-            FAULT
+        Trouble::File(FileTrouble::Open) => {
+            PROGRAM.tell(rt, format_args!("cannot open {name}"), FAULT)
         }
-        Trouble::Read => {
-            let _ = eprintln!(rt; "coap-server: cannot read");
-            FAULT
+        Trouble::File(FileTrouble::Read | FileTrouble::TooLong) => {
+            PROGRAM.tell(rt, "cannot read", FAULT)
         }
-        Trouble::Line(number) => {
-            let _ = eprintln!(rt; "coap-server: bad script line {number}");
-            USAGE
-        }
-        Trouble::Write => {
-            let _ = eprintln!(rt; "coap-server: cannot write");
-            FAULT
-        }
-        Trouble::Memory => {
-            let _ = eprintln!(rt; "coap-server: no memory");
-            FAULT
-        }
+        Trouble::Line(number) => PROGRAM.tell(rt, format_args!("bad script line {number}"), USAGE),
+        Trouble::Write => PROGRAM.tell(rt, "cannot write", FAULT),
+        Trouble::File(FileTrouble::Memory) | Trouble::Memory => PROGRAM.tell(
+            rt,
+            "no memory",
+            FAULT,
+        ),
     }
 }

@@ -11,11 +11,9 @@ mod door;
 mod line;
 mod moments;
 mod readiness;
-mod standard;
 
 pub use answers::Hindrance;
 pub use clock::{RunClock, SystemClock};
 pub use door::{ListenFault, SocketDoor, SocketWire};
 pub use line::{ConnectFault, Line};
 pub use readiness::Readiness;
-pub use standard::hold_standard;

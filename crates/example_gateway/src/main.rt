@@ -5,9 +5,8 @@
 #![tactic(auto)]
 
 use anyhow::{Context, Result};
-use coap_serve::{Clock, Config, Door, Limits, Service, Starts, Wait};
+use coap_serve::{Clock, Config, Door, Limits, PathKey, Service, Starts, Wait};
 use coap_sockets::{SocketDoor, SystemClock};
-use coap_store::PathKey;
 use std::io::Read;
 use std::net::{Net, SocketAddr};
 use std::rt::{Env, Files};
@@ -36,15 +35,15 @@ fn serve(
     file: &str,
 ) -> Result<()> {
     let mut clock = SystemClock::new(rt);
-    let moment = clock.now();
-    // A version is an ETag: a program that starts again gives none that it gave before.
-    let starts = Starts {
-        moment,
-        versions: moment.saturating_mul(65_536),
-        ids: 0,
-    };
     let limits = Limits::new(1_152, 1_152, 8_192, 16, 16, 1)?;
-    let config = Config::new(limits, 16, 1, 1_024, 1_000_000_000_000, starts)?;
+    let config = Config::new(
+        limits,
+        16,
+        1,
+        1_024,
+        1_000_000_000_000,
+        Starts::at(clock.now()),
+    )?;
     let path = PathKey::from_segments(&[b"measured"]).context("no path")?;
     let mut door = SocketDoor::listen(rt, rt.alloc(), address, config.connections())?;
     let mut service = Service::new(rt.alloc(), config)?;

@@ -16,6 +16,8 @@ AreBlocks flags blocks = (i : ℕ) → get_or flags i false ≡ true → get_or 
 pub record AreFlags (f : Inside) : Type 0 where
   pub within : f.from ≤ 256
   pub before : AreClear 0 f.from f.flags
+  pub end : f.to ≤ 256
+  pub after : AreClear f.to 256 f.flags
   pub blocks : AreBlocks f.flags f.blocks
 
 abbrev pub are_flags : Inside → Type 0

@@ -7,6 +7,8 @@ pub invariant_of-result : goal.invariant_of-result
 invariant_of-result c = record {
   within = omega arith;
   before = λ i low high. all_default 256 i false;
+  end = omega arith;
+  after = λ i low high. all_default 256 i false;
   blocks = λ i set. absurd (true≢false (sym set ∙ all_default 256 i false));
 }
 

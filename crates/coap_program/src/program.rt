@@ -1,0 +1,91 @@
+//! A program's words, and what it writes to standard error.
+
+ghost use Rattle.std.specs.Prelude.{◌≡◌, ◌≤◌, ◌==◌, false, if◌then◌else◌, IfErr};
+ghost use Rattle.coap_client.specs.Prelude.{is_help_or_version, words_fault_number};
+
+use coap_client::WordsFault;
+use std::alloc::{AllocError, Global};
+use std::env;
+use std::env::Args;
+use std::fmt::Display;
+use std::io::ErrorKind;
+use std::rt::Env;
+
+/// The status of a run that ended, and for help and the version.
+pub const ENDED: u8 = 0;
+
+/// The status for words that are not understood.
+pub const USAGE: u8 = 1;
+
+/// The status for a connection, a device, a file, memory or turns.
+pub const FAULT: u8 = 3;
+
+/// A program, by its name, with which each of its lines on standard error begins.
+#[derive(Clone, Copy)]
+pub struct Program<'a> {
+    /// Its name.
+    pub name: &'a str,
+}
+
+impl Program<'_> {
+    /// Writes a line about what went wrong to standard error, and returns the status.
+    pub fn tell(&self, rt: &impl Eprint, what: impl Display + Drop, status: u8) -> u8
+        ensures { result ≡ status }
+    {
+        let name = self.name;
+        let _ = eprintln!(rt; "{name}: {what}");
+        status
+    }
+
+    /// Returns the words after the program's name.
+    ///
+    /// # Errors
+    ///
+    /// The status with which the program is to end, if they are not UTF-8 or memory was refused. What is wrong was
+    /// written to standard error.
+    pub fn words(&self, rt: &(impl Eprint + Env + AllocGlobal)) -> Result<Vec<String>, u8>
+        ensures { IfErr result (λ status. status ≤ 3) }
+    {
+        let words = match env::args(rt) {
+            Ok(words) => words_of(rt.alloc(), words),
+            Err(fault) if fault.kind() != ErrorKind::OutOfMemory => {
+                return Err(self.tell(rt, "words that are not UTF-8", USAGE));
+            }
+            Err(_) => Err(AllocError),
+        };
+        match words {
+            Ok(words) => Ok(words),
+            Err(_) => Err(self.tell(rt, "no memory", FAULT)),
+        }
+    }
+
+    /// Writes help or the version to standard output if the words ask for it, and else why they are refused to standard
+    /// error. Returns the status with which the program is to end.
+    pub fn refuse(&self, rt: &(impl Print + Eprint), fault: &WordsFault) -> u8
+        ensures within { result ≤ 3 }
+        ensures refused { is_help_or_version fault.now ≡ false →
+            result ≡ (if words_fault_number fault.now == 5 then 3 else 1) }
+    {
+        if fault.is_help_or_version() {
+            return match print!(rt; "{fault}") {
+                Ok(()) => ENDED,
+                Err(_) => self.tell(rt, "cannot write", FAULT),
+            };
+        }
+        match fault {
+            // clap's text is whole lines already.
+            WordsFault::Usage(text) => {
+                let _ = eprint!(rt; "{text}");
+                USAGE
+            }
+            WordsFault::Memory => self.tell(rt, "no memory", FAULT),
+            _ => self.tell(rt, fault, USAGE),
+        }
+    }
+}
+
+/// Returns the words after the program's name.
+fn words_of(alloc: Global, mut words: Args) -> Result<Vec<String>, AllocError> {
+    let _name = words.next();
+    words.collect(alloc)
+}
