@@ -1,10 +1,10 @@
 //! What connections and moments come from: wires, the door that hands them out, and the clock.
 
-ghost use Rattle.std.specs.Prelude.{ℕ, Bool, List, [], ◌∷◌, length, Option, None};
-ghost use Rattle.coap_io.specs.Prelude.{AddsBytes, TellsMore, DoorCall, Asked, Waited, IsWithin, IsTold, bytes_passed, Got};
+ghost use Rattle.std.specs.Prelude.{◌≡◌, ℕ, Bool, List, [], ◌∷◌, length, Option, None};
+ghost use Rattle.coap_io.specs.Prelude.{AddsBytes, TellsMore, DoorCall, Asked, Waited, IsWithin, IsTold, bytes_passed, Got, wait_at_most};
 
 /// What a read or a write of a wire came to.
-#[derive(Clone, Copy, PartialEq, Eq)]
+#[derive(Clone, Copy, Debug, PartialEq, Eq)]
 pub enum Got {
     /// So many bytes, at least 1, were passed on.
     Bytes(usize),
@@ -68,7 +68,7 @@ pub trait Ready {
 }
 
 /// How long a door may wait.
-#[derive(Clone, Copy, PartialEq, Eq)]
+#[derive(Clone, Copy, Debug, PartialEq, Eq)]
 pub enum Wait {
     /// Not at all.
     No,
@@ -76,6 +76,20 @@ pub enum Wait {
     Until(u64),
     /// Until a wire or the door is ready.
     Forever,
+}
+
+impl Wait {
+    /// Returns this wait, but at most until a moment, in seconds. A program that has something of its own to do at that
+    /// moment waits so.
+    pub fn at_most(self, moment: u64) -> Wait
+        ensures { result ≡ wait_at_most moment self }
+    {
+        match self {
+            Wait::No => Wait::No,
+            Wait::Until(due) => Wait::Until(due.min(moment)),
+            Wait::Forever => Wait::Until(moment),
+        }
+    }
 }
 
 /// What hands out wires, one for each connection that a peer opens. `Polled` makes a door of what does nothing else.

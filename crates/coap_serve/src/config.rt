@@ -33,7 +33,7 @@ const _: () = prove!(ConfigFault::Representation as u8 == 3);
 const _: () = prove!(ConfigFault::Turns as u8 == 4);
 
 /// Where a server's counts begin.
-#[derive(Clone, Copy, Default, PartialEq, Eq)]
+#[derive(Clone, Copy, Debug, Default, PartialEq, Eq)]
 pub struct Starts {
     /// The moment, in seconds.
     pub moment: u64,

@@ -12,7 +12,7 @@ use coap_io::{Outlet, Source};
 use std::alloc::Global;
 use thiserror::Error;
 /// What a run over one input and one output did.
-#[derive(Clone, Copy, PartialEq, Eq)]
+#[derive(Clone, Copy, Debug, PartialEq, Eq)]
 pub struct Report {
     /// The bytes that were read.
     pub read: u64,

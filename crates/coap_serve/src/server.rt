@@ -46,7 +46,7 @@ const _: () = prove!(OpenFault::Memory as u8 == 3);
 pub struct NoSuch;
 
 /// What was taken of a piece.
-#[derive(Clone, Copy, PartialEq, Eq)]
+#[derive(Clone, Copy, Debug, PartialEq, Eq)]
 pub struct Taken {
     /// How many bytes.
     pub bytes: usize,
@@ -55,7 +55,7 @@ pub struct Taken {
 }
 
 /// What a `take` handled.
-#[derive(Clone, Copy, PartialEq, Eq)]
+#[derive(Clone, Copy, Debug, PartialEq, Eq)]
 pub enum Handled {
     /// No message.
     Nothing,
@@ -190,7 +190,7 @@ const _: () = prove!(AnnounceFault::Memory as u8 == 6);
 const _: () = prove!(AnnounceFault::PeerTooSmall as u8 == 7);
 
 /// How a connection is.
-#[derive(Clone, Copy, PartialEq, Eq)]
+#[derive(Clone, Copy, Debug, PartialEq, Eq)]
 pub struct Status {
     /// How it stands.
     pub phase: Phase,

@@ -5,7 +5,7 @@
 #![tactic(auto)]
 
 use anyhow::{Context, Result};
-use coap_serve::{Clock, Config, Door, Limits, PathKey, Service, Starts, Wait};
+use coap_serve::{Clock, Config, Door, Limits, PathKey, Service, Starts};
 use coap_sockets::{SocketDoor, SystemClock};
 use std::io::Read;
 use std::net::{Net, SocketAddr};
@@ -17,15 +17,6 @@ fn measured(rt: &(impl Files + AllocGlobal), file: &str) -> Result<Vec<u8>> {
     let mut bytes = Vec::new(rt.alloc());
     fs::open(rt, file)?.read_to_end(&mut bytes)?;
     Ok(bytes)
-}
-
-/// As long a wait as this one, but at most until a moment.
-fn at_most(wait: Wait, moment: u64) -> Wait {
-    match wait {
-        Wait::No => Wait::No,
-        Wait::Until(due) => Wait::Until(due.min(moment)),
-        Wait::Forever => Wait::Until(moment),
-    }
 }
 
 /// Serves at an address what a file holds, as long as it can be read.
@@ -57,7 +48,7 @@ fn serve(
         // Refused where a peer deleted it and stored something else in its place: then it waits for that to go.
         let _ = service.put(&path, Some(0), &measured(rt, file)?);
         let wait = service.turn(&mut door)?;
-        door.wait(at_most(wait, now.saturating_add(1)), service.can_open());
+        door.wait(wait.at_most(now.saturating_add(1)), service.can_open());
     }
     Ok(())
 }

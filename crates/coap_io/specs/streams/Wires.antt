@@ -1,7 +1,9 @@
 -- What wires pass on.
-use Rattle.std.specs.Prelude.{◌≡◌, ℕ, ◌≤◌, Bool, List, [], ◌∷◌, length, take, Option, Some, None}
+use Rattle.std.specs.Prelude.{◌≡◌, ℕ, ◌≤◌, Bool, List, [], ◌∷◌, length, take, min, Option, Some, None}
 use Rattle.coap_io.specs.declared.wire.Got.{Got}
 use Rattle.coap_io.specs.declared.wire.Got.TheVariants.{Bytes, Later, End, Failed}
+use Rattle.coap_io.specs.declared.wire.Wait.{Wait}
+use Rattle.coap_io.specs.declared.wire.Wait.TheVariants.{No, Until, Forever}
 use Rattle.coap_io.specs.streams.Device.{AddsBytes}
 use Rattle.coap_io.specs.streams.Telling.{TellsMore}
 
@@ -36,6 +38,12 @@ write_outcome Failed = Failed
 -- a wire was written once, and what it told of that comes to this
 pub data IsOneWrite (before after : Option (List Got)) (outcome : Got) : Type 0 where
   Answered : (answer : Got) → TellsMore before after (answer ∷ []) → outcome ≡ write_outcome answer → IsOneWrite before after outcome
+
+-- a wait as long as another one, but at most until a moment
+abbrev pub wait_at_most : ℕ → Wait → Wait
+wait_at_most moment No = No
+wait_at_most moment (Until due) = Until (min due moment)
+wait_at_most moment Forever = Until moment
 
 -- ---- what a wire tells of its calls
 
