@@ -213,8 +213,7 @@ impl Observers {
             ≡ record self.old { entries = remove self.old.entries index; marks = remove self.old.marks index } }
     {
         self.entries.remove(index);
-        self.chains = chains_of(&mut self.entries);
-        self.marked = flags_of(&self.entries);
+        find_anew(&mut self.entries, &mut self.chains, &mut self.marked);
     }
 
     /// The entry with this token goes. The others keep their changed marks.
@@ -229,8 +228,7 @@ impl Observers {
             return;
         }
         if keep_others(&mut self.entries, token) {
-            self.chains = chains_of(&mut self.entries);
-            self.marked = flags_of(&self.entries);
+            find_anew(&mut self.entries, &mut self.chains, &mut self.marked);
         }
     }
 
@@ -322,6 +320,22 @@ fn set_mark(observers: &mut Vec<Observer>, marked: &mut Flags, index: usize, cha
 {
     observers[index].changed = changed;
     marked.put(index, changed.is_some());
+}
+
+/// Makes the chains and the flags of observers anew. (Apart from its callers, since a function clears all its locals.)
+#[inline(never)]
+fn find_anew(observers: &mut Vec<Observer>, chains: &mut Chains, marked: &mut Flags)
+    requires few { length observers.old.items ≤ 256 }
+    requires tagged { AllByRecursion IsTagged observers.old.items }
+    ensures entries { map observer_value observers.new.items ≡ map observer_value observers.old.items }
+    ensures marks { map mark_in observers.new.items ≡ map mark_in observers.old.items }
+    ensures tagged { AllByRecursion IsTagged observers.new.items }
+    ensures capacity { vec_capacity observers.new ≡ vec_capacity observers.old }
+    ensures chained { AreChainedTo (length observers.new.items) chains.new (map linked observers.new.items) }
+    ensures flagged { AreFlagged marked.new (map mark_in observers.new.items) }
+{
+    *chains = chains_of(observers);
+    *marked = flags_of(observers);
 }
 
 /// Returns flags that tell which observers have a changed mark.
