@@ -1,0 +1,94 @@
+#!/usr/bin/env python3
+"""Checks that crates and files stay small, and that no module imports in a circle:
+
+    tests/tools/crate_limits.py          a line for each limit that is exceeded; the last line is 'N passed, M failed'
+    tests/tools/crate_limits.py --all    and a table of all crates
+
+The limits: 160 functions and 2,600 lines of source for a crate, 450 lines for a source file, 120 columns for a line of a
+ghost import. Modules of a crate that import each other, directly or through others, form a circle.
+"""
+
+import os
+import re
+import sys
+
+sys.path.insert(0, os.path.join(os.path.dirname(os.path.abspath(__file__)), "..", "harness"))
+from rooms import ROOT, listed  # noqa: E402
+
+FUNCTIONS, LINES, FILE_LINES, COLUMNS = 160, 2_600, 450, 120
+
+FUNCTION = re.compile(r"^ *(?:pub(?:\([a-z ]+\))? )?(?:const )?fn \w+", re.M)
+IMPORT = re.compile(r"^ *(?:pub(?:\([a-z ]+\))? )?use crate::([\w:]+)", re.M)
+
+
+def sources(crate):
+    """The source files of a crate, by module: 'door::turn' for src/door/turn.rt. The root is ''."""
+    top = f"{ROOT}/crates/{crate}/src"
+    found = {}
+    for at, _, files in os.walk(top):
+        for name in sorted(files):
+            if name.endswith(".rt"):
+                path = os.path.relpath(f"{at}/{name}", top).removesuffix(".rt")
+                with open(f"{at}/{name}", encoding="utf-8") as it:
+                    found["" if path in ("lib", "main") else path.replace("/", "::")] = it.read()
+    return found
+
+
+def imports(modules):
+    """For each module, the modules that it imports from: the deepest one that a path names. What the root holds does not count."""
+    def named(path):
+        parts = path.split("::")
+        return next((it for it in ("::".join(parts[:n]) for n in range(len(parts), 0, -1)) if it in modules), None)
+    return {name: {named(path) for path in IMPORT.findall(text)} - {None, name, ""} for name, text in modules.items()}
+
+
+def circles(edges):
+    """The groups of modules that import each other, directly or through others."""
+    def reached(start):
+        seen, left = set(), [start]
+        while left:
+            for it in edges[left.pop()] - seen:
+                seen.add(it)
+                left.append(it)
+        return seen
+    reach = {it: reached(it) for it in edges}
+    return {tuple(sorted(other for other in reach[it] if it in reach[other])) for it in edges if it in reach[it]}
+
+
+def exceeded(crate, modules):
+    """A line for each limit that a crate exceeds."""
+    functions = sum(len(FUNCTION.findall(it)) for it in modules.values())
+    lines = sum(it.count("\n") for it in modules.values())
+    if functions > FUNCTIONS:
+        yield f"{functions} functions, at most {FUNCTIONS}"
+    if lines > LINES:
+        yield f"{lines:,} lines of source, at most {LINES:,}"
+    for name, text in modules.items():
+        if text.count("\n") > FILE_LINES:
+            yield f"{name or 'the root'}: {text.count(chr(10))} lines, at most {FILE_LINES}"
+        long = [len(it) for it in text.splitlines() if "ghost use" in it and len(it) > COLUMNS]
+        if long:
+            yield f"{name or 'the root'}: {len(long)} ghost imports of more than {COLUMNS} columns, the longest {max(long):,}"
+    for group in sorted(circles(imports(modules))):
+        yield f"modules that import each other: {', '.join(group)}"
+
+
+def main(words):
+    passed = failed = 0
+    if "--all" in words:
+        print(f"{'crate':<20} functions  lines  longest file")
+    for crate in listed():
+        modules = sources(crate)
+        if "--all" in words:
+            print(f"{crate:<20} {sum(len(FUNCTION.findall(it)) for it in modules.values()):>9} "
+                  f"{sum(it.count(chr(10)) for it in modules.values()):>6,} {max(it.count(chr(10)) for it in modules.values()):>13}")
+        found = list(exceeded(crate, modules))
+        passed, failed = passed + (not found), failed + len(found)
+        for line in found:
+            print(f"{crate}: {line}")
+    print(f"{passed} passed, {failed} failed")
+    return min(failed, 1)
+
+
+if __name__ == "__main__":
+    sys.exit(main(sys.argv[1:]))
