@@ -17,7 +17,7 @@ use Rattle.coap_client.proofs.ClientSteps.{taken_with_call, client_first, client
 use Rattle.coap_client.proofs.ClientReached.{accepted_reach}
 use Rattle.coap_client.proofs.FitLaws.{step_grows}
 use Rattle.coap_client.proofs.StandLemmas.{front_length}
-use Rattle.coap_serve.proofs.world.GrowLaws.{grows_then, grows_self, Grows}
+use Rattle.coap_conn.proofs.GrowLaws.{grows_then, grows_self, Grows}
 
 -- ---- what was taken
 

@@ -22,8 +22,8 @@ use Rattle.coap_conn.proofs.HistoryLaws.{reaction_fits, stopped_fits}
 use Rattle.coap_client.proofs.ClientSteps.{stream_rest_unfinished, client_first, client_same, client_step, by_calls}
 use Rattle.coap_client.proofs.ClientReached.{limits_same, accepted_reach}
 use Rattle.coap_client.proofs.HandledLaws.{TakeMakes, NoStep, OneMessage, OneFault, handling_has_room, take_makes}
-use Rattle.coap_serve.proofs.world.ToldMessages.{abort_one, react_so}
-use Rattle.coap_serve.proofs.world.LimitLaws.{one_small, limit_within, queued_waits, kept_small_by}
+use Rattle.coap_conn.proofs.ReactionLaws.{abort_one, react_so}
+use Rattle.coap_conn.proofs.WaitingLaws.{one_small, limit_within, queued_waits, kept_small_by}
 
 -- ---- what a message does
 

@@ -8,7 +8,7 @@ use Rattle.coap_client.specs.Prelude.{Sent, Cancelled, steps_by, event_of, Clien
 use Rattle.coap_io.proofs.streams.DeviceLemmas.{bytes_then}
 use Rattle.coap_client.proofs.TakingLemmas.{limits_found}
 use Rattle.coap_client.proofs.ClientShown.{sent_shown, cancelled_shown, ended_shown}
-use Rattle.coap_serve.proofs.values.LinkLemmas.{stays_so, end_sizes}
+use Rattle.coap_conn.proofs.LinkLemmas.{stays_so, end_sizes}
 
 -- ---- what is told
 

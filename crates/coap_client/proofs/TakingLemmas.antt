@@ -9,11 +9,10 @@ use Rattle.coap_client.specs.Prelude.{event_told, taking_read, taking_found, tak
 use Rattle.coap_client.specs.Prelude.{taking_framed, Inside, Heard}
 use Rattle.coap_frame.proofs.FramingLemmas.{framing_is_framer}
 use Rattle.coap_conn.specs.declared.phase.Reject.TheVariants as reject
-use Rattle.coap_conn.specs.Calls as call
 use Rattle.coap_client.specs.EventViews.{client_value}
 use Rattle.coap_client.specs.declared.client.Heard.TheVariants as heard
 use Rattle.coap_client.proofs.TakeLemmas.{frame_is_back}
-use Rattle.coap_serve.proofs.values.LinkLemmas.{stays_so}
+use Rattle.coap_conn.proofs.LinkLemmas.{stays_so}
 
 -- ---- what is told of a piece
 

@@ -13,7 +13,8 @@ use Rattle.coap_wire.specs.Recognition.{kind_of}
 use Rattle.coap_conn.specs.declared.phase.RequestFault.TheVariants as fault
 use Rattle.coap_conn.specs.declared.reason.Reason.TheVariants as reason
 use Rattle.coap_client.specs.ClientValues as value
-use Rattle.coap_serve.proofs.world.Rows.{hex, bytes_computed}
+use Rattle.coap_text.proofs.HexDigits.{hex}
+use Rattle.coap_frame.proofs.Computed.{bytes_computed}
 
 -- ---- what is computed with: to unfold one of these is to unfold all that its line names
 

@@ -5,7 +5,7 @@ use Rattle.coap_client.specs.Prelude.{live_reaction, link_of, Stopped, TooMany, 
 use Rattle.coap_client.specs.Prelude.{ClientCall, Took, Pinged, Wrote, client_after, client_of, IsAccepted}
 use Rattle.coap_client.specs.Prelude.{AreAcceptedBehind, AreAccepted, takes, steps_of, steps_behind, steps_by}
 use Rattle.coap_client.specs.Prelude.{after_steps, step, tokens_given}
-use Rattle.coap_serve.proofs.world.Rows.{bytes_computed}
+use Rattle.coap_frame.proofs.Computed.{bytes_computed}
 
 -- ---- what is computed with: to unfold one of these is to unfold all that its line names
 

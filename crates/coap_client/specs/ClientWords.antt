@@ -4,7 +4,7 @@ use Rattle.std.specs.List.{after_first, before_first, list_any, starts_with}
 use Rattle.clap.specs.Simple.{new_shape}
 use Rattle.clap.specs.Words.{App, Row, Rule, Text, fault_of, first_of, matches_of, new_rule}
 use Rattle.percent_encoding.specs.Percent.{percent_decode}
-use Rattle.coap_serve.specs.script.Words.{hex_value}
+use Rattle.coap_text.specs.Words.{hex_value}
 use Rattle.coap_client.specs.CommandLines.{◌>>=◌, WordsFaultValue, Clash, Target, Value, is_used, letter_flag, letter_option, number_within, option_value, unless_refused}
 use Rattle.coap_client.specs.Targets.{TargetValue, target_of}
 use Rattle.coap_client.specs.declared.request.Method.{Method}

@@ -7,7 +7,7 @@ use Rattle.clap.specs.Simple.{new_shape}
 use Rattle.clap.specs.Words.{App, Kinds, Row, Rule, Text, first_of, new_rule}
 use Rattle.clap.specs.declared.builder.action.ArgAction.TheVariants.{SetTrue}
 use Rattle.coap_conn.specs.Limits.{is_within}
-use Rattle.coap_serve.specs.script.Words.{decimal_value}
+use Rattle.coap_text.specs.Words.{decimal_value}
 use Rattle.coap_client.specs.declared.target.TargetFault.{TargetFault}
 
 -- ---- refusals

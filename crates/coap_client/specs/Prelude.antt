@@ -101,8 +101,8 @@ pub use Rattle.coap_io.specs.declared.wire.Got.TheVariants.{Bytes, End, Failed, 
 pub use Rattle.coap_io.specs.streams.Device.{AddsBytes}
 pub use Rattle.coap_io.specs.streams.Telling.{TellsMore}
 pub use Rattle.coap_io.specs.streams.Wires.{bytes_passed, count_passed}
--- ---- coap_serve
-unfoldable pub use Rattle.coap_serve.specs.script.Words.{decimal_value, hex_value}
+-- ---- coap_text
+unfoldable pub use Rattle.coap_text.specs.Words.{decimal_value, hex_value}
 -- ---- coap_client
 pub use Rattle.coap_client.specs.ClientLaws.{AreDifferent, tokens_given, token_given, tokens_behind}
 pub use Rattle.coap_client.specs.ClientRun.{IsReady, IsClientRun, IsUnbegun, seen, with_outlets, with_wire, with_all}

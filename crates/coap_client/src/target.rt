@@ -1,11 +1,12 @@
 //! What a URI of the scheme coap+tcp names.
 
-ghost use Rattle.std.specs.Prelude.{◌≡◌, ◌<◌, ◌+◌, ◌==◌, true, [], ◌∷◌, length, option_copied, IfOk, IfSome, MatchOption};
-ghost use Rattle.coap_client.specs.Prelude.{list_any, slice_split, borrowed_host, host_text, parse_url, has_host, host_or_empty, byte_lists, named_value, GivesUnlessMemory, target_of, IsTarget};
+ghost use Rattle.std.specs.Prelude.{◌≡◌, ◌<◌, true, length, option_copied, IfOk};
+ghost use Rattle.coap_client.specs.Prelude.{list_any, borrowed_host, host_text, parse_url, has_host, host_or_empty, byte_lists, named_value, GivesUnlessMemory, target_of, IsTarget};
 ghost use Rattle.percent_encoding.specs.Percent as percent;
 ghost use Rattle.coap_client.specs.Targets as spec;
 ghost use Rattle.coap_client.specs.declared.target.TargetFault.TheVariants.{Memory};
 
+use coap_text::split_once;
 use percent_encoding::percent_decode;
 use std::alloc::{AllocError, Global};
 use std::marker::Model;
@@ -325,17 +326,6 @@ fn decoded(alloc: Global, bytes: &[u8]) -> Result<Vec<u8>, AllocError>
     let mut decoded = Vec::new(alloc);
     percent_decode(bytes).append_to(&mut decoded)?;
     Ok(decoded)
-}
-
-/// The bytes before the first separator, and those behind it.
-fn split_once(bytes: &[u8], separator: u8) -> Option<(&[u8], &[u8])>
-    ensures parts { MatchOption result
-        (slice_split (λ b. b == separator) bytes.now ≡ bytes.now ∷ [])
-        (λ x. slice_split (λ b. b == separator) bytes.now ≡ x.0.now ∷ slice_split (λ b. b == separator) x.1.now) }
-    ensures lengths { IfSome result (λ x. length x.0.now + 1 + length x.1.now ≡ length bytes.now) }
-{
-    let at = bytes.iter().position(|byte| *byte == separator)?;
-    Some((&bytes[..at], &bytes[at + 1..]))
 }
 
 /// The parts between the separators, each decoded.

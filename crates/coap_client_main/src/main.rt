@@ -8,8 +8,8 @@ ghost use Rattle.std.specs.Prelude.{◌≡◌, ◌≤◌, IfSome, IfNone};
 ghost use Rattle.std.specs.Str.{IsUtf8};
 
 use coap_client::{ClientPlan, Target, client_words, run_client};
+use coap_io::WriteOutlet;
 use coap_program::{FAULT, Program, Trouble, USAGE, hold_standard, read_whole};
-use coap_serve::WriteOutlet;
 use coap_sockets::{ConnectFault, Hindrance, Line};
 use std::io::Write;
 use std::net::Net;

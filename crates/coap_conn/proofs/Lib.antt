@@ -11,5 +11,9 @@ pub mod AnnounceLaws
 pub mod StopLaws
 pub mod HeldLaws
 pub mod AskedLaws
+pub mod ReactionLaws
+pub mod WaitingLaws
+pub mod GrowLaws
+pub mod NextPartLemmas
 mod RingLemmas
 mod Worked

@@ -5,10 +5,11 @@ use Rattle.coap_conn.specs.Prelude.{announced, token_announcement, announced_tok
 use Rattle.coap_conn.specs.Prelude.{OutstandingValue, Effect, LinkValue, bytes_of, own_csm, first_csm, new_link}
 use Rattle.coap_conn.specs.Prelude.{link_with, Call, Deed, Handles, Does, Holds, Asks, Announces, Writes, doing}
 use Rattle.coap_conn.specs.Prelude.{link_with_deed, link_after, IsWithin, History, IsHistory, LinkShows, link_of}
-use Rattle.coap_conn.specs.Prelude.{new_history, with_effect, with_deed, after}
+use Rattle.coap_conn.specs.Prelude.{new_history, with_effect, with_deed, after, takes_messages, sizes_of}
 use Rattle.std.proofs.lemmas.List.{append-nil, drop-append-le, drop-drop, length-append, length-drop}
 use Rattle.std.proofs.lemmas.List.Concat.{flat_map-append}
 use Rattle.std.proofs.lemmas.List.Elements.{filter_map-append}
+use Rattle.coap_conn.specs.Calls as call
 
 -- ---- what is queued
 
@@ -131,3 +132,14 @@ shown_after h c within is = shows (link_of h) (link_after (link_of h) c) c withi
 
 pub after_link : (h : History) (c : Call) → IsWithin (link_of h) (doing (link_of h) c).deed → IsHistory h → link_of (after h c) ≡ link_after (link_of h) c
 after_link h c within is = sym (shown_after h c within is).same
+
+-- ---- what calls leave as it is
+
+-- what a link has stays where nothing changes, or what changes leaves it
+pub stays_so : {A : Type 0} (part : LinkValue → A) (does : Bool) (l now : LinkValue) → part now ≡ part l → part (cond does now l) ≡ part l
+stays_so part true l now same = same
+stays_so part false l now same = refl
+
+-- limits and sizes stay where the input ends
+pub end_sizes : (l : LinkValue) (cut : Bool) → sizes_of (link_after l (call.End cut)) ≡ sizes_of l
+end_sizes l cut = stays_so sizes_of (takes_messages l.phase) l _ refl

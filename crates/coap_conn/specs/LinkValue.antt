@@ -64,6 +64,10 @@ can_hold v = nat_lt (length v.held) v.limits.pending
 abbrev pub limit_in : LinkValue → ℕ
 limit_in v = size_limit v.limits.max_sent v.peer_max
 
+-- what only an announcement changes: the limits, and the largest message that is taken
+abbrev pub sizes_of : LinkValue → LimitValues × ℕ
+sizes_of l = (l.limits, l.own_max)
+
 -- what decides what a message does
 abbrev pub standing_in : LinkValue → Standing
 standing_in v = record { role = v.role; phase = v.phase; limit = limit_in v; held = v.held; most = v.limits.pending; outstanding = v.outstanding }

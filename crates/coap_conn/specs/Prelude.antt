@@ -47,7 +47,7 @@ pub use Rattle.coap_conn.specs.Limits.{LimitValues, AreInRange, limits_of, limit
 pub use Rattle.coap_conn.specs.LinkValue.{own_csm, IsLink, IsReady, free_in, limit_in, is_finished, new_link}
 pub use Rattle.coap_conn.specs.LinkValue.{bytes_of, asking_in, standing_in, link_with, link_handled, link_after_csm}
 pub use Rattle.coap_conn.specs.LinkValue.{can_hold, csm_with, first_csm_with, first_csm, LinkValue, link_heard}
-pub use Rattle.coap_conn.specs.LinkValue.{own_token_length}
+pub use Rattle.coap_conn.specs.LinkValue.{own_token_length, sizes_of}
 pub use Rattle.coap_conn.specs.LinkViews.{verdict_value, link_value}
 pub use Rattle.coap_conn.specs.Outstanding.{is_asked, is_pinged, may_cancel, is_last, has_observe, without_asked}
 pub use Rattle.coap_conn.specs.Outstanding.{without_pinged, with_cancelled, cancelled_by, OutstandingValue}
@@ -61,10 +61,10 @@ pub use Rattle.coap_conn.specs.Reaction.{is_reserved, is_signal, is_method, mind
 pub use Rattle.coap_conn.specs.Reaction.{open_reaction, ping_reaction, request_reaction, release_reaction}
 pub use Rattle.coap_conn.specs.Reaction.{response_reaction, pong_reaction, stop, told_of, pong_with, sends, Effect}
 pub use Rattle.coap_conn.specs.Reaction.{Reaction, answered, becomes, holds, late_pong, leaves, not_implemented}
-pub use Rattle.coap_conn.specs.Reaction.{pong_of, reaction_unless, send_as, tells}
+pub use Rattle.coap_conn.specs.Reaction.{pong_of, reaction_unless, send_as, tells, aborts, is_asking, is_response}
 unfoldable pub use Rattle.coap_conn.specs.Reaction.{react, live_reaction}
 pub use Rattle.coap_conn.specs.Reasons.{abort_text, abort_with, number_told, told_options, reason_number, abort_of}
-pub use Rattle.coap_conn.specs.Reasons.{abort_options}
+pub use Rattle.coap_conn.specs.Reasons.{abort_options, message_reason}
 pub use Rattle.coap_conn.specs.Rejects.{reject_of_frame, reject_reason}
 pub use Rattle.coap_conn.specs.Release.{release_refusal}
 pub use Rattle.coap_conn.specs.RingLends.{ring_row, lends_bytes}

@@ -1,5 +1,5 @@
 -- What a message does on a connection (RFC 8323 sections 3.3, 3.4 and 5, RFC 7252 section 12.1).
-use Rattle.std.specs.Prelude.{ℕ, ◌/◌, Bool, true, false, ◌&&◌, ◌||◌, List, [], ◌∷◌, ◌++◌, length, Option, Some, None, nat_lt, find, ◌==◌, if◌then◌else◌}
+use Rattle.std.specs.Prelude.{ℕ, ◌/◌, Bool, true, false, not, ◌&&◌, ◌||◌, List, [], ◌∷◌, ◌++◌, length, Option, Some, None, nat_lt, find, ◌==◌, if◌then◌else◌}
 use Rattle.std.specs.List.{list_any}
 use Rattle.coap_wire.specs.Message.{CoapOption, Message}
 use Rattle.coap_wire.specs.Codes as code
@@ -100,6 +100,14 @@ is_signal byte = byte / 32 == 7
 -- class 0, but for Empty, which comes before: the methods of requests
 abbrev pub is_method : ℕ → Bool
 is_method byte = byte / 32 == 0
+
+-- a message is a request: its code is a method's and not Empty
+abbrev pub is_asking : Message → Bool
+is_asking m = is_method m.code && not (m.code == code.empty)
+
+-- the codes of responses have the classes 2, 4 and 5; Signalling Messages have class 7
+abbrev pub is_response : Message → Bool
+is_response m = code.class_of m.code == 2 || (code.class_of m.code == 4 || code.class_of m.code == 5)
 
 -- Ping, Pong and Release
 abbrev pub minds_critical_options : ℕ → Bool

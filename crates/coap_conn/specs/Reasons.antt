@@ -69,3 +69,19 @@ abort_with options text = record { code = code.abort; token = []; options = opti
 -- the Abort for a reason, where one is sent
 abbrev pub abort_of : Reason → Option Message
 abort_of why = option_map (abort_with (abort_options (number_told why))) (abort_text why)
+
+-- the number of messages handled where a connection stops: none if the reason is a fault of the bytes, otherwise one
+abbrev pub message_reason : Reason → ℕ
+message_reason Format = 0
+message_reason TooLarge = 0
+message_reason TokenLength = 0
+message_reason ReservedCode = 1
+message_reason CsmExpected = 1
+message_reason (BadCsm number) = 1
+message_reason BadSignalOption = 1
+message_reason PeerAbort = 1
+message_reason PeerRelease = 1
+message_reason PeerTooSmall = 1
+message_reason Ended = 1
+message_reason Cut = 1
+message_reason ReleasedHere = 1

@@ -6,3 +6,4 @@ pub mod FoundLemmas
 pub mod CopyingLaws
 mod Worked
 pub mod FrontLaws
+pub mod Computed

@@ -1,5 +1,4 @@
 pub mod OptionLemmas
-pub mod LinkLemmas
 pub mod ResponseLemmas
 pub mod SettleLemmas
 pub mod EntryLemmas

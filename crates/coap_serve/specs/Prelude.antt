@@ -2,12 +2,10 @@
 
 -- ---- std and the kit's crates
 pub use Rattle.arrayvec.specs.ArrayVec.{array_vec_len}
-pub use Rattle.hex.specs.Hex.{decode_of}
 unfoldable pub use Rattle.hex.specs.Hex.{decode_pairs}
 pub use Rattle.indexmap.specs.IndexMap.{values, insert_entry, set_value_at}
 unfoldable pub use Rattle.percent_encoding.specs.Percent.{percent_decode}
-pub use Rattle.std.specs.Borrow.{sem, follows_so, Bor}
-pub use Rattle.std.specs.Char.{is_ascii_digit}
+pub use Rattle.std.specs.Borrow.{sem, follows_so}
 pub use Rattle.std.specs.Cmp.{both_ways, nat_eq_equiv}
 pub use Rattle.std.specs.Cow.{cow_slice_items}
 pub use Rattle.std.specs.Fmt.{decimal}
@@ -19,12 +17,11 @@ pub use Rattle.std.specs.List.{position, position_or_len, reduce, remove}
 unfoldable pub use Rattle.std.specs.List.{IsDistinct}
 pub use Rattle.std.specs.Map.{keys_of, lookup, values_of}
 pub use Rattle.std.specs.Option.{option_eq}
-pub use Rattle.std.specs.Prelude.{List, None, OnErr, OnOk, Option, Some, [], codes, drop, filter, find, if◌then◌else◌}
+pub use Rattle.std.specs.Prelude.{List, None, OnErr, OnOk, Option, Some, [], drop, filter, find}
 pub use Rattle.std.specs.Prelude.{is_none, is_ok, length, map, nat_lt, not, slice_get, suc, take, unwrap_or, zero, ℕ}
-pub use Rattle.std.specs.Prelude.{◌*◌, ◌++◌, ◌+◌, ◌-◌, ◌∷◌, ◌≡◌}
+pub use Rattle.std.specs.Prelude.{◌++◌, ◌∷◌, ◌≡◌}
 pub use Rattle.std.specs.Result.{IsErr, result_ok}
-pub use Rattle.std.specs.Str.{all_ascii_digits}
-pub use Rattle.std.specs.Str.Parse.{ParsesUnsigned, digits_value}
+pub use Rattle.std.specs.Str.Parse.{digits_value}
 pub use Rattle.std.specs.declared.alloc.AllocError.{AllocError}
 pub use mathlib.Core.Option.{none}
 -- ---- coap_wire
@@ -32,17 +29,13 @@ pub use Rattle.coap_wire.specs.Beginning.{Beginning, Faulty, Unfinished, fault_b
 unfoldable pub use Rattle.coap_wire.specs.Beginning.{beginning}
 pub use Rattle.coap_wire.specs.Codes.{class_of}
 pub use Rattle.coap_wire.specs.Frames.{always, sizes_first}
-unfoldable pub use Rattle.coap_wire.specs.Frames.{frames_within, sized_frames}
 pub use Rattle.coap_wire.specs.Message.{Message, last_number, CoapOption}
-unfoldable pub use Rattle.coap_wire.specs.Reading.{body_at, body_within, declared_of, four_bytes_at, head_at}
-unfoldable pub use Rattle.coap_wire.specs.Reading.{length_at, message_of, one_byte_at, option_head_at}
-unfoldable pub use Rattle.coap_wire.specs.Reading.{option_number_at, two_bytes_at}
+unfoldable pub use Rattle.coap_wire.specs.Reading.{message_of}
 unfoldable pub use Rattle.coap_wire.specs.Recognition.{first_critical_behind, is_recognised, kind_of, known_behind}
 pub use Rattle.coap_wire.specs.Refusal.{RefusedBy}
 unfoldable pub use Rattle.coap_wire.specs.Spelling.{spelling}
 pub use Rattle.coap_wire.specs.Stream.{StreamFault, Format, OfFrame, Stream, behind, frame_then, gone_on, split_on}
 unfoldable pub use Rattle.coap_wire.specs.Stream.{sized_split, split}
-unfoldable pub use Rattle.coap_wire.specs.Uint.{bytes_of_uint}
 pub use Rattle.coap_wire.specs.Views.{with_option}
 pub use Rattle.coap_wire.specs.CompactViews.{encoded_size}
 pub use Rattle.coap_wire.specs.declared.fault.FormatFault.{FormatFault}
@@ -55,11 +48,11 @@ unfoldable pub use Rattle.coap_frame.specs.Framing.{framing}
 pub use Rattle.coap_frame.specs.Given.{taken_of, unread_after}
 pub use Rattle.coap_frame.specs.Raising.{greatest_size, raise_refusal, with_size}
 -- ---- coap_conn
-pub use Rattle.coap_conn.specs.Announced.{announcement, bad_csm_option, csm_size, has_critical_option, size_limit}
+pub use Rattle.coap_conn.specs.Announced.{announcement, bad_csm_option, csm_size, size_limit}
 pub use Rattle.coap_conn.specs.Announced.{size_unless}
 unfoldable pub use Rattle.coap_conn.specs.Announced.{announced}
 pub use Rattle.coap_conn.specs.Calls.{link_after, standing_due, end_reason, Call, doing, may_announce, release}
-pub use Rattle.coap_conn.specs.Fit.{AllFit, bare_response, fit, abort_fitted, bare_code, fits}
+pub use Rattle.coap_conn.specs.Fit.{AllFit, bare_response, fit, bare_code, fits}
 pub use Rattle.coap_conn.specs.Held.{HeldValue, Answer, Pong, HoldsNothingDue, answer_index, come, else_index}
 pub use Rattle.coap_conn.specs.Held.{held_at, next_moment, pong_index, to_come}
 unfoldable pub use Rattle.coap_conn.specs.Held.{first_due, without_due, due_index}
@@ -67,19 +60,17 @@ pub use Rattle.coap_conn.specs.History.{limit_now, standing_now, after, History,
 pub use Rattle.coap_conn.specs.History.{new_history, with_effect}
 pub use Rattle.coap_conn.specs.Limits.{LimitValues, AreInRange}
 pub use Rattle.coap_conn.specs.LinkValue.{IsReady, can_hold, limit_in, is_finished, LinkValue, bytes_of, free_in}
-pub use Rattle.coap_conn.specs.LinkValue.{link_with, new_link, own_csm, standing_in}
+pub use Rattle.coap_conn.specs.LinkValue.{link_with, new_link, own_csm, standing_in, sizes_of}
 pub use Rattle.coap_conn.specs.LinkViews.{verdict_value}
-pub use Rattle.coap_conn.specs.Outstanding.{OutstandingValue}
-pub use Rattle.coap_conn.specs.Phases.{IsAnswering, is_open, answers, takes_messages, IsLive, is_over, is_waiting}
+pub use Rattle.coap_conn.specs.Phases.{IsAnswering, is_open, answers, takes_messages, IsLive, is_over}
 pub use Rattle.coap_conn.specs.Phases.{stop_of}
 pub use Rattle.coap_conn.specs.QueueValue.{IsNextPart}
-pub use Rattle.coap_conn.specs.Reaction.{send, pong_with, is_custody_pong, Effect, Reaction, Standing, abort, aborts}
-pub use Rattle.coap_conn.specs.Reaction.{answered, asks_custody, due_effect, holds, is_method, is_reserved, is_signal}
-pub use Rattle.coap_conn.specs.Reaction.{leaves, minds_critical_options, not_implemented, open_reaction}
-pub use Rattle.coap_conn.specs.Reaction.{ping_reaction, pong_of, reaction_unless, request_reaction, send_as, stay}
-pub use Rattle.coap_conn.specs.Reaction.{stop, tells, told_of}
+pub use Rattle.coap_conn.specs.Reaction.{send, pong_with, is_custody_pong, Effect, Reaction, Standing, abort}
+pub use Rattle.coap_conn.specs.Reaction.{answered, asks_custody, due_effect}
+pub use Rattle.coap_conn.specs.Reaction.{reaction_unless, send_as, stay}
+pub use Rattle.coap_conn.specs.Reaction.{stop, is_asking, is_response}
 unfoldable pub use Rattle.coap_conn.specs.Reaction.{live_reaction, react}
-pub use Rattle.coap_conn.specs.Reasons.{abort_of}
+pub use Rattle.coap_conn.specs.Reasons.{message_reason}
 pub use Rattle.coap_conn.specs.Rejects.{reject_of, reject_reason}
 pub use Rattle.coap_conn.specs.Release.{release_refusal}
 pub use Rattle.coap_conn.specs.Verdicts.{VerdictValue, is_request}
@@ -87,8 +78,7 @@ pub use Rattle.coap_conn.specs.declared.phase.Phase.{Phase}
 pub use Rattle.coap_conn.specs.declared.phase.Reject.{Reject}
 pub use Rattle.coap_conn.specs.declared.phase.Reply.{Reply}
 pub use Rattle.coap_conn.specs.declared.phase.Reply.TheVariants.{Bare, Stopped, Whole}
-pub use Rattle.coap_conn.specs.declared.phase.Role.{Role}
-pub use Rattle.coap_conn.specs.declared.phase.Role.TheVariants.{Client, Server}
+pub use Rattle.coap_conn.specs.declared.phase.Role.TheVariants.{Server}
 pub use Rattle.coap_conn.specs.declared.phase.SendFault.{SendFault}
 pub use Rattle.coap_conn.specs.declared.phase.Verdict.{Verdict}
 pub use Rattle.coap_conn.specs.declared.reason.Reason.{Reason}
@@ -134,6 +124,9 @@ pub use Rattle.coap_store.specs.declared.fault.StoreFault.{StoreFault}
 pub use Rattle.coap_store.specs.declared.fault.StoreFault.TheVariants.{NoSuch}
 pub use Rattle.coap_store.specs.declared.place.Place.TheVariants.{Async, Dynamic, Listing, Root, Time}
 pub use Rattle.coap_store.specs.declared.plan.Watch.{Watch}
+-- ---- coap_text
+pub use Rattle.coap_text.specs.Words.{is_hyphen, parts}
+unfoldable pub use Rattle.coap_text.specs.Words.{decimal_value, hex_value}
 -- ---- coap_serve
 pub use Rattle.coap_serve.specs.Configs.{config_of, config_refusal, ConfigValues}
 -- ---- coap_serve, declared
@@ -182,8 +175,8 @@ unfoldable pub use Rattle.coap_serve.specs.script.Script.{event_in, events_in, s
 pub use Rattle.coap_serve.specs.script.Shown.{ShowsMore, ShowsRun, IsShownReplay, took, ShowsPart, IsPartlyMade}
 pub use Rattle.coap_serve.specs.script.Shown.{ShowsRefusedAt, where_there}
 unfoldable pub use Rattle.coap_serve.specs.script.Shown.{events_made, events_ran, took_turns}
-pub use Rattle.coap_serve.specs.script.Words.{newline, is_hyphen, parts, slash, words_of}
-unfoldable pub use Rattle.coap_serve.specs.script.Words.{decimal_value, format_value, hex_value, path_value}
+pub use Rattle.coap_serve.specs.script.Words.{newline, slash, words_of}
+unfoldable pub use Rattle.coap_serve.specs.script.Words.{format_value, path_value}
 unfoldable pub use Rattle.coap_serve.specs.script.Words.{payload_value, segments_of}
 -- ---- coap_serve, streams
 pub use Rattle.coap_serve.specs.streams.DoorRun.{IsDoorRun, waited_behind, moved_to, EndsWith, HasTurnedSo, IsCutRun}
@@ -237,7 +230,7 @@ pub use Rattle.coap_serve.specs.values.Responses.{path_size}
 pub use Rattle.coap_serve.specs.values.Sessions.{ObserverValue, answer_on, hold_on, held_in, host_changed, link_sent}
 pub use Rattle.coap_serve.specs.values.Sessions.{new_entry, notification_on, mark_at, present_mark, untold_by, SessionValue}
 pub use Rattle.coap_serve.specs.values.Sessions.{session_written, session_ended, session_released, session_announced}
-pub use Rattle.coap_serve.specs.values.Sessions.{change_by, observers_on, session_with, sizes_of, new_session}
+pub use Rattle.coap_serve.specs.values.Sessions.{change_by, observers_on, session_with, new_session}
 pub use Rattle.coap_serve.specs.values.Sessions.{session_takes, session_notified, IsSettled, RefusesPiece}
 pub use Rattle.coap_serve.specs.values.Sessions.{ObserversValue, Taking, asks_this, entry_left, frame_on, is_marked}
 pub use Rattle.coap_serve.specs.values.Sessions.{mark_of, session_max, session_raises, session_ready}
@@ -258,7 +251,7 @@ pub use Rattle.coap_serve.specs.views.ObserverViews.{observer_value, mark_in, Is
 pub use Rattle.coap_serve.specs.views.ServerViews.{IsServer, IsMarkedServer, server_value}
 pub use Rattle.coap_serve.specs.views.SessionViews.{IsSession, session_value, marked_session}
 -- ---- coap_serve, world
-pub use Rattle.coap_serve.specs.world.Answered.{FollowsAnswers, HasResponse, is_asking}
+pub use Rattle.coap_serve.specs.world.Answered.{FollowsAnswers, HasResponse}
 unfoldable pub use Rattle.coap_serve.specs.world.Answered.{HaveOwnAnswers}
 pub use Rattle.coap_serve.specs.world.Custody.{QueuesCustody, IsFirstHeld, KeepsHeld, KeepsHeldOver, AddsAsked}
 pub use Rattle.coap_serve.specs.world.Custody.{asks_held}
@@ -268,7 +261,7 @@ pub use Rattle.coap_serve.specs.world.Events.{AreAccepted, Wrote, Released, Anno
 pub use Rattle.coap_serve.specs.world.Events.{beyond, new_fault, size_by, spelled_on, taken_in, takes_of}
 unfoldable pub use Rattle.coap_serve.specs.world.Events.{size_on, steps_of, world_after, takes, AreAcceptedBehind}
 unfoldable pub use Rattle.coap_serve.specs.world.Events.{IsAccepted, sizes_on, steps_behind, steps_by, taken_on}
-pub use Rattle.coap_serve.specs.world.Handling.{count_of, handled_in, handled_between, message_reason}
+pub use Rattle.coap_serve.specs.world.Handling.{count_of, handled_in, handled_between}
 pub use Rattle.coap_serve.specs.world.Heard.{heard_step, kept_at, hears}
 unfoldable pub use Rattle.coap_serve.specs.world.Heard.{steps_heard, heard_steps}
 pub use Rattle.coap_serve.specs.world.Memory.{IsRefusedStored, StoresNothing, IsRefusedFor}
@@ -287,7 +280,7 @@ unfoldable pub use Rattle.coap_serve.specs.world.Sides.{side_after, side_faulted
 unfoldable pub use Rattle.coap_serve.specs.world.Sides.{side_released, side_announced, settled_once, change_after}
 unfoldable pub use Rattle.coap_serve.specs.world.Sides.{settled, settled_within}
 pub use Rattle.coap_serve.specs.world.Told.{WasToldLast, HaveOwnTokens, asked_late, TellsState, etag_of_state}
-pub use Rattle.coap_serve.specs.world.Told.{is_response, responds}
+pub use Rattle.coap_serve.specs.world.Told.{responds}
 unfoldable pub use Rattle.coap_serve.specs.world.Told.{last_response}
 pub use Rattle.coap_serve.specs.world.View.{after_view, AreSeen, change_made, change_on, change_steps}
 unfoldable pub use Rattle.coap_serve.specs.world.View.{view_of, concerns, view_step}

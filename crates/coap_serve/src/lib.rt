@@ -26,11 +26,12 @@ pub use coap_io::{
     WriteFailed, WriteOutlet, write_all,
 };
 pub use coap_store::{PathKey, StoreFault};
+pub use coap_text::{bytes_in, number_in};
 pub use config::{Config, ConfigFault, Starts};
 pub use door::{Service, serve_door};
 pub use event::Event;
 pub use replay::ReplayFault;
-pub use scripts::{ScriptFault, bytes_in, number_in, script, scripts_go_on_behind_whole_lines};
+pub use scripts::{ScriptFault, script, scripts_go_on_behind_whole_lines};
 pub use serve::{IoFault, Report, serve_one};
 pub use server::{
     AnnounceFault, Backwards, ConnId, Handled, NoSuch, OpenFault, ReleaseFault, Server, Status,

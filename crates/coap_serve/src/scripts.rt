@@ -9,12 +9,11 @@ pub(crate) mod lines;
 mod words;
 
 use crate::event::Event;
+use coap_text::split_once;
 use events::take_line;
 pub use laws::scripts_go_on_behind_whole_lines;
 use std::alloc::Global;
 use thiserror::Error;
-use words::split_once;
-pub use words::{bytes_in, number_in};
 
 /// Why a text is no script.
 #[derive(Clone, Copy, Debug, PartialEq, Eq, Error)]

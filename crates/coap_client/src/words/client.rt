@@ -11,7 +11,7 @@ use crate::target::{Target, TargetFault};
 use crate::words::WordsFault;
 use crate::words::readings::{is_used, number, number_within, text_of};
 use clap::ArgMatches;
-use coap_serve::bytes_in;
+use coap_text::bytes_in;
 use percent_encoding::percent_decode;
 use std::alloc::{AllocError, Global};
 

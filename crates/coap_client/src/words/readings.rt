@@ -5,7 +5,7 @@ ghost use Rattle.coap_client.specs.Prelude.{first_of, found_of, rows_of};
 ghost use Rattle.coap_client.specs.CommandLines as spec;
 
 use clap::ArgMatches;
-use coap_serve::number_in;
+use coap_text::number_in;
 
 /// The text of an option, where it was used.
 #[tactic(auto, using(crate::proofs::WordLemmas::first_text))]

@@ -1,10 +1,11 @@
 -- What devices passed on, one call after another.
-use Rattle.std.proofs.Common.{◌≡◌, ◌≢◌, ℕ, Bool, false, ◌||◌, List, [], ◌∷◌, ◌++◌, Option, Some, None, append_assoc, arith}
+use Rattle.std.proofs.Common.{◌≡◌, ◌≢◌, ℕ, Bool, false, ◌||◌, List, [], ◌∷◌, ◌++◌, length, take, Option, Some, None, ap, subst, ◌∙◌, append_assoc, arith}
 use Rattle.std.proofs.KnownBytes.{Consumes-nil, Consumes-trans}
-use Rattle.std.proofs.lemmas.List.{append-nil}
+use Rattle.std.proofs.lemmas.List.{append-nil, take-take}
 use Rattle.std.proofs.lemmas.List.Folds.{concat-append}
 use Rattle.coap_io.specs.Prelude.{concat, Consumes, IsAtEnd, AddsBytes, Told, FoundEnd, EndsAt, HasGiven}
-use Rattle.coap_io.specs.Prelude.{is_failed_write, TellsMore}
+use Rattle.coap_io.specs.Prelude.{is_failed_write, TellsMore, IsWithin, bytes_passed, Got}
+use Rattle.coap_io.specs.declared.wire.Got.TheVariants.{Bytes}
 
 pub told_none : {A : Type 0} (a : Option (List A)) → TellsMore a a []
 told_none a = grind (arith, append-nil)
@@ -40,6 +41,13 @@ given_then a b c xs ys p q = record {
   fewer = rw concat-append (Consumes-trans a.remaining b.remaining c.remaining (concat xs) (concat ys) p.fewer q.fewer);
   end = end_then a.remaining b.remaining c.remaining xs ys p.fewer p.end q.fewer q.end;
 }
+
+-- a write of a prefix of the bytes passes on a prefix of them
+pub part_written : (waiting part : List ℕ) (got : Got) (before after : Option (List ℕ)) → part ≡ take (length part) waiting → IsWithin (length part) got
+    → AddsBytes before after (bytes_passed part got) → AddsBytes before after (bytes_passed waiting got)
+part_written waiting part (Bytes n) before after front within added =
+    subst (AddsBytes before after) (ap (λ (xs : List ℕ). take n xs) front ∙ take-take n (length part) waiting within.1) added
+part_written waiting part other before after front within added = added
 
 -- a write of some bytes has not failed
 pub not_failed_write : (n : ℕ) (bytes : List ℕ) (old new : Bool) → n ≢ 0 → old ≡ false → new ≡ (old || is_failed_write (Some n) bytes) → new ≡ false

@@ -21,7 +21,7 @@ use Rattle.coap_wire.proofs.StreamSteps.{whole_itself}
 use Rattle.coap_frame.proofs.GivenLaws.{taken_within, frame_taken, takes_a_byte, unread_one_less, unread_nothing}
 use Rattle.coap_conn.specs.declared.phase.Verdict.TheVariants as told
 use Rattle.coap_conn.specs.Calls as call
-use Rattle.coap_serve.proofs.values.LinkLemmas.{stays_so}
+use Rattle.coap_conn.proofs.LinkLemmas.{stays_so}
 use Rattle.coap_serve.proofs.values.EntryLemmas.{is_first}
 use Rattle.coap_serve.proofs.values.SettleLemmas.{found_ready}
 use Rattle.coap_serve.proofs.values.OptionLemmas.{there_is, there_at}

@@ -18,7 +18,8 @@ use Rattle.coap_conn.proofs.HeldLaws.{due_pong, custody_at_once, due_answer}
 use Rattle.coap_serve.proofs.world.WalkLaws.{heard, sent, due_is, faulted_between, written_between, ended_between, released_between, announced_between}
 use Rattle.coap_serve.proofs.world.GoingOn.{kept_after, Keeps}
 use Rattle.coap_serve.proofs.world.SideLaws.{held_room, settled_cases, handles_parts}
-use Rattle.coap_serve.proofs.world.ToldMessages.{IsPlain, IsNoPong, abort_plain, live_so, open_answers, MayFollow}
+use Rattle.coap_conn.proofs.ReactionLaws.{IsPlain, IsNoPong, abort_plain, live_so, MayFollow}
+use Rattle.coap_serve.proofs.world.ToldMessages.{open_answers}
 use Rattle.coap_serve.proofs.world.CustodyLaws.{response_no_pong, bare_no_pong, asked_quiet, handled_cases}
 use Rattle.coap_serve.proofs.world.AnswerCounts.{one, count_more, Tally, AtMost, plus, asks_with, requests, responses, awaits, held_back, pongs_other, own_answers, IsBehind, queue, pending, Behind, behind_longer, behind_grows, behind_then, behind_at, behind_without, IfPong}
 use Rattle.coap_serve.proofs.world.AnswerCodes.{coded, prompt_coded, bare_coded}

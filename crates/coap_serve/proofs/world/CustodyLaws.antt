@@ -20,7 +20,8 @@ use Rattle.coap_store.proofs.HoldLaws.{held_of}
 use Rattle.coap_serve.proofs.world.EntryLemmas.{all_to}
 use Rattle.coap_serve.proofs.world.WalkLaws.{said_request, sent, without_first, Replies, after_between, faulted_between, written_between, ended_between, released_between, announced_between, once_between, heard, holding}
 use Rattle.coap_serve.proofs.world.GoingOn.{Keeps}
-use Rattle.coap_serve.proofs.world.ToldMessages.{IsPlain, Queues, react_so, IsNoPong, StopsAtMost, sent_either, reply_either}
+use Rattle.coap_conn.proofs.ReactionLaws.{IsPlain, react_so, IsNoPong, StopsAtMost}
+use Rattle.coap_serve.proofs.world.ToldMessages.{Queues, sent_either, reply_either}
 use Rattle.coap_serve.proofs.world.SideLaws.{replied_cases, handles_parts}
 use Rattle.coap_wire.specs.OptionNumbers as numbers
 use Rattle.coap_conn.specs.SignalOptions as option

@@ -1,5 +1,5 @@
 -- What a connection queued stays queued, and nothing but a write counts bytes as written.
-use Rattle.std.proofs.Common.{◌≡◌, ℕ, List, [], ◌∷◌, ◌++◌, length, take, drop, Option, Some, None, refl, sym, ap, ◌∙◌, append_assoc, arith, map}
+use Rattle.std.proofs.Common.{◌≡◌, ℕ, List, [], ◌∷◌, ◌++◌, length, take, drop, Option, Some, None, refl, ap, ◌∙◌, arith, map}
 use Rattle.std.proofs.lemmas.Bool.{le-leb}
 use Rattle.std.proofs.lemmas.List.{append-nil, take-append-le, take-append-drop}
 use Rattle.std.proofs.Math.Seq.{take-add, take-length}
@@ -7,31 +7,12 @@ use Rattle.coap_serve.specs.Prelude.{Message, StreamFault, Stream, LimitValues, 
 use Rattle.coap_serve.specs.Prelude.{StoreValue, Side, waiting_on, side_after, side_faulted, side_written, settled}
 use Rattle.coap_serve.specs.Prelude.{ConfigValues, World, side_of, after_steps, Event, Took, stream_on, new_fault}
 use Rattle.coap_serve.specs.Prelude.{steps_by, world_after}
+use Rattle.coap_conn.proofs.GrowLaws.{Grows, same_queue, grows_self, grows_then}
 use Rattle.coap_conn.proofs.LinkLemmas.{bytes_more}
 use Rattle.coap_serve.specs.world.World as world
 use Rattle.coap_serve.proofs.world.WalkLaws.{Between, after_between, faulted_between, written_between, settled_between}
 use Rattle.coap_serve.proofs.world.AcrossLaws.{handled_there, faulted_there}
 use Rattle.coap_serve.proofs.world.StepLaws.{world_more}
-
--- more was queued, and as much is written
-pub record Grows (h k : History) : Type 0 where
-  pub more : List Message
-  pub queued : k.queued ≡ h.queued ++ more
-  pub written : k.written ≡ h.written
-
--- nothing was queued
-same_queue : (h k : History) → k.queued ≡ h.queued → k.written ≡ h.written → Grows h k
-same_queue h k queued written = record { more = []; queued = queued ∙ sym (append-nil h.queued); written = written }
-
-pub grows_self : (h : History) → Grows h h
-grows_self h = same_queue h h refl refl
-
-pub grows_then : (h k g : History) → Grows h k → Grows k g → Grows h g
-grows_then h k g a b = record {
-  more = a.more ++ b.more;
-  queued = cc (append_assoc h.queued a.more b.more);
-  written = b.written ∙ a.written;
-}
 
 -- ---- a connection
 

@@ -18,7 +18,8 @@ use Rattle.coap_serve.specs.world.Events.{front_of}
 use Rattle.coap_serve.proofs.world.StepLaws.{world_same, world_step, nothing_spelled, world_first, by_events, stream_same, stream_elsewhere, taken_elsewhere}
 use Rattle.coap_serve.proofs.world.TookLaws.{no_bytes_stream, no_bytes_steps, Adds, piece_adds_nothing, piece_adds_message, piece_adds_bad, piece_adds_fault}
 use Rattle.coap_serve.proofs.world.ReachedLaws.{accepted_is, handling_goes_on, takes_there, piece_accepted, IsReached, OpensNext}
-use Rattle.coap_serve.proofs.world.ToldMessages.{StopsAtMost, sent_either}
+use Rattle.coap_conn.proofs.ReactionLaws.{StopsAtMost}
+use Rattle.coap_serve.proofs.world.ToldMessages.{sent_either}
 use Rattle.coap_serve.proofs.world.ShowLaws.{sessions_shown, side_there, no_session, takes_shown, shows_taken, taking_stopped, taking_front}
 use Rattle.coap_serve.proofs.world.WalkLaws.{sent, Replies, LetsGo, Pongs, settled_between, Between, once_between, written_between, ended_between, released_between, announced_between, holding}
 use Rattle.coap_serve.proofs.world.AcrossLaws.{handled_there, faulted_there, HoldsFrom, HoldsOf, step_across}

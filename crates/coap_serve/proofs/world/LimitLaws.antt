@@ -1,7 +1,6 @@
 -- The limits of a server hold: after any events of the bytes that wait on a connection, of what it holds and of its observers, and
 -- after accepted events of the bytes that are kept of an unfinished frame.
-use Rattle.std.proofs.Common.{◌≡◌, ℕ, ◌+◌, ◌<◌, ◌≤◌, Bool, true, false, cond, List, [], ◌∷◌, ◌++◌, length, drop, Some, None, refl, ap, ◌∙◌, arith, sym, subst, append_assoc, inl, inr, ◌==◌}
-use Rattle.std.proofs.Math.Nat.{min-le_left}
+use Rattle.std.proofs.Common.{◌≡◌, ℕ, ◌+◌, ◌<◌, ◌≤◌, Bool, true, false, List, [], ◌∷◌, ◌++◌, length, Some, None, refl, ap, ◌∙◌, arith, sym, subst, append_assoc, inl, inr, ◌==◌}
 use Rattle.std.proofs.lemmas.Bool.{cond_both, leb-true, ltb-true, eqb-true}
 use Rattle.std.proofs.lemmas.List.{length-append, length-drop, append-nil}
 use Rattle.std.proofs.lemmas.List.Sums.{length-filter, count_by-le-length}
@@ -18,14 +17,15 @@ use Rattle.coap_serve.specs.Prelude.{AreAccepted, size_on, kept_on, unwrap_or, S
 use Rattle.coap_serve.proofs.values.SettleLemmas.{send_held}
 use Rattle.coap_serve.proofs.world.SideLaws.{observers_after, observers_settled}
 use Rattle.coap_wire.proofs.StreamSteps.{unfinished_below}
-use Rattle.coap_conn.proofs.LinkLemmas.{waiting_more, announced_more}
+use Rattle.coap_conn.proofs.LinkLemmas.{announced_more}
+use Rattle.coap_conn.proofs.WaitingLaws.{wait, one_small, limit_within, queued_waits, kept_small_by}
 use Rattle.coap_conn.proofs.SmallLemmas.{first_csm_bytes_small, release_bytes_small}
 use Rattle.coap_conn.proofs.HeldLaws.{due_nothing, due_fewer, held_few}
 use Rattle.coap_conn.proofs.HistoryLaws.{reaction_fits, sent_fits, stopped_fits, new_fits, released_fits}
 use Rattle.coap_serve.proofs.world.WalkLaws.{there_or_not, there_where, settled_keeps, observers_kept, release_fits, room_in, sent, without_first, Hears, Replies, Between, once_between, after_between, faulted_between, written_between, ended_between, released_between, announced_between}
 use Rattle.coap_serve.proofs.world.AcrossLaws.{KeepsAll, keeping_composes, kept_history, HoldsOf, step_across, opened_there}
 use Rattle.coap_serve.proofs.world.GoingOn.{GoesOn, all_go_on, call_goes_on, side_is, Keeps, kept_after}
-use Rattle.coap_serve.proofs.world.ToldMessages.{abort_one, react_so}
+use Rattle.coap_conn.proofs.ReactionLaws.{abort_one, react_so}
 use Rattle.coap_serve.proofs.world.ReachedLaws.{accepted_is, IsReached}
 use Rattle.coap_serve.proofs.world.StepLaws.{rest_unfinished, size_grows}
 use Rattle.coap_serve.proofs.world.EntryLemmas.{all_append}
@@ -115,19 +115,6 @@ held_within c es id s there =
 
 -- ---- the bytes that wait
 
--- the bytes that wait, and those of what is queued
-abbrev wait : History → ℕ
-wait h = length (link_of h).waiting
-
-abbrev pub size : List Message → ℕ
-size ms = length (bytes_of ms)
-
--- one message at most has the bytes that its limit allows
-pub one_small : (limit : ℕ) (ms : List Message) → length ms ≤ 1 → AllFit limit ms → size ms ≤ limit
-one_small limit [] one each = omega arith
-one_small limit (m ∷ []) one each = omega (arith, each.0, length-append (spelling m) [])
-one_small limit (m ∷ n ∷ ms) one each = absurd (omega (arith, one))
-
 sent_one : (s : Standing) (m less : Message) (r : Reply) → length (send_as s m less r).queued ≤ 1
 sent_one s m less Whole = omega arith
 sent_one s m less other = omega arith
@@ -141,12 +128,6 @@ message_one s m = react_so s m (λ e. length e.queued ≤ 1) (record {
   queues = λ n no. omega arith;
   keeps = λ ping custody some. omega arith;
 })
-
-pub limit_within : (h : History) → limit_now h ≤ h.limits.max_sent
-limit_within h = min-le_left h.limits.max_sent (announced h.handled)
-
-pub queued_waits : (h : History) (ms : List Message) → IsHistory h → length (drop h.written (bytes_of (h.queued ++ ms))) ≡ wait h + size ms
-queued_waits h ms is = ap (λ (bs : List ℕ). length bs) (waiting_more h ms is) ∙ length-append (drop h.written (bytes_of h.queued)) (bytes_of ms)
 
 -- no more bytes wait than the queue holds
 record Waits (h : History) : Type 0 where
@@ -193,10 +174,6 @@ waiting_within c es id s ranges there =
     omega (arith, waits.few, ap (λ (l : LimitValues). l.queue) (side_is c es id s there).same_limits)
 
 -- ---- the bytes that are kept of an unfinished frame
-
-pub kept_small_by : (M : ℕ) (rest : List ℕ) (takes : Bool) → 1 ≤ M → (takes ≡ true → length rest < M) → length (cond takes rest []) < M
-kept_small_by M rest true enough go = go refl
-kept_small_by M rest false enough go = omega (arith, enough)
 
 -- fewer than the greatest message taken has
 pub kept_within : (c : ConfigValues) (es : List Event) (id : ℕ) (s : Side) → AreInRange c.limits → AreAccepted c es → side_of id (world_after c es).sides ≡ Some s → length (kept_on s (stream_on c.limits.max_message id es).rest) < s.history.own_max

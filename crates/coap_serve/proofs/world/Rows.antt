@@ -1,12 +1,10 @@
 -- Rows of calls, and what each of them tells, as the tests of a server have them: the form in which values of the definitions
 -- of specs/world are worked out.
-use Rattle.coap_serve.specs.Prelude.{◌≡◌, ℕ, zero, suc, ◌+◌, ◌-◌, ◌*◌, List, [], ◌∷◌, ◌++◌, length, map, take, drop}
-use Rattle.coap_serve.specs.Prelude.{Option, Some, None, nat_lt, codes, if◌then◌else◌, digits, spelling}
-use Rattle.coap_serve.specs.Prelude.{bytes_of_uint, declared_of, message_of, one_byte_at, two_bytes_at}
-use Rattle.coap_serve.specs.Prelude.{four_bytes_at, length_at, option_number_at, head_at, option_head_at}
-use Rattle.coap_serve.specs.Prelude.{body_within, body_at, kind_of, is_recognised, known_behind}
-use Rattle.coap_serve.specs.Prelude.{first_critical_behind, beginning, sized_frames, frames_within, sized_split}
-use Rattle.coap_serve.specs.Prelude.{split, framing, announced, due_index, first_due, without_due, react}
+use Rattle.coap_serve.specs.Prelude.{◌≡◌, ℕ, zero, suc, List, [], ◌∷◌, ◌++◌, length, map, take, drop}
+use Rattle.coap_serve.specs.Prelude.{Option, Some, None, digits}
+use Rattle.coap_serve.specs.Prelude.{kind_of, is_recognised, known_behind}
+use Rattle.coap_serve.specs.Prelude.{first_critical_behind}
+use Rattle.coap_serve.specs.Prelude.{announced, due_index, first_due, without_due, react}
 use Rattle.coap_serve.specs.Prelude.{live_reaction, Phase, Path, is_path, found_in, put_at, removed_at, encoded_byte}
 use Rattle.coap_serve.specs.Prelude.{path_bytes, entry_bytes, listing, place_of, key_for, state_at, has_option}
 use Rattle.coap_serve.specs.Prelude.{value_of, number_of, match_holds, is_seconds, get_answer, store_answer}
@@ -16,25 +14,9 @@ use Rattle.coap_serve.specs.Prelude.{first_becomes, Side, waiting_on, side_after
 use Rattle.coap_serve.specs.Prelude.{side_written, side_ended, side_released, settled_once, settled_within, settled}
 use Rattle.coap_serve.specs.Prelude.{side_announced, side_of, acted, step, after_steps, Event, taken_on, size_on}
 use Rattle.coap_serve.specs.Prelude.{sizes_on, stream_on, steps_by, steps_behind, steps_of, world_after, takes}
-use Prim.Native.String.{String}
-use Rattle.coap_wire.specs.Reading.{option_at}
+use Rattle.coap_frame.proofs.Computed.{bytes_computed}
 use Rattle.coap_store.specs.Requests.{values_of}
 use Rattle.coap_serve.specs.world.Events as event
-
--- ---- bytes by their hexadecimal digits
-
--- the value of a digit, 0 to 9 or a to f, in ASCII
-abbrev digit : ℕ → ℕ
-digit c = if nat_lt c 58 then c - 48 else c - 87
-
--- two digits a byte
-abbrev bytes_by : List ℕ → List ℕ
-bytes_by [] = []
-bytes_by (c ∷ []) = []
-bytes_by (c ∷ d ∷ cs) = (16 * digit c + digit d) ∷ bytes_by cs
-
-abbrev pub hex : String → List ℕ
-hex digits = bytes_by (codes digits)
 
 -- ---- rows
 
@@ -132,12 +114,7 @@ told_behind c events [] = []
 told_behind c events (call ∷ calls) =
     told_of_call c events (events_by c events call) call ∷ told_behind c (events ++ events_by c events call) calls
 
--- ---- what is computed with: to unfold one of these is to unfold all that its line names
-
--- what bytes spell, and how a message is spelled
-unfoldable pub bytes_computed : Unit {0}
-unfolding split sized_split sized_frames frames_within framing beginning declared_of length_at one_byte_at two_bytes_at four_bytes_at message_of head_at option_number_at option_head_at option_at body_at body_within spelling bytes_of_uint
-bytes_computed = tt
+-- ---- what is computed with, besides bytes: to unfold one of these is to unfold all that its line names
 
 -- what a request is answered
 answers_computed : Unit {0}

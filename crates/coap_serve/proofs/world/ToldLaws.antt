@@ -21,7 +21,8 @@ use Rattle.coap_serve.proofs.values.AnsweringLemmas.{asks_to_enter}
 use Rattle.coap_serve.proofs.world.SideLaws.{settled_cases, held_room, next_due_found}
 use Rattle.coap_serve.proofs.world.WalkLaws.{ended_between, Between, faulted_between, written_between, released_between, announced_between, holding, observers_kept}
 use Rattle.coap_serve.proofs.world.GoingOn.{kept_after, IsSide, Keeps}
-use Rattle.coap_serve.proofs.world.ToldMessages.{last_stays, queues_none, IsNoResponse, IsPlain, message_queues, reject_queues, end_queues, release_queues, due_queues, reply_queues, whole_last, announcing_queues, Queues, written_queues, last_of_longer}
+use Rattle.coap_serve.proofs.world.ToldMessages.{last_stays, queues_none, message_queues, reject_queues, end_queues, release_queues, due_queues, reply_queues, whole_last, announcing_queues, Queues, written_queues, last_of_longer}
+use Rattle.coap_conn.proofs.ReactionLaws.{IsNoResponse, IsPlain}
 use Rattle.coap_serve.proofs.world.CustodyLaws.{Stands, stand_asked, stands_keeps, handled_cases}
 use Rattle.coap_serve.proofs.world.KnownLaws.{tells_responds, entry_tells, notification_tells_observer}
 

@@ -3,7 +3,8 @@ use Rattle.std.proofs.Common.{ℕ, List, [], ◌∷◌, ◌++◌, Some, refl, co
 use Rattle.coap_serve.specs.Prelude.{LimitValues, Path, ConfigValues}
 use Rattle.coap_conn.specs.declared.phase.Phase.TheVariants as phase
 use Rattle.coap_conn.specs.declared.reason.Reason.TheVariants as reason
-use Rattle.coap_serve.proofs.world.Rows.{hex, Open, In, Drain, Put, Remove, Tick, End, Release, Drop, Look, Done, Taken, Out, Version, Stands, Absent, Row, ◌=>◌, told, Plays}
+use Rattle.coap_text.proofs.HexDigits.{hex}
+use Rattle.coap_serve.proofs.world.Rows.{Open, In, Drain, Put, Remove, Tick, End, Release, Drop, Look, Done, Taken, Out, Version, Stands, Absent, Row, ◌=>◌, told, Plays}
 
 -- ---- configurations
 

@@ -6,7 +6,8 @@ use Rattle.coap_serve.specs.Prelude.{takes, world_after}
 use Rattle.coap_wire.specs.Codes as code
 use Rattle.coap_wire.specs.OptionNumbers as numbers
 use Rattle.coap_serve.specs.world.World as step
-use Rattle.coap_serve.proofs.world.Rows.{hex, Open, In, Drain, told, events_of}
+use Rattle.coap_text.proofs.HexDigits.{hex}
+use Rattle.coap_serve.proofs.world.Rows.{Open, In, Drain, told, events_of}
 use Rattle.coap_serve.proofs.world.Worked.{usual, config_with, narrow_limits}
 
 -- a connection is opened, and its Capabilities and Settings are written

@@ -6,7 +6,8 @@ use Rattle.coap_serve.specs.Prelude.{Answer, Pong, ConfigValues, side_of, Event,
 use Rattle.coap_serve.specs.Prelude.{world_after}
 use Rattle.coap_conn.specs.declared.phase.Phase.TheVariants as phase
 use Rattle.coap_conn.specs.declared.reason.Reason.TheVariants as reason
-use Rattle.coap_serve.proofs.world.Rows.{hex, In, Drain, Put, Tick, End, Release, Look, Done, Taken, Out, Version, Stands, Row, ◌=>◌, told, Plays}
+use Rattle.coap_text.proofs.HexDigits.{hex}
+use Rattle.coap_serve.proofs.world.Rows.{In, Drain, Put, Tick, End, Release, Look, Done, Taken, Out, Version, Stands, Row, ◌=>◌, told, Plays}
 use Rattle.coap_serve.proofs.world.Worked.{usual, usual_limits, one_resource, narrow_limits, config_with, opened, path_a}
 
 -- so many answers and Pongs may be held on a connection

@@ -2,7 +2,8 @@
 use Rattle.std.proofs.Common.{[], ◌∷◌, ◌++◌, Some, refl, codes}
 use Rattle.coap_conn.specs.declared.phase.Phase.TheVariants as phase
 use Rattle.coap_conn.specs.declared.reason.Reason.TheVariants as reason
-use Rattle.coap_serve.proofs.world.Rows.{hex, In, Drain, Put, Tick, End, Release, Drop, Look, Done, Taken, Out, Version, Stands, Absent, ◌=>◌, told, Plays}
+use Rattle.coap_text.proofs.HexDigits.{hex}
+use Rattle.coap_serve.proofs.world.Rows.{In, Drain, Put, Tick, End, Release, Drop, Look, Done, Taken, Out, Version, Stands, Absent, ◌=>◌, told, Plays}
 use Rattle.coap_serve.proofs.world.Worked.{usual, one_resource, narrow_limits, config_with, opened, path_a, stored_x, observed}
 
 -- ---- ends

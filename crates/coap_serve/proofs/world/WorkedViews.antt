@@ -4,7 +4,8 @@ use Rattle.coap_serve.specs.Prelude.{Message, new_world, Event, Opened, Took, Wr
 use Rattle.coap_serve.specs.Prelude.{concerns, view_step, view_of}
 use Rattle.coap_wire.specs.Codes as code
 use Rattle.coap_serve.specs.world.World as step
-use Rattle.coap_serve.proofs.world.Rows.{hex, told}
+use Rattle.coap_text.proofs.HexDigits.{hex}
+use Rattle.coap_serve.proofs.world.Rows.{told}
 use Rattle.coap_serve.proofs.world.Worked.{one_resource, path_a}
 
 -- Two connections. The second one puts x at /a, is refused what it puts at /time, gets /a, deletes it, and goes.

@@ -1,7 +1,8 @@
 -- The events that a script's lines name (our definition).
 use Rattle.std.specs.Prelude.{ℕ, Bool, List, [], ◌∷◌, Option, Some, None, if◌then◌else◌, codes}
 use Rattle.coap_store.specs.Paths.{Path, same_bytes}
-use Rattle.coap_serve.specs.script.Words.{decimal_value, hex_value, payload_value, format_value, path_value}
+use Rattle.coap_text.specs.Words.{decimal_value, hex_value}
+use Rattle.coap_serve.specs.script.Words.{payload_value, format_value, path_value}
 
 pub data EventValue : Type 0 where
   Open : EventValue

@@ -1,7 +1,8 @@
 -- What a script says: the events of its lines, in order, or which line is the first that is none (our definition).
 use Rattle.std.specs.Prelude.{ℕ, Bool, true, ◌+◌, ◌==◌, List, [], ◌∷◌, ◌++◌, length, Option, Some, None, option_map, Result, Ok, Err, nat_lt, if◌then◌else◌}
 use Rattle.std.specs.List.{list_all}
-use Rattle.coap_serve.specs.script.Words.{newline, parts, words_of}
+use Rattle.coap_text.specs.Words.{parts}
+use Rattle.coap_serve.specs.script.Words.{newline, words_of}
 use Rattle.coap_serve.specs.script.Events.{EventValue, event_of}
 
 -- the event of a line, which is ASCII

@@ -60,10 +60,6 @@ pub record MarkedSession : Type 0 where
 abbrev pub session_max : SessionValue → ℕ
 session_max v = v.link.own_max
 
--- what only an announcement changes of a link: its limits, and the greatest message that it takes
-abbrev pub sizes_of : LinkValue → LimitValues × ℕ
-sizes_of l = (l.limits, l.own_max)
-
 -- ---- marks
 
 -- what tells a state of a path from the others that it has in time: the version of what is stored, and the moment for what

@@ -1,16 +1,11 @@
 -- A Pong with Custody follows the answers to all requests before its Ping (RFC 8323 section 5.4.1), seen in all that was handled and
 -- queued on a connection.
-use Rattle.std.specs.Prelude.{◌≡◌, ℕ, Bool, true, false, not, ◌&&◌, List, [], ◌∷◌, ◌++◌, ◌==◌}
+use Rattle.std.specs.Prelude.{◌≡◌, ℕ, Bool, true, false, List, [], ◌∷◌, ◌++◌}
 use Rattle.coap_wire.specs.Message.{Message}
-use Rattle.coap_wire.specs.Codes as code
 use Rattle.coap_conn.specs.Held.{Pong}
-use Rattle.coap_conn.specs.Reaction.{is_method}
+use Rattle.coap_conn.specs.Reaction.{is_asking}
 use Rattle.coap_serve.specs.world.Told.{responds}
 use Rattle.coap_serve.specs.world.Custody.{asks_held}
-
--- a message is a request: its code has class 0, and it is not Empty
-abbrev pub is_asking : Message → Bool
-is_asking m = is_method m.code && not (m.code == code.empty)
 
 -- a place in a list of messages with a response that has this token; the others are those before it and behind it
 pub record HasResponse (token : List ℕ) (messages : List Message) : Type 0 where

@@ -1,8 +1,8 @@
 -- What a take says that it handled, told of the worlds before and after it.
 use Rattle.std.specs.Prelude.{ℕ, List, [], ◌∷◌, ◌++◌, length, Option, Some, None, nat_lt, if◌then◌else◌}
 use Rattle.coap_conn.specs.declared.reason.Reason.{Reason}
-use Rattle.coap_conn.specs.declared.reason.Reason.TheVariants as reason
 use Rattle.coap_conn.specs.Phases.{stop_of, takes_messages}
+use Rattle.coap_conn.specs.Reasons.{message_reason}
 use Rattle.coap_serve.specs.Configs.{ConfigValues}
 use Rattle.coap_serve.specs.world.Sides.{Side}
 use Rattle.coap_serve.specs.world.World.{side_of}
@@ -26,22 +26,7 @@ handled_between (Some before) (Some after) =
 abbrev pub handled_in : ConfigValues → List Event → Event → ℕ → Handled
 handled_in c earlier e id = handled_between (side_of id (world_after c earlier).sides) (side_of id (world_after c (earlier ++ e ∷ [])).sides)
 
--- how many messages were handled: only a fault of the bytes stops a connection without one
-abbrev pub message_reason : Reason → ℕ
-message_reason reason.Format = 0
-message_reason reason.TooLarge = 0
-message_reason reason.TokenLength = 0
-message_reason reason.ReservedCode = 1
-message_reason reason.CsmExpected = 1
-message_reason (reason.BadCsm number) = 1
-message_reason reason.BadSignalOption = 1
-message_reason reason.PeerAbort = 1
-message_reason reason.PeerRelease = 1
-message_reason reason.PeerTooSmall = 1
-message_reason reason.Ended = 1
-message_reason reason.Cut = 1
-message_reason reason.ReleasedHere = 1
-
+-- how many messages were handled
 abbrev pub count_of : Handled → ℕ
 count_of handled.Nothing = 0
 count_of handled.Message = 1

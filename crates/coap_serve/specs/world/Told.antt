@@ -1,10 +1,10 @@
 -- What the observers of a connection were told last, seen in all that was ever queued on it (RFC 7252 section 5.9.1, RFC 7641
 -- section 4.2).
-use Rattle.std.specs.Prelude.{◌≡◌, ◌≢◌, ◌⊎◌, ℕ, Bool, true, ◌&&◌, ◌||◌, List, [], ◌∷◌, reverse, find, Option, Some, None, ◌==◌}
+use Rattle.std.specs.Prelude.{◌≡◌, ◌≢◌, ◌⊎◌, ℕ, Bool, true, ◌&&◌, List, [], ◌∷◌, reverse, find, Option, Some, None}
 use Rattle.std.specs.List.{AllByRecursion, list_any}
 use Rattle.coap_wire.specs.Message.{Message}
 use Rattle.coap_wire.specs.Codes as code
-use Rattle.coap_wire.specs.Codes.{class_of}
+use Rattle.coap_conn.specs.Reaction.{is_response}
 use Rattle.coap_store.specs.Paths.{same_bytes}
 use Rattle.coap_store.specs.Store.{Representation}
 use Rattle.coap_store.specs.State.{place_of, is_dynamic}
@@ -14,10 +14,6 @@ use Rattle.coap_store.specs.Messages.{response_with_observe}
 use Rattle.coap_serve.specs.world.Observers.{Observer}
 
 -- ---- responses
-
--- the codes of responses have the classes 2, 4 and 5; Signalling Messages have class 7
-abbrev pub is_response : Message → Bool
-is_response m = class_of m.code == 2 || (class_of m.code == 4 || class_of m.code == 5)
 
 -- a message is a response with this token
 abbrev pub responds : List ℕ → Message → Bool

@@ -172,7 +172,7 @@ fn take_rest(server: &mut Server, id: ConnId, rest: &mut Rest) -> Result<(), IoF
 
 /// Writes once a front of what waits on a connection, where anything does and the wire may be written, and answers what
 /// came of it: `Later` too where nothing was written, and `Failed` for each answer that a write fails with.
-#[tactic(auto, using(crate::proofs::streams::ServingLemmas::none_served, crate::proofs::streams::NextPartLemmas::few_written))]
+#[tactic(auto, using(crate::proofs::streams::ServingLemmas::none_served, coap_conn::proofs::NextPartLemmas::few_written))]
 fn write_once<W: Wire>(server: &mut Server, id: ConnId, wire: &mut W, may_write: bool) -> Got
     ensures server { server.new ≡ server_wrote server.old id result }
     ensures shows { HasServed server.old server.new }

@@ -6,7 +6,8 @@ ghost use Rattle.coap_serve.specs.script.Events as spec;
 ghost use Rattle.coap_serve.specs.script.Script as lines;
 
 use crate::event::Event;
-use crate::scripts::words::{bytes_in, format_in, number_in, path_in, payload_in, words_in};
+use crate::scripts::words::{format_in, path_in, payload_in, words_in};
+use coap_text::{bytes_in, number_in};
 use std::alloc::{AllocError, Global};
 
 /// The event of a word alone.

@@ -1,74 +1,22 @@
 //! The words of a script's lines, and the values that they mean.
 
-ghost use Rattle.std.specs.Prelude.{◌≡◌, ◌+◌, ◌<◌, [], ◌∷◌, length, map, IfSome, IfNone, MatchOption, IfOk, option_map};
+ghost use Rattle.std.specs.Prelude.{◌≡◌, ◌<◌, length, map, IfSome, IfNone, IfOk, option_map};
 ghost use Rattle.coap_serve.specs.Prelude.{cow_slice_items};
 ghost use Rattle.coap_serve.specs.script.Words as spec;
 
 use arrayvec::ArrayVec;
 use coap_store::PathKey;
-use hex::FromHexError;
+use coap_text::{bytes_in, is_hyphen, number_in, split_once};
 use percent_encoding::percent_decode;
 use std::alloc::{AllocError, Global};
 use std::borrow::CowSlice;
 
-/// The bytes before the first separator, and those behind it.
-pub(super) fn split_once(bytes: &[u8], separator: u8) -> Option<(&[u8], &[u8])>
-    ensures parts { MatchOption result
-        (spec.parts separator bytes.now ≡ bytes.now ∷ [])
-        (λ x. spec.parts separator bytes.now ≡ x.0.now ∷ spec.parts separator x.1.now) }
-    ensures lengths { IfSome result (λ x. length x.0.now + 1 + length x.1.now ≡ length bytes.now) }
-{
-    let at = bytes.iter().position(|byte| *byte == separator)?;
-    Some((&bytes[..at], &bytes[at + 1..]))
-}
-
-/// The most digits of a number.
-const MAX_DIGITS: usize = 20;
-
-/// The number that a word of 1 to 20 decimal digits means, where it fits in 64 bits; `None` for any other word. Leading
-/// zeros are digits like others.
-pub fn number_in(word: &[u8]) -> Option<u64>
-    ensures { result ≡ spec.decimal_value word.now }
-{
-    if word.len() > MAX_DIGITS || !word.iter().all(|byte| byte.is_ascii_digit()) {
-        return None;
-    }
-    let text = str::from_utf8(word).ok()?;
-    text.parse::<u64>().ok()
-}
-
-/// The bytes that a word of one or more pairs of hexadecimal digits means, of either case; `None` for any other word.
+/// Returns the bytes that a word of hexadecimal digits means, or no byte if the word is a hyphen. Returns `None` for any
+/// other word.
 ///
 /// # Errors
 ///
-/// Where memory is refused for them.
-pub fn bytes_in(alloc: Global, word: &[u8]) -> Result<Option<Vec<u8>>, AllocError>
-    ensures { IfOk result (λ found. option_map (λ v. v.items) found ≡ spec.hex_value word.now) }
-{
-    if word.is_empty() {
-        return Ok(None);
-    }
-    match hex::decode(alloc, word) {
-        Ok(bytes) => Ok(Some(bytes)),
-        Err(fault) => match fault {
-            FromHexError::OutOfMemory => Err(AllocError),
-            _ => Ok(None),
-        },
-    }
-}
-
-/// Whether a word is one hyphen.
-fn is_hyphen(word: &[u8]) -> bool
-    ensures { result ≡ spec.is_hyphen word.now }
-{
-    word == b"-".as_slice()
-}
-
-/// The same, or no byte where the word is a hyphen.
-///
-/// # Errors
-///
-/// Where memory is refused for the bytes.
+/// Returns `AllocError` if allocation fails.
 pub(super) fn payload_in(alloc: Global, word: &[u8]) -> Result<Option<Vec<u8>>, AllocError>
     ensures { IfOk result (λ found. option_map (λ v. v.items) found ≡ spec.payload_value word.now) }
 {

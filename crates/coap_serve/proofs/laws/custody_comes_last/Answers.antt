@@ -3,7 +3,8 @@ use Rattle.coap_serve.proofs.world.GoingOn.{kept_after}
 use Rattle.coap_serve.proofs.laws.custody_comes_last.Goals as goal
 use Rattle.coap_serve.proofs.world.WalkLaws.{faulted_between, ended_between, released_between, announced_between, written_between}
 use Rattle.coap_serve.specs.Prelude.{side_faulted, side_ended, side_released, side_announced, side_written}
-use Rattle.coap_serve.proofs.world.ToldMessages.{Queues, IsPlain, queues_none, reject_queues, end_queues, release_queues, announcing_queues, written_queues}
+use Rattle.coap_serve.proofs.world.ToldMessages.{Queues, queues_none, reject_queues, end_queues, release_queues, announcing_queues, written_queues}
+use Rattle.coap_conn.proofs.ReactionLaws.{IsPlain}
 
 pub returns : goal.returns
 returns c = record {

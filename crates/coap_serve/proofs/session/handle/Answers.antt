@@ -2,7 +2,7 @@ use Rattle.std.proofs.Common.{[], refl, sym, ap, ◌∙◌, List, ℕ}
 use Rattle.coap_store.specs.Answer as answer
 use Rattle.coap_serve.specs.Prelude.{is_request, SessionValue, sizes_of, host_changed, asks_this, answer_on}
 use Rattle.coap_serve.specs.Prelude.{change_hash, takes_messages}
-use Rattle.coap_serve.proofs.values.LinkLemmas.{stays_so}
+use Rattle.coap_conn.proofs.LinkLemmas.{stays_so}
 use Rattle.coap_serve.proofs.values.SessionLemmas.{on_request, no_request_told, message_handled}
 use Rattle.coap_serve.proofs.session.handle.Goals as goal
 use Rattle.std.proofs.lemmas.Bool.{cond-false}

@@ -6,7 +6,7 @@ use Rattle.coap_conn.specs.Calls as call
 use Rattle.coap_client.proofs.ClientShown.{ended_shown}
 use Rattle.coap_client.proofs.TakingLemmas.{is_still}
 use Rattle.coap_client.proofs.client.Client.ended.Goals as goal
-use Rattle.coap_serve.proofs.values.LinkLemmas.{end_sizes}
+use Rattle.coap_conn.proofs.LinkLemmas.{end_sizes}
 
 pub invariant_of-self : goal.invariant_of-self
 invariant_of-self c =

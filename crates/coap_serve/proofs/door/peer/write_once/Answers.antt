@@ -1,6 +1,7 @@
 use Rattle.std.proofs.Common.{rules, refl, sym}
 use Rattle.coap_serve.specs.Prelude.{Answered, waiting_at, Bytes, Later, End, Failed}
-use Rattle.coap_serve.proofs.streams.NextPartLemmas.{none_refused, part_written}
+use Rattle.coap_serve.proofs.streams.NextPartLemmas.{none_refused}
+use Rattle.coap_io.proofs.streams.DeviceLemmas.{part_written}
 use Rattle.coap_serve.proofs.streams.ServingLemmas.{written_served}
 use Rattle.coap_serve.proofs.door.peer.write_once.Goals as goal
 
@@ -13,7 +14,7 @@ pub returns-in-Ok-clause-wrote : goal.returns-in-Ok-clause-wrote
 returns-in-Ok-clause-wrote g c = λ _.
     rw c.if-not-may_write.false
     (part_written (waiting_at c.args.id c.args.server.now) c.first_part-part.result.now (Bytes c.in-Bytes.count) (g.W.Wire.written c.args.wire.now) (g.W.Wire.written c.write.new.self)
-    (rw c.in-Some.ensures.parts at c.first_part-part.ensures) c.in-Bytes.ensures.within c.in-Bytes.ensures.wrote)
+    (rw c.in-Some.ensures.parts at c.first_part-part.ensures).front c.in-Bytes.ensures.within c.in-Bytes.ensures.wrote)
 
 pub returns-in-Ok-clause-shows : goal.returns-in-Ok-clause-shows
 returns-in-Ok-clause-shows g c = written_served c.args.server.now _ c.written.new.self c.args.id c.in-Bytes.count (search rules) c.in-Ok.ensures.shows

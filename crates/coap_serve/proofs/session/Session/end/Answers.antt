@@ -1,6 +1,6 @@
 use Rattle.std.proofs.Common.{refl, ap, ◌∙◌}
 use Rattle.coap_serve.specs.Prelude.{sizes_of}
-use Rattle.coap_serve.proofs.values.LinkLemmas.{end_sizes}
+use Rattle.coap_conn.proofs.LinkLemmas.{end_sizes}
 use Rattle.coap_serve.proofs.values.SessionLemmas.{given_up}
 use Rattle.coap_serve.proofs.session.Session.end.Goals as goal
 

@@ -2,7 +2,7 @@ use Rattle.std.proofs.Common.{refl, ap, ◌∙◌}
 use Rattle.coap_serve.specs.Prelude.{sizes_of, is_open}
 use Rattle.coap_serve.proofs.values.SessionLemmas.{given_up}
 use Rattle.coap_serve.proofs.session.Session.release.Goals as goal
-use Rattle.coap_serve.proofs.values.LinkLemmas.{stays_so}
+use Rattle.coap_conn.proofs.LinkLemmas.{stays_so}
 
 pub invariant_of-self-2 : goal.invariant_of-self-2
 invariant_of-self-2 c =

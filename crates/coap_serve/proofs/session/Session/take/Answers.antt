@@ -3,7 +3,7 @@ use Rattle.coap_frame.proofs.FramingLemmas.{framing_is_framer, unread_is_framer}
 use Rattle.std.proofs.Common.{◌≡◌, Ok, arith, refl, sym, ap, subst, ◌∙◌}
 use Rattle.coap_serve.specs.Prelude.{AFrame, framing_of, FramerValue, IsFramer, framer_after, unread_after, taken_of}
 use Rattle.coap_serve.specs.Prelude.{finding_read, MarkedSession, IsMarked, session_takes, sizes_of, takes_messages}
-use Rattle.coap_serve.proofs.values.LinkLemmas.{stays_so}
+use Rattle.coap_conn.proofs.LinkLemmas.{stays_so}
 use Rattle.coap_serve.proofs.values.SessionLemmas.{taken_session, reframed, frame_takes_some, put_refused, kept_but_last}
 use Rattle.coap_serve.proofs.session.Session.take.Goals.{In-Ok-Some, After-unread}
 use Rattle.coap_serve.proofs.session.Session.take.Goals as goal

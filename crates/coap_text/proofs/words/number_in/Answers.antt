@@ -1,10 +1,11 @@
 use Rattle.std.proofs.Common.{sym, ◌∙◌, rules, tests, length, ◌≡◌}
-use Rattle.coap_serve.specs.Prelude.{is_ascii_digit, decimal_value}
+use Rattle.coap_text.specs.Words.{decimal_value}
+use Rattle.std.specs.Char.{is_ascii_digit}
 use Rattle.std.proofs.lemmas.Iterator.{YieldsList-from_slice}
 use Rattle.std.proofs.lemmas.Iterator.Search.{all_from_yields_List}
-use Rattle.coap_serve.proofs.scripting.WordLemmas.{text_read, number_read}
-use Rattle.coap_serve.proofs.scripts.words.number_in.Goals as goal
-use Rattle.coap_serve.proofs.scripts.words.number_in.Goals.{then-word-gt-MAX_DIGITS-via-then-word-gt-MAX_DIGITS, then-word-gt-MAX_DIGITS-via-else-word-gt-MAX_DIGITS+then-not-all}
+use Rattle.coap_text.proofs.WordLemmas.{text_read, number_read}
+use Rattle.coap_text.proofs.words.number_in.Goals as goal
+use Rattle.coap_text.proofs.words.number_in.Goals.{then-word-gt-MAX_DIGITS-via-then-word-gt-MAX_DIGITS, then-word-gt-MAX_DIGITS-via-else-word-gt-MAX_DIGITS+then-not-all}
 use Rattle.std.proofs.lemmas.Bool.{lt-leb}
 use Rattle.std.proofs.Math.Bool.{and-false}
 

@@ -1,8 +1,8 @@
 use Rattle.std.proofs.Common.{◌==◌, ◌∙◌, sym, rules, tests}
 use Rattle.std.proofs.lemmas.Iterator.{YieldsList-from_slice}
 use Rattle.std.proofs.lemmas.Iterator.Search.{position_from_yields_List}
-use Rattle.coap_serve.proofs.scripting.WordLemmas.{one_part, first_part}
-use Rattle.coap_client.proofs.target.split_once.Goals as goal
+use Rattle.coap_text.proofs.WordLemmas.{one_part, first_part}
+use Rattle.coap_text.proofs.words.split_once.Goals as goal
 
 pub returns-in_err-at-clause-parts : goal.returns-in_err-at-clause-parts
 returns-in_err-at-clause-parts c =

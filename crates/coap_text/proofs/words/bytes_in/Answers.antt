@@ -1,8 +1,9 @@
 use Rattle.std.proofs.Common.{sym, inl, inr, ◌∙◌, ap}
 use Rattle.std.proofs.lemmas.Bool.{eqb-true, eqb-false}
-use Rattle.coap_serve.proofs.scripting.WordLemmas.{hex_of_some}
-use Rattle.coap_serve.proofs.scripts.words.bytes_in.Goals as goal
-use Rattle.coap_serve.specs.Prelude.{result_ok, hex_value}
+use Rattle.coap_text.proofs.WordLemmas.{hex_of_some}
+use Rattle.coap_text.proofs.words.bytes_in.Goals as goal
+use Rattle.coap_text.specs.Words.{hex_value}
+use Rattle.std.specs.Result.{result_ok}
 use Rattle.std.proofs.lemmas.List.{nil_from_length}
 
 pub returns-then-is_empty : goal.returns-then-is_empty
