@@ -36,11 +36,11 @@ ANSWERED_LASTS = 30
 LIMIT = 30
 
 # what both programs have of libraries that tell faults
-LIBRARIES = ["coap_io/src/*.rt", "coap_program/src/*.rt", "coap_serve/src/*.rt", "coap_sockets/src/*.rt", "coap_client/src/words.rt"]
+LIBRARIES = ["coap_io/src/*.rt", "coap_program/src/*.rt", "coap_sockets/src/*.rt", "coap_client/src/words.rt"]
 
 SOURCES = {
     # where a program has its lines and statuses
-    "coap-server": ["coap_server/src/*.rt"] + LIBRARIES,
+    "coap-server": ["coap_server/src/*.rt", "coap_serve/src/*.rt"] + LIBRARIES,
     "coap-client": ["coap_client_main/src/*.rt", "coap_client/src/run.rt", "coap_client/src/say.rt"] + LIBRARIES,
 }
 
