@@ -31,7 +31,7 @@ impl Trouble {
     }
 }
 
-/// Returns all bytes of a reader, at most so many.
+/// Returns all bytes of a reader, at most `most`.
 fn bytes_of(alloc: Global, reader: &mut impl Read, most: usize) -> Result<Vec<u8>, Trouble>
     ensures { IfOk result (λ bytes. length bytes.items ≤ most) }
 {
@@ -47,7 +47,7 @@ fn bytes_of(alloc: Global, reader: &mut impl Read, most: usize) -> Result<Vec<u8
     }
 }
 
-/// Returns the bytes of the file with this name, or of standard input if the name is `-`. There may be so many.
+/// Returns the bytes of the file with this name, or of standard input if the name is `-`: at most `most` bytes.
 ///
 /// # Errors
 ///
