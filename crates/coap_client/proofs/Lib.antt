@@ -1,5 +1,3 @@
-pub mod TargetLemmas
-pub mod RequestLemmas
 pub mod ClientSteps
 pub mod ClientReached
 pub mod ClientShown
@@ -16,7 +14,6 @@ pub mod StandLemmas
 pub mod CourseLaws
 pub mod TakenLemmas
 pub mod RunLemmas
-mod Worked
 mod WorkedClient
 mod WorkedLaws
 mod WordsWorked

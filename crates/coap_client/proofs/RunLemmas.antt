@@ -31,7 +31,7 @@ use Rattle.coap_client.proofs.CourseLaws.{course_taken, course_queued}
 use Rattle.coap_client.proofs.ClientShown.{took_takes, took_told, took_shown}
 use Rattle.coap_client.proofs.TakenLemmas.{client_takes_some, cancelled_takes, may_parts, may_not}
 use Rattle.coap_client.proofs.StandLemmas.{bytes_stay, bytes_same, front_length, taking_limits, sent_limits, cancelled_limits, read_limits, read_shown, asked_shown, given_up_shown, send_tells_none, cancel_tells_none}
-use Rattle.coap_client.proofs.TargetLemmas.{false_is_true}
+use Rattle.coap_request.proofs.TargetLemmas.{false_is_true}
 
 -- ---- small facts
 

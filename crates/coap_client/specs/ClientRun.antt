@@ -7,7 +7,7 @@ use Rattle.coap_io.specs.streams.Device.{AddsBytes}
 use Rattle.coap_io.specs.streams.Telling.{TellsMore}
 use Rattle.coap_client.specs.ClientWorld.{AreAccepted, ClientShows}
 use Rattle.coap_client.specs.RunCourse.{Course, Begins, own_limits, calls_in, history_in, token_in, moments_in, turns_in, moment_in, started_in, first_in, cancelled_in, answers_in, taken_in, given_in, rest_in, waiting_in, written_in, status_in, output_in, errors_in, has_looked, IsAskedWhereDue, IsTakenUp, IsResting, IsBetween, MayWrite, HasWritten, IsCourse}
-use Rattle.coap_client.specs.declared.plan.ClientPlan.{ClientPlan}
+use Rattle.coap_request.specs.declared.plan.ClientPlan.{ClientPlan}
 use Rattle.coap_client.specs.declared.run.Run.{Run}
 
 -- ---- what the devices of a run tell

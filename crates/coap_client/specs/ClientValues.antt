@@ -22,9 +22,9 @@ use Rattle.coap_conn.specs.Asking.{else_refusal, new_refusal, asking_refusal, ob
 use Rattle.coap_conn.specs.LinkValue.{LinkValue, new_link, free_in, standing_in, asking_in}
 use Rattle.coap_conn.specs.Calls.{link_after}
 use Rattle.coap_conn.specs.Calls as call
-use Rattle.coap_client.specs.declared.request.Method.{Method}
-use Rattle.coap_client.specs.Targets.{TargetValue}
-use Rattle.coap_client.specs.Requests.{ExtrasValue, request_of, cancel_of, is_too_long, has_long_extra}
+use Rattle.coap_request.specs.declared.request.Method.{Method}
+use Rattle.coap_request.specs.Targets.{TargetValue}
+use Rattle.coap_request.specs.Requests.{ExtrasValue, request_of, cancel_of, is_too_long, has_long_extra}
 
 -- the bytes of the unfinished frame, and the link
 pub record ClientValue : Type 0 where

@@ -6,10 +6,10 @@ use Rattle.clap.specs.Words.{App, Row, Rule, Text, fault_of, first_of, matches_o
 use Rattle.percent_encoding.specs.Percent.{percent_decode}
 use Rattle.coap_text.specs.Words.{hex_value}
 use Rattle.coap_client.specs.CommandLines.{◌>>=◌, WordsFaultValue, Clash, Target, Value, is_used, letter_flag, letter_option, number_within, option_value, unless_refused}
-use Rattle.coap_client.specs.Targets.{TargetValue, target_of}
-use Rattle.coap_client.specs.declared.request.Method.{Method}
-use Rattle.coap_client.specs.declared.request.Method.TheVariants.{Get, Put, Post, Delete}
-use Rattle.coap_client.specs.declared.target.TargetFault.{TargetFault}
+use Rattle.coap_request.specs.Targets.{TargetValue, target_of}
+use Rattle.coap_request.specs.declared.request.Method.{Method}
+use Rattle.coap_request.specs.declared.request.Method.TheVariants.{Get, Put, Post, Delete}
+use Rattle.coap_request.specs.declared.target.TargetFault.{TargetFault}
 use Rattle.coap_client.specs.declared.words.client.RequestValues.{RequestValues}
 
 -- ---- the plan

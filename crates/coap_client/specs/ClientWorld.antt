@@ -12,9 +12,9 @@ use Rattle.coap_conn.specs.Reaction.{react}
 use Rattle.coap_conn.specs.History.{History, new_history, standing_now, waiting_of, after, link_of}
 use Rattle.coap_conn.specs.Calls as call
 use Rattle.coap_conn.specs.LinkValue.{free_in}
-use Rattle.coap_client.specs.declared.request.Method.{Method}
-use Rattle.coap_client.specs.Targets.{TargetValue}
-use Rattle.coap_client.specs.Requests.{ExtrasValue, request_of, cancel_of}
+use Rattle.coap_request.specs.declared.request.Method.{Method}
+use Rattle.coap_request.specs.Targets.{TargetValue}
+use Rattle.coap_request.specs.Requests.{ExtrasValue, request_of, cancel_of}
 use Rattle.coap_client.specs.ClientValues.{ClientValue, EventValue, Stopped, event_told, is_cut, send_refusal, cancelling_refusal, ping_refusal}
 
 -- a call that was accepted, with what it took; a refused call is none

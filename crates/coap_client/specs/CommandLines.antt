@@ -8,7 +8,7 @@ use Rattle.clap.specs.Words.{App, Kinds, Row, Rule, Text, first_of, new_rule}
 use Rattle.clap.specs.declared.builder.action.ArgAction.TheVariants.{SetTrue}
 use Rattle.coap_conn.specs.Limits.{is_within}
 use Rattle.coap_text.specs.Words.{decimal_value}
-use Rattle.coap_client.specs.declared.target.TargetFault.{TargetFault}
+use Rattle.coap_request.specs.declared.target.TargetFault.{TargetFault}
 
 -- ---- refusals
 

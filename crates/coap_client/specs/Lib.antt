@@ -1,7 +1,3 @@
-pub mod Targets
-pub mod TargetViews
-pub mod Requests
-pub mod RequestViews
 pub mod ClientValues
 pub mod ClientWorld
 pub mod ClientLaws

@@ -9,10 +9,10 @@ use Rattle.coap_client.specs.CommandLines as fault
 use Rattle.coap_client.specs.ClientWords.{ClientPlanValue, client_plan_of}
 use Rattle.coap_client.specs.ServerWords.{ModeValue, ServerPlanValue, server_plan_of}
 use Rattle.coap_client.specs.ServerWords as mode
-use Rattle.coap_client.specs.declared.plan.ClientPlan.{ClientPlan}
-use Rattle.coap_client.specs.declared.plan.Mode.{Mode}
-use Rattle.coap_client.specs.declared.plan.Mode.TheVariants as modes
-use Rattle.coap_client.specs.declared.plan.ServerPlan.{ServerPlan}
+use Rattle.coap_request.specs.declared.plan.ClientPlan.{ClientPlan}
+use Rattle.coap_request.specs.declared.plan.Mode.{Mode}
+use Rattle.coap_request.specs.declared.plan.Mode.TheVariants as modes
+use Rattle.coap_request.specs.declared.plan.ServerPlan.{ServerPlan}
 use Rattle.coap_client.specs.declared.words.WordsFault.{WordsFault}
 use Rattle.coap_client.specs.declared.words.WordsFault.TheVariants as faults
 

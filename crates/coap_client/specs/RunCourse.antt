@@ -13,7 +13,7 @@ use Rattle.coap_client.specs.ClientValues.{ClientValue, client_takes, EventValue
 use Rattle.coap_client.specs.ClientWorld.{ClientCall, Took, Sent, Cancelled, Pinged, Wrote, Ended, taken_by, client_after, client_of, takes, event_of}
 use Rattle.coap_client.specs.RunTexts.{stop_line}
 use Rattle.coap_client.specs.RunSteps.{has_passed, is_to_ask, is_to_cancel, planned_extras, asking_refusal, cancelling_refusal, ended_by, refusal_text, status_told, first_told, output_told, errors_told, stop_behind, stop_written, calls_read, calls_written}
-use Rattle.coap_client.specs.declared.plan.ClientPlan.{ClientPlan}
+use Rattle.coap_request.specs.declared.plan.ClientPlan.{ClientPlan}
 
 -- what happens in a run, each behind all that happened before it
 pub data Course : Type 0 where

@@ -7,10 +7,9 @@ ghost use Rattle.coap_conn.specs.Calls as call;
 ghost use Rattle.coap_client.specs.declared.client.Heard.TheVariants as heard;
 ghost use Rattle.coap_client.specs.contracts.client.Client.{the_row};
 
-use crate::request::{Extras, Method, cancellation, formats_of, request};
-use crate::target::Target;
 use coap_conn::{Limits, Link, Phase, Reason, Reject, RequestFault, Role, Verdict};
 use coap_frame::Framer;
+use coap_request::{Extras, Method, Target, cancellation_message, formats_of, request_message};
 use coap_wire::{MessageRef, Token, TokenRef, parse};
 use std::alloc::{AllocError, Global};
 use std::marker::Model;
@@ -139,7 +138,7 @@ impl Client {
     {
         let formats = formats_of(extras);
         let given = *extras;
-        match request(method, target, &given, &formats) {
+        match request_message(method, target, &given, &formats) {
             Some(message) => self.link.request(&message, extras.observe),
             None => {
                 self.link.may_ask()?;
@@ -171,7 +170,7 @@ impl Client {
     {
         let formats = formats_of(extras);
         let given = *extras;
-        match cancellation(target, &given, &formats) {
+        match cancellation_message(target, &given, &formats) {
             Some(message) => self.link.cancel(token, &message),
             None => {
                 self.link.may_cancel(token)?;

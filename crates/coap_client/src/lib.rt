@@ -3,16 +3,11 @@
 
 mod client;
 pub mod laws;
-mod plan;
-mod request;
 mod run;
 mod say;
-mod target;
 mod words;
 
 pub use client::{Client, Event, Taken};
-pub use plan::{ClientPlan, Mode, ServerPlan};
-pub use request::{Extras, Method};
+pub use coap_request::{ClientPlan, Extras, Method, Mode, ServerPlan, Target, TargetFault};
 pub use run::{ClientFault, run_client};
-pub use target::{Target, TargetFault};
 pub use words::{WordsFault, client_words, server_words};

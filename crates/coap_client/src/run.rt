@@ -8,11 +8,10 @@ ghost use Rattle.coap_client.specs.RunTexts as text;
 ghost use Rattle.coap_client.specs.declared.run.ClientFault.TheVariants as fault;
 
 use crate::client::{Client, Event};
-use crate::plan::ClientPlan;
-use crate::request::Extras;
 use crate::say::{say_fault, say_option, say_response, say_stop, write_payload};
 use coap_conn::{Limits, Phase, Reason, RequestFault, first_part};
 use coap_io::{Clock, Got, Outlet, Rest, Wire, WriteFailed};
+use coap_request::{ClientPlan, Extras};
 use coap_wire::{MessageRef, Token};
 use std::alloc::{AllocError, Global};
 use thiserror::Error;

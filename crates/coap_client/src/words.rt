@@ -9,11 +9,10 @@ mod help;
 mod readings;
 mod server;
 
-use crate::plan::{ClientPlan, ServerPlan};
-use crate::target::TargetFault;
 use clap::Error as UsageError;
 use clap::error::ErrorKind;
 use client::client_plan;
+use coap_request::{ClientPlan, ServerPlan, TargetFault};
 use commands::{client_command, matches_in, server_command};
 use server::server_plan;
 use std::alloc::Global;

@@ -1,6 +1,6 @@
 -- What a plan asks of a server.
 use Rattle.std.specs.Prelude.{ℕ, ◌*◌, ◌-◌, ◌^◌, min}
-use Rattle.coap_client.specs.declared.plan.ServerPlan.{ServerPlan}
+use Rattle.coap_request.specs.declared.plan.ServerPlan.{ServerPlan}
 use Rattle.coap_serve.specs.Configs.{ConfigValues, config_of}
 use Rattle.coap_serve.specs.declared.config.Starts.{Starts}
 use Rattle.coap_serve.specs.views.ConfigViews.{start_values}

@@ -3,14 +3,12 @@
 ghost use Rattle.std.specs.Prelude.{◌≡◌, IfOk, MatchOption, None, Some, codes, false, option_map, string_bytes, true};
 ghost use Rattle.coap_client.specs.Prelude.{after_first, before_first, list_any, first_of, found_of, rows_of, named, number_within, option_value, TellsClientPlan, client_value, extra_named, extra_value, GivesUnlessMemory, target_of};
 ghost use Rattle.coap_client.specs.ClientWords as spec;
-ghost use Rattle.coap_client.specs.declared.request.Method.TheVariants.{Get};
+ghost use Rattle.coap_request.specs.declared.request.Method.TheVariants.{Get};
 
-use crate::plan::ClientPlan;
-use crate::request::Method;
-use crate::target::{Target, TargetFault};
 use crate::words::WordsFault;
 use crate::words::readings::{is_used, number, number_within, text_of};
 use clap::ArgMatches;
+use coap_request::{ClientPlan, Method, Target, TargetFault};
 use coap_text::bytes_in;
 use percent_encoding::percent_decode;
 use std::alloc::{AllocError, Global};

@@ -4,11 +4,11 @@ ghost use Rattle.std.specs.Prelude.{◌≡◌, IfOk, Some, codes, option_map};
 ghost use Rattle.coap_client.specs.Prelude.{found_of, rows_of, named, option_value, TellsServerPlan, mode_value};
 ghost use Rattle.coap_client.specs.ServerWords as spec;
 
-use crate::plan::{Mode, ServerPlan};
 use crate::words::WordsFault;
 use crate::words::readings::{is_used, number, text_of};
 use clap::ArgMatches;
 use coap_conn::Limits;
+use coap_request::{Mode, ServerPlan};
 use std::alloc::{AllocError, Global};
 use std::net::{IpAddr, Ipv4Addr};
 

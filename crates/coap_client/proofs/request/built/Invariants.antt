@@ -1,7 +1,0 @@
-use Rattle.std.proofs.Common.{◌≡◌, [], take}
-use Rattle.coap_client.specs.Prelude.{coap_options}
-use Rattle.coap_client.proofs.request.built.Given as goal
-
--- the options so far
-abbrev pub invariant-loop-option : goal.invariant-loop-option
-invariant-loop-option l = l.message ≡ record { code = l.fn.code; token = []; options = coap_options (take l.option-index l.options); payload = [] }

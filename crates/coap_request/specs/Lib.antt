@@ -1,0 +1,5 @@
+pub mod Targets
+pub mod TargetViews
+pub mod Requests
+pub mod RequestViews
+pub mod Prelude

@@ -1,0 +1,34 @@
+-- How the extras of a request, its formats and its options are kept.
+use Rattle.std.specs.Prelude.{◌≡◌, ℕ, ◌≤◌, List, option_map}
+use Rattle.std.specs.Borrow.{Bor}
+use Rattle.std.specs.List.{AllByRecursion}
+use Rattle.coap_wire.specs.Message.{CoapOption, AreOrdered, last_number}
+use Rattle.coap_wire.specs.Spelling.{HasOptionForm}
+use Rattle.coap_request.specs.Requests.{ExtrasValue, uint_sent}
+use Rattle.coap_request.specs.declared.request.Extras.{Extras}
+use Rattle.coap_request.specs.declared.request.Formats.{Formats}
+
+-- an option as the caller gives it
+abbrev pub given_option : ℕ × Bor (List ℕ) → CoapOption
+given_option o = record { number = o.0; value = o.1.now }
+
+abbrev pub extras_value : Extras → ExtrasValue
+extras_value e = record {
+  observe = e.observe;
+  plain = e.plain;
+  content_format = e.content_format;
+  accept = e.accept;
+  extra = option_map given_option e.option;
+  payload = e.payload.now;
+}
+
+-- the bytes of the formats of these extras
+pub record AreFormatsOf (e : ExtrasValue) (f : Formats) : Type 0 where
+  pub content_format : option_map (λ bytes. bytes.items) f.content_format ≡ uint_sent e.content_format
+  pub accept : option_map (λ bytes. bytes.items) f.accept ≡ uint_sent e.accept
+
+-- options that a message can have, in order, none with a number above this one
+pub record IsRow (number : ℕ) (os : List CoapOption) : Type 0 where
+  pub ordered : AreOrdered 0 os
+  pub last : last_number 0 os ≤ number
+  pub each : AllByRecursion HasOptionForm os

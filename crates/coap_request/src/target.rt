@@ -1,0 +1,399 @@
+//! What a URI of the scheme coap+tcp names.
+
+ghost use Rattle.std.specs.Prelude.{◌≡◌, ◌<◌, true, length, option_copied, IfOk};
+ghost use Rattle.coap_request.specs.Prelude.{list_any, borrowed_host, host_text, parse_url, has_host, host_or_empty, byte_lists, named_value, GivesUnlessMemory, target_of, IsTarget};
+ghost use Rattle.percent_encoding.specs.Percent as percent;
+ghost use Rattle.coap_request.specs.Targets as spec;
+ghost use Rattle.coap_request.specs.declared.target.TargetFault.TheVariants.{Memory};
+
+use coap_text::split_once;
+use percent_encoding::percent_decode;
+use std::alloc::{AllocError, Global};
+use std::marker::Model;
+use std::net::Ipv4Addr;
+use thiserror::Error;
+use url::{Host, ParseError, Url};
+
+/// The scheme of CoAP over TCP (RFC 8323 section 8.1).
+const SCHEME: &str = "coap+tcp";
+
+/// The port of that scheme (RFC 8323 section 8.1).
+const DEFAULT_PORT: u16 = 5_683;
+
+/// The most bytes of a host, a segment or an argument (RFC 7252 section 5.10).
+const MAX_PART: usize = 255;
+
+/// The most segments, and the most arguments.
+const MAX_PARTS: usize = 16;
+
+/// Why a text names no target: the first reason in this order. The discriminants are the faults' numbers.
+#[derive(Clone, Copy, Debug, PartialEq, Eq, Error)]
+pub enum TargetFault {
+    /// The text is no absolute URL, as the crate `url` reads it.
+    #[error("no absolute URL")]
+    Url = 1,
+    /// The scheme is not `coap+tcp`.
+    #[error("the scheme is not coap+tcp")]
+    Scheme = 2,
+    /// There is no host, or an empty one.
+    #[error("no host")]
+    NoHost = 3,
+    /// There is a user name or a password.
+    #[error("a user name or a password")]
+    UserInfo = 4,
+    /// There is a fragment, even an empty one (RFC 7252 section 6.4).
+    #[error("a fragment")]
+    Fragment = 5,
+    /// The host, a segment or an argument has more than 255 bytes once it is decoded.
+    #[error("a host, a segment or an argument of more than 255 bytes")]
+    PartTooLong = 6,
+    /// There are more than 16 segments or more than 16 arguments.
+    #[error("more than 16 segments or arguments")]
+    TooManyParts = 7,
+    /// Memory was refused, or the URL came to 4 GB, which the crate `url` has no room for. It comes wherever that
+    /// happens.
+    #[error("no memory")]
+    Memory = 8,
+}
+
+const _: () = prove!(TargetFault::Url as u8 == 1);
+
+const _: () = prove!(TargetFault::Scheme as u8 == 2);
+
+const _: () = prove!(TargetFault::NoHost as u8 == 3);
+
+const _: () = prove!(TargetFault::UserInfo as u8 == 4);
+
+const _: () = prove!(TargetFault::Fragment as u8 == 5);
+
+const _: () = prove!(TargetFault::PartTooLong as u8 == 6);
+
+const _: () = prove!(TargetFault::TooManyParts as u8 == 7);
+
+const _: () = prove!(TargetFault::Memory as u8 == 8);
+
+impl From<AllocError> for TargetFault {
+    ghost from_gives = { λ _ why. why ≡ Memory };
+
+    fn from(_: AllocError) -> TargetFault {
+        TargetFault::Memory
+    }
+}
+
+/// What the parts of a URI name, before its size is judged.
+#[derive(Drop)]
+struct Named {
+    /// The host as it is connected to and sent.
+    host: Vec<u8>,
+    /// Whether the host is an address.
+    is_address: bool,
+    /// The TCP port.
+    port: u16,
+    /// The segments of the path, decoded.
+    segments: Vec<Vec<u8>>,
+    /// The arguments of the query, decoded.
+    arguments: Vec<Vec<u8>>,
+}
+
+/// What a URI of the scheme coap+tcp names (RFC 8323 section 8.1): a host, a port, and the parts of the path and of the
+/// query. Contracts see these parts by name.
+#[derive(Drop)]
+pub struct Target {
+    named: Named,
+}
+
+impl Model for Target {
+    ghost use Rattle.coap_request.specs.Targets.{TargetValue};
+
+    ghost Value = { TargetValue };
+
+    ghost use Rattle.coap_request.specs.TargetViews.{target_value, is_target};
+
+    ghost view = { target_value };
+
+    ghost invariant = { is_target };
+}
+
+impl Target {
+    /// The target that a text names. The text is an absolute URL as the crate `url` reads it: the scheme is `coap+tcp`,
+    /// the port is 5683 where there is none, an empty path and `/` have no segment, each argument stands between two
+    /// `&`, and a lone `?` has one empty argument (RFC 7252 section 6.4). Escapes are decoded, and a cut one stays as
+    /// it is written.
+    ///
+    /// # Errors
+    ///
+    /// The first that holds in the order of the numbers of `TargetFault`; `Memory` wherever memory is refused.
+    pub fn read(alloc: Global, text: &str) -> Result<Target, TargetFault>
+        ensures { GivesUnlessMemory result (target_of text.now) }
+    {
+        match Url::parse(alloc, text) {
+            Ok(url) => target_in(alloc, &url),
+            Err(fault) => Err(url_fault(fault)),
+        }
+    }
+
+    /// The host, as it is connected to and as Uri-Host has it: 1 to 255 bytes. An IPv6 address stands without its
+    /// brackets. Another host has its escapes decoded and its ASCII letters in lower case (RFC 7252 section 6.4).
+    pub fn host(&self) -> &[u8]
+        ensures value { result.now ≡ self.now.host }
+        ensures kept { IsTarget self.now }
+    {
+        self.named.host.as_slice()
+    }
+
+    /// Whether the host is an address: it stood in brackets, or is of four decimal numbers up to 255, without leading
+    /// zeros, with dots between them. An address is not sent as Uri-Host (RFC 7252 section 6.4).
+    pub fn is_address(&self) -> bool
+        ensures { result ≡ self.now.is_address }
+    {
+        self.named.is_address
+    }
+
+    /// The TCP port.
+    pub fn port(&self) -> u16
+        ensures { result ≡ self.now.port }
+    {
+        self.named.port
+    }
+
+    /// The segments of the path, decoded: at most 16, each of at most 255 bytes.
+    pub fn segments(&self) -> &[Vec<u8>]
+        ensures value { byte_lists result.now ≡ self.now.segments }
+        ensures kept { IsTarget self.now }
+    {
+        self.named.segments.as_slice()
+    }
+
+    /// The arguments of the query, decoded: at most 16, each of at most 255 bytes.
+    pub fn arguments(&self) -> &[Vec<u8>]
+        ensures value { byte_lists result.now ≡ self.now.arguments }
+        ensures kept { IsTarget self.now }
+    {
+        self.named.arguments.as_slice()
+    }
+}
+
+/// What it means for a target that the crate `url` refuses a text.
+fn url_fault(fault: ParseError) -> TargetFault
+    ensures { spec.MeansUnlessRoom fault result }
+{
+    match fault {
+        ParseError::OutOfMemory => TargetFault::Memory,
+        ParseError::Overflow => TargetFault::Memory,
+        _ => TargetFault::Url,
+    }
+}
+
+/// The target that the parts of a URI name.
+#[tactic(auto, using(crate::proofs::TargetLemmas::form_has_host), unfolding(crate::specs::Targets::target_in))]
+fn target_in(alloc: Global, url: &Url) -> Result<Target, TargetFault>
+    ensures { spec.GivesUnlessMemory result (spec.target_in url.now) }
+{
+    if let Some(fault) = form_fault(url) {
+        return Err(fault);
+    }
+    let named = named_by(alloc, url)?;
+    if has_long_part(&named) {
+        return Err(TargetFault::PartTooLong);
+    }
+    if has_many_parts(&named) {
+        return Err(TargetFault::TooManyParts);
+    }
+    Ok(Target { named })
+}
+
+/// Why the parts of a URI, before they are decoded, name no target.
+#[tactic(auto, unfolding(crate::specs::Targets::form_refusal))]
+fn form_fault(url: &Url) -> Option<TargetFault>
+    ensures { result ≡ spec.form_refusal url.now }
+{
+    if url.scheme() != SCHEME {
+        return Some(TargetFault::Scheme);
+    }
+    if !url.has_host() {
+        return Some(TargetFault::NoHost);
+    }
+    if !url.username().is_empty() || url.password().is_some() {
+        return Some(TargetFault::UserInfo);
+    }
+    if url.fragment().is_some() {
+        return Some(TargetFault::Fragment);
+    }
+    None
+}
+
+/// What the parts of a URI with a host name. The host has a byte at least.
+#[tactic(auto, unfolding(crate::specs::Targets::value_named))]
+fn named_by(alloc: Global, url: &Url) -> Result<Named, AllocError>
+    requires { has_host url.now ≡ true }
+    ensures value { IfOk result (λ n. named_value n ≡ spec.value_named url.now) }
+    ensures some { IfOk result (λ n. 0 < length n.host.items) }
+{
+    let host = host_in(url);
+    Ok(Named {
+        host: host_bytes(alloc, url, &host)?,
+        is_address: names_address(&host),
+        port: url.port().unwrap_or(DEFAULT_PORT),
+        segments: segments_named(alloc, url.path())?,
+        arguments: arguments_named(alloc, url.query())?,
+    })
+}
+
+/// The host of a URI that has one.
+fn host_in(url: &Url) -> Host<&str>
+    requires { has_host url.now ≡ true }
+    ensures { borrowed_host result ≡ host_or_empty url.now }
+{
+    let Some(host) = url.host() else {
+        unreachable!()
+    };
+    host
+}
+
+/// Whether the text is that of an IPv4 address: four decimal numbers with dots between them.
+fn is_dotted(text: &str) -> bool
+    ensures { result ≡ spec.is_dotted text.now }
+{
+    text.parse::<Ipv4Addr>().is_ok()
+}
+
+/// Whether the host is an address.
+#[tactic(auto, unfolding(crate::specs::Targets::names_address))]
+fn names_address(host: &Host<&str>) -> bool
+    ensures { result ≡ spec.names_address (borrowed_host host.now) }
+{
+    match host {
+        Host::Domain(text) => is_dotted(text),
+        Host::Ipv4(_) => true,
+        Host::Ipv6(_) => true,
+    }
+}
+
+/// The text of the host of a URI that has one, with brackets round an IPv6 address.
+fn written_host(url: &Url) -> &str
+    requires { has_host url.now ≡ true }
+    ensures { result.now ≡ host_text (host_or_empty url.now) }
+{
+    let Some(text) = url.host_str() else {
+        unreachable!()
+    };
+    text
+}
+
+/// The host as it is connected to and sent.
+///
+/// # Errors
+///
+/// Where memory is refused for it.
+fn host_bytes(alloc: Global, url: &Url, host: &Host<&str>) -> Result<Vec<u8>, AllocError>
+    requires some { has_host url.now ≡ true }
+    requires same { borrowed_host host.now ≡ host_or_empty url.now }
+    ensures { IfOk result (λ v. v.items ≡ spec.host_named (borrowed_host host.now)) }
+{
+    let text = written_host(url).as_bytes();
+    match host {
+        Host::Domain(domain) => domain_bytes(alloc, domain),
+        Host::Ipv4(_) => Vec::from_slice(alloc, text),
+        Host::Ipv6(_) => Vec::from_slice(alloc, &text[1..text.len() - 1]),
+    }
+}
+
+/// A host that stands without brackets: an address as it is written, or else decoded, with its ASCII letters in lower
+/// case.
+///
+/// # Errors
+///
+/// Where memory is refused for it.
+#[tactic(auto, unfolding(crate::specs::Targets::domain_named))]
+fn domain_bytes(alloc: Global, text: &str) -> Result<Vec<u8>, AllocError>
+    ensures { IfOk result (λ v. v.items ≡ spec.domain_named text.now) }
+{
+    if is_dotted(text) {
+        return Vec::from_slice(alloc, text.as_bytes());
+    }
+    let bytes = decoded(alloc, text.as_bytes())?;
+    bytes.to_ascii_lowercase(alloc)
+}
+
+/// The bytes with each escape replaced by its byte; any other `%` stays.
+///
+/// # Errors
+///
+/// Where memory is refused for them.
+fn decoded(alloc: Global, bytes: &[u8]) -> Result<Vec<u8>, AllocError>
+    ensures { IfOk result (λ v. v.items ≡ percent.percent_decode bytes.now) }
+{
+    let mut decoded = Vec::new(alloc);
+    percent_decode(bytes).append_to(&mut decoded)?;
+    Ok(decoded)
+}
+
+/// The parts between the separators, each decoded.
+///
+/// # Errors
+///
+/// Where memory is refused for them.
+#[tactic(auto, unfolding(crate::specs::Targets::decoded_parts))]
+fn decoded_parts(alloc: Global, bytes: &[u8], separator: u8) -> Result<Vec<Vec<u8>>, AllocError>
+    ensures { IfOk result (λ parts. byte_lists parts.items ≡ spec.decoded_parts separator bytes.now) }
+{
+    let mut parts = Vec::new(alloc);
+    let mut left = bytes;
+    while let Some((part, rest)) = split_once(left, separator) {
+        parts.push(decoded(alloc, part)?)?;
+        left = rest;
+    }
+    parts.push(decoded(alloc, left)?)?;
+    Ok(parts)
+}
+
+/// The segments of a path behind its first slash.
+///
+/// # Errors
+///
+/// Where memory is refused for them.
+#[tactic(auto, unfolding(crate::specs::Targets::segments_named))]
+fn segments_named(alloc: Global, path: &str) -> Result<Vec<Vec<u8>>, AllocError>
+    ensures { IfOk result (λ parts. byte_lists parts.items ≡ spec.segments_named path.now) }
+{
+    if path.len() <= 1 {
+        return Ok(Vec::new(alloc));
+    }
+    decoded_parts(alloc, &path.as_bytes()[1..], b'/')
+}
+
+/// The arguments of a query.
+///
+/// # Errors
+///
+/// Where memory is refused for them.
+#[tactic(auto, unfolding(crate::specs::Targets::arguments_named))]
+fn arguments_named(alloc: Global, query: Option<&str>) -> Result<Vec<Vec<u8>>, AllocError>
+    ensures { IfOk result (λ parts. byte_lists parts.items ≡ spec.arguments_named (option_copied query.entry)) }
+{
+    match query {
+        Some(query) => decoded_parts(alloc, query.as_bytes(), b'&'),
+        None => Ok(Vec::new(alloc)),
+    }
+}
+
+/// Whether one of the parts has more than 255 bytes.
+fn any_long(parts: &[Vec<u8>]) -> bool
+    ensures { result ≡ list_any spec.is_long (byte_lists parts.now) }
+{
+    parts.iter().any(|part| part.len() > MAX_PART)
+}
+
+/// Whether the host, a segment or an argument has more than 255 bytes.
+fn has_long_part(named: &Named) -> bool
+    ensures { result ≡ spec.has_long_part (named_value named.now) }
+{
+    named.host.len() > MAX_PART || any_long(&named.segments) || any_long(&named.arguments)
+}
+
+/// Whether there are more than 16 segments or more than 16 arguments.
+fn has_many_parts(named: &Named) -> bool
+    ensures { result ≡ spec.has_many_parts (named_value named.now) }
+{
+    named.segments.len() > MAX_PARTS || named.arguments.len() > MAX_PARTS
+}
