@@ -8,12 +8,9 @@ pub mod CutLaws
 pub mod TokenLaws
 pub mod HandledLaws
 pub mod FitLaws
-pub mod WordLemmas
-pub mod PlanLemmas
 pub mod StandLemmas
 pub mod CourseLaws
 pub mod TakenLemmas
 pub mod RunLemmas
 mod WorkedClient
 mod WorkedLaws
-mod WordsWorked

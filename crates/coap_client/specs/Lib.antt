@@ -2,10 +2,6 @@ pub mod ClientValues
 pub mod ClientWorld
 pub mod ClientLaws
 pub mod EventViews
-pub mod CommandLines
-pub mod ServerWords
-pub mod ClientWords
-pub mod PlanViews
 pub mod RunFaults
 pub mod RunTexts
 pub mod RunSteps

@@ -1,22 +1,10 @@
 -- What the contracts and the proofs of the crate name, passed on from one place. Declares nothing.
 
 -- ---- std and the kit's crates
-pub use Rattle.clap.specs.Words.{first_of, found_of, rows_of, app_of, fault_of, is_simple, is_simple_and_free}
-pub use Rattle.clap.specs.Words.{matches_of, new_rule, with_rule, App, Kinds, Row, Rule, Text, first_value}
-pub use Rattle.clap.specs.declared.parser.matches.Found.{Found}
-unfoldable pub use Rattle.hex.specs.Hex.{decode_pairs}
-unfoldable pub use Rattle.percent_encoding.specs.Percent.{percent_decode}
-pub use Rattle.std.specs.Borrow.{sem, follows_so, Bor}
-pub use Rattle.std.specs.List.{AllByRecursion, list_any, after_first, before_first, flat_map}
-pub use Rattle.std.specs.Net.Addr.{ipv4_octets, ipv6_segments}
-pub use Rattle.std.specs.Net.Grammar.{IsColonHex, IsDotted, IsIpText, Parses}
-pub use Rattle.std.specs.Net.Reader.{Read, whole_value}
-unfoldable pub use Rattle.std.specs.Net.Reader.{read_ipv4, read_ipv6, read_number, read_octet, read_segment}
-unfoldable pub use Rattle.std.specs.Net.Reader.{read_segments}
+pub use Rattle.std.specs.Borrow.{sem, follows_so}
+pub use Rattle.std.specs.List.{AllByRecursion, list_any, flat_map}
 pub use Rattle.std.specs.Prelude.{IfOk, OnOk, [], codes, find, if◌then◌else◌, is_none, nat_le, nat_lt, option_map, ◌&&◌}
 pub use Rattle.std.specs.Prelude.{◌+◌, ◌==◌, ◌||◌, ◌≢◌, ◌≤◌}
-pub use Rattle.std.specs.Result.{result_ok}
-pub use Rattle.std.specs.declared.net.ip_addr.IpAddr.{IpAddr}
 pub use mathlib.Core.Option.{none}
 -- ---- coap_wire
 pub use Rattle.coap_wire.specs.Beginning.{Beginning, Faulty, Unfinished, Whole, beginning, fault_bytes}
@@ -45,7 +33,7 @@ pub use Rattle.coap_conn.specs.Fit.{AllFit, bare_response, fit, without_options}
 pub use Rattle.coap_conn.specs.Held.{HeldValue, Pong}
 pub use Rattle.coap_conn.specs.History.{History, limit_now, waiting_of, IsHistory, after, after_asking, asking_now}
 pub use Rattle.coap_conn.specs.History.{link_of, new_history, standing_now, with_effect}
-pub use Rattle.coap_conn.specs.Limits.{LimitValues, AreInRange, limits_of}
+pub use Rattle.coap_conn.specs.Limits.{LimitValues, AreInRange}
 pub use Rattle.coap_conn.specs.LinkValue.{standing_in, LinkValue, asking_in, bytes_of, free_in}
 pub use Rattle.coap_conn.specs.Outstanding.{Observation, OutstandingValue, Ping, Request, cancelled_by, is_asked}
 pub use Rattle.coap_conn.specs.Outstanding.{is_last, is_pinged, with_cancelled, without_asked, without_pinged}
@@ -80,18 +68,15 @@ pub use Rattle.coap_io.specs.declared.wire.Got.TheVariants.{Bytes, End, Failed, 
 pub use Rattle.coap_io.specs.streams.Device.{AddsBytes}
 pub use Rattle.coap_io.specs.streams.Telling.{TellsMore}
 pub use Rattle.coap_io.specs.streams.Wires.{bytes_passed, count_passed}
--- ---- coap_text
-unfoldable pub use Rattle.coap_text.specs.Words.{decimal_value, hex_value}
 -- ---- coap_request
 pub use Rattle.coap_request.specs.RequestViews.{extras_value}
 pub use Rattle.coap_request.specs.Requests.{ExtrasValue}
 unfoldable pub use Rattle.coap_request.specs.Requests.{cancel_of, has_long_extra, host_sent, insert_option, is_too_long}
 unfoldable pub use Rattle.coap_request.specs.Requests.{observe_sent, own_options, request_of, with_extra}
-pub use Rattle.coap_request.specs.Targets.{GivesUnlessMemory, target_of, TargetValue}
+pub use Rattle.coap_request.specs.Targets.{TargetValue}
 pub use Rattle.coap_request.specs.declared.plan.ClientPlan.{ClientPlan}
-pub use Rattle.coap_request.specs.declared.plan.ServerPlan.{ServerPlan}
 pub use Rattle.coap_request.specs.declared.request.Method.{Method}
-pub use Rattle.coap_request.specs.declared.request.Method.TheVariants.{Get, Put}
+pub use Rattle.coap_request.specs.declared.request.Method.TheVariants.{Get}
 -- ---- coap_client
 pub use Rattle.coap_client.specs.ClientLaws.{AreDifferent, tokens_given, token_given, tokens_behind}
 pub use Rattle.coap_client.specs.ClientRun.{IsReady, IsClientRun, IsUnbegun, seen, with_outlets, with_wire, with_all}
@@ -103,24 +88,14 @@ pub use Rattle.coap_client.specs.ClientValues.{client_written, client_ended, cli
 pub use Rattle.coap_client.specs.ClientValues.{client_pinged, send_refusal, cancelling_refusal, ping_refusal}
 pub use Rattle.coap_client.specs.ClientValues.{EventValue, Taking, is_cut, taking_found, taking_read, taking_rejected}
 unfoldable pub use Rattle.coap_client.specs.ClientValues.{taking}
-pub use Rattle.coap_client.specs.ClientWords.{client_app, uri_rule, AreHalves, client_plan_in, extra_said, is_comma}
-unfoldable pub use Rattle.coap_client.specs.ClientWords.{clashes, client_plan_of, extra_of, format_named, format_of}
-unfoldable pub use Rattle.coap_client.specs.ClientWords.{method_named, option_bytes, payload_said, request_said}
-unfoldable pub use Rattle.coap_client.specs.ClientWords.{uri_said}
 pub use Rattle.coap_client.specs.ClientWorld.{ClientCall, ClientShows, Took, Sent, Cancelled, Pinged, Wrote, Ended}
 pub use Rattle.coap_client.specs.ClientWorld.{ClientStep, AreAccepted, stream_in, Cancels, Ends, Faults, Handles, Pings}
 pub use Rattle.coap_client.specs.ClientWorld.{Requests, Writes, beyond, event_by, handles, kept_after, new_fault}
 pub use Rattle.coap_client.specs.ClientWorld.{taken_by}
 unfoldable pub use Rattle.coap_client.specs.ClientWorld.{takes, event_of, client_after, client_of, steps_by, steps_of}
 unfoldable pub use Rattle.coap_client.specs.ClientWorld.{step, AreAcceptedBehind, IsAccepted, after_steps, steps_behind}
-pub use Rattle.coap_client.specs.CommandLines.{named, option_value, Clash, Usage, Value, WordsFaultValue, bare_app}
-pub use Rattle.coap_client.specs.CommandLines.{letter_flag, letter_option, word_flag, word_option}
-unfoldable pub use Rattle.coap_client.specs.CommandLines.{number_within, is_used}
 pub use Rattle.coap_client.specs.EventViews.{event_value, answer_read, pong_read, heard_value, taken_event}
 pub use Rattle.coap_client.specs.EventViews.{taking_framed, IsClient}
-pub use Rattle.coap_client.specs.PlanViews.{IsClientPlan, IsServerPlan, is_help_or_version, words_fault_number}
-pub use Rattle.coap_client.specs.PlanViews.{TellsClientPlan, client_value, extra_named, extra_value, IsTurnedDown}
-pub use Rattle.coap_client.specs.PlanViews.{TellsServerPlan, mode_value}
 pub use Rattle.coap_client.specs.RunCourse.{own_limits, IsFresh, Begins, Calls, Course, GivesUp, HasWaited}
 pub use Rattle.coap_client.specs.RunCourse.{IsAskedWhereDue, IsBetween, IsCancelledWhereDue, IsCourse, IsDone}
 pub use Rattle.coap_client.specs.RunCourse.{IsPlanned, IsRefused, IsResting, IsTakenUp, MayWrite, Reads, Refuses, Rests}
@@ -136,11 +111,7 @@ pub use Rattle.coap_client.specs.RunSteps.{client_read, ended_by, errors_told, f
 pub use Rattle.coap_client.specs.RunSteps.{is_to_cancel, late, may_take, output_told, planned_extras, refusal_text}
 pub use Rattle.coap_client.specs.RunSteps.{status_told, stop_behind, stop_written, token_asking, unless_refused}
 pub use Rattle.coap_client.specs.RunSteps.{watched}
-pub use Rattle.coap_client.specs.ServerWords.{server_app, Listen, Script, Stdio, every_address}
-unfoldable pub use Rattle.coap_client.specs.ServerWords.{address_of, limits_said, server_plan_in, server_plan_of}
-unfoldable pub use Rattle.coap_client.specs.ServerWords.{values_said}
 -- ---- coap_client, declared
 pub use Rattle.coap_client.specs.declared.client.Client.TheInside.{Inside}
 pub use Rattle.coap_client.specs.declared.client.Heard.{Heard}
 pub use Rattle.coap_client.specs.declared.run.Run.{Run}
-pub use Rattle.coap_client.specs.declared.words.WordsFault.{WordsFault}

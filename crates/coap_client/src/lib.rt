@@ -5,9 +5,8 @@ mod client;
 pub mod laws;
 mod run;
 mod say;
-mod words;
 
 pub use client::{Client, Event, Taken};
+pub use coap_command_line::{WordsFault, client_words, server_words};
 pub use coap_request::{ClientPlan, Extras, Method, Mode, ServerPlan, Target, TargetFault};
 pub use run::{ClientFault, run_client};
-pub use words::{WordsFault, client_words, server_words};

@@ -1,7 +1,7 @@
 //! What the programs `coap-server` and `coap-client` have in common: how they read their words and files, what they
 //! write to standard error, and with which status they end.
 //!
-//! What the words mean is in `coap_client`, and sockets are in `coap_sockets`. The programs themselves are in
+//! What the words mean is in `coap_command_line`, and sockets are in `coap_sockets`. The programs themselves are in
 //! `coap_server` and `coap_client_main`.
 #![tactic(auto)]
 

@@ -1,9 +1,9 @@
 //! A program's words, and what it writes to standard error.
 
 ghost use Rattle.std.specs.Prelude.{◌≡◌, ◌≤◌, ◌==◌, false, if◌then◌else◌, IfErr};
-ghost use Rattle.coap_client.specs.Prelude.{is_help_or_version, words_fault_number};
+ghost use Rattle.coap_command_line.specs.Prelude.{is_help_or_version, words_fault_number};
 
-use coap_client::WordsFault;
+use coap_command_line::WordsFault;
 use std::alloc::{AllocError, Global};
 use std::env;
 use std::env::Args;

@@ -6,8 +6,8 @@ ghost use Rattle.coap_serve.specs.Prelude.{TellsMore};
 ghost use Rattle.coap_server.specs.Planned.{planned, starts_of};
 
 use crate::{PROGRAM, config_of};
-use coap_client::ServerPlan;
 use coap_program::{FAULT, USAGE};
+use coap_request::ServerPlan;
 use coap_serve::{Clock, Config, Starts, serve_door};
 use coap_sockets::{SocketDoor, SystemClock};
 use std::net::{Net, SocketAddr};

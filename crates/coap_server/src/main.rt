@@ -1,7 +1,7 @@
 //! The program `coap-server`: CoAP over reliable transports (RFC 8323).
 //!
-//! Its words are those of `coap_client::server_words`. With `--stdio` it serves one connection over standard input and
-//! output; with `--script FILE` it replays the script in that file, or in standard input where FILE is `-`, on a
+//! Its words are those of `coap_command_line::server_words`. With `--stdio` it serves one connection over standard input
+//! and output; with `--script FILE` it replays the script in that file, or in standard input where FILE is `-`, on a
 //! server, and writes the line of each event. Else it listens at an address, and serves the connections that are opened
 //! to it.
 #![tactic(auto)]
@@ -13,8 +13,9 @@ ghost use Rattle.coap_server.specs.Planned.{planned};
 mod listening;
 mod script;
 
-use coap_client::{Mode, ServerPlan, server_words};
+use coap_command_line::server_words;
 use coap_program::{ENDED, FAULT, Program, USAGE, hold_standard};
+use coap_request::{Mode, ServerPlan};
 use coap_serve::{Config, ReadSource, Starts, WriteOutlet, serve_one};
 use std::net::{Net, SocketAddr};
 use std::process::ExitCode;

@@ -1,5 +1,0 @@
-use Rattle.coap_client.proofs.WordLemmas.{comma_parts}
-use Rattle.coap_client.proofs.words.client.halves.Goals as goal
-
-pub returns : goal.returns
-returns c = comma_parts c.args.text.now c.split_once.result c.split_once.ensures.cases

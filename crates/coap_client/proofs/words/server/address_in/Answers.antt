@@ -1,6 +1,0 @@
-use Rattle.std.proofs.Common.{◌∙◌}
-use Rattle.coap_client.proofs.WordLemmas.{address_read}
-use Rattle.coap_client.proofs.words.server.address_in.Goals as goal
-
-pub returns : goal.returns
-returns c = c.ok.ensures.value ∙ address_read c.args.text.now c.parse.result c.parse.ensures.value

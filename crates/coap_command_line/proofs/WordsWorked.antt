@@ -1,0 +1,184 @@
+-- Worked values of the definitions: words of a command line, and what they ask for.
+use Rattle.std.proofs.Common.{true, false, Some, None, ◌≡◌, [], ◌∷◌, Ok, Err, refl}
+use Rattle.coap_command_line.specs.Prelude.{codes, read_ipv4, read_ipv6, read_number, read_octet, read_segment}
+use Rattle.coap_command_line.specs.Prelude.{read_segments, limits_of, decimal_value, hex_value, fault_of, matches_of}
+use Rattle.coap_command_line.specs.Prelude.{decode_pairs, percent_decode, Get, Put, client_app, clashes, extra_of}
+use Rattle.coap_command_line.specs.Prelude.{extra_said, format_named, format_of, method_named, option_bytes, payload_said}
+use Rattle.coap_command_line.specs.Prelude.{request_said, uri_said, Clash, Usage, Value, is_used, number_within, Listen}
+use Rattle.coap_command_line.specs.Prelude.{Script, Stdio, address_of, every_address, limits_said, server_plan_in}
+use Rattle.coap_command_line.specs.Prelude.{server_plan_of, values_said}
+use Rattle.std.specs.declared.net.ip_addr.IpAddr.TheVariants as ip
+use Rattle.clap.specs.declared.error.kind.ErrorKind.TheVariants as kind
+use Rattle.clap.proofs.OnLiterals.{clap_on_literals}
+
+-- ---- coap-server
+
+no_words : server_plan_of ([]) ≡ Ok (record { mode = Listen every_address 5683; limits = limits_of 65536 65536 131072 16 16 16; connections = 16; dynamic_max = 0; turns = 1000000000000 })
+unfolding clap_on_literals server_plan_of server_plan_in values_said limits_said number_within decimal_value is_used address_of read_ipv4 read_ipv6 read_octet read_segment read_segments read_number
+no_words = refl
+
+stdio_with_a_port : server_plan_of (codes "-p" ∷ codes "5700" ∷ codes "--stdio" ∷ []) ≡ Ok (record { mode = Stdio; limits = limits_of 65536 65536 131072 16 16 16; connections = 16; dynamic_max = 0; turns = 1000000000000 })
+unfolding clap_on_literals server_plan_of server_plan_in values_said limits_said number_within decimal_value is_used address_of read_ipv4 read_ipv6 read_octet read_segment read_segments read_number
+stdio_with_a_port = refl
+
+queue_too_small : server_plan_of (codes "-p" ∷ codes "5700" ∷ codes "--stdio" ∷ codes "--queue" ∷ codes "1000" ∷ []) ≡ Err (Value (codes "--queue"))
+unfolding clap_on_literals server_plan_of server_plan_in values_said limits_said number_within decimal_value is_used address_of read_ipv4 read_ipv6 read_octet read_segment read_segments read_number
+queue_too_small = refl
+
+queue_of_the_greatest_message : server_plan_of (codes "--max-sent" ∷ codes "1152" ∷ codes "--queue=1152" ∷ codes "-d7" ∷ []) ≡ Ok (record { mode = Listen every_address 5683; limits = limits_of 65536 1152 1152 16 16 16; connections = 16; dynamic_max = 7; turns = 1000000000000 })
+unfolding clap_on_literals server_plan_of server_plan_in values_said limits_said number_within decimal_value is_used address_of read_ipv4 read_ipv6 read_octet read_segment read_segments read_number
+queue_of_the_greatest_message = refl
+
+first_in_the_order_of_the_line : server_plan_of (codes "--turns" ∷ codes "x" ∷ codes "--stdio" ∷ codes "--script" ∷ codes "-" ∷ codes "-p" ∷ codes "0" ∷ []) ≡ Err (Value (codes "-p"))
+unfolding clap_on_literals server_plan_of server_plan_in values_said limits_said number_within decimal_value is_used address_of read_ipv4 read_ipv6 read_octet read_segment read_segments read_number
+first_in_the_order_of_the_line = refl
+
+two_modes : server_plan_of (codes "--stdio" ∷ codes "--script" ∷ codes "-" ∷ []) ≡ Err Clash
+unfolding clap_on_literals server_plan_of server_plan_in values_said limits_said number_within decimal_value is_used address_of read_ipv4 read_ipv6 read_octet read_segment read_segments read_number
+two_modes = refl
+
+a_script : server_plan_of (codes "--script" ∷ codes "-" ∷ codes "--observers" ∷ codes "0256" ∷ []) ≡ Ok (record { mode = Script (codes "-"); limits = limits_of 65536 65536 131072 16 256 16; connections = 16; dynamic_max = 0; turns = 1000000000000 })
+unfolding clap_on_literals server_plan_of server_plan_in values_said limits_said number_within decimal_value is_used address_of read_ipv4 read_ipv6 read_octet read_segment read_segments read_number
+a_script = refl
+
+a_stray_word : server_plan_of (codes "x" ∷ []) ≡ Err (Usage (kind.UnknownArgument ∷ []))
+unfolding clap_on_literals server_plan_of server_plan_in values_said limits_said number_within decimal_value is_used address_of read_ipv4 read_ipv6 read_octet read_segment read_segments read_number
+a_stray_word = refl
+
+help_of_the_server : server_plan_of (codes "--help" ∷ []) ≡ Err (Usage (kind.DisplayHelp ∷ []))
+unfolding clap_on_literals server_plan_of server_plan_in values_said limits_said number_within decimal_value is_used address_of read_ipv4 read_ipv6 read_octet read_segment read_segments read_number
+help_of_the_server = refl
+
+help_by_its_letter : server_plan_of (codes "-p" ∷ codes "0" ∷ codes "-h" ∷ []) ≡ Err (Usage (kind.DisplayHelp ∷ []))
+unfolding clap_on_literals server_plan_of server_plan_in values_said limits_said number_within decimal_value is_used address_of read_ipv4 read_ipv6 read_octet read_segment read_segments read_number
+help_by_its_letter = refl
+
+version_of_the_server : server_plan_of (codes "--version" ∷ []) ≡ Err (Usage (kind.DisplayVersion ∷ []))
+unfolding clap_on_literals server_plan_of server_plan_in values_said limits_said number_within decimal_value is_used address_of read_ipv4 read_ipv6 read_octet read_segment read_segments read_number
+version_of_the_server = refl
+
+version_by_its_letter : server_plan_of (codes "-V" ∷ codes "--turns" ∷ codes "0" ∷ []) ≡ Err (Usage (kind.DisplayVersion ∷ []))
+unfolding clap_on_literals server_plan_of server_plan_in values_said limits_said number_within decimal_value is_used address_of read_ipv4 read_ipv6 read_octet read_segment read_segments read_number
+version_by_its_letter = refl
+
+an_option_twice : server_plan_of (codes "-p" ∷ codes "1" ∷ codes "-p" ∷ codes "1" ∷ []) ≡ Err (Usage (kind.ArgumentConflict ∷ []))
+unfolding clap_on_literals server_plan_of server_plan_in values_said limits_said number_within decimal_value is_used address_of read_ipv4 read_ipv6 read_octet read_segment read_segments read_number
+an_option_twice = refl
+
+an_address : server_plan_of (codes "-A" ∷ codes "127.0.0.1" ∷ []) ≡ Ok (record { mode = Listen (ip.V4 (record { octets = 127 ∷ 0 ∷ 0 ∷ 1 ∷ [] })) 5683; limits = limits_of 65536 65536 131072 16 16 16; connections = 16; dynamic_max = 0; turns = 1000000000000 })
+unfolding clap_on_literals server_plan_of server_plan_in values_said limits_said number_within decimal_value is_used address_of read_ipv4 read_ipv6 read_octet read_segment read_segments read_number
+an_address = refl
+
+an_address_with_colons : server_plan_of (codes "-A" ∷ codes "::1" ∷ []) ≡ Ok (record { mode = Listen (ip.V6 (record { segments = 0 ∷ 0 ∷ 0 ∷ 0 ∷ 0 ∷ 0 ∷ 0 ∷ 1 ∷ [] })) 5683; limits = limits_of 65536 65536 131072 16 16 16; connections = 16; dynamic_max = 0; turns = 1000000000000 })
+unfolding clap_on_literals server_plan_of server_plan_in values_said limits_said number_within decimal_value is_used address_of read_ipv4 read_ipv6 read_octet read_segment read_segments read_number
+an_address_with_colons = refl
+
+no_address : server_plan_of (codes "-A" ∷ codes "localhost" ∷ []) ≡ Err (Value (codes "-A"))
+unfolding clap_on_literals server_plan_of server_plan_in values_said limits_said number_within decimal_value is_used address_of read_ipv4 read_ipv6 read_octet read_segment read_segments read_number
+no_address = refl
+
+-- ---- coap-client
+
+uri_alone : fault_of client_app (codes "coap+tcp://h/" ∷ []) ≡ []
+unfolding clap_on_literals request_said uri_said payload_said clashes number_within decimal_value is_used method_named format_named format_of option_bytes extra_of hex_value decode_pairs percent_decode
+uri_alone = refl
+
+no_uri : fault_of client_app (codes "-U" ∷ []) ≡ kind.MissingRequiredArgument ∷ []
+unfolding clap_on_literals request_said uri_said payload_said clashes number_within decimal_value is_used method_named format_named format_of option_bytes extra_of hex_value decode_pairs percent_decode
+no_uri = refl
+
+two_uris : fault_of client_app (codes "coap+tcp://h/" ∷ codes "coap+tcp://h/" ∷ []) ≡ kind.UnknownArgument ∷ []
+unfolding clap_on_literals request_said uri_said payload_said clashes number_within decimal_value is_used method_named format_named format_of option_bytes extra_of hex_value decode_pairs percent_decode
+two_uris = refl
+
+an_unknown_letter : fault_of client_app (codes "-v" ∷ codes "coap+tcp://h/" ∷ []) ≡ kind.UnknownArgument ∷ []
+unfolding clap_on_literals request_said uri_said payload_said clashes number_within decimal_value is_used method_named format_named format_of option_bytes extra_of hex_value decode_pairs percent_decode
+an_unknown_letter = refl
+
+help_without_a_uri : fault_of client_app (codes "--help" ∷ []) ≡ kind.DisplayHelp ∷ []
+unfolding clap_on_literals request_said uri_said payload_said clashes number_within decimal_value is_used method_named format_named format_of option_bytes extra_of hex_value decode_pairs percent_decode
+help_without_a_uri = refl
+
+help_behind_a_uri : fault_of client_app (codes "coap+tcp://h/" ∷ codes "-wh" ∷ []) ≡ kind.DisplayHelp ∷ []
+unfolding clap_on_literals request_said uri_said payload_said clashes number_within decimal_value is_used method_named format_named format_of option_bytes extra_of hex_value decode_pairs percent_decode
+help_behind_a_uri = refl
+
+version_of_the_client : fault_of client_app (codes "--version" ∷ []) ≡ kind.DisplayVersion ∷ []
+unfolding clap_on_literals request_said uri_said payload_said clashes number_within decimal_value is_used method_named format_named format_of option_bytes extra_of hex_value decode_pairs percent_decode
+version_of_the_client = refl
+
+version_before_a_stray_word : fault_of client_app (codes "-V" ∷ codes "coap+tcp://h/" ∷ codes "coap+tcp://h/" ∷ []) ≡ kind.DisplayVersion ∷ []
+unfolding clap_on_literals request_said uri_said payload_said clashes number_within decimal_value is_used method_named format_named format_of option_bytes extra_of hex_value decode_pairs percent_decode
+version_before_a_stray_word = refl
+
+uri_behind_options : uri_said (matches_of client_app (codes "-w" ∷ codes "-e" ∷ codes "x" ∷ codes "coap+tcp://h/" ∷ [])) ≡ codes "coap+tcp://h/"
+unfolding clap_on_literals request_said uri_said payload_said clashes number_within decimal_value is_used method_named format_named format_of option_bytes extra_of hex_value decode_pairs percent_decode
+uri_behind_options = refl
+
+nothing_said : request_said (matches_of client_app (codes "coap+tcp://h/" ∷ [])) ≡ Ok (record { method = Get; content_format = None; accept = None; observe = None; wait = 90 })
+unfolding clap_on_literals request_said uri_said payload_said clashes number_within decimal_value is_used method_named format_named format_of option_bytes extra_of hex_value decode_pairs percent_decode
+nothing_said = refl
+
+all_options_said : request_said (matches_of client_app (codes "-m" ∷ codes "put" ∷ codes "-t" ∷ codes "application/json" ∷ codes "-A" ∷ codes "060" ∷ codes "coap+tcp://h/" ∷ codes "-s" ∷ codes "5" ∷ codes "-B7" ∷ [])) ≡ Ok (record { method = Put; content_format = Some 50; accept = Some 60; observe = Some 5; wait = 7 })
+unfolding clap_on_literals request_said uri_said payload_said clashes number_within decimal_value is_used method_named format_named format_of option_bytes extra_of hex_value decode_pairs percent_decode
+all_options_said = refl
+
+not_a_method : request_said (matches_of client_app (codes "-m" ∷ codes "GET" ∷ codes "-t" ∷ codes "x" ∷ codes "coap+tcp://h/" ∷ [])) ≡ Err (codes "-m")
+unfolding clap_on_literals request_said uri_said payload_said clashes number_within decimal_value is_used method_named format_named format_of option_bytes extra_of hex_value decode_pairs percent_decode
+not_a_method = refl
+
+not_a_format : request_said (matches_of client_app (codes "-B" ∷ codes "0" ∷ codes "-t" ∷ codes "65536" ∷ codes "coap+tcp://h/" ∷ [])) ≡ Err (codes "-t")
+unfolding clap_on_literals request_said uri_said payload_said clashes number_within decimal_value is_used method_named format_named format_of option_bytes extra_of hex_value decode_pairs percent_decode
+not_a_format = refl
+
+no_second_to_wait : request_said (matches_of client_app (codes "-B" ∷ codes "0" ∷ codes "coap+tcp://h/" ∷ [])) ≡ Err (codes "-B")
+unfolding clap_on_literals request_said uri_said payload_said clashes number_within decimal_value is_used method_named format_named format_of option_bytes extra_of hex_value decode_pairs percent_decode
+no_second_to_wait = refl
+
+too_many_seconds : request_said (matches_of client_app (codes "-s" ∷ codes "4294967296" ∷ codes "coap+tcp://h/" ∷ [])) ≡ Err (codes "-s")
+unfolding clap_on_literals request_said uri_said payload_said clashes number_within decimal_value is_used method_named format_named format_of option_bytes extra_of hex_value decode_pairs percent_decode
+too_many_seconds = refl
+
+an_option : extra_said (matches_of client_app (codes "-O" ∷ codes "2048,a,b" ∷ codes "coap+tcp://h/" ∷ [])) ≡ Ok (Some (2048, codes "a,b"))
+unfolding clap_on_literals request_said uri_said payload_said clashes number_within decimal_value is_used method_named format_named format_of option_bytes extra_of hex_value decode_pairs percent_decode
+an_option = refl
+
+an_option_of_pairs : extra_said (matches_of client_app (codes "-O" ∷ codes "2048,0x4a4B" ∷ codes "coap+tcp://h/" ∷ [])) ≡ Ok (Some (2048, codes "JK"))
+unfolding clap_on_literals request_said uri_said payload_said clashes number_within decimal_value is_used method_named format_named format_of option_bytes extra_of hex_value decode_pairs percent_decode
+an_option_of_pairs = refl
+
+an_empty_option : extra_said (matches_of client_app (codes "-O" ∷ codes "5," ∷ codes "coap+tcp://h/" ∷ [])) ≡ Ok (Some (5, []))
+unfolding clap_on_literals request_said uri_said payload_said clashes number_within decimal_value is_used method_named format_named format_of option_bytes extra_of hex_value decode_pairs percent_decode
+an_empty_option = refl
+
+an_option_of_half_a_pair : extra_said (matches_of client_app (codes "-O" ∷ codes "5,0x4" ∷ codes "coap+tcp://h/" ∷ [])) ≡ Err (codes "-O")
+unfolding clap_on_literals request_said uri_said payload_said clashes number_within decimal_value is_used method_named format_named format_of option_bytes extra_of hex_value decode_pairs percent_decode
+an_option_of_half_a_pair = refl
+
+an_option_of_no_pair : extra_said (matches_of client_app (codes "-O" ∷ codes "5,0x" ∷ codes "coap+tcp://h/" ∷ [])) ≡ Err (codes "-O")
+unfolding clap_on_literals request_said uri_said payload_said clashes number_within decimal_value is_used method_named format_named format_of option_bytes extra_of hex_value decode_pairs percent_decode
+an_option_of_no_pair = refl
+
+a_number_alone : extra_said (matches_of client_app (codes "-O" ∷ codes "5" ∷ codes "coap+tcp://h/" ∷ [])) ≡ Err (codes "-O")
+unfolding clap_on_literals request_said uri_said payload_said clashes number_within decimal_value is_used method_named format_named format_of option_bytes extra_of hex_value decode_pairs percent_decode
+a_number_alone = refl
+
+a_great_number : extra_said (matches_of client_app (codes "-O" ∷ codes "65536,x" ∷ codes "coap+tcp://h/" ∷ [])) ≡ Err (codes "-O")
+unfolding clap_on_literals request_said uri_said payload_said clashes number_within decimal_value is_used method_named format_named format_of option_bytes extra_of hex_value decode_pairs percent_decode
+a_great_number = refl
+
+a_payload : payload_said (matches_of client_app (codes "-e" ∷ codes "50%25%" ∷ codes "coap+tcp://h/" ∷ [])) ≡ codes "50%%"
+unfolding clap_on_literals request_said uri_said payload_said clashes number_within decimal_value is_used method_named format_named format_of option_bytes extra_of hex_value decode_pairs percent_decode
+a_payload = refl
+
+two_payloads : clashes (matches_of client_app (codes "-e" ∷ codes "x" ∷ codes "-f" ∷ codes "y" ∷ codes "coap+tcp://h/" ∷ [])) (record { method = Put; content_format = None; accept = None; observe = None; wait = 90 }) ≡ true
+unfolding clap_on_literals request_said uri_said payload_said clashes number_within decimal_value is_used method_named format_named format_of option_bytes extra_of hex_value decode_pairs percent_decode
+two_payloads = refl
+
+observed_with_put : clashes (matches_of client_app (codes "coap+tcp://h/" ∷ [])) (record { method = Put; content_format = None; accept = None; observe = Some 0; wait = 90 }) ≡ true
+unfolding clap_on_literals request_said uri_said payload_said clashes number_within decimal_value is_used method_named format_named format_of option_bytes extra_of hex_value decode_pairs percent_decode
+observed_with_put = refl
+
+observed_with_get : clashes (matches_of client_app (codes "-f" ∷ codes "y" ∷ codes "coap+tcp://h/" ∷ [])) (record { method = Get; content_format = None; accept = None; observe = Some 0; wait = 90 }) ≡ false
+unfolding clap_on_literals request_said uri_said payload_said clashes number_within decimal_value is_used method_named format_named format_of option_bytes extra_of hex_value decode_pairs percent_decode
+observed_with_get = refl

@@ -1,0 +1,20 @@
+use Rattle.std.proofs.Common.{codes}
+use Rattle.std.proofs.lemmas.Result.{IfOk-weaker}
+use Rattle.coap_command_line.specs.Prelude.{app_of, uri_rule, bare_app, letter_flag, letter_option}
+use Rattle.coap_command_line.proofs.WordLemmas.{shape_with_rule}
+use Rattle.coap_command_line.proofs.words.commands.client_command.Goals as goal
+
+pub returns : goal.returns
+returns c =
+    let e1 = shape_with_rule (app_of c.bare-command.result) (app_of c.in_ok-command.command) (bare_app (codes "coap-client")) (letter_option (codes "-m")) c.in_ok-command.ensures c.bare-command.ensures in
+    let e2 = shape_with_rule (app_of c.in_ok-command.command) (app_of c.in_ok-command-2.command) _ (letter_option (codes "-e")) c.in_ok-command-2.ensures e1 in
+    let e3 = shape_with_rule (app_of c.in_ok-command-2.command) (app_of c.in_ok-command-3.command) _ (letter_option (codes "-f")) c.in_ok-command-3.ensures e2 in
+    let e4 = shape_with_rule (app_of c.in_ok-command-3.command) (app_of c.in_ok-command-4.command) _ (letter_option (codes "-o")) c.in_ok-command-4.ensures e3 in
+    let e5 = shape_with_rule (app_of c.in_ok-command-4.command) (app_of c.in_ok-command-5.command) _ (letter_option (codes "-t")) c.in_ok-command-5.ensures e4 in
+    let e6 = shape_with_rule (app_of c.in_ok-command-5.command) (app_of c.in_ok-command-6.command) _ (letter_option (codes "-A")) c.in_ok-command-6.ensures e5 in
+    let e7 = shape_with_rule (app_of c.in_ok-command-6.command) (app_of c.in_ok-command-7.command) _ (letter_option (codes "-s")) c.in_ok-command-7.ensures e6 in
+    let e8 = shape_with_rule (app_of c.in_ok-command-7.command) (app_of c.in_ok-command-8.command) _ (letter_option (codes "-B")) c.in_ok-command-8.ensures e7 in
+    let e9 = shape_with_rule (app_of c.in_ok-command-8.command) (app_of c.in_ok-command-9.command) _ (letter_option (codes "-O")) c.in_ok-command-9.ensures e8 in
+    let e10 = shape_with_rule (app_of c.in_ok-command-9.command) (app_of c.in_ok-command-10.command) _ (letter_flag (codes "-U")) c.in_ok-command-10.ensures e9 in
+    let e11 = shape_with_rule (app_of c.in_ok-command-10.command) (app_of c.in_ok-command-11.command) _ (letter_flag (codes "-w")) c.in_ok-command-11.ensures e10 in
+    IfOk-weaker c.with_uri.result _ _ (λ done h. shape_with_rule (app_of c.in_ok-command-11.command) (app_of done) _ uri_rule h e11) c.with_uri.ensures

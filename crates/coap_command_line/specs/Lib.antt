@@ -1,0 +1,5 @@
+pub mod CommandLines
+pub mod ServerWords
+pub mod ClientWords
+pub mod PlanViews
+pub mod Prelude

@@ -1,0 +1,44 @@
+-- What the contracts and the proofs of the crate name, passed on from one place. Declares nothing.
+
+-- ---- std and the kit's crates
+pub use Rattle.clap.specs.Words.{first_of, found_of, rows_of, app_of, fault_of, is_simple, is_simple_and_free}
+pub use Rattle.clap.specs.Words.{matches_of, new_rule, with_rule, App, Kinds, Row, Rule, Text, first_value}
+pub use Rattle.clap.specs.declared.parser.matches.Found.{Found}
+unfoldable pub use Rattle.hex.specs.Hex.{decode_pairs}
+unfoldable pub use Rattle.percent_encoding.specs.Percent.{percent_decode}
+pub use Rattle.std.specs.Borrow.{Bor}
+pub use Rattle.std.specs.List.{list_any, after_first, before_first}
+pub use Rattle.std.specs.Net.Addr.{ipv4_octets, ipv6_segments}
+pub use Rattle.std.specs.Net.Grammar.{IsColonHex, IsDotted, IsIpText, Parses}
+pub use Rattle.std.specs.Net.Reader.{Read, whole_value}
+unfoldable pub use Rattle.std.specs.Net.Reader.{read_ipv4, read_ipv6, read_number, read_octet, read_segment}
+unfoldable pub use Rattle.std.specs.Net.Reader.{read_segments}
+pub use Rattle.std.specs.Prelude.{codes}
+pub use Rattle.std.specs.Result.{result_ok}
+pub use Rattle.std.specs.declared.net.ip_addr.IpAddr.{IpAddr}
+-- ---- coap_conn
+pub use Rattle.coap_conn.specs.Limits.{limits_of}
+-- ---- coap_text
+unfoldable pub use Rattle.coap_text.specs.Words.{decimal_value, hex_value}
+-- ---- coap_request
+pub use Rattle.coap_request.specs.Targets.{GivesUnlessMemory, target_of}
+pub use Rattle.coap_request.specs.declared.plan.ClientPlan.{ClientPlan}
+pub use Rattle.coap_request.specs.declared.plan.ServerPlan.{ServerPlan}
+pub use Rattle.coap_request.specs.declared.request.Method.TheVariants.{Get, Put}
+-- ---- coap_command_line
+pub use Rattle.coap_command_line.specs.ClientWords.{client_app, uri_rule, AreHalves, client_plan_in, extra_said}
+pub use Rattle.coap_command_line.specs.ClientWords.{is_comma}
+unfoldable pub use Rattle.coap_command_line.specs.ClientWords.{clashes, client_plan_of, extra_of, format_named}
+unfoldable pub use Rattle.coap_command_line.specs.ClientWords.{format_of, method_named, option_bytes, payload_said}
+unfoldable pub use Rattle.coap_command_line.specs.ClientWords.{request_said, uri_said}
+pub use Rattle.coap_command_line.specs.CommandLines.{named, option_value, Clash, Usage, Value, WordsFaultValue}
+pub use Rattle.coap_command_line.specs.CommandLines.{bare_app, letter_flag, letter_option, word_flag, word_option}
+unfoldable pub use Rattle.coap_command_line.specs.CommandLines.{number_within, is_used}
+pub use Rattle.coap_command_line.specs.PlanViews.{IsClientPlan, IsServerPlan, is_help_or_version, words_fault_number}
+pub use Rattle.coap_command_line.specs.PlanViews.{TellsClientPlan, client_value, extra_named, extra_value, IsTurnedDown}
+pub use Rattle.coap_command_line.specs.PlanViews.{TellsServerPlan, mode_value}
+pub use Rattle.coap_command_line.specs.ServerWords.{server_app, Listen, Script, Stdio, every_address}
+unfoldable pub use Rattle.coap_command_line.specs.ServerWords.{address_of, limits_said, server_plan_in, server_plan_of}
+unfoldable pub use Rattle.coap_command_line.specs.ServerWords.{values_said}
+-- ---- coap_command_line, declared
+pub use Rattle.coap_command_line.specs.declared.words.WordsFault.{WordsFault}

@@ -1,0 +1,109 @@
+-- What the words behind the name of the program `coap-server` ask for (our definition).
+use Rattle.std.specs.Prelude.{◌∷◌, [], ℕ, Bool, true, false, List, Option, Some, None, Result, Ok, Err, codes}
+use Rattle.std.specs.Net.Reader.{read_ipv4, read_ipv6, whole_value}
+use Rattle.std.specs.declared.net.ip_addr.IpAddr.{IpAddr}
+use Rattle.std.specs.declared.net.ip_addr.IpAddr.TheVariants as ip
+use Rattle.clap.specs.Simple.{new_shape}
+use Rattle.clap.specs.Words.{App, Row, Text, fault_of, first_of, matches_of}
+use Rattle.coap_conn.specs.Limits.{LimitValues, limits_of}
+use Rattle.coap_command_line.specs.CommandLines.{◌>>=◌, WordsFaultValue, Clash, Value, is_used, letter_option, number_within, option_value, unless_refused, word_flag, word_option}
+use Rattle.coap_command_line.specs.declared.words.server.ServerValues.{ServerValues}
+
+-- ---- the plan
+
+-- what the server does: it listens at an address and a port, serves standard input and output, or runs the script of a name
+pub data ModeValue : Type 0 where
+  Listen : (address : IpAddr) (port : ℕ) → ModeValue
+  Stdio : ModeValue
+  Script : (name : Text) → ModeValue
+
+pub record ServerPlanValue : Type 0 where
+  pub mode : ModeValue
+  pub limits : LimitValues
+  pub connections : ℕ
+  pub dynamic_max : ℕ
+  pub turns : ℕ
+
+-- ---- the options
+
+-- the command as `clap` is given it: flat, with one text or none to an option, a version, and no word for the program's own name.
+-- `clap` adds `-h` and `--help`, and for the version `-V` and `--version`; a use of these is a refusal of its own, by the kind
+-- DisplayHelp or DisplayVersion
+abbrev pub server_app : App
+server_app = record {
+  top = record (new_shape (codes "coap-server")) {
+    rules = letter_option (codes "-A") ∷ letter_option (codes "-p") ∷ letter_option (codes "-d")
+        ∷ word_flag (codes "--stdio") ∷ word_option (codes "--script")
+        ∷ word_option (codes "--max-message") ∷ word_option (codes "--max-sent") ∷ word_option (codes "--queue")
+        ∷ word_option (codes "--pending") ∷ word_option (codes "--observers")
+        ∷ word_option (codes "--connections") ∷ word_option (codes "--turns") ∷ [];
+    has_version = true;
+    no_binary_name = true;
+  };
+  subs = [];
+}
+
+-- ---- their texts
+
+-- the address, where there is one
+abbrev pub either_address : Option (List ℕ) → Option (List ℕ) → Option IpAddr
+either_address (Some octets) _ = Some (ip.V4 (record { octets = octets }))
+either_address None (Some segments) = Some (ip.V6 (record { segments = segments }))
+either_address None None = None
+
+-- the numeric address that a text writes: four decimal numbers with dots, or an IPv6 address (RFC 4291 section 2.2), as std
+-- reads them
+unfoldable pub address_of : Text → Option IpAddr
+address_of text = either_address (whole_value (read_ipv4 text)) (whole_value (read_ipv6 text))
+
+-- 0.0.0.0
+abbrev pub every_address : IpAddr
+every_address = ip.V4 (record { octets = 0 ∷ 0 ∷ 0 ∷ 0 ∷ [] })
+
+-- the limits of each connection: bytes of a message taken and of one sent, bytes of the queue, held answers, observers
+unfoldable pub limits_said : List Row → Result LimitValues Text
+limits_said rows = do
+  message ← option_value (codes "--max-message") (number_within 1152 1048576) 65536 rows
+  sent ← option_value (codes "--max-sent") (number_within 1152 65536) 65536 rows
+  queue ← option_value (codes "--queue") (number_within sent 4194304) 131072 rows
+  pending ← option_value (codes "--pending") (number_within 0 256) 16 rows
+  observers ← option_value (codes "--observers") (number_within 0 256) 16 rows
+  Ok (limits_of message sent queue pending observers 16)
+
+-- the values of all options but the two that choose a mode, or the name of the first one whose text means nothing or is out of
+-- its range, in the order of the program's usage line
+unfoldable pub values_said : List Row → Result ServerValues Text
+values_said rows = do
+  address ← option_value (codes "-A") address_of every_address rows
+  port ← option_value (codes "-p") (number_within 1 65535) 5683 rows
+  dynamic_max ← option_value (codes "-d") (number_within 0 1000) 0 rows
+  limits ← limits_said rows
+  connections ← option_value (codes "--connections") (number_within 1 256) 16 rows
+  turns ← option_value (codes "--turns") (number_within 1 1000000000000) 1000000000000 rows
+  Ok (record { address = address; port = port; dynamic_max = dynamic_max; limits = limits; connections = connections; turns = turns })
+
+-- ---- the answer
+
+-- standard input and output, the script of a name, or else the address and the port; the first two exclude each other
+abbrev pub mode_of : Bool → Option Text → IpAddr → ℕ → Option ModeValue
+mode_of true None address port = Some Stdio
+mode_of false (Some name) address port = Some (Script name)
+mode_of false None address port = Some (Listen address port)
+mode_of true (Some name) address port = None
+
+abbrev pub with_mode : ServerValues → Option ModeValue → Result ServerPlanValue WordsFaultValue
+with_mode values None = Err Clash
+with_mode values (Some mode) =
+    Ok (record { mode = mode; limits = values.limits; connections = values.connections; dynamic_max = values.dynamic_max; turns = values.turns })
+
+abbrev pub planned : Bool → Option Text → Result ServerValues Text → Result ServerPlanValue WordsFaultValue
+planned stdio script (Err name) = Err (Value name)
+planned stdio script (Ok values) = with_mode values (mode_of stdio script values.address values.port)
+
+-- the plan of the texts that `clap` hands out, or why there is none
+unfoldable pub server_plan_in : List Row → Result ServerPlanValue WordsFaultValue
+server_plan_in rows = planned (is_used (codes "--stdio") rows) (first_of (codes "--script") rows) (values_said rows)
+
+-- the plan of these words, or why they are refused: by `clap`, for the text of an option, for two options together, in this order
+unfoldable pub server_plan_of : List Text → Result ServerPlanValue WordsFaultValue
+server_plan_of words = unless_refused (fault_of server_app words) (server_plan_in (matches_of server_app words))

@@ -1,0 +1,204 @@
+//! The command lines as `clap` is given them.
+
+ghost use Rattle.std.specs.Prelude.{◌≡◌, IfErr, IfOk, Some, [], map, true};
+ghost use Rattle.coap_command_line.specs.Prelude.{app_of, fault_of, found_of, is_simple, is_simple_and_free, matches_of, new_rule, rows_of, with_rule, client_app, uri_rule, IsTurnedDown, server_app};
+ghost use Rattle.clap.specs.declared.builder.action.ArgAction.TheVariants.{SetTrue};
+ghost use Rattle.coap_command_line.specs.CommandLines as spec;
+
+use crate::words::{WordsFault, help};
+use clap::error::ErrorKind;
+use clap::{Arg, ArgAction, ArgMatches, Command};
+use std::alloc::{AllocError, Global};
+use std::convert::AsStr;
+
+/// The command with one more option of a letter, which takes a text.
+fn with_letter<'a>(
+    alloc: Global,
+    command: Command<'a>,
+    name: &'a str,
+    letter: char,
+    value: &'a str,
+    help: &'a str,
+) -> Result<Command<'a>, AllocError>
+    ensures { IfOk result (λ c. app_of c ≡ with_rule (app_of command.entry)
+        (record (new_rule name.entry.now) { short = Some letter; value_names = 1 })) }
+{
+    let option = Arg::new(alloc, name)
+        .short(letter)
+        .value_name(value)
+        .help(help);
+    command.arg(option)
+}
+
+/// The command with one more option of a word, which takes a text.
+fn with_word<'a>(
+    alloc: Global,
+    command: Command<'a>,
+    name: &'a str,
+    word: &'a str,
+    value: &'a str,
+    help: &'a str,
+) -> Result<Command<'a>, AllocError>
+    ensures { IfOk result (λ c. app_of c ≡ with_rule (app_of command.entry)
+        (record (new_rule name.entry.now) { long = Some word.entry.now; value_names = 1 })) }
+{
+    let option = Arg::new(alloc, name)
+        .long(word)
+        .value_name(value)
+        .help(help);
+    command.arg(option)
+}
+
+/// The command with one more option of a word, which takes a number.
+fn with_number<'a>(
+    alloc: Global,
+    command: Command<'a>,
+    name: &'a str,
+    word: &'a str,
+    help: &'a str,
+) -> Result<Command<'a>, AllocError>
+    ensures { IfOk result (λ c. app_of c ≡ with_rule (app_of command.entry)
+        (record (new_rule name.entry.now) { long = Some word.entry.now; value_names = 1 })) }
+{
+    with_word(alloc, command, name, word, "N", help)
+}
+
+/// The command with one more option of a letter, which takes no text.
+fn with_letter_flag<'a>(
+    alloc: Global,
+    command: Command<'a>,
+    name: &'a str,
+    letter: char,
+    help: &'a str,
+) -> Result<Command<'a>, AllocError>
+    ensures { IfOk result (λ c. app_of c ≡ with_rule (app_of command.entry)
+        (record (new_rule name.entry.now) { short = Some letter; action = Some SetTrue })) }
+{
+    let option = Arg::new(alloc, name)
+        .short(letter)
+        .action(ArgAction::SetTrue)
+        .help(help);
+    command.arg(option)
+}
+
+/// The command with one more option of a word, which takes no text.
+fn with_word_flag<'a>(
+    alloc: Global,
+    command: Command<'a>,
+    name: &'a str,
+    word: &'a str,
+    help: &'a str,
+) -> Result<Command<'a>, AllocError>
+    ensures { IfOk result (λ c. app_of c ≡ with_rule (app_of command.entry)
+        (record (new_rule name.entry.now) { long = Some word.entry.now; action = Some SetTrue })) }
+{
+    let option = Arg::new(alloc, name)
+        .long(word)
+        .action(ArgAction::SetTrue)
+        .help(help);
+    command.arg(option)
+}
+
+/// The command of this name with the version of the programs and no other option, whose words are those behind the
+/// program's name.
+fn bare<'a>(alloc: Global, name: &'a str, about: &'a str) -> Command<'a>
+    ensures { app_of result ≡ spec.bare_app name.entry.now }
+{
+    Command::new(alloc, name)
+        .about(about)
+        .version(help::VERSION)
+        .no_binary_name(true)
+}
+
+/// The command of `coap-server`.
+///
+/// # Errors
+///
+/// Where memory is refused.
+pub(super) fn server_command<'a>(alloc: Global) -> Result<Command<'a>, AllocError>
+    ensures { IfOk result (λ c. app_of c ≡ server_app) }
+{
+    let command = bare(alloc, "coap-server", help::SERVER);
+    let command = with_letter(alloc, command, "-A", 'A', "ADDRESS", help::ADDRESS)?;
+    let command = with_letter(alloc, command, "-p", 'p', "PORT", help::PORT)?;
+    let command = with_letter(alloc, command, "-d", 'd', "MAX", help::DYNAMIC_MAX)?;
+    let command = with_word_flag(alloc, command, "--stdio", "stdio", help::STDIO)?;
+    let command = with_word(alloc, command, "--script", "script", "FILE", help::SCRIPT)?;
+    let command = with_number(
+        alloc,
+        command,
+        "--max-message",
+        "max-message",
+        help::MAX_MESSAGE,
+    )?;
+    let command = with_number(alloc, command, "--max-sent", "max-sent", help::MAX_SENT)?;
+    let command = with_number(alloc, command, "--queue", "queue", help::QUEUE)?;
+    let command = with_number(alloc, command, "--pending", "pending", help::PENDING)?;
+    let command = with_number(alloc, command, "--observers", "observers", help::OBSERVERS)?;
+    let command = with_number(
+        alloc,
+        command,
+        "--connections",
+        "connections",
+        help::CONNECTIONS,
+    )?;
+    with_number(alloc, command, "--turns", "turns", help::TURNS)
+}
+
+/// The command with the URI as its one word that is no option, which has to be there.
+fn with_uri<'a>(alloc: Global, command: Command<'a>) -> Result<Command<'a>, AllocError>
+    ensures { IfOk result (λ c. app_of c ≡ with_rule (app_of command.entry) uri_rule) }
+{
+    let uri = Arg::new(alloc, "URI").required(true).help(help::URI);
+    command.arg(uri)
+}
+
+/// The command of `coap-client`.
+///
+/// # Errors
+///
+/// Where memory is refused.
+pub(super) fn client_command<'a>(alloc: Global) -> Result<Command<'a>, AllocError>
+    ensures { IfOk result (λ c. app_of c ≡ client_app) }
+{
+    let command = bare(alloc, "coap-client", help::CLIENT);
+    let command = with_letter(alloc, command, "-m", 'm', "METHOD", help::METHOD)?;
+    let command = with_letter(alloc, command, "-e", 'e', "TEXT", help::PAYLOAD)?;
+    let command = with_letter(alloc, command, "-f", 'f', "FILE", help::INPUT)?;
+    let command = with_letter(alloc, command, "-o", 'o', "FILE", help::OUTPUT)?;
+    let command = with_letter(alloc, command, "-t", 't', "FORMAT", help::CONTENT_FORMAT)?;
+    let command = with_letter(alloc, command, "-A", 'A', "FORMAT", help::ACCEPT)?;
+    let command = with_letter(alloc, command, "-s", 's', "SECONDS", help::OBSERVE)?;
+    let command = with_letter(alloc, command, "-B", 'B', "SECONDS", help::WAIT)?;
+    let command = with_letter(alloc, command, "-O", 'O', "NUM,TEXT", help::OPTION)?;
+    let command = with_letter_flag(alloc, command, "-U", 'U', help::PLAIN)?;
+    let command = with_letter_flag(alloc, command, "-w", 'w', help::NEWLINE)?;
+    with_uri(alloc, command)
+}
+
+/// What `clap` finds in the words of a flat command.
+///
+/// # Errors
+///
+/// `Usage` where `clap` refuses the words, and `Memory` where memory is refused.
+pub(super) fn matches_in<'a, S: AsStr>(
+    command: Command<'a>,
+    words: &'a [S],
+) -> Result<ArgMatches<'a>, WordsFault>
+    requires simple { is_simple (app_of command) ≡ true }
+    requires free { is_simple_and_free (app_of command) ≡ true }
+    ensures kinds { IfOk result (λ m. fault_of (app_of command.entry) (map S.text words.entry.now) ≡ []) }
+    ensures rows { IfOk result (λ m. rows_of (found_of m) ≡ matches_of (app_of command.entry)
+        (map S.text words.entry.now)) }
+    ensures refusal { IfErr result (IsTurnedDown (fault_of (app_of command.entry) (map S.text words.entry.now))) }
+{
+    match command.try_get_matches_from(words) {
+        Ok(matches) => Ok(matches),
+        Err(error) => {
+            if matches!(error.kind(), ErrorKind::OutOfMemory) {
+                return Err(WordsFault::Memory);
+            }
+            Err(WordsFault::Usage(error))
+        }
+    }
+}

@@ -1,0 +1,67 @@
+//! What the texts of options mean, whatever the program.
+
+ghost use Rattle.std.specs.Prelude.{◌≡◌, ◌≤◌, IfOk, IfSome, option_map};
+ghost use Rattle.coap_command_line.specs.Prelude.{first_of, found_of, rows_of};
+ghost use Rattle.coap_command_line.specs.CommandLines as spec;
+
+use clap::ArgMatches;
+use coap_text::number_in;
+
+/// The text of an option, where it was used.
+#[tactic(auto, using(crate::proofs::WordLemmas::first_text))]
+pub(super) fn text_of<'a>(matches: &ArgMatches<'a>, name: &str) -> Option<&'a str>
+    ensures { option_map (λ s. s.now) result ≡ first_of name.now (rows_of (found_of matches.now)) }
+{
+    matches.get_str(name)
+}
+
+/// Whether an option that takes no text was used.
+#[tactic(auto, unfolding(crate::specs::CommandLines::is_used))]
+pub(super) fn is_used(matches: &ArgMatches<'_>, name: &str) -> bool
+    ensures { result ≡ spec.is_used name.now (rows_of (found_of matches.now)) }
+{
+    match text_of(matches, name) {
+        Some(text) => text == "true",
+        None => false,
+    }
+}
+
+/// The number that a text means, where it lies between these bounds.
+#[tactic(auto, unfolding(crate::specs::CommandLines::number_within))]
+pub(super) fn number_within(text: &str, low: u64, high: u64) -> Option<u64>
+    ensures value { result ≡ spec.number_within low high text.now }
+    ensures bounds { IfSome result (λ n. (low ≤ n) × (n ≤ high)) }
+{
+    let number = number_in(text.as_bytes())?;
+    if number < low || number > high {
+        return None;
+    }
+    Some(number)
+}
+
+/// The number of an option, or this one where it is not used.
+///
+/// # Errors
+///
+/// The option's name, where its text is no decimal number between these bounds.
+pub(super) fn number(
+    matches: &ArgMatches<'_>,
+    name: &'static str,
+    low: u64,
+    high: u64,
+    unused: u64,
+) -> Result<u64, &'static str>
+    requires low { low ≤ unused }
+    requires high { unused ≤ high }
+    ensures value { spec.named result
+        ≡ spec.option_value name.now (spec.number_within low high) unused (rows_of (found_of matches.now)) }
+    ensures bounds { IfOk result (λ n. (low ≤ n) × (n ≤ high)) }
+{
+    match text_of(matches, name) {
+        Some(text) => match number_within(text, low, high) {
+            Some(number) => Ok(number),
+            None => Err(name),
+        },
+        None => Ok(unused),
+    }
+}

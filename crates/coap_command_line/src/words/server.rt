@@ -1,0 +1,161 @@
+//! The words of `coap-server`.
+
+ghost use Rattle.std.specs.Prelude.{◌≡◌, IfOk, Some, codes, option_map};
+ghost use Rattle.coap_command_line.specs.Prelude.{found_of, rows_of, named, option_value, TellsServerPlan, mode_value};
+ghost use Rattle.coap_command_line.specs.ServerWords as spec;
+
+use crate::words::WordsFault;
+use crate::words::readings::{is_used, number, text_of};
+use clap::ArgMatches;
+use coap_conn::Limits;
+use coap_request::{Mode, ServerPlan};
+use std::alloc::{AllocError, Global};
+use std::net::{IpAddr, Ipv4Addr};
+
+/// The values of all options but the two that choose a mode.
+#[derive(Clone, Copy)]
+pub(super) struct ServerValues {
+    pub(super) address: IpAddr,
+    pub(super) port: u16,
+    pub(super) dynamic_max: usize,
+    pub(super) limits: Limits,
+    pub(super) connections: usize,
+    pub(super) turns: u64,
+}
+
+/// The numeric address that a text writes.
+fn address_in(text: &str) -> Option<IpAddr>
+    ensures { result ≡ spec.address_of text.now }
+{
+    text.parse::<IpAddr>().ok()
+}
+
+/// The address to listen at, 0.0.0.0 where none is said.
+///
+/// # Errors
+///
+/// The option's name, where its text is no numeric address.
+fn address(matches: &ArgMatches<'_>) -> Result<IpAddr, &'static str>
+    ensures { named result
+        ≡ option_value (codes "-A") spec.address_of spec.every_address (rows_of (found_of matches.now)) }
+{
+    match text_of(matches, "-A") {
+        Some(text) => match address_in(text) {
+            Some(address) => Ok(address),
+            None => Err("-A"),
+        },
+        None => Ok(IpAddr::V4(Ipv4Addr::new(0, 0, 0, 0))),
+    }
+}
+
+/// The limits of each connection.
+///
+/// # Errors
+///
+/// The name of the first option whose text is no number in its range.
+#[tactic(auto, unfolding(crate::specs::ServerWords::limits_said))]
+fn limits(matches: &ArgMatches<'_>) -> Result<Limits, &'static str>
+    ensures { named result ≡ spec.limits_said (rows_of (found_of matches.now)) }
+{
+    let message = number(matches, "--max-message", 1_152, 1_048_576, 65_536)?;
+    let sent = number(matches, "--max-sent", 1_152, 65_536, 65_536)?;
+    let queue = number(matches, "--queue", sent, 4_194_304, 131_072)?;
+    let pending = number(matches, "--pending", 0, 256, 16)?;
+    let observers = number(matches, "--observers", 0, 256, 16)?;
+    let Ok(limits) = Limits::new(
+        message as usize,
+        sent as usize,
+        queue as usize,
+        pending as usize,
+        observers as usize,
+        16,
+    ) else {
+        unreachable!()
+    };
+    Ok(limits)
+}
+
+/// The values of all options but the two that choose a mode.
+///
+/// # Errors
+///
+/// The name of the first option whose text means nothing or is out of its range, in the order of the usage line.
+#[tactic(auto, unfolding(crate::specs::ServerWords::values_said))]
+pub(super) fn server_values(matches: &ArgMatches<'_>) -> Result<ServerValues, &'static str>
+    ensures { named result ≡ spec.values_said (rows_of (found_of matches.now)) }
+{
+    let address = address(matches)?;
+    let port = number(matches, "-p", 1, 65_535, 5_683)?;
+    let dynamic_max = number(matches, "-d", 0, 1_000, 0)?;
+    let limits = limits(matches)?;
+    let connections = number(matches, "--connections", 1, 256, 16)?;
+    let turns = number(matches, "--turns", 1, 1_000_000_000_000, 1_000_000_000_000)?;
+    Ok(ServerValues {
+        address,
+        port: port as u16,
+        dynamic_max: dynamic_max as usize,
+        limits,
+        connections: connections as usize,
+        turns,
+    })
+}
+
+/// What the server does: `None` where `--stdio` and `--script` exclude each other.
+///
+/// # Errors
+///
+/// Where memory is refused for the script's name.
+fn mode_in(
+    alloc: Global,
+    stdio: bool,
+    script: Option<&str>,
+    address: IpAddr,
+    port: u16,
+) -> Result<Option<Mode>, AllocError>
+    ensures { IfOk result (λ found. option_map mode_value found ≡ spec.mode_of stdio
+        (option_map (λ s. s.now) script.entry) address port) }
+{
+    match script {
+        Some(name) => {
+            if stdio {
+                return Ok(None);
+            }
+            let name = String::from_str(alloc, name)?;
+            Ok(Some(Mode::Script(name)))
+        }
+        None => {
+            if stdio {
+                return Ok(Some(Mode::Stdio));
+            }
+            Ok(Some(Mode::Listen(address, port)))
+        }
+    }
+}
+
+/// The plan of what `clap` found in the words.
+///
+/// # Errors
+///
+/// `Value`, `Clash` or `Memory`.
+#[tactic(auto, unfolding(crate::specs::ServerWords::server_plan_in))]
+pub(super) fn server_plan(alloc: Global, matches: &ArgMatches<'_>) -> Result<ServerPlan, WordsFault>
+    ensures { TellsServerPlan (spec.server_plan_in (rows_of (found_of matches.now))) result }
+{
+    let values = match server_values(matches) {
+        Ok(values) => values,
+        Err(name) => return Err(WordsFault::Value(name)),
+    };
+    let stdio = is_used(matches, "--stdio");
+    let script = text_of(matches, "--script");
+    match mode_in(alloc, stdio, script, values.address, values.port) {
+        Ok(Some(mode)) => Ok(ServerPlan {
+            mode,
+            limits: values.limits,
+            connections: values.connections,
+            dynamic_max: values.dynamic_max,
+            turns: values.turns,
+        }),
+        Ok(None) => Err(WordsFault::Clash),
+        Err(_) => Err(WordsFault::Memory),
+    }
+}
