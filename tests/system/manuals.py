@@ -36,12 +36,13 @@ ANSWERED_LASTS = 30
 LIMIT = 30
 
 # what both programs have of libraries that tell faults
-LIBRARIES = ["coap_io/src/*.rt", "coap_program/src/*.rt", "coap_sockets/src/*.rt", "coap_client/src/words.rt"]
+LIBRARIES = ["coap_io/src/*.rt", "coap_program/src/*.rt", "coap_sockets/src/*.rt", "coap_command_line/src/words.rt"]
 
 SOURCES = {
     # where a program has its lines and statuses
     "coap-server": ["coap_server/src/*.rt", "coap_serve/src/*.rt"] + LIBRARIES,
-    "coap-client": ["coap_client_main/src/*.rt", "coap_client/src/run.rt", "coap_client/src/say.rt"] + LIBRARIES,
+    "coap-client": ["coap_client_main/src/*.rt", "coap_client_engine/src/run.rt", "coap_client_engine/src/run/*.rt",
+                    "coap_client_engine/src/say.rt"] + LIBRARIES,
 }
 
 # what a plan that the words cannot ask for would be told, which is no matter of a manual
@@ -226,7 +227,7 @@ def check_formats(checks, manual, program, more):
     """That the content formats by name are those of the source, and are taken."""
     _, lines = next(item for item in manual.items("DESCRIPTION") if item[0][:2] == ["Fl", "t"])
     named = re.findall(r"\.Dq (\S+)\n\((\d+)\)", "\n".join(lines))
-    source = source_of(["coap_client/src/words/client.rt"])
+    source = source_of(["coap_command_line/src/words/client.rt"])
     checks.same("content formats", named, re.findall(r'text == "(\w+/\S+)" \{\s*Some\((\d+)\)', source))
     for name, _ in named:
         checks.same("content format %s" % name, run([program, "-t", name, "-A", name] + more)[0] == USAGE, False)
@@ -331,7 +332,7 @@ def check(server, client):
             check_options(checks, manual, program)
             check_order(checks, manual, program, more)
             checks.same("%s: ranges are found" % name, check_ranges(checks, manual, program, more) > 0, True)
-            check_defaults(checks, manual, source_of(["coap_client/src/words/%s.rt" % name.removeprefix("coap-")]))
+            check_defaults(checks, manual, source_of(["coap_command_line/src/words/%s.rt" % name.removeprefix("coap-")]))
             check_statuses(checks, manual, source)
             check_lines(checks, manual, source)
             check_faults(checks, manual, program, faults)

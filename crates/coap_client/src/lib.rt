@@ -1,12 +1,23 @@
-//! A CoAP client over reliable transports (RFC 8323), and the command lines of both programs.
+//! A CoAP client over reliable transports (RFC 8323), and the command lines of both programs: all public names of the
+//! crates of the client.
+//!
+//! - `coap_request` has targets, requests and plans: `Target`, `Method`, `Extras`, `ClientPlan`, `ServerPlan`.
+//! - `coap_command_line` makes a plan of arguments: `client_words`, `server_words`, `WordsFault`.
+//! - `coap_client_engine` has the connection and its run: `Client`, `Event`, `run_client`, and the theorems of `laws`.
+//!
+//! This crate contains no function. A program that embeds a client imports these names from here, as `coap_client_main`
+//! does. `coap_server` imports from the first two crates, so that it does not wait for the proof of the client. Continue
+//! with `coap_client_engine/src/client.rt`.
 #![tactic(auto)]
 
-mod client;
-pub mod laws;
-mod run;
-mod say;
-
-pub use client::{Client, Event, Taken};
+pub use coap_client_engine::{Client, ClientFault, Event, Taken, run_client};
 pub use coap_command_line::{WordsFault, client_words, server_words};
 pub use coap_request::{ClientPlan, Extras, Method, Mode, ServerPlan, Target, TargetFault};
-pub use run::{ClientFault, run_client};
+
+/// Theorems over all clients.
+pub mod laws {
+    pub use coap_client_engine::laws::{
+        cuts_do_not_matter, limits_are_kept, messages_are_those_spelled, tokens_are_given_once,
+        what_is_queued_fits,
+    };
+}

@@ -1,9 +1,9 @@
 //! The program `coap-server`: CoAP over reliable transports (RFC 8323).
 //!
-//! Its words are those of `coap_command_line::server_words`. With `--stdio` it serves one connection over standard input
-//! and output; with `--script FILE` it replays the script in that file, or in standard input where FILE is `-`, on a
-//! server, and writes the line of each event. Else it listens at an address, and serves the connections that are opened
-//! to it.
+//! Its words are those of `coap_command_line::server_words`. With `--stdio` it serves one connection over standard
+//! input and output; with `--script FILE` it replays the script in that file, or in standard input where FILE is `-`, on
+//! a server, and writes the line of each event. Else it listens at an address, and serves the connections that are
+//! opened to it.
 #![tactic(auto)]
 
 ghost use Rattle.std.specs.Prelude.{◌≡◌, true, is_some, IfSome, IfNone};

@@ -1,5 +1,0 @@
-use Rattle.coap_client.proofs.TokenLaws.{tokens_once}
-use Rattle.coap_client.proofs.laws.tokens_are_given_once.Goals as goal
-
-pub returns : goal.returns
-returns c limits tokens calls accepted = tokens_once limits tokens calls accepted

@@ -1,0 +1,61 @@
+-- What a step queues stands behind what was queued, and is at most as great as the greatest message that may be sent at that
+-- moment.
+use Rattle.std.proofs.Common.{◌≡◌, ℕ, Bool, true, false, cond, List, [], ◌∷◌, ◌++◌, refl, sym, ◌∙◌}
+use Rattle.coap_client_engine.specs.Prelude.{◌+◌, is_none, Message, takes_messages, reject_of, reject_reason, AllFit}
+use Rattle.coap_client_engine.specs.Prelude.{OutstandingValue, Ping, with_cancelled, asking_refusal, cancel_refusal}
+use Rattle.coap_client_engine.specs.Prelude.{next_token, with_token, entry_of, ping_with, Effect, stop, abort, react}
+use Rattle.coap_client_engine.specs.Prelude.{History, limit_now, standing_now, asking_now, with_effect, after_asking, after}
+use Rattle.coap_client_engine.specs.Prelude.{end_reason, ClientStep, Handles, Faults, Requests, Cancels, Pings, Writes}
+use Rattle.coap_client_engine.specs.Prelude.{Ends, step}
+use Rattle.std.proofs.lemmas.List.{append-nil}
+use Rattle.coap_conn.specs.Calls as call
+use Rattle.coap_conn.proofs.AskingLaws.{none_where}
+use Rattle.coap_conn.proofs.HistoryLaws.{reaction_fits, stopped_fits, asked_fits, cancelled_fits}
+
+-- more is queued, and it fits
+abbrev GrowsFit : History → History → Type 0
+GrowsFit h k = (more : List Message) × (k.queued ≡ h.queued ++ more) × AllFit (limit_now h) more
+
+grows_none : (h k : History) → k.queued ≡ h.queued → GrowsFit h k
+grows_none h k same = ([], same ∙ sym (append-nil h.queued), tt)
+
+-- an effect where a test says so
+effect_grows_fit : (h : History) (e : Effect) (does : Bool) → AllFit (limit_now h) e.queued → GrowsFit h (cond does (with_effect h e) h)
+effect_grows_fit h e true fit = (e.queued, refl, fit)
+effect_grows_fit h e false fit = grows_none h h refl
+
+heard_grows : (h : History) (m : Message) (takes : Bool)
+    → GrowsFit h (cond takes (record (with_effect h (react (standing_now h) m).effect) { handled = h.handled ++ m ∷ [] }) h)
+heard_grows h m true = ((react (standing_now h) m).effect.queued, refl, reaction_fits h m)
+heard_grows h m false = grows_none h h refl
+
+-- a message where a test says so
+sent_grows : (h : History) (m : Message) (outstanding : List OutstandingValue) (tokens : ℕ) (does : Bool)
+    → (does ≡ true → AllFit (limit_now h) (m ∷ []))
+    → GrowsFit h (cond does (record h { queued = h.queued ++ m ∷ []; outstanding = outstanding; tokens = tokens }) h)
+sent_grows h m outstanding tokens true fit = (m ∷ [], refl, fit refl)
+sent_grows h m outstanding tokens false fit = grows_none h h refl
+
+asked_grows : (h : History) (m : Message) (e : OutstandingValue) → GrowsFit h (after_asking h m e)
+asked_grows h m e =
+    sent_grows h m (h.outstanding ++ e ∷ []) (h.tokens + 1) (is_none (asking_refusal (asking_now h) m))
+    (λ may. asked_fits h m (none_where (asking_refusal (asking_now h) m) may))
+
+cancelled_grows : (h : History) (token : List ℕ) (m : Message) → GrowsFit h (after h (call.Cancel token m))
+cancelled_grows h token m =
+    let sent : Message = with_token m token in
+    sent_grows h sent (with_cancelled token h.outstanding) h.tokens (is_none (cancel_refusal (asking_now h) token sent))
+    (λ may. cancelled_fits h token sent (none_where (cancel_refusal (asking_now h) token sent) may))
+
+-- each step only adds to what is queued, and what it adds fits
+pub step_grows : (h : History) (s : ClientStep)
+    → (more : List Message) × ((step h s).queued ≡ h.queued ++ more) × AllFit (limit_now h) more
+unfolding step
+step_grows h (Handles m) = heard_grows h m (takes_messages h.phase)
+step_grows h (Faults fault) =
+    effect_grows_fit h (abort (standing_now h) (reject_reason (reject_of fault))) (takes_messages h.phase) (stopped_fits h (reject_reason (reject_of fault)))
+step_grows h (Requests m observe) = asked_grows h (with_token m (next_token h.tokens)) (entry_of observe (next_token h.tokens))
+step_grows h (Cancels token m) = cancelled_grows h token m
+step_grows h (Pings custody) = asked_grows h (ping_with custody (next_token h.tokens)) (Ping (next_token h.tokens))
+step_grows h (Writes n) = grows_none h (step h (Writes n)) refl
+step_grows h (Ends cut) = effect_grows_fit h (stop (standing_now h) (end_reason cut) []) (takes_messages h.phase) tt

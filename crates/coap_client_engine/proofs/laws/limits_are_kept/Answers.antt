@@ -1,0 +1,14 @@
+use Rattle.coap_client_engine.proofs.LimitLaws.{few_kept, few_wait, few_outstanding, client_holds_nothing}
+use Rattle.coap_client_engine.proofs.laws.limits_are_kept.Goals as goal
+
+pub returns-clause-kept : goal.returns-clause-kept
+returns-clause-kept c limits tokens calls ranges accepted = few_kept limits tokens calls ranges accepted
+
+pub returns-clause-waiting : goal.returns-clause-waiting
+returns-clause-waiting c limits tokens calls ranges accepted = few_wait limits tokens calls ranges accepted
+
+pub returns-clause-outstanding : goal.returns-clause-outstanding
+returns-clause-outstanding c limits tokens calls ranges accepted = few_outstanding limits tokens calls
+
+pub returns-clause-held : goal.returns-clause-held
+returns-clause-held c limits tokens calls = client_holds_nothing limits tokens calls

@@ -1,0 +1,161 @@
+-- What a client's calls were handed and accepted, the steps that this makes, and the history of its connection after it.
+use Rattle.std.specs.Prelude.{◌≡◌, ℕ, ◌≤◌, Bool, ◌&&◌, List, [], ◌∷◌, ◌++◌, length, map, drop, Option, Some, None, nat_le, if◌then◌else◌}
+use Rattle.std.specs.List.{flat_map}
+use Rattle.coap_wire.specs.Message.{Message}
+use Rattle.coap_wire.specs.Stream.{StreamFault, Stream, split}
+use Rattle.coap_frame.specs.Framing.{framing}
+use Rattle.coap_conn.specs.declared.phase.Role.TheVariants.{Client}
+use Rattle.coap_conn.specs.Limits.{LimitValues}
+use Rattle.coap_conn.specs.Phases.{takes_messages}
+use Rattle.coap_conn.specs.Rejects.{reject_of, reject_reason}
+use Rattle.coap_conn.specs.Reaction.{react}
+use Rattle.coap_conn.specs.History.{History, new_history, standing_now, waiting_of, after, link_of}
+use Rattle.coap_conn.specs.Calls as call
+use Rattle.coap_conn.specs.LinkValue.{free_in}
+use Rattle.coap_request.specs.declared.request.Method.{Method}
+use Rattle.coap_request.specs.Targets.{TargetValue}
+use Rattle.coap_request.specs.Requests.{ExtrasValue, request_of, cancel_of}
+use Rattle.coap_client_engine.specs.ClientValues.{ClientValue, EventValue, Stopped, event_told, is_cut, send_refusal, cancelling_refusal, ping_refusal}
+
+-- a call that was accepted, with what it took; a refused call is none
+pub data ClientCall : Type 0 where
+  Took : (bytes : List ℕ) → ClientCall
+  Sent : (method : Method) (target : TargetValue) (extras : ExtrasValue) → ClientCall
+  Cancelled : (token : List ℕ) (target : TargetValue) (extras : ExtrasValue) → ClientCall
+  Pinged : (custody : Bool) → ClientCall
+  Wrote : (n : ℕ) → ClientCall
+  Ended : ClientCall
+
+-- what happens to the connection, with nothing of what bytes spell or of where they are cut
+pub data ClientStep : Type 0 where
+  Handles : (m : Message) → ClientStep
+  Faults : (fault : StreamFault) → ClientStep
+  Requests : (m : Message) (observe : Bool) → ClientStep
+  Cancels : (token : List ℕ) (m : Message) → ClientStep
+  Pings : (custody : Bool) → ClientStep
+  Writes : (n : ℕ) → ClientStep
+  Ends : (cut : Bool) → ClientStep
+
+-- ---- steps
+
+abbrev pub taken_by : ClientCall → List ℕ
+taken_by (Took bytes) = bytes
+taken_by (Sent method target extras) = []
+taken_by (Cancelled token target extras) = []
+taken_by (Pinged custody) = []
+taken_by (Wrote n) = []
+taken_by Ended = []
+
+-- what all bytes taken spell, where messages of at most M bytes are taken
+abbrev pub stream_in : ℕ → List ClientCall → Stream
+stream_in M calls = split M (flat_map taken_by calls)
+
+-- a fault that was not there before
+abbrev pub new_fault : Option StreamFault → Option StreamFault → List ClientStep
+new_fault before None = []
+new_fault None (Some fault) = Faults fault ∷ []
+new_fault (Some old) (Some fault) = []
+
+-- the messages and the fault of a stream beyond those of what it goes on from
+abbrev pub beyond : Stream → Stream → List ClientStep
+beyond before after = map Handles (drop (length before.messages) after.messages) ++ new_fault before.fault after.fault
+
+-- the steps of a call behind others: taken bytes make those whose last byte is among them
+unfoldable pub steps_by : ℕ → List ClientCall → ClientCall → List ClientStep
+steps_by M earlier (Took bytes) = beyond (stream_in M earlier) (stream_in M (earlier ++ Took bytes ∷ []))
+steps_by M earlier (Sent method target extras) = Requests (request_of method target extras) extras.observe ∷ []
+steps_by M earlier (Cancelled token target extras) = Cancels token (cancel_of target extras) ∷ []
+steps_by M earlier (Pinged custody) = Pings custody ∷ []
+steps_by M earlier (Wrote n) = Writes n ∷ []
+steps_by M earlier Ended = Ends (is_cut (stream_in M earlier).rest) ∷ []
+
+unfoldable pub steps_behind : ℕ → List ClientCall → List ClientCall → List ClientStep
+steps_behind M earlier [] = []
+steps_behind M earlier (c ∷ cs) = steps_by M earlier c ++ steps_behind M (earlier ++ c ∷ []) cs
+
+-- the steps of calls
+unfoldable pub steps_of : ℕ → List ClientCall → List ClientStep
+steps_of M calls = steps_behind M [] calls
+
+-- ---- the connection
+
+unfoldable pub step : History → ClientStep → History
+step h (Handles m) = after h (call.Handle m)
+step h (Faults fault) = after h (call.Reject (reject_of fault))
+step h (Requests m observe) = after h (call.Request m observe)
+step h (Cancels token m) = after h (call.Cancel token m)
+step h (Pings custody) = after h (call.Ping custody)
+step h (Writes n) = after h (call.Written n)
+step h (Ends cut) = after h (call.End cut)
+
+unfoldable pub after_steps : History → List ClientStep → History
+after_steps h [] = h
+after_steps h (s ∷ ss) = after_steps (step h s) ss
+
+-- the history of the connection after calls, where the number of the last token given was this one at first
+unfoldable pub client_after : LimitValues → ℕ → List ClientCall → History
+client_after limits tokens calls = after_steps (new_history Client limits tokens) (steps_of limits.max_message calls)
+
+-- ---- what a call takes of a piece
+
+-- there is room for the greatest message sent, and messages are taken
+abbrev pub handles : History → Bool
+handles h = takes_messages h.phase && nat_le h.limits.max_sent (free_in (link_of h))
+
+-- how many bytes of a piece are taken after calls: none where there is no room or no message is taken; else, behind what is left of the
+-- bytes so far, up to the end of a message, to the byte of a fault, or all of the piece
+unfoldable pub takes : LimitValues → ℕ → List ClientCall → List ℕ → ℕ
+takes limits tokens calls piece =
+    if handles (client_after limits tokens calls) then (framing limits.max_message (stream_in limits.max_message calls).rest piece).taken else 0
+
+-- ---- what the caller is told
+
+-- of the message handled, or of the stop
+abbrev pub event_by : History → List ClientStep → Option EventValue
+event_by h [] = None
+event_by h (Handles m ∷ more) = event_told m (react (standing_now h) m).verdict
+event_by h (Faults fault ∷ more) = Some (Stopped (reject_reason (reject_of fault)))
+event_by h (Requests m observe ∷ more) = None
+event_by h (Cancels token m ∷ more) = None
+event_by h (Pings custody ∷ more) = None
+event_by h (Writes n ∷ more) = None
+event_by h (Ends cut ∷ more) = None
+
+unfoldable pub event_of : LimitValues → ℕ → List ClientCall → ClientCall → Option EventValue
+event_of limits tokens earlier call = event_by (client_after limits tokens earlier) (steps_by limits.max_message earlier call)
+
+-- ---- what calls accept
+
+-- A call that a client accepts which stands so, with what it takes: all bytes of what it takes of them; what is not refused; no more
+-- bytes written than wait.
+unfoldable pub IsAccepted : LimitValues → ℕ → List ClientCall → ClientCall → Type 0
+IsAccepted limits tokens earlier (Took bytes) = takes limits tokens earlier bytes ≡ length bytes
+IsAccepted limits tokens earlier (Sent method target extras) = send_refusal (link_of (client_after limits tokens earlier)) method target extras ≡ None
+IsAccepted limits tokens earlier (Cancelled token target extras) = cancelling_refusal (link_of (client_after limits tokens earlier)) token target extras ≡ None
+IsAccepted limits tokens earlier (Pinged custody) = ping_refusal (link_of (client_after limits tokens earlier)) custody ≡ None
+IsAccepted limits tokens earlier (Wrote n) = n ≤ length (waiting_of (client_after limits tokens earlier))
+IsAccepted limits tokens earlier Ended = Unit {0}
+
+-- each, behind those before it
+unfoldable pub AreAcceptedBehind : LimitValues → ℕ → List ClientCall → List ClientCall → Type 0
+AreAcceptedBehind limits tokens earlier [] = Unit {0}
+AreAcceptedBehind limits tokens earlier (c ∷ cs) = IsAccepted limits tokens earlier c × AreAcceptedBehind limits tokens (earlier ++ c ∷ []) cs
+
+abbrev pub AreAccepted : LimitValues → ℕ → List ClientCall → Type 0
+AreAccepted limits tokens calls = AreAcceptedBehind limits tokens [] calls
+
+-- ---- which client shows calls
+
+-- the bytes kept of an unfinished frame: what is left of the bytes so far, where messages are taken
+abbrev pub kept_after : History → List ℕ → List ℕ
+kept_after h rest = if takes_messages h.phase then rest else []
+
+-- the client after calls
+unfoldable pub client_of : LimitValues → ℕ → List ClientCall → ClientValue
+client_of limits tokens calls =
+    record { frame = kept_after (client_after limits tokens calls) (stream_in limits.max_message calls).rest; link = link_of (client_after limits tokens calls) }
+
+-- a client shows its connection after calls: it accepted them, and all that it holds is what they leave
+pub record ClientShows (v : ClientValue) (tokens : ℕ) (calls : List ClientCall) : Type 0 where
+  pub accepted : AreAccepted v.link.limits tokens calls
+  pub same : v ≡ client_of v.link.limits tokens calls

@@ -1,0 +1,67 @@
+-- How the code's client and what it tells are seen in contracts.
+use Rattle.std.specs.Prelude.{◌≡◌, ℕ, Bool, List, Option, Some, None, Result, Ok, Err}
+use Rattle.coap_wire.specs.Message.{Message}
+use Rattle.coap_wire.specs.Reading.{message_of}
+use Rattle.coap_wire.specs.Recognition.{first_critical}
+use Rattle.coap_wire.specs.declared.fault.FormatFault.{FormatFault}
+use Rattle.coap_frame.specs.Framing.{FramerValue, IsFramer, framing_of}
+use Rattle.coap_conn.specs.Limits.{AreInRange}
+use Rattle.coap_conn.specs.LinkValue.{LinkValue}
+use Rattle.coap_client_engine.specs.ClientValues.{ClientValue, EventValue, Taking, answer_told, taking_found}
+use Rattle.coap_client_engine.specs.ClientValues as value
+use Rattle.coap_client_engine.specs.declared.client.Event.{Event}
+use Rattle.coap_client_engine.specs.declared.client.Event.TheVariants.{Ready, Response, Notification, Rejected, Pong, Stranger, Stopped}
+use Rattle.coap_client_engine.specs.declared.client.Heard.{Heard}
+use Rattle.coap_client_engine.specs.declared.client.Heard.TheVariants as heard
+use Rattle.coap_client_engine.specs.declared.client.Taken.{Taken}
+use Rattle.coap_client_engine.specs.declared.client.Client.TheInside.{Inside}
+
+abbrev pub client_value : Inside → ClientValue
+client_value c = record { frame = c.framer.kept; link = c.link }
+
+-- the framer takes the messages that the limits name; a client holds nothing
+pub record IsClient (c : Inside) : Type 0 where
+  pub ranges : AreInRange c.link.limits
+  pub greatest : c.framer.max ≡ c.link.limits.max_message
+  pub framer : IsFramer c.framer
+
+abbrev pub is_client : Inside → Type 0
+is_client c = IsClient c
+
+-- what is told, without where it lies in memory
+abbrev pub event_value : Event → EventValue
+event_value Ready = value.Ready
+event_value (Response m) = value.Response m
+event_value (Notification m) = value.Notification m
+event_value (Rejected token number) = value.Rejected token number
+event_value (Pong token custody) = value.Pong token custody
+event_value Stranger = value.Stranger
+event_value (Stopped why) = value.Stopped why
+
+-- ---- the same, where the frame of the message is kept
+
+abbrev pub answer_read : Result Message FormatFault → Bool → Option EventValue
+answer_read (Ok m) last = Some (answer_told m m.token last (first_critical m.options))
+answer_read (Err e) last = None
+
+abbrev pub pong_read : Result Message FormatFault → Bool → Option EventValue
+pong_read (Ok m) custody = Some (value.Pong m.token custody)
+pong_read (Err e) custody = None
+
+-- what was heard, where this is read of the frame
+abbrev pub heard_value : Heard → Result Message FormatFault → Option EventValue
+heard_value heard.Nothing read = None
+heard_value heard.Ready read = Some value.Ready
+heard_value (heard.Answer last) read = answer_read read last
+heard_value (heard.Pong custody) read = pong_read read custody
+heard_value heard.Stranger read = Some value.Stranger
+heard_value (heard.Stopped why) read = Some (value.Stopped why)
+
+-- what is told of what was taken
+abbrev pub taken_event : Taken → Option EventValue
+taken_event t = heard_value t.heard (message_of t.frame.now)
+
+-- ---- what a framer and a link take of a piece, where the client takes anything
+
+abbrev pub taking_framed : FramerValue → LinkValue → List ℕ → Taking
+taking_framed f l piece = taking_found (record { frame = f.kept; link = l }) (framing_of f piece) (framing_of f piece).finding

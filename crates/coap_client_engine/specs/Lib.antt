@@ -1,0 +1,10 @@
+pub mod ClientValues
+pub mod ClientWorld
+pub mod ClientLaws
+pub mod EventViews
+pub mod RunFaults
+pub mod RunTexts
+pub mod RunSteps
+pub mod RunCourse
+pub mod ClientRun
+pub mod Prelude

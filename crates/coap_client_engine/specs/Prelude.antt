@@ -1,0 +1,120 @@
+-- What the contracts and the proofs of the crate name, passed on from one place. Declares nothing.
+
+-- ---- std and the kit's crates
+pub use Rattle.std.specs.Borrow.{sem, follows_so}
+pub use Rattle.std.specs.List.{AllByRecursion, list_any, flat_map}
+pub use Rattle.std.specs.Prelude.{IfOk, OnOk, [], codes, find, if◌then◌else◌, is_none, nat_le, nat_lt, option_map, ◌&&◌}
+pub use Rattle.std.specs.Prelude.{◌+◌, ◌==◌, ◌||◌, ◌≢◌, ◌≤◌}
+pub use mathlib.Core.Option.{none}
+-- ---- coap_wire
+pub use Rattle.coap_wire.specs.Beginning.{Beginning, Faulty, Unfinished, Whole, beginning, fault_bytes}
+pub use Rattle.coap_wire.specs.Message.{Message}
+pub use Rattle.coap_wire.specs.Reading.{message_of}
+pub use Rattle.coap_wire.specs.Recognition.{first_critical}
+unfoldable pub use Rattle.coap_wire.specs.Recognition.{first_critical_behind, is_recognised, known_behind}
+pub use Rattle.coap_wire.specs.Refusal.{RefusedBy}
+unfoldable pub use Rattle.coap_wire.specs.Spelling.{spelling}
+pub use Rattle.coap_wire.specs.Stream.{StreamFault, Format, OfFrame, Stream, behind, frame_then, gone_on, split}
+pub use Rattle.coap_wire.specs.Stream.{split_on}
+pub use Rattle.coap_wire.specs.declared.fault.FormatFault.{FormatFault}
+pub use Rattle.coap_wire.specs.declared.fault.FrameFault.{FrameFault}
+-- ---- coap_frame
+pub use Rattle.coap_frame.specs.FramedViews.{finding_read}
+pub use Rattle.coap_frame.specs.Framing.{IsFramer, framing_of, framer_after, frame_back, AFault, AFrame, Finding}
+pub use Rattle.coap_frame.specs.Framing.{FramerValue, Framing, Nothing, framing_at, split_frame}
+unfoldable pub use Rattle.coap_frame.specs.Framing.{framing}
+-- ---- coap_conn
+pub use Rattle.coap_conn.specs.Announced.{bad_csm_option, has_critical_option}
+unfoldable pub use Rattle.coap_conn.specs.Announced.{announced}
+pub use Rattle.coap_conn.specs.Asking.{next_token, else_refusal, entry_of, ping_with, with_token}
+unfoldable pub use Rattle.coap_conn.specs.Asking.{asking_refusal, cancel_refusal, new_refusal, observation_refusal}
+pub use Rattle.coap_conn.specs.Calls.{link_after, end_reason}
+pub use Rattle.coap_conn.specs.Fit.{AllFit, bare_response, fit, without_options}
+pub use Rattle.coap_conn.specs.Held.{HeldValue, Pong}
+pub use Rattle.coap_conn.specs.History.{History, limit_now, waiting_of, IsHistory, after, after_asking, asking_now}
+pub use Rattle.coap_conn.specs.History.{link_of, new_history, standing_now, with_effect}
+pub use Rattle.coap_conn.specs.Limits.{LimitValues, AreInRange}
+pub use Rattle.coap_conn.specs.LinkValue.{standing_in, LinkValue, asking_in, bytes_of, free_in}
+pub use Rattle.coap_conn.specs.Outstanding.{Observation, OutstandingValue, Ping, Request, cancelled_by, is_asked}
+pub use Rattle.coap_conn.specs.Outstanding.{is_last, is_pinged, with_cancelled, without_asked, without_pinged}
+unfoldable pub use Rattle.coap_conn.specs.Outstanding.{is_notification}
+pub use Rattle.coap_conn.specs.Phases.{IsLive, is_waiting, stop_of, takes_messages}
+pub use Rattle.coap_conn.specs.Reaction.{Effect, Reaction, Standing, abort, aborts, answered, asks_custody}
+pub use Rattle.coap_conn.specs.Reaction.{csm_reaction, holds, is_method, is_reserved, is_signal, late_pong, leaves}
+pub use Rattle.coap_conn.specs.Reaction.{minds_critical_options, not_implemented, open_reaction, ping_reaction, pong_of}
+pub use Rattle.coap_conn.specs.Reaction.{pong_reaction, pong_with, reaction_unless, release_reaction, request_reaction}
+pub use Rattle.coap_conn.specs.Reaction.{response_reaction, sends, stop, tells, told_of}
+unfoldable pub use Rattle.coap_conn.specs.Reaction.{react, live_reaction}
+pub use Rattle.coap_conn.specs.Reasons.{abort_of}
+pub use Rattle.coap_conn.specs.Rejects.{reject_reason, reject_of, reject_of_frame}
+pub use Rattle.coap_conn.specs.Verdicts.{VerdictValue}
+pub use Rattle.coap_conn.specs.declared.phase.Phase.{Phase}
+pub use Rattle.coap_conn.specs.declared.phase.Phase.TheVariants.{Open, Releasing, Stopped, Waiting}
+pub use Rattle.coap_conn.specs.declared.phase.Reject.{Reject}
+pub use Rattle.coap_conn.specs.declared.phase.Reply.{Reply}
+pub use Rattle.coap_conn.specs.declared.phase.Reply.TheVariants.{Bare}
+pub use Rattle.coap_conn.specs.declared.phase.RequestFault.{RequestFault}
+pub use Rattle.coap_conn.specs.declared.phase.RequestFault.TheVariants.{NoRoom, NoSuchToken, NotOpen, TokensSpent}
+pub use Rattle.coap_conn.specs.declared.phase.RequestFault.TheVariants.{TooBig, TooMany}
+pub use Rattle.coap_conn.specs.declared.phase.Role.{Role}
+pub use Rattle.coap_conn.specs.declared.phase.Role.TheVariants.{Client, Server}
+pub use Rattle.coap_conn.specs.declared.reason.Reason.{Reason}
+pub use Rattle.coap_conn.specs.declared.reason.Reason.TheVariants.{BadSignalOption, CsmExpected, PeerAbort}
+pub use Rattle.coap_conn.specs.declared.reason.Reason.TheVariants.{ReservedCode, TokenLength}
+-- ---- coap_io
+pub use Rattle.coap_io.specs.declared.output.WriteFailed.{WriteFailed}
+pub use Rattle.coap_io.specs.declared.wire.Got.{Got}
+pub use Rattle.coap_io.specs.declared.wire.Got.TheVariants.{Bytes, End, Failed, Later}
+pub use Rattle.coap_io.specs.streams.Device.{AddsBytes}
+pub use Rattle.coap_io.specs.streams.Telling.{TellsMore}
+pub use Rattle.coap_io.specs.streams.Wires.{bytes_passed, count_passed}
+-- ---- coap_request
+pub use Rattle.coap_request.specs.RequestViews.{extras_value}
+pub use Rattle.coap_request.specs.Requests.{ExtrasValue}
+unfoldable pub use Rattle.coap_request.specs.Requests.{cancel_of, has_long_extra, host_sent, insert_option, is_too_long}
+unfoldable pub use Rattle.coap_request.specs.Requests.{observe_sent, own_options, request_of, with_extra}
+pub use Rattle.coap_request.specs.Targets.{TargetValue}
+pub use Rattle.coap_request.specs.declared.plan.ClientPlan.{ClientPlan}
+pub use Rattle.coap_request.specs.declared.request.Method.{Method}
+pub use Rattle.coap_request.specs.declared.request.Method.TheVariants.{Get}
+-- ---- coap_client_engine
+pub use Rattle.coap_client_engine.specs.ClientLaws.{AreDifferent, tokens_given, token_given, tokens_behind}
+pub use Rattle.coap_client_engine.specs.ClientRun.{IsReady, IsClientRun, IsUnbegun, seen, with_outlets, with_wire}
+pub use Rattle.coap_client_engine.specs.ClientRun.{with_all, HasLooked, IsHeard, IsTaken, IsFinished, IsFlushed, Leads}
+pub use Rattle.coap_client_engine.specs.ClientRun.{LeadsAll, Flushes, IsAsked, IsEnded, IsOutOfTurns, LeadsOn, Seen}
+pub use Rattle.coap_client_engine.specs.ClientRun.{Stands, most_turns, token_of}
+pub use Rattle.coap_client_engine.specs.ClientValues.{answer_told, event_told, ClientValue, client_takes, new_client}
+pub use Rattle.coap_client_engine.specs.ClientValues.{client_written, client_ended, client_sent, client_cancelled}
+pub use Rattle.coap_client_engine.specs.ClientValues.{client_pinged, send_refusal, cancelling_refusal, ping_refusal}
+pub use Rattle.coap_client_engine.specs.ClientValues.{EventValue, Taking, is_cut, taking_found, taking_read}
+pub use Rattle.coap_client_engine.specs.ClientValues.{taking_rejected}
+unfoldable pub use Rattle.coap_client_engine.specs.ClientValues.{taking}
+pub use Rattle.coap_client_engine.specs.ClientWorld.{ClientCall, ClientShows, Took, Sent, Cancelled, Pinged, Wrote}
+pub use Rattle.coap_client_engine.specs.ClientWorld.{Ended, ClientStep, AreAccepted, stream_in, Cancels, Ends, Faults}
+pub use Rattle.coap_client_engine.specs.ClientWorld.{Handles, Pings, Requests, Writes, beyond, event_by, handles}
+pub use Rattle.coap_client_engine.specs.ClientWorld.{kept_after, new_fault, taken_by}
+unfoldable pub use Rattle.coap_client_engine.specs.ClientWorld.{takes, event_of, client_after, client_of, steps_by}
+unfoldable pub use Rattle.coap_client_engine.specs.ClientWorld.{steps_of, step, AreAcceptedBehind, IsAccepted}
+unfoldable pub use Rattle.coap_client_engine.specs.ClientWorld.{after_steps, steps_behind}
+pub use Rattle.coap_client_engine.specs.EventViews.{event_value, answer_read, pong_read, heard_value, taken_event}
+pub use Rattle.coap_client_engine.specs.EventViews.{taking_framed, IsClient}
+pub use Rattle.coap_client_engine.specs.RunCourse.{own_limits, IsFresh, Begins, Calls, Course, GivesUp, HasWaited}
+pub use Rattle.coap_client_engine.specs.RunCourse.{IsAskedWhereDue, IsBetween, IsCancelledWhereDue, IsCourse, IsDone}
+pub use Rattle.coap_client_engine.specs.RunCourse.{IsPlanned, IsRefused, IsResting, IsTakenUp, MayWrite, Reads, Refuses}
+pub use Rattle.coap_client_engine.specs.RunCourse.{Rests, Turns, answers_in, calls_in, cancelled_in, client_in}
+pub use Rattle.coap_client_engine.specs.RunCourse.{errors_in, event_in, first_in, given_in, has_looked, history_in}
+pub use Rattle.coap_client_engine.specs.RunCourse.{is_cancel_due, is_late_since, is_overdue, is_overdue_since}
+pub use Rattle.coap_client_engine.specs.RunCourse.{moment_in, moments_in, or_then, output_in, phase_in, rest_in}
+pub use Rattle.coap_client_engine.specs.RunCourse.{since_in, started_in, status_in, status_stopped, stop_read}
+pub use Rattle.coap_client_engine.specs.RunCourse.{stop_text, taken_in, token_in, turns_in, waiting_in, waits_since}
+pub use Rattle.coap_client_engine.specs.RunCourse.{written_in}
+pub use Rattle.coap_client_engine.specs.RunFaults.{is_output_fault, IfMemory, IsStatus, EndsWithStatus}
+pub use Rattle.coap_client_engine.specs.RunSteps.{calls_read, calls_written, cancelled_at, client_asking}
+pub use Rattle.coap_client_engine.specs.RunSteps.{client_cancelling, client_read, ended_by, errors_told, first_told}
+pub use Rattle.coap_client_engine.specs.RunSteps.{has_passed, is_to_ask, is_to_cancel, late, may_take, output_told}
+pub use Rattle.coap_client_engine.specs.RunSteps.{planned_extras, refusal_text, status_told, stop_behind, stop_written}
+pub use Rattle.coap_client_engine.specs.RunSteps.{token_asking, unless_refused, watched}
+-- ---- coap_client_engine, declared
+pub use Rattle.coap_client_engine.specs.declared.client.Client.TheInside.{Inside}
+pub use Rattle.coap_client_engine.specs.declared.client.Heard.{Heard}
+pub use Rattle.coap_client_engine.specs.declared.run.state.Run.{Run}

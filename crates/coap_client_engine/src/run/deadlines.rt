@@ -1,0 +1,68 @@
+//! Deadlines of a run: the time to cancel the observation, and the time to stop waiting for a response.
+
+ghost use Rattle.std.specs.Prelude.{◌≡◌, false, is_err, [], option_map, IfOk, IfSome, OnOk, if◌then◌else◌};
+ghost use Rattle.coap_client_engine.specs.Prelude.{AddsBytes, IsStatus};
+ghost use Rattle.coap_client_engine.specs.RunSteps as spec;
+
+use crate::run::state::{LATE, Next, Run};
+use coap_io::Outlet;
+use coap_request::ClientPlan;
+
+impl Run {
+    /// What is due by the moment: the observation is cancelled, or the run has waited long enough for its first or its
+    /// last response.
+    pub(super) fn watch<E: Outlet>(&mut self, err: &mut E, plan: &ClientPlan) -> Next
+        requires { E.is_failed err.old ≡ false }
+        ensures after { self.new.client
+            ≡ (if spec.is_to_cancel self.old.cancelled self.old.first self.old.moment plan.now.observe then
+            spec.client_cancelling self.old.client (option_map (λ t. t.items) self.old.token) plan.now else
+            self.old.client) }
+        ensures cancelled { self.new.cancelled
+            ≡ (if spec.is_to_cancel self.old.cancelled self.old.first self.old.moment plan.now.observe then
+            spec.cancelled_at self.old.token (spec.cancelling_refusal self.old.client
+            (option_map (λ t. t.items) self.old.token) plan.now) self.old.moment self.old.cancelled else
+            self.old.cancelled) }
+        ensures kept { (self.new.rest ≡ self.old.rest) × (self.new.token ≡ self.old.token)
+            × (self.new.started ≡ self.old.started) × (self.new.moment ≡ self.old.moment)
+            × (self.new.first ≡ self.old.first) }
+        ensures next { IfOk result (λ next. next ≡ spec.watched self.old.cancelled self.old.first self.old.started
+            self.old.moment plan.now (spec.ended_by
+            (spec.cancelling_refusal self.old.client (option_map (λ t. t.items) self.old.token) plan.now))) }
+        ensures told { OnOk result (AddsBytes (E.written err.old) (E.written err.new)
+            (if spec.is_to_cancel self.old.cancelled self.old.first self.old.moment plan.now.observe then
+            spec.refusal_text (spec.cancelling_refusal self.old.client (option_map (λ t. t.items) self.old.token)
+            plan.now) else [])) }
+        ensures status { IfOk result (λ next. IfSome next IsStatus) }
+        ensures output { E.is_failed err.new ≡ is_err result }
+    {
+        if let Some(since) = self.cancelled {
+            return Ok(late(self.moment, since, plan.wait));
+        }
+        let Some(since) = self.first else {
+            return Ok(late(self.moment, self.started, plan.wait));
+        };
+        if !has_passed(self.moment, since, plan.observe.unwrap_or(0)) {
+            return Ok(None);
+        }
+        self.cancel(err, plan)
+    }
+}
+
+/// Whether so many seconds have passed since a moment.
+fn has_passed(now: u64, since: u64, seconds: u32) -> bool
+    ensures { result ≡ spec.has_passed now since seconds }
+{
+    now.saturating_sub(since) >= seconds as u64
+}
+
+/// The status of a run that waited since a moment, where it waited long enough.
+fn late(now: u64, since: u64, wait: u32) -> Option<u8>
+    ensures late { result ≡ spec.late now since wait }
+    ensures status { IfSome result IsStatus }
+{
+    if has_passed(now, since, wait) {
+        Some(LATE)
+    } else {
+        None
+    }
+}

@@ -1,0 +1,150 @@
+//! Input of a run: one read of the wire, and the messages in the bytes that were read.
+
+ghost use Rattle.std.specs.Prelude.{◌≡◌, ◌≤◌, ◌||◌, ◌∷◌, false, is_err, [], length, drop, IfOk, IfSome, OnOk};
+ghost use Rattle.coap_client_engine.specs.Prelude.{TellsMore, count_passed, AddsBytes, IsStatus, IsFresh, with_outlets};
+ghost use Rattle.coap_client_engine.specs.Prelude.{with_wire, IsReady, IsHeard, IsTaken, Leads, LeadsAll};
+ghost use Rattle.coap_client_engine.specs.ClientValues as value;
+ghost use Rattle.coap_client_engine.specs.RunSteps as spec;
+
+use crate::run::report::{hear, stopped};
+use crate::run::state::{Heard, Next, Run};
+use coap_conn::{Phase, Reason};
+use coap_io::{Got, Outlet, Wire};
+use coap_request::ClientPlan;
+
+impl Run {
+    /// Reads once, where nothing is left to take. The run ends where the input ends or the wire fails.
+    pub(super) fn listen<W: Wire, E: Outlet>(&mut self, wire: &mut W, err: &mut E) -> Next
+        requires { E.is_failed err.old ≡ false }
+        ensures runs { LeadsAll (with_wire (W.given wire.old) (W.written wire.old) (W.answers wire.old)
+            (E.written err.old)) (with_wire (W.given wire.new) (W.written wire.new) (W.answers wire.new)
+            (E.written err.new)) IsFresh IsHeard self.old self.new result }
+        ensures status { IfOk result (λ next. IfSome next IsStatus) }
+        ensures output { E.is_failed err.new ≡ is_err result }
+    {
+        if !self.rest.is_empty() {
+            return Ok(None);
+        }
+        let got = self.read(wire);
+        match stop_behind(self.client.phase(), got) {
+            Some(reason) => stopped(err, reason),
+            None => Ok(None),
+        }
+    }
+
+    /// Reads once, in place of what was left to take, and tells the client where the input ended.
+    fn read<W: Wire>(&mut self, wire: &mut W) -> Got
+        ensures count { length self.new.rest ≡ count_passed result }
+        ensures gave { AddsBytes (W.given wire.old) (W.given wire.new) self.new.rest }
+        ensures wrote { AddsBytes (W.written wire.old) (W.written wire.new) [] }
+        ensures answered { TellsMore (W.answers wire.old) (W.answers wire.new) (result ∷ []) }
+        ensures client { self.new.client ≡ spec.client_read self.old.client result }
+        ensures kept { (self.new.token ≡ self.old.token) × (self.new.started ≡ self.old.started)
+            × (self.new.moment ≡ self.old.moment) × (self.new.first ≡ self.old.first)
+            × (self.new.cancelled ≡ self.old.cancelled) }
+    {
+        match self.rest.read(wire) {
+            Got::Bytes(count) => Got::Bytes(count),
+            Got::Later => Got::Later,
+            Got::End => {
+                self.client.ended();
+                Got::End
+            }
+            Got::Failed => Got::Failed,
+        }
+    }
+
+    /// Whether more of what was read may be taken: the client takes bytes, and the request is not to be sent first.
+    fn may_take(&self) -> bool
+        ensures { result ≡ spec.may_take self.now.client self.now.rest self.now.token }
+    {
+        if self.rest.is_empty() {
+            return false;
+        }
+        if self.is_to_ask() {
+            return false;
+        }
+        self.client.takes()
+    }
+
+    /// Takes what was read, message after message, as far as the client takes it. The request is sent before more is
+    /// taken.
+    pub(super) fn take_all<O: Outlet, E: Outlet>(
+        &mut self,
+        out: &mut O,
+        err: &mut E,
+        plan: &ClientPlan,
+    ) -> Next
+        requires out_works { O.is_failed out.old ≡ false }
+        requires err_works { E.is_failed err.old ≡ false }
+        ensures runs { Leads (with_outlets (O.written out.old) (E.written err.old))
+            (with_outlets (O.written out.new) (E.written err.new)) IsReady IsTaken plan.now self.old self.new result }
+        ensures status { IfOk result (λ next. IfSome next IsStatus) }
+        ensures output { (O.is_failed out.new || E.is_failed err.new) ≡ is_err result }
+    {
+        for _ in 0..self.rest.bytes().len() {
+            if !self.may_take() {
+                return Ok(None);
+            }
+            if let Some(status) = self.take(out, err, plan.newline)? {
+                return Ok(Some(status));
+            }
+            if let Some(status) = self.ask(err, plan)? {
+                return Ok(Some(status));
+            }
+        }
+        Ok(None)
+    }
+
+    /// Takes bytes of what was read, up to the end of a message.
+    fn take<O: Outlet, E: Outlet>(&mut self, out: &mut O, err: &mut E, newline: bool) -> Next
+        requires out_works { O.is_failed out.old ≡ false }
+        requires err_works { E.is_failed err.old ≡ false }
+        ensures next { IfOk result (λ next. next ≡ spec.status_told
+            (value.taking self.old.client self.old.rest).event) }
+        ensures out { OnOk result (AddsBytes (O.written out.old) (O.written out.new)
+            (spec.output_told (value.taking self.old.client self.old.rest).event newline)) }
+        ensures err { OnOk result (AddsBytes (E.written err.old) (E.written err.new)
+            (spec.errors_told (value.taking self.old.client self.old.rest).event)) }
+        ensures client { self.new.client ≡ (value.taking self.old.client self.old.rest).client }
+        ensures rest { OnOk result (self.new.rest ≡ drop (value.taking self.old.client self.old.rest).count
+            self.old.rest) }
+        ensures within { (value.taking self.old.client self.old.rest).count ≤ length self.old.rest }
+        ensures kept { (self.new.token ≡ self.old.token) × (self.new.started ≡ self.old.started)
+            × (self.new.moment ≡ self.old.moment) × (self.new.cancelled ≡ self.old.cancelled) }
+        ensures first { OnOk result (self.new.first ≡ spec.first_told (value.taking self.old.client self.old.rest).event
+            self.old.first self.old.moment) }
+        ensures status { IfOk result (λ next. IfSome next IsStatus) }
+        ensures output { (O.is_failed out.new || E.is_failed err.new) ≡ is_err result }
+    {
+        let taken = self.client.take(self.rest.bytes());
+        let bytes = taken.bytes;
+        let heard = match taken.event() {
+            Some(event) => hear(&event, out, err, newline)?,
+            None => Heard::Nothing,
+        };
+        self.rest.advance(bytes);
+        match heard {
+            Heard::Nothing => Ok(None),
+            Heard::Notified => {
+                if self.first.is_none() {
+                    self.first = Some(self.moment);
+                }
+                Ok(None)
+            }
+            Heard::Ended(status) => Ok(Some(status)),
+        }
+    }
+}
+
+/// Why a read ends the run: the input ended, or the wire failed.
+fn stop_behind(phase: Phase, got: Got) -> Option<Reason>
+    ensures { result ≡ spec.stop_behind phase got }
+{
+    match got {
+        Got::Bytes(_) => None,
+        Got::Later => None,
+        Got::End => phase.stop(),
+        Got::Failed => Some(Reason::Ended),
+    }
+}

@@ -1,0 +1,100 @@
+//! What a run reports: the payloads and lines that it writes, and the status that follows from them.
+
+ghost use Rattle.std.specs.Prelude.{◌≡◌, ◌||◌, false, is_err, Some, IfOk, IfSome, OnOk};
+ghost use Rattle.coap_client_engine.specs.Prelude.{AddsBytes, event_value, IsStatus, EndsWithStatus};
+ghost use Rattle.coap_client_engine.specs.ClientValues as value;
+ghost use Rattle.coap_client_engine.specs.RunSteps as spec;
+ghost use Rattle.coap_client_engine.specs.RunTexts as text;
+
+use crate::client::Event;
+use crate::run::state::{ANSWERED, BROKEN, DECLINED, Heard, Next};
+use crate::say::{say_fault, say_option, say_response, say_stop, write_payload};
+use coap_conn::{Reason, RequestFault};
+use coap_io::{Outlet, WriteFailed};
+use coap_wire::MessageRef;
+
+/// Tells what a message was, and answers what comes of it.
+pub(super) fn hear<O: Outlet, E: Outlet>(
+    event: &Event,
+    out: &mut O,
+    err: &mut E,
+    newline: bool,
+) -> Result<Heard, WriteFailed>
+    requires out_works { O.is_failed out.old ≡ false }
+    requires err_works { E.is_failed err.old ≡ false }
+    ensures heard { IfOk result (λ heard. heard ≡ spec.heard_of (event_value event.now)) }
+    ensures out { OnOk result (AddsBytes (O.written out.old) (O.written out.new)
+        (spec.output_of (event_value event.now) newline)) }
+    ensures err { OnOk result (AddsBytes (E.written err.old) (E.written err.new)
+        (spec.errors_of (event_value event.now))) }
+    ensures status { IfOk result EndsWithStatus }
+    ensures output { (O.is_failed out.new || E.is_failed err.new) ≡ is_err result }
+{
+    match event {
+        Event::Response(message) => Ok(Heard::Ended(answered(message, out, err, newline)?)),
+        Event::Notification(message) => {
+            write_payload(out, message.payload(), newline)?;
+            Ok(Heard::Notified)
+        }
+        Event::Rejected { number, .. } => {
+            say_option(err, *number)?;
+            Ok(Heard::Ended(DECLINED))
+        }
+        Event::Stopped(reason) => {
+            say_stop(err, *reason)?;
+            Ok(Heard::Ended(BROKEN))
+        }
+        Event::Ready => Ok(Heard::Nothing),
+        Event::Pong { .. } => Ok(Heard::Nothing),
+        Event::Stranger => Ok(Heard::Nothing),
+    }
+}
+
+/// Writes the payload of a last response that is 2.xx, or tells another one, and answers the status.
+fn answered<O: Outlet, E: Outlet>(
+    response: &MessageRef,
+    out: &mut O,
+    err: &mut E,
+    newline: bool,
+) -> Result<u8, WriteFailed>
+    requires out_works { O.is_failed out.old ≡ false }
+    requires err_works { E.is_failed err.old ≡ false }
+    ensures answer { IfOk result (λ status. status ≡ spec.response_status response.now.code) }
+    ensures out { OnOk result (AddsBytes (O.written out.old) (O.written out.new)
+        (spec.output_of (value.Response response.now) newline)) }
+    ensures err { OnOk result (AddsBytes (E.written err.old) (E.written err.new)
+        (spec.errors_of (value.Response response.now))) }
+    ensures status { IfOk result IsStatus }
+    ensures output { (O.is_failed out.new || E.is_failed err.new) ≡ is_err result }
+{
+    if response.code().class() == 2 {
+        write_payload(out, response.payload(), newline)?;
+        return Ok(ANSWERED);
+    }
+    say_response(err, response)?;
+    Ok(DECLINED)
+}
+
+/// Tells that a request was refused, which ends the run.
+pub(super) fn refused<E: Outlet>(err: &mut E, fault: RequestFault) -> Next
+    requires { E.is_failed err.old ≡ false }
+    ensures told { OnOk result (AddsBytes (E.written err.old) (E.written err.new) (text.fault_line fault)) }
+    ensures ended { IfOk result (λ next. next ≡ Some 3) }
+    ensures status { IfOk result (λ next. IfSome next IsStatus) }
+    ensures output { E.is_failed err.new ≡ is_err result }
+{
+    say_fault(err, fault)?;
+    Ok(Some(BROKEN))
+}
+
+/// Tells that the connection stopped, which ends the run.
+pub(super) fn stopped<E: Outlet>(err: &mut E, reason: Reason) -> Next
+    requires { E.is_failed err.old ≡ false }
+    ensures told { OnOk result (AddsBytes (E.written err.old) (E.written err.new) (text.stop_line reason)) }
+    ensures ended { IfOk result (λ next. next ≡ Some 3) }
+    ensures status { IfOk result (λ next. IfSome next IsStatus) }
+    ensures output { E.is_failed err.new ≡ is_err result }
+{
+    say_stop(err, reason)?;
+    Ok(Some(BROKEN))
+}

@@ -1,0 +1,172 @@
+//! Output of a run: the request, the cancellation of its observation, and one write to the wire.
+
+ghost use Rattle.std.specs.Prelude.{◌≡◌, ◌++◌, ◌∷◌, ℕ, List, false, is_err, [], option_map, IfOk, IfSome, OnOk};
+ghost use Rattle.coap_client_engine.specs.Prelude.{TellsMore, bytes_passed, count_passed, AddsBytes, extras_value};
+ghost use Rattle.coap_client_engine.specs.Prelude.{IsStatus, ClientCall, ClientShows, with_wire, Flushes};
+ghost use Rattle.coap_client_engine.specs.ClientValues as value;
+ghost use Rattle.coap_client_engine.specs.RunSteps as spec;
+
+use crate::run::report::{refused, stopped};
+use crate::run::state::{Next, Run};
+use coap_conn::{Phase, Reason, RequestFault, first_part};
+use coap_io::{Got, Outlet, Wire};
+use coap_request::{ClientPlan, Extras};
+
+impl Run {
+    /// Whether the request is to be sent: the connection is open, and it was not sent.
+    pub(super) fn is_to_ask(&self) -> bool
+        ensures { result ≡ spec.is_to_ask self.now.client.link.phase self.now.token }
+    {
+        match self.client.phase() {
+            Phase::Open => self.token.is_none(),
+            _ => false,
+        }
+    }
+
+    /// Sends the request, where it is to be sent. Where the queue has no room, the next turn tries again.
+    pub(super) fn ask<E: Outlet>(&mut self, err: &mut E, plan: &ClientPlan) -> Next
+        requires { E.is_failed err.old ≡ false }
+        ensures next { IfOk result (λ next. next ≡ spec.ended_by
+            (spec.asking_refusal self.old.client self.old.token plan.now)) }
+        ensures told { OnOk result (AddsBytes (E.written err.old) (E.written err.new)
+            (spec.refusal_text (spec.asking_refusal self.old.client self.old.token plan.now))) }
+        ensures after { self.new.client ≡ spec.client_asking self.old.client self.old.token plan.now }
+        ensures token { option_map (λ t. t.items) self.new.token
+            ≡ spec.token_asking self.old.client (option_map (λ t. t.items) self.old.token) plan.now }
+        ensures kept { (self.new.rest ≡ self.old.rest) × (self.new.started ≡ self.old.started)
+            × (self.new.moment ≡ self.old.moment) × (self.new.first ≡ self.old.first)
+            × (self.new.cancelled ≡ self.old.cancelled) }
+        ensures status { IfOk result (λ next. IfSome next IsStatus) }
+        ensures output { E.is_failed err.new ≡ is_err result }
+    {
+        if !self.is_to_ask() {
+            return Ok(None);
+        }
+        match self
+            .client
+            .send(plan.method, &plan.target, &extras_of(plan))
+        {
+            Ok(token) => {
+                self.token = Some(token);
+                Ok(None)
+            }
+            Err(RequestFault::NoRoom) => Ok(None),
+            Err(fault) => refused(err, fault),
+        }
+    }
+
+    /// Cancels the observation. Where the queue has no room, the next turn tries again.
+    pub(super) fn cancel<E: Outlet>(&mut self, err: &mut E, plan: &ClientPlan) -> Next
+        requires { E.is_failed err.old ≡ false }
+        ensures next { IfOk result (λ next. next ≡ spec.ended_by
+            (spec.cancelling_refusal self.old.client (option_map (λ t. t.items) self.old.token) plan.now)) }
+        ensures told { OnOk result (AddsBytes (E.written err.old) (E.written err.new)
+            (spec.refusal_text (spec.cancelling_refusal self.old.client (option_map (λ t. t.items) self.old.token)
+            plan.now))) }
+        ensures after { self.new.client
+            ≡ spec.client_cancelling self.old.client (option_map (λ t. t.items) self.old.token) plan.now }
+        ensures cancelled { self.new.cancelled
+            ≡ spec.cancelled_at self.old.token (spec.cancelling_refusal self.old.client
+            (option_map (λ t. t.items) self.old.token) plan.now) self.old.moment self.old.cancelled }
+        ensures kept { (self.new.rest ≡ self.old.rest) × (self.new.token ≡ self.old.token)
+            × (self.new.started ≡ self.old.started) × (self.new.moment ≡ self.old.moment)
+            × (self.new.first ≡ self.old.first) }
+        ensures status { IfOk result (λ next. IfSome next IsStatus) }
+        ensures output { E.is_failed err.new ≡ is_err result }
+    {
+        let Some(token) = &self.token else {
+            return Ok(None);
+        };
+        match self.client.cancel(token, &plan.target, &extras_of(plan)) {
+            Ok(()) => {
+                self.cancelled = Some(self.moment);
+                Ok(None)
+            }
+            Err(RequestFault::NoRoom) => Ok(None),
+            Err(fault) => refused(err, fault),
+        }
+    }
+
+    /// Writes once, where anything waits. The run ends where the wire fails, if nothing else ended it.
+    pub(super) fn flush<W: Wire, E: Outlet>(
+        &mut self,
+        wire: &mut W,
+        err: &mut E,
+        next: Option<u8>,
+    ) -> Next
+        requires works { E.is_failed err.old ≡ false }
+        requires known { IfSome next IsStatus }
+        ensures runs { Flushes (with_wire (W.given wire.old) (W.written wire.old) (W.answers wire.old)
+            (E.written err.old)) (with_wire (W.given wire.new) (W.written wire.new) (W.answers wire.new)
+            (E.written err.new)) self.old self.new next result }
+        ensures status { IfOk result (λ next. IfSome next IsStatus) }
+        ensures output { E.is_failed err.new ≡ is_err result }
+    {
+        if self.client.waiting() == 0 {
+            return Ok(next);
+        }
+        let got = self.write(wire);
+        match stop_written(next, got) {
+            Some(reason) => stopped(err, reason),
+            None => Ok(next),
+        }
+    }
+
+    /// Writes once a front of what waits, as far as the wire takes it.
+    fn write<W: Wire>(&mut self, wire: &mut W) -> Got
+        ensures client { self.new.client ≡ value.client_written self.old.client (count_passed result) }
+        ensures shows { (tokens : ℕ) (calls : List ClientCall) → ClientShows self.old.client tokens calls →
+            ClientShows self.new.client tokens (calls ++ spec.calls_written result) }
+        ensures wrote { AddsBytes (W.written wire.old) (W.written wire.new)
+            (bytes_passed self.old.client.link.waiting result) }
+        ensures gave { AddsBytes (W.given wire.old) (W.given wire.new) [] }
+        ensures answered { TellsMore (W.answers wire.old) (W.answers wire.new) (result ∷ []) }
+        ensures kept { (self.new.rest ≡ self.old.rest) × (self.new.token ≡ self.old.token)
+            × (self.new.started ≡ self.old.started) × (self.new.moment ≡ self.old.moment)
+            × (self.new.first ≡ self.old.first) × (self.new.cancelled ≡ self.old.cancelled) }
+    {
+        let part = first_part(self.client.parts());
+        match wire.write(part) {
+            Got::Bytes(count) => {
+                self.client.written(count);
+                Got::Bytes(count)
+            }
+            Got::Later => Got::Later,
+            Got::End => Got::End,
+            Got::Failed => Got::Failed,
+        }
+    }
+}
+
+/// Why a write ends the run, where nothing else did: the wire failed.
+fn stop_written(next: Option<u8>, got: Got) -> Option<Reason>
+    ensures { result ≡ spec.stop_written next got }
+{
+    if next.is_some() {
+        return None;
+    }
+    match got {
+        Got::Bytes(_) => None,
+        Got::Later => None,
+        Got::End => Some(Reason::Ended),
+        Got::Failed => Some(Reason::Ended),
+    }
+}
+
+/// What the plan asks beside its method and its target.
+fn extras_of<'a>(plan: &'a ClientPlan) -> Extras<'a>
+    ensures { extras_value result ≡ spec.planned_extras plan.now }
+{
+    let option = match &plan.option {
+        Some((number, value)) => Some((*number, value.as_slice())),
+        None => None,
+    };
+    Extras {
+        observe: plan.observe.is_some(),
+        plain: plan.plain,
+        content_format: plan.content_format,
+        accept: plan.accept,
+        option,
+        payload: &plan.payload,
+    }
+}
