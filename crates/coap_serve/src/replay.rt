@@ -324,7 +324,15 @@ impl Server {
         let Some(status) = self.status(id) else {
             return Ok(Line::Short(fault_line("status", Some(id), 1)));
         };
-        let line = status_line(self.alloc(), id, &status)?;
+        let line = status_line(
+            self.alloc(),
+            id,
+            status.phase,
+            status.kept,
+            status.waiting,
+            status.pending,
+            status.observers,
+        )?;
         Ok(Line::Long(line))
     }
 }

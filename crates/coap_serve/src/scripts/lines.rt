@@ -5,7 +5,6 @@ ghost use Rattle.std.specs.Prelude.{◌≡◌, ◌≤◌, ◌+◌, ◌++◌, IfO
 ghost use Rattle.coap_serve.specs.Prelude.{array_vec_len};
 ghost use Rattle.coap_serve.specs.script.Lines as spec;
 
-use crate::server::Status;
 use arrayvec::ArrayVec;
 use coap_conn::Phase;
 use itoa::{Buffer, Integer};
@@ -185,16 +184,28 @@ fn append(line: &mut String, text: &str, number: u64) -> Result<(), AllocError>
     write!(line, "{text}{number}")
 }
 
-/// The status of a connection.
-pub(crate) fn status_line(alloc: Global, id: u64, status: &Status) -> Result<Vec<u8>, AllocError>
-    ensures { IfOk result (λ line. line.items ≡ spec.status_line id status.now.phase status.now.kept status.now.waiting
-        status.now.pending status.now.observers) }
+/// Returns the status of a connection: its phase, the bytes kept of an unfinished message, the bytes queued for writing,
+/// and the numbers of pending responses and of observers.
+///
+/// # Errors
+///
+/// Returns `AllocError` if allocation fails.
+pub(crate) fn status_line(
+    alloc: Global,
+    id: u64,
+    phase: Phase,
+    kept: usize,
+    waiting: usize,
+    pending: usize,
+    observers: usize,
+) -> Result<Vec<u8>, AllocError>
+    ensures { IfOk result (λ line. line.items ≡ spec.status_line id phase kept waiting pending observers) }
 {
-    let mut line = status_front(alloc, id, status.phase)?;
-    append(&mut line, " kept ", status.kept as u64)?;
-    append(&mut line, " waiting ", status.waiting as u64)?;
-    append(&mut line, " pending ", status.pending as u64)?;
-    append(&mut line, " observers ", status.observers as u64)?;
+    let mut line = status_front(alloc, id, phase)?;
+    append(&mut line, " kept ", kept as u64)?;
+    append(&mut line, " waiting ", waiting as u64)?;
+    append(&mut line, " pending ", pending as u64)?;
+    append(&mut line, " observers ", observers as u64)?;
     line.push_str("\n")?;
     Ok(line.into_bytes())
 }
