@@ -163,18 +163,16 @@ unfoldable pub use Rattle.coap_serve.specs.script.Events.{drain_event, event_alo
 unfoldable pub use Rattle.coap_serve.specs.script.Events.{event_with_two, in_event, number_event, put_event}
 unfoldable pub use Rattle.coap_serve.specs.script.Events.{remove_event}
 pub use Rattle.coap_serve.specs.script.Lines.{open_line, phase_text, put_line, remove_line, tick_line, word_line}
-pub use Rattle.coap_serve.specs.script.PartlyFed.{IsPartlyFed}
-pub use Rattle.coap_serve.specs.script.Replay.{fed, stop_number, drained, Fed, Ran, comes_to, drain_ran, fed_more}
-pub use Rattle.coap_serve.specs.script.Replay.{fed_once, in_ran, on_connection, open_number, release_number}
-pub use Rattle.coap_serve.specs.script.Replay.{status_ran, store_number, tick_refusal, unfed, unless_refused}
-unfoldable pub use Rattle.coap_serve.specs.script.Replay.{replayed, event_ran, fed_turns}
+pub use Rattle.coap_serve.specs.script.Replay.{stop_number, drained, Ran, comes_to, drain_ran}
+pub use Rattle.coap_serve.specs.script.Replay.{in_ran, on_connection, open_number, release_number}
+pub use Rattle.coap_serve.specs.script.Replay.{status_ran, store_number, tick_refusal, unless_refused}
+unfoldable pub use Rattle.coap_serve.specs.script.Replay.{replayed, event_ran}
 pub use Rattle.coap_serve.specs.script.Replayed.{replay_number, IsReplayed, fails_write, IsCutAt, IsRefusedAt}
 pub use Rattle.coap_serve.specs.script.Replayed.{IsUnrun}
 pub use Rattle.coap_serve.specs.script.Script.{script_of, said_on, said_behind, said_by_line}
 unfoldable pub use Rattle.coap_serve.specs.script.Script.{event_in, events_in, said_by_parts, says_nothing}
-pub use Rattle.coap_serve.specs.script.Shown.{ShowsMore, ShowsRun, IsShownReplay, took, ShowsPart, IsPartlyMade}
-pub use Rattle.coap_serve.specs.script.Shown.{ShowsRefusedAt, where_there}
-unfoldable pub use Rattle.coap_serve.specs.script.Shown.{events_made, events_ran, took_turns}
+pub use Rattle.coap_serve.specs.script.Shown.{ShowsRun, IsShownReplay, ShowsPart, IsPartlyMade, ShowsRefusedAt}
+unfoldable pub use Rattle.coap_serve.specs.script.Shown.{events_made, events_ran}
 pub use Rattle.coap_serve.specs.script.Words.{newline, slash, words_of}
 unfoldable pub use Rattle.coap_serve.specs.script.Words.{format_value, path_value}
 unfoldable pub use Rattle.coap_serve.specs.script.Words.{payload_value, segments_of}
@@ -209,6 +207,9 @@ pub use Rattle.coap_serve.specs.values.Dues.{due_on, IsBefore, next_told, sessio
 pub use Rattle.coap_serve.specs.values.Entries.{IsFirstStale, IsFirstMarked, link_replied, entries_replied, entries_notified}
 pub use Rattle.coap_serve.specs.values.Entries.{settled_held, framer_on, is_observed, is_sent, response_on}
 unfoldable pub use Rattle.coap_serve.specs.values.Entries.{first_index}
+pub use Rattle.coap_serve.specs.values.Fed.{Fed, IsPartlyFed, ShowsMore, ShowsPartlyFed, fed, fed_more, fed_once}
+pub use Rattle.coap_serve.specs.values.Fed.{took, unfed, where_there}
+unfoldable pub use Rattle.coap_serve.specs.values.Fed.{fed_turns, took_turns}
 pub use Rattle.coap_serve.specs.values.Flushes.{IsFlushed, IsPartFlushed, waiting_at, more_at, IsFlushedOnce}
 pub use Rattle.coap_serve.specs.values.Flushes.{IsFlushedAt, flush_once, more_in, waiting_in}
 unfoldable pub use Rattle.coap_serve.specs.values.Flushes.{flush_turns}

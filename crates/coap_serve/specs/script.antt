@@ -4,7 +4,6 @@ pub mod Script
 pub mod EventViews
 pub mod Lines
 pub mod Replay
-pub mod PartlyFed
 pub mod Shown
 pub mod Replayed
 pub mod Cuts

@@ -12,7 +12,7 @@ use Rattle.coap_wire.specs.Beginning.{Whole}
 use Rattle.coap_wire.proofs.StreamSteps.{whole_more, faulty_more, fault_bytes_more}
 use Rattle.coap_frame.proofs.FrontLaws.{some_in_front}
 use Rattle.coap_frame.proofs.GivenLaws.{taken_within, nothing_taken, frame_taken, fault_taken}
-use Rattle.coap_serve.specs.script.Replay.{goes_on}
+use Rattle.coap_serve.specs.values.Fed.{goes_on}
 use Rattle.coap_serve.specs.world.Events.{front_of}
 use Rattle.coap_serve.proofs.world.StepLaws.{world_same, size_then, rest_unfinished, spelled_same}
 use Rattle.coap_serve.proofs.world.CutLaws.{cut_worlds, SpellAlike, stream_alike, spelled_twice}

@@ -3,8 +3,8 @@ use Rattle.std.specs.Prelude.{◌≡◌, ◌≢◌, ℕ, ◌+◌, Bool, true, fa
 use Rattle.coap_store.specs.Refusals.{put_refusal, remove_refusal}
 use Rattle.coap_serve.specs.script.Events.{EventValue, Open, In, Drain, Tick, Put, Remove, End, Release, Drop, Status}
 use Rattle.coap_serve.specs.script.Replay.{event_ran, replayed}
-use Rattle.coap_serve.specs.script.PartlyFed.{IsPartlyFed}
-use Rattle.coap_serve.specs.script.Shown.{events_ran, ShowsMore}
+use Rattle.coap_serve.specs.script.Shown.{events_ran}
+use Rattle.coap_serve.specs.values.Fed.{IsPartlyFed, ShowsMore}
 use Rattle.coap_serve.specs.values.Servers.{ServerValue, session_of, is_there}
 use Rattle.coap_serve.specs.values.ServerAnswers.{open_refusal}
 use Rattle.coap_serve.specs.declared.replay.ReplayFault.{ReplayFault}
