@@ -1,18 +1,14 @@
 -- What the contracts and the proofs of the crate name, passed on from one place. Declares nothing.
 
 -- ---- std and the kit's crates
-pub use Rattle.arrayvec.specs.ArrayVec.{array_vec_len}
-unfoldable pub use Rattle.hex.specs.Hex.{decode_pairs}
 pub use Rattle.indexmap.specs.IndexMap.{values, insert_entry, set_value_at}
-unfoldable pub use Rattle.percent_encoding.specs.Percent.{percent_decode}
 pub use Rattle.std.specs.Borrow.{sem, follows_so}
 pub use Rattle.std.specs.Cmp.{both_ways, nat_eq_equiv}
-pub use Rattle.std.specs.Cow.{cow_slice_items}
 pub use Rattle.std.specs.Fmt.{decimal}
 unfoldable pub use Rattle.std.specs.Fmt.{digits}
 pub use Rattle.std.specs.Int.{w64, to_be_bytes}
 pub use Rattle.std.specs.Io.KnownBytes.{Consumes, IsAtEnd}
-pub use Rattle.std.specs.List.{AllByRecursion, concat, list_any, All, AllWithin, filter_map, list_all, onto_first}
+pub use Rattle.std.specs.List.{AllByRecursion, concat, list_any, All, AllWithin, filter_map}
 pub use Rattle.std.specs.List.{position, position_or_len, reduce, remove}
 unfoldable pub use Rattle.std.specs.List.{IsDistinct}
 pub use Rattle.std.specs.Map.{keys_of, lookup, values_of}
@@ -20,7 +16,7 @@ pub use Rattle.std.specs.Option.{option_eq}
 pub use Rattle.std.specs.Prelude.{List, None, OnErr, OnOk, Option, Some, [], drop, filter, find}
 pub use Rattle.std.specs.Prelude.{is_none, is_ok, length, map, nat_lt, not, slice_get, suc, take, unwrap_or, zero, ℕ}
 pub use Rattle.std.specs.Prelude.{◌++◌, ◌∷◌, ◌≡◌}
-pub use Rattle.std.specs.Result.{IsErr, result_ok}
+pub use Rattle.std.specs.Result.{IsErr}
 pub use Rattle.std.specs.Str.Parse.{digits_value}
 pub use Rattle.std.specs.declared.alloc.AllocError.{AllocError}
 pub use mathlib.Core.Option.{none}
@@ -106,7 +102,6 @@ pub use Rattle.coap_store.specs.Messages.{response_message, response_with_observ
 pub use Rattle.coap_store.specs.Messages.{each_at}
 pub use Rattle.coap_store.specs.Notifications.{notification_of}
 unfoldable pub use Rattle.coap_store.specs.Notifications.{notification_at}
-pub use Rattle.coap_store.specs.PathViews.{segment_list}
 pub use Rattle.coap_store.specs.Paths.{Path, same_bytes, written_length}
 unfoldable pub use Rattle.coap_store.specs.Paths.{is_path}
 pub use Rattle.coap_store.specs.PlanViews.{change_value, path_or_root}
@@ -124,9 +119,10 @@ pub use Rattle.coap_store.specs.declared.fault.StoreFault.{StoreFault}
 pub use Rattle.coap_store.specs.declared.fault.StoreFault.TheVariants.{NoSuch}
 pub use Rattle.coap_store.specs.declared.place.Place.TheVariants.{Async, Dynamic, Listing, Root, Time}
 pub use Rattle.coap_store.specs.declared.plan.Watch.{Watch}
--- ---- coap_text
-pub use Rattle.coap_text.specs.Words.{is_hyphen, parts}
-unfoldable pub use Rattle.coap_text.specs.Words.{decimal_value, hex_value}
+-- ---- coap_script
+pub use Rattle.coap_script.specs.script.EventViews.{event_value}
+pub use Rattle.coap_script.specs.script.Events.{EventValue, Drain, Drop, In, Open, Release, Remove, Status, Tick}
+pub use Rattle.coap_script.specs.script.Lines.{open_line, put_line, remove_line, tick_line, word_line}
 -- ---- coap_serve
 pub use Rattle.coap_serve.specs.Configs.{config_of, config_refusal, ConfigValues}
 -- ---- coap_serve, declared
@@ -157,25 +153,14 @@ pub use Rattle.coap_serve.specs.declared.session.Session.TheInside.{Inside}
 -- ---- coap_serve, script
 pub use Rattle.coap_serve.specs.script.Cuts.{DifferInCuts, AreInTime, other_lines, IsInTime}
 unfoldable pub use Rattle.coap_serve.specs.script.Cuts.{lines_of, in_before, joined}
-pub use Rattle.coap_serve.specs.script.EventViews.{event_value, IsScript, fault_number, TakesLine}
-pub use Rattle.coap_serve.specs.script.Events.{EventValue, Drain, Drop, In, Open, Release, Remove, Status, Tick}
-unfoldable pub use Rattle.coap_serve.specs.script.Events.{drain_event, event_alone, event_of, event_with_one}
-unfoldable pub use Rattle.coap_serve.specs.script.Events.{event_with_two, in_event, number_event, put_event}
-unfoldable pub use Rattle.coap_serve.specs.script.Events.{remove_event}
-pub use Rattle.coap_serve.specs.script.Lines.{open_line, phase_text, put_line, remove_line, tick_line, word_line}
 pub use Rattle.coap_serve.specs.script.Replay.{stop_number, drained, Ran, comes_to, drain_ran}
 pub use Rattle.coap_serve.specs.script.Replay.{in_ran, on_connection, open_number, release_number}
 pub use Rattle.coap_serve.specs.script.Replay.{status_ran, store_number, tick_refusal, unless_refused}
 unfoldable pub use Rattle.coap_serve.specs.script.Replay.{replayed, event_ran}
 pub use Rattle.coap_serve.specs.script.Replayed.{replay_number, IsReplayed, fails_write, IsCutAt, IsRefusedAt}
 pub use Rattle.coap_serve.specs.script.Replayed.{IsUnrun}
-pub use Rattle.coap_serve.specs.script.Script.{script_of, said_on, said_behind, said_by_line}
-unfoldable pub use Rattle.coap_serve.specs.script.Script.{event_in, events_in, said_by_parts, says_nothing}
 pub use Rattle.coap_serve.specs.script.Shown.{ShowsRun, IsShownReplay, ShowsPart, IsPartlyMade, ShowsRefusedAt}
 unfoldable pub use Rattle.coap_serve.specs.script.Shown.{events_made, events_ran}
-pub use Rattle.coap_serve.specs.script.Words.{newline, slash, words_of}
-unfoldable pub use Rattle.coap_serve.specs.script.Words.{format_value, path_value}
-unfoldable pub use Rattle.coap_serve.specs.script.Words.{payload_value, segments_of}
 -- ---- coap_serve, streams
 pub use Rattle.coap_serve.specs.streams.DoorRun.{IsDoorRun, waited_behind, moved_to, EndsWith, HasTurnedSo, IsCutRun}
 pub use Rattle.coap_serve.specs.streams.DoorRun.{NoneYet, OneMore}

@@ -1,8 +1,3 @@
-pub mod Words
-pub mod Events
-pub mod Script
-pub mod EventViews
-pub mod Lines
 pub mod Replay
 pub mod Shown
 pub mod Replayed

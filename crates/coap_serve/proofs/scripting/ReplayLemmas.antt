@@ -11,7 +11,7 @@ use Rattle.coap_serve.specs.Prelude.{IsRefusedAt, IsCutAt, where_there, took_tur
 use Rattle.coap_serve.specs.Prelude.{ShowsPart, ShowsPartlyFed, events_made, ShowsRefusedAt, AddsBytes, WritesPart, SessionValue}
 use Rattle.coap_serve.specs.Prelude.{Fed, ServerValue, server_taken, count_taken, is_there, session_of, IsNotTaken, IsRun}
 use Rattle.coap_serve.specs.Prelude.{IsDrainable, Took, Drained, Line, Shows}
-use Rattle.coap_serve.specs.declared.event.Event.{Event}
+use Rattle.coap_script.specs.declared.event.Event.{Event}
 use Rattle.coap_serve.specs.script.Replay.{behind}
 use Rattle.coap_serve.specs.values.Fed.{goes_on}
 use Rattle.coap_io.proofs.streams.DeviceLemmas.{bytes_then}

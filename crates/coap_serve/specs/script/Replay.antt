@@ -5,8 +5,8 @@ use Rattle.coap_conn.specs.Reasons.{reason_number}
 use Rattle.coap_store.specs.Refusals.{put_refusal, remove_refusal}
 use Rattle.coap_store.specs.declared.fault.StoreFault.{StoreFault}
 use Rattle.coap_store.specs.declared.fault.StoreFault.TheVariants as storing
-use Rattle.coap_serve.specs.script.Events.{EventValue, Open, In, Drain, Tick, Put, Remove, End, Release, Drop, Status}
-use Rattle.coap_serve.specs.script.Lines.{open_line, in_line, out_line, tick_line, put_line, remove_line, word_line, status_line, fault_line}
+use Rattle.coap_script.specs.script.Events.{EventValue, Open, In, Drain, Tick, Put, Remove, End, Release, Drop, Status}
+use Rattle.coap_script.specs.script.Lines.{open_line, in_line, out_line, tick_line, put_line, remove_line, word_line, status_line, fault_line}
 use Rattle.coap_serve.specs.values.Fed.{Fed, fed}
 use Rattle.coap_serve.specs.values.Sessions.{SessionValue}
 use Rattle.coap_serve.specs.values.Servers.{ServerValue, session_of, server_opened, server_written, server_ticked, server_put, server_removed, server_ended, server_released, server_dropped}

@@ -1,7 +1,7 @@
 -- What a replay of events answers.
 use Rattle.std.specs.Prelude.{◌≡◌, ◌≢◌, ℕ, ◌+◌, Bool, true, false, List, [], ◌∷◌, ◌++◌, length, None, Result, Ok, Err}
 use Rattle.coap_store.specs.Refusals.{put_refusal, remove_refusal}
-use Rattle.coap_serve.specs.script.Events.{EventValue, Open, In, Drain, Tick, Put, Remove, End, Release, Drop, Status}
+use Rattle.coap_script.specs.script.Events.{EventValue, Open, In, Drain, Tick, Put, Remove, End, Release, Drop, Status}
 use Rattle.coap_serve.specs.script.Replay.{event_ran, replayed}
 use Rattle.coap_serve.specs.script.Shown.{events_ran}
 use Rattle.coap_serve.specs.values.Fed.{IsPartlyFed, ShowsMore}

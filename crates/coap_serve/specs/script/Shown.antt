@@ -2,7 +2,7 @@
 use Rattle.std.specs.Prelude.{◌≡◌, ℕ, ◌+◌, List, [], ◌∷◌, ◌++◌, length, Option, Some, None, Result, Ok, Err}
 use Rattle.std.specs.declared.alloc.AllocError.{AllocError}
 use Rattle.coap_store.specs.Refusals.{put_refusal, remove_refusal}
-use Rattle.coap_serve.specs.script.Events.{EventValue, Open, In, Drain, Tick, Put, Remove, End, Release, Drop, Status}
+use Rattle.coap_script.specs.script.Events.{EventValue, Open, In, Drain, Tick, Put, Remove, End, Release, Drop, Status}
 use Rattle.coap_serve.specs.script.Replay.{drained, tick_refusal, event_ran, replayed}
 use Rattle.coap_serve.specs.values.Fed.{where_there, took, ShowsMore, IsPartlyTaken}
 use Rattle.coap_serve.specs.values.Servers.{ServerValue, session_of}
