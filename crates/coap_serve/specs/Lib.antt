@@ -1,5 +1,6 @@
 pub mod streams
 pub mod Configs
+pub mod Answers
 pub mod views
 pub mod values
 pub mod world

@@ -128,6 +128,7 @@ pub use Rattle.coap_store.specs.declared.plan.Watch.{Watch}
 pub use Rattle.coap_text.specs.Words.{is_hyphen, parts}
 unfoldable pub use Rattle.coap_text.specs.Words.{decimal_value, hex_value}
 -- ---- coap_serve
+pub use Rattle.coap_serve.specs.Answers.{release_fault}
 pub use Rattle.coap_serve.specs.Configs.{config_of, config_refusal, ConfigValues}
 -- ---- coap_serve, declared
 pub use Rattle.coap_serve.specs.declared.cause.Cause.{Cause}
@@ -145,14 +146,14 @@ pub use Rattle.coap_serve.specs.declared.serve.IoFault.{IoFault}
 pub use Rattle.coap_serve.specs.declared.serve.IoFault.TheVariants.{Memory, Read, Turns, Write}
 pub use Rattle.coap_serve.specs.declared.serve.Report.{Report}
 pub use Rattle.coap_serve.specs.declared.serve.Turn.{Turn}
-pub use Rattle.coap_serve.specs.declared.server.AnnounceFault.{AnnounceFault}
-pub use Rattle.coap_serve.specs.declared.server.OpenFault.{OpenFault}
+pub use Rattle.coap_serve.specs.declared.answers.AnnounceFault.{AnnounceFault}
+pub use Rattle.coap_serve.specs.declared.answers.OpenFault.{OpenFault}
 pub use Rattle.coap_serve.specs.declared.server.Outlook.{Outlook}
-pub use Rattle.coap_serve.specs.declared.server.ReleaseFault.{ReleaseFault}
+pub use Rattle.coap_serve.specs.declared.answers.ReleaseFault.{ReleaseFault}
 pub use Rattle.coap_serve.specs.declared.server.Stamp.{Stamp}
-pub use Rattle.coap_serve.specs.declared.server.TakeFault.{TakeFault}
-pub use Rattle.coap_serve.specs.declared.server.Taken.{Taken}
-pub use Rattle.coap_serve.specs.declared.server.WrittenFault.{WrittenFault}
+pub use Rattle.coap_serve.specs.declared.answers.TakeFault.{TakeFault}
+pub use Rattle.coap_serve.specs.declared.answers.Taken.{Taken}
+pub use Rattle.coap_serve.specs.declared.answers.WrittenFault.{WrittenFault}
 pub use Rattle.coap_serve.specs.declared.session.Session.TheInside.{Inside}
 -- ---- coap_serve, script
 pub use Rattle.coap_serve.specs.script.Cuts.{DifferInCuts, AreInTime, other_lines, IsInTime}
@@ -213,11 +214,11 @@ pub use Rattle.coap_serve.specs.values.Flushes.{IsFlushed, IsPartFlushed, waitin
 pub use Rattle.coap_serve.specs.values.Flushes.{IsFlushedAt, flush_once, more_in, waiting_in}
 unfoldable pub use Rattle.coap_serve.specs.values.Flushes.{flush_turns}
 pub use Rattle.coap_serve.specs.values.ServerAnswers.{stop_on, open_refusal, IsNotTaken, open_refusal_in}
-pub use Rattle.coap_serve.specs.values.ServerAnswers.{release_fault, can_take_on, written_refusal, front_of}
+pub use Rattle.coap_serve.specs.values.ServerAnswers.{can_take_on, written_refusal, front_of}
 pub use Rattle.coap_serve.specs.values.ServerAnswers.{OpenedOrMemory, released_refusal, IsAnnounced, status_of}
 pub use Rattle.coap_serve.specs.values.ServerAnswers.{released_refusal_on, handled_so, RefusesPieceOn}
 pub use Rattle.coap_serve.specs.values.ServerAnswers.{announced_refusal_on, handled_on, session_refusal}
-pub use Rattle.coap_serve.specs.values.ServerAnswers.{session_status, take_number, written_refusal_on}
+pub use Rattle.coap_serve.specs.values.ServerAnswers.{session_status, written_refusal_on}
 unfoldable pub use Rattle.coap_serve.specs.values.ServerAnswers.{handled_by}
 pub use Rattle.coap_serve.specs.values.Servers.{new_server, server_put, server_removed, server_ticked, AreSettled}
 pub use Rattle.coap_serve.specs.values.Servers.{server_dropped, new_host, ServerValue, LiesAt, server_opened}

@@ -4,9 +4,9 @@ ghost use Rattle.std.specs.Prelude.{◌≡◌, ◌⊎◌, ℕ, Bool, Option, Res
 ghost use Rattle.coap_serve.specs.Prelude.{AllByRecursion, concat, Message, StreamFault, LimitValues, AreInRange, AllFit, bare_response, reject_of, reject_reason, HeldValue, Answer, Pong, without_due, answers, takes_messages, send, pong_with, is_custody_pong, limit_now, standing_now, after, standing_due, StoreValue, answer_of, IsStore, ConfigValues, IsNotTaken, ServerValue, AreSettled, LiesAt, server_opened, server_ticked, server_dropped, ComesToNothing, IsServedOnce, can_go_on, is_over_in, wants_of, IsNoEarlier, KeepsNotes, WhilePassedOver, WireTrace, Course, Stamp, WrittenFault, ReleaseFault, WaitsForWhatIsDue, outlook_of, stamp_of, Side, waiting_on, HearsAll, handles, asks_answer, held_for, moment_after, held_message, next_held, side_after, side_faulted, side_written, side_ended, side_released, side_announced, settled_once, StandFor, QueuesCustody, IsFirstHeld, KeepsHeld, KeepsHeldOver, World, Step, new_world, side_of, step, after_steps, Event, Took, size_on, stream_on, steps_of, world_after, AreAccepted, Shows, kept_on, server_of, heard_step, steps_heard, kept_at, FollowsAnswers, IsRefusedStored, StoresNothing, view_of, after_view, AreSeen, first_number, view_events, EventValue, fed, replayed, DifferInCuts, AreInTime, lines_of, other_lines, WasToldLast, HaveOwnTokens, asked_late, IsFlushed, AddsBytes, waiting_at, Report, IoFault, IsStdioRun, LeavesNothingWaiting};
 ghost use Rattle.coap_conn.specs.declared.phase.Phase.TheVariants.{Stopped};
 ghost use Rattle.coap_conn.specs.Calls as call;
-ghost use Rattle.coap_serve.specs.declared.server.TakeFault.TheVariants.{Memory};
-ghost use Rattle.coap_serve.specs.declared.server.WrittenFault.TheVariants as writing;
-ghost use Rattle.coap_serve.specs.declared.server.ReleaseFault.TheVariants as releasing;
+ghost use Rattle.coap_serve.specs.declared.answers.TakeFault.TheVariants.{Memory};
+ghost use Rattle.coap_serve.specs.declared.answers.WrittenFault.TheVariants as writing;
+ghost use Rattle.coap_serve.specs.declared.answers.ReleaseFault.TheVariants as releasing;
 ghost use Rattle.coap_serve.specs.world.World.{Opened, Ended};
 
 /// No change is lost: after every call, on each connection less than the greatest message sent is free in the queue, or

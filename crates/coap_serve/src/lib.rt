@@ -2,6 +2,7 @@
 #![tactic(auto)]
 
 mod answering;
+mod answers;
 mod cause;
 mod chains;
 mod config;
@@ -20,6 +21,10 @@ mod serve;
 mod server;
 mod session;
 
+pub use answers::{
+    AnnounceFault, Backwards, ConnId, Handled, NoSuch, OpenFault, ReleaseFault, Status, TakeFault,
+    Taken, WrittenFault,
+};
 pub use coap_conn::{LimitFault, Limits, Phase, Reason};
 pub use coap_io::{
     Clock, Door, Got, Outlet, Polled, ReadSource, Ready, Rest, Source, Tried, Wait, Wire, Wires,
@@ -33,7 +38,4 @@ pub use event::Event;
 pub use replay::ReplayFault;
 pub use scripts::{ScriptFault, script, scripts_go_on_behind_whole_lines};
 pub use serve::{IoFault, Report, serve_one};
-pub use server::{
-    AnnounceFault, Backwards, ConnId, Handled, NoSuch, OpenFault, ReleaseFault, Server, Status,
-    TakeFault, Taken, WrittenFault,
-};
+pub use server::Server;

@@ -3,7 +3,8 @@
 ghost use Rattle.std.specs.Prelude.{◌≡◌, false, IfOk, OnOk, OnErr, is_err};
 ghost use Rattle.coap_serve.specs.Prelude.{AddsBytes, WritesPart, IsFlushed, IsPartFlushed, session_of, stop_on};
 
-use crate::server::{ConnId, Server};
+use crate::server::Server;
+use crate::answers::ConnId;
 use coap_conn::Reason;
 use coap_io::{Outlet, WriteFailed};
 

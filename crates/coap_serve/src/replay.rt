@@ -12,7 +12,8 @@ use crate::scripts::lines::{
     ShortLine, fault_line, in_line, open_line, out_line, put_line, remove_line, status_line,
     tick_line, word_line,
 };
-use crate::server::{ConnId, OpenFault, ReleaseFault, Server};
+use crate::server::Server;
+use crate::answers::{ConnId, OpenFault, ReleaseFault};
 use coap_io::{Outlet, write_all};
 use coap_store::{PathKey, StoreFault};
 use std::alloc::AllocError;

@@ -6,7 +6,8 @@ ghost use Rattle.coap_serve.specs.streams.Standing.{IsServed};
 
 use crate::config::Config;
 use crate::output::flush;
-use crate::server::{ConnId, Handled, Server};
+use crate::server::Server;
+use crate::answers::{ConnId, Handled};
 use coap_conn::Reason;
 use coap_io::{Outlet, Source};
 use std::alloc::Global;

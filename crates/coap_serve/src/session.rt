@@ -8,7 +8,7 @@ use crate::answering::{answer, notify, send_due};
 use crate::cause::Cause;
 use crate::host::Host;
 use crate::observers::Observers;
-use crate::server::AnnounceFault;
+use crate::answers::AnnounceFault;
 use coap_conn::{Limits, Link, Phase, Reject, Role, SendFault, Verdict};
 use coap_frame::{Framer, GREATEST_SIZE};
 use coap_wire::{MessageRef, parse};

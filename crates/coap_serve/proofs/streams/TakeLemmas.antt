@@ -12,7 +12,7 @@ use Rattle.coap_serve.specs.Prelude.{steps_by, world_after, takes, size_on, Show
 use Rattle.coap_serve.specs.Prelude.{count_of}
 use Rattle.coap_wire.proofs.StreamSteps.{split_goes_on}
 use Rattle.coap_frame.proofs.FrontLaws.{some_in_front}
-use Rattle.coap_serve.specs.declared.server.Handled.{Handled}
+use Rattle.coap_serve.specs.declared.answers.Handled.{Handled}
 use Rattle.coap_serve.specs.world.Events.{front_of}
 use Rattle.coap_serve.proofs.world.StepLaws.{world_same, world_step, rest_unfinished}
 use Rattle.coap_serve.proofs.world.GoingOn.{side_is}

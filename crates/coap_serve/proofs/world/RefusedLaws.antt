@@ -18,9 +18,9 @@ use Rattle.coap_serve.proofs.world.ShowLaws.{session_there, host_shown, sessions
 use Rattle.coap_serve.proofs.world.StepLaws.{stream_more}
 use Rattle.coap_serve.proofs.values.OptionLemmas.{none_made}
 use Rattle.coap_serve.specs.world.World as world
-use Rattle.coap_serve.specs.declared.server.TakeFault.TheVariants as fault
-use Rattle.coap_serve.specs.declared.server.WrittenFault.TheVariants as writing
-use Rattle.coap_serve.specs.declared.server.ReleaseFault.TheVariants as releasing
+use Rattle.coap_serve.specs.declared.answers.TakeFault.TheVariants as fault
+use Rattle.coap_serve.specs.declared.answers.WrittenFault.TheVariants as writing
+use Rattle.coap_serve.specs.declared.answers.ReleaseFault.TheVariants as releasing
 use Rattle.coap_serve.specs.world.View as view
 
 -- what a connection has spelled, gone on with more bytes

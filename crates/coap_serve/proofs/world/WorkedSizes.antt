@@ -5,7 +5,7 @@ use Rattle.coap_conn.specs.declared.reason.Reason.TheVariants as reason
 use Rattle.coap_serve.specs.Prelude.{ConfigValues, SessionValue, announced_refusal_on, AnnounceFault, Side, side_of}
 use Rattle.coap_serve.specs.Prelude.{Event, Opened, Took, Wrote, Announced, size_on, sizes_on, stream_on}
 use Rattle.coap_serve.specs.Prelude.{world_after, session_shown}
-use Rattle.coap_serve.specs.declared.server.AnnounceFault.TheVariants as fault
+use Rattle.coap_serve.specs.declared.answers.AnnounceFault.TheVariants as fault
 use Rattle.coap_text.proofs.HexDigits.{hex}
 use Rattle.coap_serve.proofs.world.Rows.{Open, In, Drain, Announce, Look, Done, Taken, Out, Stands, ◌=>◌, told, Plays}
 use Rattle.coap_serve.proofs.world.Worked.{config_with, narrow_limits}

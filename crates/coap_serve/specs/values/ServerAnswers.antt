@@ -1,28 +1,27 @@
 -- What the calls of a server answer, and why they are refused.
 use Rattle.std.specs.Prelude.{◌≡◌, ◌<◌, ℕ, Bool, true, false, List, length, take, Option, Some, None, Result, Ok, Err, option_map, nat_le, nat_lt, ◌==◌, if◌then◌else◌}
 use Rattle.coap_conn.specs.declared.reason.Reason.{Reason}
-use Rattle.coap_conn.specs.declared.phase.SendFault.{SendFault}
-use Rattle.coap_conn.specs.declared.phase.SendFault.TheVariants as send
 use Rattle.coap_frame.specs.Raising.{greatest_size}
 use Rattle.coap_conn.specs.Phases.{stop_of, is_open}
 use Rattle.coap_conn.specs.Fit.{fits}
 use Rattle.coap_conn.specs.LinkValue.{is_finished, limit_in, own_csm}
 use Rattle.coap_conn.specs.Release.{release_refusal}
+use Rattle.coap_serve.specs.Answers.{release_fault}
 use Rattle.coap_serve.specs.values.Sessions.{SessionValue, session_ready, session_takes, taking, RefusesPiece}
 use Rattle.coap_serve.specs.values.Servers.{ServerValue, session_of, server_taken}
-use Rattle.coap_serve.specs.declared.server.Handled.{Handled}
-use Rattle.coap_serve.specs.declared.server.Handled.TheVariants as handled
-use Rattle.coap_serve.specs.declared.server.Status.{Status}
-use Rattle.coap_serve.specs.declared.server.OpenFault.{OpenFault}
-use Rattle.coap_serve.specs.declared.server.OpenFault.TheVariants as opening
-use Rattle.coap_serve.specs.declared.server.TakeFault.{TakeFault}
-use Rattle.coap_serve.specs.declared.server.TakeFault.TheVariants as taken
-use Rattle.coap_serve.specs.declared.server.WrittenFault.{WrittenFault}
-use Rattle.coap_serve.specs.declared.server.WrittenFault.TheVariants as writing
-use Rattle.coap_serve.specs.declared.server.AnnounceFault.{AnnounceFault}
-use Rattle.coap_serve.specs.declared.server.AnnounceFault.TheVariants as announcing
-use Rattle.coap_serve.specs.declared.server.ReleaseFault.{ReleaseFault}
-use Rattle.coap_serve.specs.declared.server.ReleaseFault.TheVariants as releasing
+use Rattle.coap_serve.specs.declared.answers.Handled.{Handled}
+use Rattle.coap_serve.specs.declared.answers.Handled.TheVariants as handled
+use Rattle.coap_serve.specs.declared.answers.Status.{Status}
+use Rattle.coap_serve.specs.declared.answers.OpenFault.{OpenFault}
+use Rattle.coap_serve.specs.declared.answers.OpenFault.TheVariants as opening
+use Rattle.coap_serve.specs.declared.answers.TakeFault.{TakeFault}
+use Rattle.coap_serve.specs.declared.answers.TakeFault.TheVariants as taken
+use Rattle.coap_serve.specs.declared.answers.WrittenFault.{WrittenFault}
+use Rattle.coap_serve.specs.declared.answers.WrittenFault.TheVariants as writing
+use Rattle.coap_serve.specs.declared.answers.AnnounceFault.{AnnounceFault}
+use Rattle.coap_serve.specs.declared.answers.AnnounceFault.TheVariants as announcing
+use Rattle.coap_serve.specs.declared.answers.ReleaseFault.{ReleaseFault}
+use Rattle.coap_serve.specs.declared.answers.ReleaseFault.TheVariants as releasing
 
 -- ---- open
 
@@ -54,11 +53,6 @@ abbrev pub written_refusal : ServerValue → ℕ → ℕ → Option WrittenFault
 written_refusal v id count = written_refusal_on count (session_of id v.sessions)
 
 -- ---- release
-
-abbrev pub release_fault : SendFault → ReleaseFault
-release_fault send.NotOpen = releasing.NotOpen
-release_fault send.NoRoom = releasing.NoRoom
-release_fault send.PeerTooSmall = releasing.PeerTooSmall
 
 -- no connection has the number, or its link refuses
 abbrev pub released_refusal_on : Option SessionValue → Option ReleaseFault
@@ -134,11 +128,6 @@ handled_by v id piece = handled_on v piece (session_of id v.sessions) (stop_on (
 abbrev pub RefusesPieceOn : ServerValue → List ℕ → ℕ → Option SessionValue → Type 0
 RefusesPieceOn v piece bytes None = ⊥
 RefusesPieceOn v piece bytes (Some s) = RefusesPiece v.host s piece bytes
-
--- the number of a fault
-abbrev pub take_number : TakeFault → ℕ
-take_number taken.NoSuch = 1
-take_number (taken.Memory bytes) = 2
 
 -- A piece is not taken: no connection has the number, and nothing changes; or memory was refused, and the server is the one that
 -- took so many bytes of the piece.

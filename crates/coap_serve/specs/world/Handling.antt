@@ -7,8 +7,8 @@ use Rattle.coap_serve.specs.Configs.{ConfigValues}
 use Rattle.coap_serve.specs.world.Sides.{Side}
 use Rattle.coap_serve.specs.world.World.{side_of}
 use Rattle.coap_serve.specs.world.Events.{Event, world_after}
-use Rattle.coap_serve.specs.declared.server.Handled.{Handled}
-use Rattle.coap_serve.specs.declared.server.Handled.TheVariants as handled
+use Rattle.coap_serve.specs.declared.answers.Handled.{Handled}
+use Rattle.coap_serve.specs.declared.answers.Handled.TheVariants as handled
 
 -- the reason where no message is taken any more, else a message where one more was handled, else nothing
 abbrev pub handled_since : Side → Side → Option Reason → Handled

@@ -7,8 +7,8 @@ use Rattle.coap_serve.specs.Configs.{ConfigValues}
 use Rattle.coap_serve.specs.world.World.{side_of, Handled}
 use Rattle.coap_serve.specs.world.Events.{Event, Took, steps_by, takes, world_after}
 use Rattle.coap_serve.specs.world.View.{change_made, change_by}
-use Rattle.coap_serve.specs.declared.server.TakeFault.{TakeFault}
-use Rattle.coap_serve.specs.declared.server.TakeFault.TheVariants as fault
+use Rattle.coap_serve.specs.declared.answers.TakeFault.{TakeFault}
+use Rattle.coap_serve.specs.declared.answers.TakeFault.TheVariants as fault
 
 -- Memory was refused for a message, of which so many bytes of a piece were taken: all that would be taken but one. They make no step;
 -- with the next byte the message is handled, and it stores a representation.

@@ -11,8 +11,8 @@ use Rattle.coap_serve.specs.world.Observers.{Observer, format_of}
 use Rattle.coap_serve.specs.world.Sides.{Side}
 use Rattle.coap_serve.specs.world.World.{Place, World}
 use Rattle.coap_serve.specs.world.Events.{Event, Took, stream_on, world_after, AreAccepted}
-use Rattle.coap_serve.specs.declared.server.TakeFault.{TakeFault}
-use Rattle.coap_serve.specs.declared.server.TakeFault.TheVariants as fault
+use Rattle.coap_serve.specs.declared.answers.TakeFault.{TakeFault}
+use Rattle.coap_serve.specs.declared.answers.TakeFault.TheVariants as fault
 
 -- what tells a state from the others of its path: its version, and for what is built in the number that it says
 abbrev pub mark_told : Option Representation → ℕ

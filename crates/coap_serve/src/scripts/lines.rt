@@ -5,7 +5,7 @@ ghost use Rattle.std.specs.Prelude.{◌≡◌, ◌≤◌, ◌+◌, ◌++◌, IfO
 ghost use Rattle.coap_serve.specs.Prelude.{array_vec_len};
 ghost use Rattle.coap_serve.specs.script.Lines as spec;
 
-use crate::server::Status;
+use crate::answers::Status;
 use arrayvec::ArrayVec;
 use coap_conn::Phase;
 use itoa::{Buffer, Integer};

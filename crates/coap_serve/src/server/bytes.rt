@@ -1,7 +1,8 @@
 //! The bytes of a server's connections: taken, and written.
 
 use super::sessions::{find, flush_at, settle_after, what_was_handled, written_at};
-use super::{ConnId, Flushed, Server, TakeFault, Taken, WrittenFault};
+use super::{Flushed, Server};
+use crate::answers::{ConnId, TakeFault, Taken, WrittenFault};
 use coap_io::{Outlet, WriteFailed};
 use std::alloc::AllocError;
 

@@ -1,7 +1,8 @@
 //! The connections of a server: opened, ended, released, dropped, and how each is.
 
 use super::sessions::{announce_at, end_at, find, release_at};
-use super::{AnnounceFault, ConnId, NoSuch, OpenFault, Outlook, ReleaseFault, Server, Status};
+use super::{Outlook, Server};
+use crate::answers::{AnnounceFault, ConnId, NoSuch, OpenFault, ReleaseFault, Status};
 use crate::session::Session;
 
 impl Server {
