@@ -250,6 +250,7 @@ pub use Rattle.coap_serve.specs.views.ChainViews.{IsLastBefore, AreChainedTo}
 pub use Rattle.coap_serve.specs.views.FlagViews.{flag_of, AreFlagged, AreClear, AreBlocks}
 pub use Rattle.coap_serve.specs.views.ObserverViews.{observer_value, mark_in, IsTagged}
 pub use Rattle.coap_serve.specs.views.ServerViews.{IsServer, IsMarkedServer, server_value}
+pub use Rattle.coap_serve.specs.views.SessionShows.{observer_shown, session_shown}
 pub use Rattle.coap_serve.specs.views.SessionViews.{IsSession, session_value, marked_session}
 -- ---- coap_serve, world
 pub use Rattle.coap_serve.specs.world.Answered.{FollowsAnswers, HasResponse}
@@ -268,15 +269,14 @@ unfoldable pub use Rattle.coap_serve.specs.world.Heard.{steps_heard, heard_steps
 pub use Rattle.coap_serve.specs.world.Memory.{IsRefusedStored, StoresNothing, IsRefusedFor}
 pub use Rattle.coap_serve.specs.world.Observers.{asks_entry, is_whole, Observer, entry_for, format_of, goes_on}
 pub use Rattle.coap_serve.specs.world.Observers.{has_place, left_of, notification, notification_message, same_state}
-pub use Rattle.coap_serve.specs.world.Observers.{with_entry}
+pub use Rattle.coap_serve.specs.world.Observers.{with_entry, mark_told}
 unfoldable pub use Rattle.coap_serve.specs.world.Observers.{first_becomes, is_due, without_token}
-pub use Rattle.coap_serve.specs.world.Shows.{Shows, kept_on, ShowsRefused, mark_told, observer_shown, place_shown}
-pub use Rattle.coap_serve.specs.world.Shows.{server_shown, session_shown}
+pub use Rattle.coap_serve.specs.world.Shows.{Shows, ShowsRefused, place_shown, server_shown}
 unfoldable pub use Rattle.coap_serve.specs.world.Shows.{server_of}
 pub use Rattle.coap_serve.specs.world.Sides.{Side, waiting_on, HearsAll, handles, asks_answer, held_for, moment_after}
 pub use Rattle.coap_serve.specs.world.Sides.{held_message, next_held, is_cut, after_sent, has_room, kept_open}
 pub use Rattle.coap_serve.specs.world.Sides.{may_raise, new_side, next_due, notified, settled_so, side_answered}
-pub use Rattle.coap_serve.specs.world.Sides.{side_handled, side_replied, side_with, with_history}
+pub use Rattle.coap_serve.specs.world.Sides.{side_handled, side_replied, side_with, with_history, kept_on}
 unfoldable pub use Rattle.coap_serve.specs.world.Sides.{side_after, side_faulted, side_written, side_ended}
 unfoldable pub use Rattle.coap_serve.specs.world.Sides.{side_released, side_announced, settled_once, change_after}
 unfoldable pub use Rattle.coap_serve.specs.world.Sides.{settled, settled_within}

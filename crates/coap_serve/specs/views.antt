@@ -3,5 +3,6 @@ pub mod FlagViews
 pub mod ChainViews
 pub mod ObserverViews
 pub mod SessionViews
+pub mod SessionShows
 pub mod ServerViews
 pub mod LineViews

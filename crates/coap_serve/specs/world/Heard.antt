@@ -4,10 +4,9 @@ use Rattle.std.specs.Prelude.{ℕ, Bool, false, ◌&&◌, List, [], ◌∷◌, O
 use Rattle.coap_conn.specs.Limits.{LimitValues}
 use Rattle.coap_conn.specs.Phases.{takes_messages}
 use Rattle.coap_serve.specs.Configs.{ConfigValues}
-use Rattle.coap_serve.specs.world.Sides.{Side}
+use Rattle.coap_serve.specs.world.Sides.{Side, kept_on}
 use Rattle.coap_serve.specs.world.World.{World, Step, Opened, Handled, Faulted, Written, Ticked, Stored, Removed, Ended, Released, Announced, Dropped, new_world, side_of, step}
 use Rattle.coap_serve.specs.world.Events.{Event, stream_on, steps_of, world_after}
-use Rattle.coap_serve.specs.world.Shows.{kept_on}
 
 -- a connection is there, and takes messages
 abbrev pub hears : Option Side → Bool

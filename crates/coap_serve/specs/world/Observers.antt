@@ -1,5 +1,6 @@
 -- The observers of a connection (RFC 7641, as RFC 8323 section 7 changes it).
 use Rattle.std.specs.Prelude.{ℕ, Bool, true, false, not, ◌&&◌, List, [], ◌∷◌, ◌++◌, length, filter, Option, Some, None, nat_lt, ◌==◌, if◌then◌else◌}
+use Rattle.std.specs.Str.Parse.{digits_value}
 use Rattle.coap_wire.specs.Message.{Message}
 use Rattle.coap_wire.specs.Codes as code
 use Rattle.coap_conn.specs.declared.phase.Reply.{Reply}
@@ -33,6 +34,11 @@ same_state None None = true
 same_state None (Some q) = false
 same_state (Some r) None = false
 same_state (Some r) (Some q) = r.version == q.version && same_format r.format q.format && same_bytes r.bytes q.bytes
+
+-- what tells a state from the others of its path: its version, and for what is built in the number that it says
+abbrev pub mark_told : Option Representation → ℕ
+mark_told None = 0
+mark_told (Some r) = if r.version == 0 then digits_value 10 r.bytes else r.version
 
 -- an observer is due where the state that it was told is not the state now
 unfoldable pub is_due : StoreValue → ℕ → Observer → Bool

@@ -41,6 +41,10 @@ waiting_on s = (link_of s.history).waiting
 abbrev pub free_on : Side → ℕ
 free_on s = free_in (link_of s.history)
 
+-- the bytes kept of an unfinished frame: what is left of the bytes so far, where messages are taken
+abbrev pub kept_on : Side → List ℕ → List ℕ
+kept_on s rest = if takes_messages s.history.phase then rest else []
+
 -- there is room for the greatest message sent
 abbrev pub has_room : Side → Bool
 has_room s = nat_le s.history.limits.max_sent (free_on s)
