@@ -10,10 +10,9 @@ use Rattle.std.proofs.lemmas.List.{append-nil, length-drop, drop_all}
 use Rattle.coap_serve.specs.world.World as world
 use Rattle.coap_serve.proofs.world.GrowLaws.{settled_handled, written_handled}
 use Rattle.coap_serve.proofs.world.EntryLemmas.{all_to, count_within}
-use Rattle.coap_serve.proofs.world.SideLaws.{IsAtRest, left_on, once_less, at_rest, settled_rests}
-use Rattle.coap_serve.proofs.world.PlaceLaws.{AreDistinct}
+use Rattle.coap_serve.proofs.world.SideLaws.{IsAtRest, left_on, once_less, at_rest, settled_rests, side_at_rest_stays}
+use Rattle.coap_serve.proofs.world.PlaceLaws.{AreDistinct, places_unchanged}
 use Rattle.coap_serve.proofs.world.HearingLaws.{AllHear, step_hears}
-use Rattle.coap_serve.proofs.world.ShowLaws.{places_unchanged, side_at_rest_stays}
 use Rattle.coap_serve.proofs.world.CustodyLaws.{written_same}
 use Rattle.coap_serve.proofs.world.WalkLaws.{written_between}
 use Rattle.coap_serve.proofs.world.AcrossLaws.{written_there}

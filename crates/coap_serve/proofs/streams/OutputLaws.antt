@@ -1,16 +1,15 @@
 -- The world of one connection whose bytes are taken with a flush behind each step: it goes on with more bytes, what is written only
 -- grows, and a connection that has stopped stays as it is.
-use Rattle.std.proofs.Common.{◌≡◌, ℕ, false, List, [], ◌∷◌, ◌++◌, map, Some, None, Result, Ok, Err, inl, inr, refl, sym, ap, subst, ◌∙◌, ◌==◌, append_assoc, length, is_none}
+use Rattle.std.proofs.Common.{◌≡◌, ℕ, false, List, [], ◌∷◌, ◌++◌, map, Some, None, refl, sym, ap, subst, ◌∙◌, ◌==◌, append_assoc, length, is_none}
 use Rattle.coap_serve.specs.Prelude.{AllByRecursion, Message, StreamFault, Stream, split_on, Reason, takes_messages}
 use Rattle.coap_serve.specs.Prelude.{stop_of, LimitValues, bytes_of, ConfigValues, Side, side_after, change_after}
 use Rattle.coap_serve.specs.Prelude.{side_faulted, settled, new_side, waiting_on, settled_within, Place, World}
 use Rattle.coap_serve.specs.Prelude.{side_of, acted, step, Step, new_world, Event, Opened, Took, spelled_on}
 use Rattle.coap_serve.specs.Prelude.{taken_in, size_by, beyond, steps_by, steps_behind, steps_of, written_times}
 use Rattle.coap_serve.specs.Prelude.{flushed, flushed_after, only_id, stream_of, steps_for, world_for, side_for}
-use Rattle.coap_serve.specs.Prelude.{Outcome, outcome_on, outcome, stdio_output, concat, Report, IoFault, Read, Write, Memory, Turns, IsStdioRun, LeavesNothing, LeavesNothingWaiting}
+use Rattle.coap_serve.specs.Prelude.{Outcome, outcome_on, outcome, stdio_output}
 use Rattle.std.proofs.lemmas.Bool.{eqb-true, cond_both}
 use Rattle.std.proofs.lemmas.List.{append-nil}
-use Rattle.std.proofs.lemmas.List.Folds.{concat-append}
 use Rattle.coap_wire.proofs.StreamSteps.{unfinished_empty, split_unfinished, split_goes_on}
 use Rattle.coap_conn.proofs.LinkLemmas.{bytes_more}
 use Rattle.coap_serve.specs.world.World.{changed_at}
@@ -207,30 +206,3 @@ module _ (c : ConfigValues) where
   pub stopped_outcome : (xs ys : List ℕ) (why : Reason) → (outcome c xs).stop ≡ Some why → outcome c (xs ++ ys) ≡ outcome c xs
   unfolding outcome
   stopped_outcome xs ys why stopped = ap (λ (w : World). outcome_on (side_of id w.sides)) (stopped_output xs ys why stopped)
-
-  -- what is defined for bytes is everything that the connection queued for them, and nothing of it waits
-  pub all_written : (bytes output : List ℕ) → output ≡ stdio_output c bytes → LeavesNothing c bytes output
-  all_written bytes output whole =
-      let all = world_for_written bytes in
-      record { side = all.side; there = all.there; none_waits = all.waits; written = whole ∙ ap (λ (o : Outcome). o.output) (outcome_there bytes all.side all.there) }
-
-  -- A run leaves no byte that waits, unless a write failed.
-  pub run_leaves_nothing : (pieces : List (List ℕ)) (output : List ℕ) (result : Result Report IoFault) → IsStdioRun c pieces output result → LeavesNothingWaiting c pieces output result
-  run_leaves_nothing pieces output (Ok report) run = all_written (concat pieces) output run.written
-  run_leaves_nothing pieces output (Err Read) run = all_written (concat pieces) output run.1.written
-  run_leaves_nothing pieces output (Err Turns) run = all_written (concat pieces) output run.1.written
-  run_leaves_nothing pieces output (Err Write) run = tt
-  run_leaves_nothing pieces output (Err Memory) run = elim run [
-    | inl none ↦ inl none
-    | inr refused ↦
-        inr (record {
-          taken = concat refused.before ++ refused.front;
-          others = refused.last ∷ refused.behind;
-          all =
-              ap concat refused.all
-              ∙ concat-append refused.before ((refused.front ++ refused.last ∷ refused.behind) ∷ [])
-              ∙ ap (λ (xs : List ℕ). concat refused.before ++ xs) (append-nil (refused.front ++ refused.last ∷ refused.behind))
-              ∙ sym (append_assoc (concat refused.before) refused.front (refused.last ∷ refused.behind));
-          leaves = all_written (concat refused.before ++ refused.front) output refused.written;
-        })
-  ]

@@ -14,7 +14,7 @@ use Rattle.coap_serve.specs.streams.Standing.{IsServed}
 use Rattle.coap_serve.specs.world.World as world
 use Rattle.coap_serve.proofs.world.AcrossLaws.{ended_there}
 use Rattle.coap_serve.proofs.world.EntryLemmas.{all_append}
-use Rattle.coap_serve.proofs.world.HandledLaws.{HasStopped, settled_handles_none}
+use Rattle.coap_serve.proofs.world.BecameLaws.{HasStopped, settled_handles_none}
 use Rattle.coap_serve.proofs.world.ShowLaws.{side_there}
 use Rattle.coap_serve.proofs.world.StepLaws.{world_first, world_step}
 use Rattle.coap_io.proofs.streams.DeviceLemmas.{bytes_none, bytes_then, given_none, given_then}

@@ -18,12 +18,9 @@ use Rattle.coap_store.specs.declared.plan.Watch.TheVariants as watch
 use Rattle.coap_store.proofs.HoldLaws.{held_of, held_unwatched, same_change, same_at_once}
 use Rattle.coap_store.proofs.WatchLaws.{promptly_watched_is_there}
 use Rattle.coap_serve.proofs.values.EntryLemmas.{is_first}
+use Rattle.coap_serve.proofs.world.EntryLemmas.{asks_to_enter}
 
 -- ---- a request
-
-pub asks_to_enter : (asked : Watch) → asks_entry asked ≡ true → asked ≡ watch.Add
-asks_to_enter watch.Add e = refl
-asks_to_enter other e = absurd cc
 
 pub may_watch : (host : Host) (m : Message) → asks_entry (answer_on host m).watch ≡ true → MayWatch host.store host.now (path_of m) (answer_on host m)
 may_watch host m asks = promptly_watched_is_there host.store host.now m (asks_to_enter (answer_on host m).watch asks)

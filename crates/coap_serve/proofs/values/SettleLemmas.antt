@@ -15,25 +15,15 @@ use Rattle.coap_conn.specs.Calls as call
 use Rattle.coap_conn.proofs.HeldLaws.{due_fewer}
 use Rattle.coap_store.proofs.NotificationLaws.{notification_tells}
 use Rattle.coap_serve.proofs.values.OptionLemmas.{there_is_none, none_made_where, some_where, there_is}
+use Rattle.coap_serve.proofs.world.SideLaws.{send_held, due_held}
 use Rattle.coap_serve.proofs.world.EntryLemmas.{count_due, count_within, none_counted, count_less}
 
 -- ---- how much is held
-
--- a message that is sent leaves no more
-pub send_held : (s : Standing) (m less : Message) (r : Reply) → length (send_as s m less r).held ≤ length s.held
-send_held s m less Whole = omega arith
-send_held s m less other = omega arith
 
 reply_held : (l : LinkValue) (m : Message) → length (link_after l (call.Reply m)).held ≤ length l.held
 reply_held l m =
     cond_both (answers l.phase) (link_with l (send (standing_in l) m (bare_response m))) l (λ k. length k.held ≤ length l.held)
     (λ _. send_held (standing_in l) m (bare_response m) (fit (limit_in l) m (bare_response m))) (λ _. omega arith)
-
--- what was due first is held no more
-pub due_held : (s : Standing) (e : Option HeldValue) → length (due_effect s e).held ≤ length s.held
-due_held s None = omega arith
-due_held s (Some (Answer token moment)) = omega arith
-due_held s (Some (Pong token)) = send_held s (pong_with true token) (pong_with false token) (fit s.limit (pong_with true token) (pong_with false token))
 
 held_where_sent : (l : LinkValue) (now : ℕ) (e : HeldValue) → length (link_sent l now e).held ≤ length (link_after l (call.Due now)).held
 held_where_sent l now (Answer token moment) = reply_held (link_after l (call.Due now)) (held_message token)

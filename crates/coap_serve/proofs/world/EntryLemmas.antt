@@ -1,9 +1,10 @@
--- Lists, of observers and of others: what holds of each, which is the first that is due, and the values that show them.
-use Rattle.std.proofs.Common.{◌≡◌, ℕ, ◌+◌, ◌≤◌, Bool, true, false, List, [], ◌∷◌, ◌++◌, length, map, Some, None, refl, ap, subst, ◌∙◌, arith, filter, find, not, option_map, if◌then◌else◌, inl, inr}
-use Rattle.coap_serve.specs.Prelude.{AllByRecursion, same_bytes, ObserverValue, without_entry, Observer}
-use Rattle.coap_serve.specs.Prelude.{without_token, with_entry, first_becomes, observer_shown}
+-- Lists, of observers and of others: what holds of each, and which is the first that is due.
+use Rattle.std.proofs.Common.{◌≡◌, ℕ, ◌+◌, ◌≤◌, Bool, true, false, List, [], ◌∷◌, ◌++◌, length, map, Some, None, refl, subst, arith, filter, find, if◌then◌else◌, inl, inr}
+use Rattle.coap_serve.specs.Prelude.{AllByRecursion}
+use Rattle.coap_serve.specs.Prelude.{with_entry, first_becomes}
+use Rattle.coap_serve.specs.Prelude.{asks_entry, Watch}
+use Rattle.coap_store.specs.declared.plan.Watch.TheVariants as watch
 use Rattle.std.proofs.lemmas.Bool.{cases_Bool, cond_both}
-use Rattle.std.proofs.lemmas.List.{map-append}
 use Rattle.coap_serve.proofs.values.OptionLemmas.{same_there}
 
 -- ---- what holds of each
@@ -36,6 +37,12 @@ unfolding first_becomes
 all_become P due after [] all new = tt
 all_become P due after (o ∷ os) all new =
     elim (due o) as (λ b. AllByRecursion P (if b then after ++ os else o ∷ first_becomes due after os)) [ true ↦ all_append P after os new all.1 | false ↦ (all.0, all_become P due after os all.1 new) ]
+
+-- ---- what a request asks
+
+pub asks_to_enter : (asked : Watch) → asks_entry asked ≡ true → asked ≡ watch.Add
+asks_to_enter watch.Add e = refl
+asks_to_enter other e = absurd cc
 
 -- ---- lists that functions make
 
@@ -93,26 +100,3 @@ pub count_less : {O : Type 0} (due : O → Bool) (os : List O) (o : O) (after : 
 unfolding count_due first_becomes
 count_less due [] o after quiet e = absurd cc
 count_less due (p ∷ os) o after quiet e = grind (arith, count_behind due after os quiet, count_less due os o after quiet)
-
--- ---- the values that show them
-
-pub without_shown : (token : List ℕ) (os : List Observer) → map observer_shown (without_token token os) ≡ without_entry token (map observer_shown os)
-unfolding without_token without_entry
-without_shown token os = mapped_filter observer_shown (λ (v : ObserverValue). not (same_bytes v.token token)) os
-
-pub entered_shown : (enters : Bool) (os : List Observer) (o : Observer) (v : ObserverValue) → (enters ≡ true → observer_shown o ≡ v) → map observer_shown (with_entry enters os o) ≡ with_entry enters (map observer_shown os) v
-entered_shown true os o v same = map-append observer_shown os (o ∷ []) ∙ ap (λ w. map observer_shown os ++ w ∷ []) (same refl)
-entered_shown false os o v same = refl
-
--- a test of observers and one of values that tell the same
-abbrev pub TellTheSame : (Observer → Bool) → (ObserverValue → Bool) → List Observer → Type 0
-TellTheSame due stale os = AllByRecursion (λ o. due o ≡ stale (observer_shown o)) os
-
-pub found_shown : (due : Observer → Bool) (stale : ObserverValue → Bool) (os : List Observer) → TellTheSame due stale os → option_map observer_shown (find due os) ≡ find stale (map observer_shown os)
-found_shown due stale [] same = refl
-found_shown due stale (o ∷ os) same = grind (arith, same.0, found_shown due stale os same.1)
-
-pub become_shown : (due : Observer → Bool) (stale : ObserverValue → Bool) (after os : List Observer) → TellTheSame due stale os → map observer_shown (first_becomes due after os) ≡ first_becomes stale (map observer_shown after) (map observer_shown os)
-unfolding first_becomes
-become_shown due stale after [] same = refl
-become_shown due stale after (o ∷ os) same = grind (arith, same.0, map-append observer_shown after os, become_shown due stale after os same.1)

@@ -1,13 +1,13 @@
 -- A history that another one goes on to: one of the same connection, which takes no message any more once it does not. What each call
--- keeps of a history, and the link that shows the history after it.
-use Rattle.std.proofs.Common.{◌≡◌, ℕ, ◌≤◌, Bool, true, false, List, [], ◌∷◌, length, Option, Some, refl, ap, ◌∙◌, arith, ◌&&◌}
+-- keeps of a history.
+use Rattle.std.proofs.Common.{◌≡◌, ℕ, ◌≤◌, Bool, true, false, List, [], ◌∷◌, length, Option, Some, refl, ◌∙◌, arith, ◌&&◌}
 use Rattle.std.proofs.lemmas.Bool.{both_ways, and_parts, true_from_ne_false}
 use Rattle.std.proofs.lemmas.List.{length-drop}
 use Rattle.coap_serve.specs.Prelude.{Message, StreamFault, Reply, Server, LimitValues, takes_messages, answers}
 use Rattle.coap_serve.specs.Prelude.{is_open, fit, bare_response, HeldValue, first_due, Standing, Effect, send_as}
 use Rattle.coap_serve.specs.Prelude.{pong_with, due_effect, History, IsHistory, standing_now, with_effect, after}
-use Rattle.coap_serve.specs.Prelude.{link_of, may_hold, bytes_of, own_csm, Call, doing, standing_due, link_after}
-use Rattle.coap_serve.specs.Prelude.{StoreValue, ConfigValues, link_sent, Side, new_side, handles, has_room}
+use Rattle.coap_serve.specs.Prelude.{link_of, may_hold, bytes_of, own_csm, Call, doing, standing_due}
+use Rattle.coap_serve.specs.Prelude.{StoreValue, ConfigValues, Side, new_side, handles, has_room}
 use Rattle.coap_serve.specs.Prelude.{side_after, side_faulted, side_written, side_ended, side_released}
 use Rattle.coap_serve.specs.Prelude.{side_announced, held_message, after_sent, settled_once, settled, World, Step}
 use Rattle.coap_serve.specs.Prelude.{side_of, Event, world_after}
@@ -15,7 +15,7 @@ use Rattle.coap_conn.specs.declared.phase.Reply.TheVariants as reply
 use Rattle.coap_conn.specs.Held as held
 use Rattle.coap_conn.specs.Calls.{IsWithin}
 use Rattle.coap_conn.specs.Calls as call
-use Rattle.coap_conn.proofs.LinkLemmas.{new_shown, after_link, history_more}
+use Rattle.coap_conn.proofs.LinkLemmas.{new_shown, history_more}
 use Rattle.coap_serve.proofs.world.WalkLaws.{sent, holding, without_first, Between, if_between, settled_between}
 use Rattle.coap_serve.proofs.world.AcrossLaws.{kept_by, HoldsOf, KeepsAll, all_across}
 
@@ -100,14 +100,6 @@ sent_goes_on h now (held.Pong token) = call_goes_on h (call.Due now) tt
 
 pub settled_goes_on : (store : StoreValue) (now : ℕ) (s : Side) → Between GoesOn s (settled store now s)
 settled_goes_on = settled_between GoesOn all_go_on.composes all_go_on.replies all_go_on.lets_go all_go_on.pongs
-
--- ---- the link after it
-
-pub sent_link : (h : History) (now : ℕ) (e : HeldValue) → IsHistory h → link_of (after_sent h now e) ≡ link_sent (link_of h) now e
-sent_link h now (held.Answer token moment) is =
-    after_link (after h (call.Due now)) (call.Reply (held_message token)) tt ((call_goes_on h (call.Due now) tt).history is)
-    ∙ ap (λ l. link_after l (call.Reply (held_message token))) (after_link h (call.Due now) tt is)
-sent_link h now (held.Pong token) is = after_link h (call.Due now) tt is
 
 -- ---- what stops
 

@@ -5,17 +5,20 @@ use Rattle.coap_serve.specs.Prelude.{put_refusal, ConfigValues, Side, side_after
 use Rattle.coap_serve.specs.Prelude.{side_written, side_ended, side_released, side_announced, HearsAll, settled}
 use Rattle.coap_serve.specs.Prelude.{with_history, Place, World, new_world, side_of, stored_after, Step, Handled}
 use Rattle.coap_serve.specs.Prelude.{Faulted, Written, ticks, acted, settled_place, step, after_steps, Event}
-use Rattle.coap_serve.specs.Prelude.{steps_of, world_after, stream_on, takes_messages, stop, end_reason}
-use Rattle.coap_serve.specs.Prelude.{standing_now, with_effect, kept_on, session_shown, place_shown, server_of}
-use Rattle.coap_serve.specs.Prelude.{hears, heard_step, heard_steps, steps_heard, kept_at}
+use Rattle.coap_serve.specs.Prelude.{steps_of, world_after, takes_messages, stop, end_reason}
+use Rattle.coap_serve.specs.Prelude.{standing_now, with_effect}
+use Rattle.coap_serve.specs.Prelude.{hears, heard_step, heard_steps, steps_heard}
+use Rattle.coap_serve.specs.Prelude.{all_settled}
 use Rattle.std.proofs.lemmas.Bool.{and_parts, leb-true, eqb-true, cond_both}
 use Rattle.coap_serve.specs.world.World.{changed_at, Opened, Ticked, Stored, Removed, Ended, Released, Announced, Dropped}
 use Rattle.coap_serve.proofs.world.KnownLaws.{still_versioned, IsVersioned}
 use Rattle.coap_serve.proofs.world.AcrossLaws.{world_keeps}
 use Rattle.coap_serve.proofs.world.EntryLemmas.{all_to, all_append, all_filter, all_map}
+use Rattle.coap_serve.proofs.world.EntryLemmas.{all_stay}
 use Rattle.coap_serve.proofs.world.SideLaws.{IsKnownSide, still_known_side, calls_known, after_known, hears_at_rest, settled_rests, settled_known}
+use Rattle.coap_serve.proofs.world.SideLaws.{side_at_rest_stays}
 use Rattle.coap_serve.proofs.world.PlaceLaws.{AreDistinct, of_each}
-use Rattle.coap_serve.proofs.world.ReachedLaws.{step_distinct, events_distinct}
+use Rattle.coap_serve.proofs.world.ReachedLaws.{step_distinct}
 use Rattle.coap_serve.specs.world.World as world
 
 -- ---- what is known of a world
@@ -109,6 +112,14 @@ step_hears limits w s = settled_hear (acted limits w s).store (acted limits w s)
 pub world_hears : (c : ConfigValues) (events : List Event) → AllHear (world_after c events)
 world_hears c = world_keeps c AllHear (λ w s hear. step_hears c.limits w s) tt
 
+-- a world in which no change is lost is settled
+pub world_stays : (w : World) → AllHear w → all_settled w ≡ w
+world_stays w hear =
+    let settles : Place → Place = settled_place w.store w.now in
+    ap (λ (ps : List Place). record w { sides = ps }) (all_stay settles w.sides
+    (all_to (λ p. HearsAll w.store w.now p.side) (λ p. settles p ≡ p)
+    (λ p hears. ap (λ (s : Side). record p { side = s }) (side_at_rest_stays w.store w.now p.side hears)) w.sides hear))
+
 -- ---- the end of input
 
 -- behind a stop it does nothing, cut or not
@@ -128,7 +139,7 @@ map_same f g [] each = refl
 map_same f g (p ∷ ps) each = cc (each.0, map_same f g ps each.1)
 
 -- what is the same of each connection with a number
-each_same : {B : Type 0} (f g : Place → B) (ps : List Place) → AreDistinct ps → ((id : ℕ) (s : Side) → side_of id ps ≡ Some s → f (record { id = id; side = s }) ≡ g (record { id = id; side = s })) → map f ps ≡ map g ps
+pub each_same : {B : Type 0} (f g : Place → B) (ps : List Place) → AreDistinct ps → ((id : ℕ) (s : Side) → side_of id ps ≡ Some s → f (record { id = id; side = s }) ≡ g (record { id = id; side = s })) → map f ps ≡ map g ps
 each_same f g ps distinct same = map_same f g ps (of_each (λ id s. f (record { id = id; side = s }) ≡ g (record { id = id; side = s })) ps distinct same)
 
 -- ---- a step, and all of them
@@ -166,17 +177,3 @@ heard_alike c es fs alike = ap (heard_steps c.limits (new_world c)) alike
 -- behind a stop
 pub quiet_end : (w : World) (id : ℕ) (s : Side) (cut : Bool) → side_of id w.sides ≡ Some s → takes_messages s.history.phase ≡ false → heard_step w (world.Ended id cut) ≡ world.Ended id false
 quiet_end w id s cut there over = ap (λ (o : Option Side). world.Ended id (hears o && cut)) there ∙ ap (λ (b : Bool). world.Ended id (b && cut)) over
-
--- ---- servers
-
--- equal steps and equal bytes kept are equal servers
-pub same_servers : (c : ConfigValues) (es fs : List Event) → steps_heard c es ≡ steps_heard c fs → ((id : ℕ) → kept_at c es id ≡ kept_at c fs id) → server_of c es ≡ server_of c fs
-unfolding server_of
-same_servers c es fs alike kept =
-    let M : ℕ = c.limits.max_message in
-    let w : World = world_after c es in
-    let worlds : w ≡ world_after c fs = same_heard c es fs alike in
-    let same : (id : ℕ) (s : Side) → side_of id w.sides ≡ Some s → kept_on s (stream_on M id es).rest ≡ kept_on s (stream_on M id fs).rest = λ id s there. cc (kept id) in
-    let sessions : map (place_shown M es) w.sides ≡ map (place_shown M fs) w.sides = each_same (place_shown M es) (place_shown M fs) w.sides (events_distinct c es)
-    (λ id s there. ap (λ (frame : List ℕ). (id, record (session_shown (stream_on M id es).rest s) { frame = frame })) (same id s there)) in
-    cc

@@ -1,16 +1,15 @@
--- What is known of an observer: it was told a state of its path, so that the mark of that state tells whether it is the state now.
-use Rattle.std.proofs.Common.{◌≡◌, ℕ, ◌+◌, ◌<◌, ◌≤◌, true, false, List, [], Option, Some, None, refl, sym, ap, ◌∙◌, arith, ◌==◌, nat_eq, not, ◌&&◌, if◌then◌else◌, inl, inr, ◌⊎◌}
-use Rattle.coap_serve.specs.Prelude.{decimal, digits_value, option_eq, both_ways, Message, Path, same_bytes}
+-- What is known of an observer: it was told a state of its path, and is told the state now where it is told anything.
+use Rattle.std.proofs.Common.{◌≡◌, ℕ, ◌+◌, ◌<◌, ◌≤◌, true, false, List, Option, Some, None, refl, sym, ap, ◌∙◌, arith, ◌==◌, nat_eq, not, ◌&&◌, inl, inr, ◌⊎◌}
+use Rattle.coap_serve.specs.Prelude.{decimal, option_eq, Message, Path, same_bytes}
 use Rattle.coap_serve.specs.Prelude.{Representation, StoreValue, found_in, place_of, key_for, state_at, state_of}
 use Rattle.coap_serve.specs.Prelude.{built, text_plain, is_observable, is_dynamic, Target, target_of, path_of}
 use Rattle.coap_serve.specs.Prelude.{Change, Nothing, Put, Delete, changed, prompt_answer, only, content, Response}
 use Rattle.coap_serve.specs.Prelude.{etag_at, is_among, valid, answer_at, removes_watch, finally, answer_of}
-use Rattle.coap_serve.specs.Prelude.{unheld_by, AreDistinct, notification_at, Time, Dynamic, mark_of, mark_at}
-use Rattle.coap_serve.specs.Prelude.{is_marked, is_stale, Observer, same_state, is_due, entry_for, format_of}
-use Rattle.coap_serve.specs.Prelude.{goes_on, notification, notification_message, mark_told, observer_shown}
+use Rattle.coap_serve.specs.Prelude.{unheld_by, AreDistinct, notification_at, Time, Dynamic}
+use Rattle.coap_serve.specs.Prelude.{Observer, same_state, is_due, entry_for, format_of}
+use Rattle.coap_serve.specs.Prelude.{goes_on, notification, notification_message}
 use Rattle.coap_serve.specs.Prelude.{response_with_observe, responds, etag_of_state, TellsState}
-use Rattle.std.proofs.lemmas.Bool.{not-false, eqb-true, eq-eqb, ne_eqb, and_parts, cond-false, cond_both}
-use Rattle.std.proofs.lemmas.Fmt.{decimal_is_IsNumeral}
+use Rattle.std.proofs.lemmas.Bool.{not-false, eqb-true, eq-eqb, and_parts, cond_both}
 use lib.Pointwise.{bytes_decides}
 use Rattle.coap_store.specs.Answer.{Answer}
 use Rattle.coap_store.specs.declared.place.Place.{Place}
@@ -56,21 +55,8 @@ pub record IsVersioned (store : StoreValue) : Type 0 where
   pub numbered : (path : Path) (r : Representation) → found_in store.resources path ≡ Some r → 1 ≤ r.version
   pub given : (path : Path) (r : Representation) → found_in store.resources path ≡ Some r → r.version ≤ store.versions
 
--- ---- the moment
-
-digits_back : (n : ℕ) → n ≤ 18446744073709551615 → digits_value 10 (decimal n) ≡ n
-digits_back n small = (decimal_is_IsNumeral n (omega arith)).1
-
 pub bytes_itself : (xs : List ℕ) → same_bytes xs xs ≡ true
 bytes_itself xs = (bytes_decides xs xs).1 refl
-
--- moments are told apart by what they say
-moment_same : (told now : ℕ) → told ≤ 18446744073709551615 → now ≤ 18446744073709551615 → same_bytes (decimal told) (decimal now) ≡ (now == digits_value 10 (decimal told))
-moment_same told now small_told small_now =
-    let bytes = bytes_decides (decimal told) (decimal now) in
-    both_ways (same_bytes (decimal told) (decimal now)) (now == digits_value 10 (decimal told))
-    (λ e. eq-eqb now _ (sym (digits_back now small_now) ∙ ap (digits_value 10) (sym (bytes.0 e))))
-    (λ e. bytes.1 (ap decimal (sym (eqb-true now _ e ∙ digits_back told small_told))))
 
 -- ---- states
 
@@ -106,35 +92,6 @@ told_now store now o e = state_is o.told (state_of store now o.path) (not-false 
 pub not_due : (store : StoreValue) (now : ℕ) (o : Observer) → o.told ≡ state_of store now o.path → is_due store now o ≡ false
 unfolding is_due
 not_due store now o e = ap (λ told. not (same_state told (state_of store now o.path))) e ∙ ap not (state_itself (state_of store now o.path))
-
--- ---- marks
-
--- a version that was given is the mark
-version_marks : (n : ℕ) (r : Representation) → 1 ≤ r.version → (if r.version == 0 then n else r.version) ≡ r.version
-version_marks n r some = cond-false (r.version == 0) n r.version (ne_eqb r.version 0 (λ none. omega arith))
-
--- what is found against what was told
-stored_same : (store : StoreValue) (now : ℕ) (o : Observer) (known : KnowsStored store o) (found : Option Representation) → IsVersioned store → found_in store.resources o.path ≡ found → same_state (Some known.state) found ≡ is_marked now (mark_told (Some known.state)) found
-stored_same store now o known None is at = refl
-stored_same store now o known (Some r) is at =
-    let t : Representation = known.state in
-    rw (version_marks now r (is.numbered o.path r at), version_marks (digits_value 10 t.bytes) t known.numbered)
-    (both_ways (same_state (Some t) (Some r)) (r.version == t.version) (λ e. (let one = state_is (Some t) (Some r) e in eq-eqb r.version t.version (cc)))
-    (λ e. ap (λ q. same_state (Some t) (Some q)) (known.same r at (eqb-true r.version t.version e)) ∙ state_itself (Some t)))
-
-marked_at : (store : StoreValue) (now : ℕ) (o : Observer) (place : Place) → IsKnownAt place store o → now ≤ 18446744073709551615 → IsVersioned store → same_state o.told (state_at store now (Some o.path) place) ≡ is_marked now (mark_told o.told) (state_at store now (Some o.path) place)
-unfolding state_at
-marked_at store now o Time known small is = rw known.was (moment_same known.moment now known.small small)
-marked_at store now o Dynamic known small is = rw known.was (stored_same store now o known (found_in store.resources o.path) is refl)
-marked_at store now o other known small is = absurd known
-
-known_marked_now : (store : StoreValue) (now : ℕ) (o : Observer) → IsKnown store o → now ≤ 18446744073709551615 → IsVersioned store → same_state o.told (state_of store now o.path) ≡ is_marked now (mark_told o.told) (state_of store now o.path)
-known_marked_now store now o known small is = rw known.key (marked_at store now o (place_of o.path) known.state small is)
-
--- a mark tells whether the state that was told is the state now
-pub due_is_stale : (store : StoreValue) (now : ℕ) (o : Observer) → IsKnown store o → now ≤ 18446744073709551615 → IsVersioned store → is_due store now o ≡ is_stale (record { store = store; now = now }) (observer_shown o)
-unfolding is_due is_stale
-due_is_stale store now o known small is = ap not (known_marked_now store now o known small is)
 
 -- ---- over changes of the store
 
@@ -204,14 +161,6 @@ told_at other store now token path r small is e there = absurd cc
 pub told_known : (store : StoreValue) (now : ℕ) (token : List ℕ) (path : Path) → now ≤ 18446744073709551615 → IsVersioned store → IsWatchable store now path → IsKnown store (record { token = token; path = path; told = state_of store now path })
 told_known store now token path small is can =
     rw can.there (record { key = can.key; state = told_at (place_of path) store now token path can.representation small is can.observable (rw can.key at can.there) })
-
--- its mark is that of the state now
-pub mark_now : (store : StoreValue) (now : ℕ) (path : Path) → now ≤ 18446744073709551615 → IsVersioned store → IsWatchable store now path → mark_told (state_of store now path) ≡ mark_of now (state_of store now path)
-mark_now store now path small is can =
-    let state : Option Representation = state_of store now path in
-    let known : IsKnown store (record { token = []; path = path; told = state }) = told_known store now [] path small is can in
-    let marked : is_marked now (mark_told state) state ≡ true = sym (known_marked_now store now _ known small is) ∙ state_itself state in
-    rw can.there (sym (eqb-true (mark_at now can.representation) (mark_told (Some can.representation)) (rw can.there at marked)))
 
 -- ---- which states are told
 

@@ -14,8 +14,7 @@ use Rattle.coap_serve.specs.Prelude.{end_reason, StoreValue, response_with_obser
 use Rattle.coap_serve.specs.Prelude.{without_token, entry_for, left_of, first_becomes, Side, new_side, waiting_on}
 use Rattle.coap_serve.specs.Prelude.{settled_once, settled, side_of, World, Step, Event, stream_on, world_after}
 use Rattle.coap_serve.specs.Prelude.{AreAccepted, size_on, kept_on, unwrap_or, Server}
-use Rattle.coap_serve.proofs.values.SettleLemmas.{send_held}
-use Rattle.coap_serve.proofs.world.SideLaws.{observers_after, observers_settled}
+use Rattle.coap_serve.proofs.world.SideLaws.{send_held, observers_after, observers_settled}
 use Rattle.coap_wire.proofs.StreamSteps.{unfinished_below}
 use Rattle.coap_conn.proofs.LinkLemmas.{announced_more}
 use Rattle.coap_conn.proofs.WaitingLaws.{wait, one_small, limit_within, queued_waits, kept_small_by}

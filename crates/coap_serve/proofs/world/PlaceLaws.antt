@@ -150,3 +150,8 @@ of_each P (p ∷ ps) distinct holds = (
   holds p.id p.side (first_there p.id p ps refl),
   of_each P ps distinct.1 (λ id s e. holds id s (later_there id p ps (λ (same : p.id ≡ id). none_or_some s (sym distinct.0 ∙ ap (λ (n : ℕ). side_of n ps) same ∙ e)) ∙ e)),
 )
+
+-- where nothing happens to it, no connection changes
+pub places_unchanged : (id : ℕ) (ps : List Place) → map (changed_at id (λ s. s)) ps ≡ ps
+places_unchanged id [] = refl
+places_unchanged id (p ∷ ps) = cc (cond_both (p.id == id) p p (λ q. q ≡ p) (λ e. refl) (λ e. refl), places_unchanged id ps)

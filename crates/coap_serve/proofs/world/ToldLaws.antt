@@ -16,8 +16,7 @@ use lib.Pointwise.{bytes_decides}
 use Rattle.coap_conn.specs.Calls as call
 use Rattle.coap_conn.proofs.HeldLaws.{due_answer}
 use Rattle.coap_store.specs.Answer as answer
-use Rattle.coap_serve.proofs.world.EntryLemmas.{all_to, all_append, all_filter, all_become, found_all}
-use Rattle.coap_serve.proofs.values.AnsweringLemmas.{asks_to_enter}
+use Rattle.coap_serve.proofs.world.EntryLemmas.{asks_to_enter, all_to, all_append, all_filter, all_become, found_all}
 use Rattle.coap_serve.proofs.world.SideLaws.{settled_cases, held_room, next_due_found}
 use Rattle.coap_serve.proofs.world.WalkLaws.{ended_between, Between, faulted_between, written_between, released_between, announced_between, holding, observers_kept}
 use Rattle.coap_serve.proofs.world.GoingOn.{kept_after, IsSide, Keeps}
