@@ -1,5 +1,3 @@
-pub mod FlushLaws
-pub mod OutputLaws
 pub mod NothingLeft
 pub mod FlushShown
 pub mod TakeLemmas

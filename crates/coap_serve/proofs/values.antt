@@ -1,4 +1,3 @@
-pub mod OptionLemmas
 pub mod ResponseLemmas
 pub mod SettleLemmas
 pub mod EntryLemmas

@@ -1,4 +1,4 @@
-pub mod ConfigViews
+pub use Rattle.coap_model.specs.views.ConfigViews
 pub mod FlagViews
 pub mod ChainViews
 pub mod ObserverViews

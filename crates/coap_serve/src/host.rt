@@ -3,7 +3,7 @@
 ghost use Rattle.std.specs.Prelude.{◌≡◌, ◌<◌, ◌^◌, IfOk};
 ghost use Rattle.coap_serve.specs.Prelude.{mark_at as mark_in, new_host, present_mark};
 
-use crate::config::Config;
+use coap_model::Config;
 use coap_store::{PathKey, Present, State, Store};
 use std::alloc::{AllocError, Global};
 

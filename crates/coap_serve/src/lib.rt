@@ -2,10 +2,8 @@
 #![tactic(auto)]
 
 mod answering;
-mod answers;
 mod cause;
 mod chains;
-mod config;
 mod door;
 mod event;
 mod flags;
@@ -21,18 +19,17 @@ mod serve;
 mod server;
 mod session;
 
-pub use answers::{
-    AnnounceFault, Backwards, ConnId, Handled, NoSuch, OpenFault, ReleaseFault, Status, TakeFault,
-    Taken, WrittenFault,
-};
 pub use coap_conn::{LimitFault, Limits, Phase, Reason};
 pub use coap_io::{
     Clock, Door, Got, Outlet, Polled, ReadSource, Ready, Rest, Source, Tried, Wait, Wire, Wires,
     WriteFailed, WriteOutlet, write_all,
 };
+pub use coap_model::{
+    AnnounceFault, Backwards, Config, ConfigFault, ConnId, Handled, NoSuch, OpenFault,
+    ReleaseFault, Starts, Status, TakeFault, Taken, WrittenFault,
+};
 pub use coap_store::{PathKey, StoreFault};
 pub use coap_text::{bytes_in, number_in};
-pub use config::{Config, ConfigFault, Starts};
 pub use door::{Service, serve_door};
 pub use event::Event;
 pub use replay::ReplayFault;

@@ -5,7 +5,7 @@ ghost use Rattle.coap_serve.specs.Prelude.{refusal_in, open_refusal_in, replay_n
 ghost use Rattle.coap_serve.specs.script.Replay as spec;
 ghost use Rattle.coap_serve.specs.script.Events as event;
 ghost use Rattle.coap_serve.specs.script.Lines as lines;
-ghost use Rattle.coap_serve.specs.world.Events as world;
+ghost use Rattle.coap_model.specs.world.Events as world;
 
 use crate::event::Event;
 use crate::scripts::lines::{
@@ -13,8 +13,8 @@ use crate::scripts::lines::{
     tick_line, word_line,
 };
 use crate::server::Server;
-use crate::answers::{ConnId, OpenFault, ReleaseFault};
 use coap_io::{Outlet, write_all};
+use coap_model::{ConnId, OpenFault, ReleaseFault};
 use coap_store::{PathKey, StoreFault};
 use std::alloc::AllocError;
 use thiserror::Error;

@@ -8,10 +8,10 @@ mod changes;
 mod connections;
 mod sessions;
 
-use crate::config::Config;
 use crate::host::Host;
 use crate::session::Session;
 use coap_conn::Reason;
+use coap_model::Config;
 use indexmap::IndexMap;
 use std::alloc::{AllocError, Global};
 use std::marker::Model;

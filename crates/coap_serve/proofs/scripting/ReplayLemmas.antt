@@ -15,8 +15,8 @@ use Rattle.coap_serve.specs.declared.event.Event.{Event}
 use Rattle.coap_serve.specs.script.Replay.{goes_on, behind}
 use Rattle.coap_io.proofs.streams.DeviceLemmas.{bytes_then}
 use Rattle.coap_serve.proofs.scripting.ShownLemmas.{shows_same, shows_then, shows_as, events_ran_on}
-use Rattle.coap_serve.specs.world.Events as world
-use Rattle.coap_serve.specs.declared.answers.TakeFault.TheVariants as taking
+use Rattle.coap_model.specs.world.Events as world
+use Rattle.coap_model.specs.declared.answers.TakeFault.TheVariants as taking
 
 -- ---- one event
 

@@ -1,10 +1,10 @@
--- A run that ends leaves no byte that waits, unless a write failed.
+-- A run that ends leaves no queued byte, unless a write failed.
 use Rattle.std.proofs.Common.{◌≡◌, ℕ, List, [], ◌∷◌, ◌++◌, Result, Ok, Err, inl, inr, sym, ap, ◌∙◌, append_assoc}
 use Rattle.coap_serve.specs.Prelude.{ConfigValues, Outcome, stdio_output, concat, Report, IoFault, Read, Write}
 use Rattle.coap_serve.specs.Prelude.{Memory, Turns, IsStdioRun, LeavesNothing, LeavesNothingWaiting}
 use Rattle.std.proofs.lemmas.List.{append-nil}
 use Rattle.std.proofs.lemmas.List.Folds.{concat-append}
-use Rattle.coap_serve.proofs.streams.OutputLaws.{world_for_written, outcome_there}
+use Rattle.coap_model.proofs.streams.OutputLaws.{world_for_written, outcome_there}
 
 module _ (c : ConfigValues) where
   -- what is defined for bytes is everything that the connection queued for them, and nothing of it waits

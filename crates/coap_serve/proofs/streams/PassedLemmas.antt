@@ -11,7 +11,7 @@ use Rattle.coap_serve.specs.Prelude.{waiting_once, server_wrote, is_over_in, lef
 use Rattle.coap_serve.specs.Prelude.{can_go_on, session_outlook, outlook_of, Wants}
 use Rattle.coap_serve.specs.script.Replay.{goes_on}
 use Rattle.coap_serve.proofs.values.ServerLemmas.{changed_one, written_at_index, written_back, all_settled_stay}
-use Rattle.coap_serve.proofs.values.OptionLemmas.{there_is_none}
+use Rattle.coap_model.proofs.OptionLemmas.{there_is_none}
 use Rattle.coap_serve.proofs.world.ShowLaws.{taking_stopped}
 
 -- ---- it takes nothing

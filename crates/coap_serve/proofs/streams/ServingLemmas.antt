@@ -5,7 +5,7 @@ use Rattle.coap_serve.specs.Prelude.{ShowsPart, IsServing, HasServed, HasTurned,
 use Rattle.coap_serve.specs.Prelude.{SessionValue, Event, Opened, Took, Wrote, Dropped}
 use Rattle.coap_serve.specs.script.Replay.{goes_on}
 use Rattle.coap_serve.proofs.scripting.ShownLemmas.{shows_same, shows_then}
-use Rattle.coap_serve.proofs.world.EntryLemmas.{all_append, all_if}
+use Rattle.coap_model.proofs.world.EntryLemmas.{all_append, all_if}
 
 -- ---- events one after the other
 

@@ -11,14 +11,14 @@ use Rattle.coap_serve.specs.Prelude.{mark_of, state_on, changed_mark, MarkedSess
 use Rattle.coap_serve.specs.Prelude.{AreMarked, marks_after, ConcernsNone, marks_anew, IsMarkedBut, AreMarkedBut, AreAllMarked, AreMarkedAfter}
 use Rattle.std.proofs.lemmas.Bool.{both_ways, eq-eqb, ltb-true, ltb-false}
 use Rattle.coap_serve.proofs.values.MarkLemmas.{anew_same, anew_after, anew_unconcerned}
-use Rattle.coap_serve.proofs.world.EntryLemmas.{all_to}
+use Rattle.coap_model.proofs.world.EntryLemmas.{all_to}
 use Rattle.coap_store.specs.declared.place.Place.{Place}
 use Rattle.coap_store.proofs.AnswerLaws.{key_is}
 use Rattle.coap_store.proofs.ChangeLaws.{other_is_kept_on_put, other_is_kept_on_delete}
 use Rattle.coap_serve.specs.declared.cause.Cause.TheVariants as cause
 use Rattle.coap_serve.proofs.values.SettleLemmas.{settled_is_settled, settled_stays, settled_still}
-use Rattle.coap_serve.proofs.world.EntryLemmas.{none_due}
-use Rattle.coap_serve.proofs.values.OptionLemmas.{there_at, same_there}
+use Rattle.coap_model.proofs.world.EntryLemmas.{none_due}
+use Rattle.coap_model.proofs.OptionLemmas.{there_at, same_there}
 use Rattle.coap_serve.proofs.values.ServerLemmas.{Entries, MarkedEntries, all_written, one_of_all, written_at_index, settled_up_to, none_settled}
 use Rattle.coap_serve.proofs.values.ServerLemmas.{unmarked_at, same_written, one_more_settled, set_unmarked, as_many_settled, all_settled}
 use Rattle.std.proofs.lemmas.List.{length-map}

@@ -13,8 +13,8 @@ use Rattle.coap_store.specs.declared.place.Place.{Place}
 use Rattle.coap_store.proofs.StoreLemmas.{found_kept}
 use Rattle.coap_serve.proofs.values.ServerLemmas.{all_settled_stay, Entries}
 use Rattle.coap_serve.proofs.values.SettleLemmas.{settled_still}
-use Rattle.coap_serve.proofs.world.EntryLemmas.{none_due}
-use Rattle.coap_serve.proofs.world.SideLaws.{nothing_due_first}
+use Rattle.coap_model.proofs.world.EntryLemmas.{none_due}
+use Rattle.coap_model.proofs.world.SideLaws.{nothing_due_first}
 
 abbrev pub at_moment : Host → ℕ → Host
 at_moment host later = record host { now = later }

@@ -27,7 +27,7 @@ use Rattle.coap_store.specs.Answer.{Answer}
 use Rattle.coap_store.specs.Answer as answer
 use Rattle.coap_serve.proofs.values.AnsweringLemmas.{nothing_changed, may_watch}
 use Rattle.coap_serve.proofs.values.EntryLemmas.{none_in}
-use Rattle.coap_serve.proofs.world.EntryLemmas.{all_if, all_filter, all_entered, none_due}
+use Rattle.coap_model.proofs.world.EntryLemmas.{all_if, all_filter, all_entered, none_due}
 use Rattle.coap_serve.proofs.values.SettleLemmas.{none_held, settled_quiet, settled_stays, marked_now, found_ready}
 use Rattle.coap_serve.proofs.values.ServerLemmas.{Entries, one_of_all, written_at_index, changed_one, changed_written, settling, one_settles, all_settled_stay, all_still, taken_server_with, lies_where_taken}
 

@@ -1,9 +1,9 @@
--- Lists of observers, and the values that show them: what becomes of one becomes of the other.
+-- Lists of observers and of the values that show them change alike.
 use Rattle.std.proofs.Common.{◌≡◌, ℕ, Bool, true, false, List, [], ◌∷◌, ◌++◌, map, refl, ap, ◌∙◌, arith, find, not, option_map}
 use Rattle.coap_serve.specs.Prelude.{AllByRecursion, same_bytes, ObserverValue, without_entry, Observer}
 use Rattle.coap_serve.specs.Prelude.{without_token, with_entry, first_becomes, observer_shown}
 use Rattle.std.proofs.lemmas.List.{map-append}
-use Rattle.coap_serve.proofs.world.EntryLemmas.{mapped_filter}
+use Rattle.coap_model.proofs.world.EntryLemmas.{mapped_filter}
 
 -- ---- the values that show them
 

@@ -11,23 +11,23 @@ use Rattle.coap_serve.specs.Prelude.{handled_by, Side, handles, new_side, World,
 use Rattle.coap_serve.specs.Prelude.{stream_on, beyond, steps_by, world_after, takes, IfSide, IsAccepted, AreAccepted}
 use Rattle.coap_serve.specs.Prelude.{size_on, taken_in, session_shown, Shows, handled_between, handled_in, count_of}
 use Rattle.coap_frame.specs.Framing.{Nothing}
-use Rattle.coap_serve.specs.world.Events.{front_of}
-use Rattle.coap_serve.proofs.world.StepLaws.{world_same, world_step, by_events, stream_same, stream_elsewhere}
-use Rattle.coap_serve.proofs.world.StepLaws.{taken_elsewhere}
-use Rattle.coap_serve.proofs.world.TookLaws.{no_bytes_stream, no_bytes_steps, piece_adds_nothing, piece_adds_message}
-use Rattle.coap_serve.proofs.world.TookLaws.{piece_adds_bad, piece_adds_fault}
-use Rattle.coap_serve.proofs.world.ReachedLaws.{accepted_is, handling_goes_on, takes_there, piece_accepted, IsReached}
-use Rattle.coap_serve.proofs.world.ReachedLaws.{OpensNext}
+use Rattle.coap_model.specs.world.Events.{front_of}
+use Rattle.coap_model.proofs.world.StepLaws.{world_same, world_step, by_events, stream_same, stream_elsewhere}
+use Rattle.coap_model.proofs.world.StepLaws.{taken_elsewhere}
+use Rattle.coap_model.proofs.world.TookLaws.{no_bytes_stream, no_bytes_steps, piece_adds_nothing, piece_adds_message}
+use Rattle.coap_model.proofs.world.TookLaws.{piece_adds_bad, piece_adds_fault}
+use Rattle.coap_model.proofs.world.ReachedLaws.{accepted_is, handling_goes_on, takes_there, piece_accepted, IsReached}
+use Rattle.coap_model.proofs.world.ReachedLaws.{OpensNext}
 use Rattle.coap_serve.proofs.world.ShowLaws.{sessions_shown, side_there, no_session, takes_shown, shows_taken}
 use Rattle.coap_serve.proofs.world.ShowLaws.{taking_stopped, taking_front}
-use Rattle.coap_serve.proofs.world.WalkLaws.{Between}
-use Rattle.coap_serve.proofs.world.AcrossLaws.{HoldsFrom, step_across}
-use Rattle.coap_serve.proofs.values.OptionLemmas.{same_there}
-use Rattle.coap_serve.specs.world.World as world
-use Rattle.coap_serve.specs.world.Events as event
-use Rattle.coap_serve.proofs.world.BecameLaws.{NoStep, OneMessage, OneFault, became, HandlesNone, no_message_reason}
-use Rattle.coap_serve.proofs.world.BecameLaws.{TakesSo, Became, IsElsewhere, rests_of, Agrees, rests_agrees}
-use Rattle.coap_serve.proofs.world.BecameLaws.{silent_agrees, became_agrees, AgreesOn, first_agrees}
+use Rattle.coap_model.proofs.world.WalkLaws.{Between}
+use Rattle.coap_model.proofs.world.AcrossLaws.{HoldsFrom, step_across}
+use Rattle.coap_model.proofs.OptionLemmas.{same_there}
+use Rattle.coap_model.specs.world.World as world
+use Rattle.coap_model.specs.world.Events as event
+use Rattle.coap_model.proofs.world.BecameLaws.{NoStep, OneMessage, OneFault, became, HandlesNone, no_message_reason}
+use Rattle.coap_model.proofs.world.BecameLaws.{TakesSo, Became, IsElsewhere, rests_of, Agrees, rests_agrees}
+use Rattle.coap_model.proofs.world.BecameLaws.{silent_agrees, became_agrees, AgreesOn, first_agrees}
 
 module _ (c : ConfigValues) (es : List Event) (id : ℕ) (piece : List ℕ) (s : Side) (is : IsReached c es) (there : side_of id (world_after c es).sides ≡ Some s) where
   abbrev rest_before : List ℕ

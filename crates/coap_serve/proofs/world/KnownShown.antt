@@ -1,4 +1,4 @@
--- The mark of the state that an observer was told tells whether it is the state now.
+-- The mark in an observer's value decides whether the observer was told the state now.
 use Rattle.std.proofs.Common.{◌≡◌, ℕ, ◌≤◌, true, [], Option, Some, None, refl, sym, ap, ◌∙◌, arith, ◌==◌, not, if◌then◌else◌}
 use Rattle.coap_serve.specs.Prelude.{decimal, digits_value, both_ways, Path, same_bytes}
 use Rattle.coap_serve.specs.Prelude.{Representation, StoreValue, found_in, place_of, state_at, state_of}
@@ -9,8 +9,8 @@ use Rattle.std.proofs.lemmas.Bool.{eqb-true, eq-eqb, ne_eqb, cond-false}
 use Rattle.std.proofs.lemmas.Fmt.{decimal_is_IsNumeral}
 use lib.Pointwise.{bytes_decides}
 use Rattle.coap_store.specs.declared.place.Place.{Place}
-use Rattle.coap_serve.proofs.world.KnownLaws.{KnowsStored, IsKnownAt, IsKnown, IsVersioned, state_itself, state_is}
-use Rattle.coap_serve.proofs.world.KnownLaws.{IsWatchable, told_known}
+use Rattle.coap_model.proofs.world.KnownLaws.{KnowsStored, IsKnownAt, IsKnown, IsVersioned, state_itself, state_is}
+use Rattle.coap_model.proofs.world.KnownLaws.{IsWatchable, told_known}
 
 -- ---- the moment
 

@@ -1,4 +1,4 @@
--- Events that connections hear alike, and that leave the same bytes kept, leave the same server.
+-- Events that are heard alike, and that leave equal bytes kept, leave equal servers.
 use Rattle.std.proofs.Common.{◌≡◌, ℕ, List, map, Some, ap}
 use Rattle.coap_serve.specs.Prelude.{ConfigValues, Side}
 use Rattle.coap_serve.specs.Prelude.{World, side_of}
@@ -6,8 +6,8 @@ use Rattle.coap_serve.specs.Prelude.{Event}
 use Rattle.coap_serve.specs.Prelude.{world_after, stream_on}
 use Rattle.coap_serve.specs.Prelude.{kept_on, session_shown, place_shown, server_of}
 use Rattle.coap_serve.specs.Prelude.{steps_heard, kept_at}
-use Rattle.coap_serve.proofs.world.ReachedLaws.{events_distinct}
-use Rattle.coap_serve.proofs.world.HearingLaws.{each_same, same_heard}
+use Rattle.coap_model.proofs.world.ReachedLaws.{events_distinct}
+use Rattle.coap_model.proofs.world.HearingLaws.{each_same, same_heard}
 
 -- ---- servers
 

@@ -24,21 +24,21 @@ use Rattle.coap_serve.specs.Prelude.{Shows, Server, LinkValue, new_link, IsHisto
 use Rattle.coap_serve.specs.Prelude.{put_refusal, remove_refusal}
 use Rattle.coap_frame.specs.Framing.{Nothing}
 use Rattle.coap_frame.proofs.FrontLaws.{added_by, front_kept}
-use Rattle.coap_serve.specs.world.World.{changed_at}
-use Rattle.coap_serve.specs.world.Events.{front_of}
-use Rattle.coap_serve.proofs.world.StepLaws.{world_same, world_step, streams_same, stream_elsewhere, rest_unfinished, accepted_more}
-use Rattle.coap_serve.proofs.world.TookLaws.{Adds, no_bytes_stream, no_bytes_steps, piece_adds, but_last_unfinished, front_within}
-use Rattle.coap_serve.proofs.world.PlaceLaws.{AreDistinct, of_number, of_each, places_unchanged}
-use Rattle.coap_serve.proofs.world.EntryLemmas.{all_to, maps_alike, mapped_filter}
-use Rattle.coap_serve.proofs.world.ReachedLaws.{IsReached, handling_goes_on, accepted_is, takes_there, piece_accepted, events_distinct, opens}
-use Rattle.coap_serve.proofs.world.SideLaws.{IsKnownSide, handles_parts}
+use Rattle.coap_model.specs.world.World.{changed_at}
+use Rattle.coap_model.specs.world.Events.{front_of}
+use Rattle.coap_model.proofs.world.StepLaws.{world_same, world_step, streams_same, stream_elsewhere, rest_unfinished, accepted_more}
+use Rattle.coap_model.proofs.world.TookLaws.{Adds, no_bytes_stream, no_bytes_steps, piece_adds, but_last_unfinished, front_within}
+use Rattle.coap_model.proofs.world.PlaceLaws.{AreDistinct, of_number, of_each, places_unchanged}
+use Rattle.coap_model.proofs.world.EntryLemmas.{all_to, maps_alike, mapped_filter}
+use Rattle.coap_model.proofs.world.ReachedLaws.{IsReached, handling_goes_on, accepted_is, takes_there, piece_accepted, events_distinct, opens}
+use Rattle.coap_model.proofs.world.SideLaws.{IsKnownSide, handles_parts}
 use Rattle.coap_serve.proofs.world.SideShown.{host_of, faulted_shown, handled_shown, change_shown, written_shown}
 use Rattle.coap_serve.proofs.world.SideShown.{ended_side_shown, released_shown, announced_shown, settled_shown}
-use Rattle.coap_serve.proofs.world.HearingLaws.{world_stays, IsKnownPlace, IsKnownWorld, acted_known, world_known, world_hears}
-use Rattle.coap_serve.proofs.values.OptionLemmas.{one_made}
+use Rattle.coap_model.proofs.world.HearingLaws.{world_stays, IsKnownPlace, IsKnownWorld, acted_known, world_known, world_hears}
+use Rattle.coap_model.proofs.OptionLemmas.{one_made}
 use Rattle.coap_conn.proofs.LinkLemmas.{new_shown}
 use Rattle.coap_store.specs.Answer as store_change
-use Rattle.coap_serve.specs.world.World as world
+use Rattle.coap_model.specs.world.World as world
 
 -- ---- connections by their numbers
 

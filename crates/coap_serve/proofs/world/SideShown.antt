@@ -1,4 +1,4 @@
--- A connection of the world and the code's value of it do the same: over each call, and as it settles.
+-- A connection of the world and the code's value of it change alike: over each call, and as they settle.
 use Rattle.std.proofs.Common.{◌≡◌, ℕ, ◌+◌, ◌≤◌, Bool, true, false, cond, List, [], length, map, Option, Some, None}
 use Rattle.std.proofs.Common.{refl, sym, ap, ◌∙◌, ◌&&◌, if◌then◌else◌, zero, suc, find, option_map}
 use Rattle.coap_serve.specs.Prelude.{Message, StreamFault, takes_messages, is_open, fit, bare_response, reject_of}
@@ -19,16 +19,16 @@ use Rattle.coap_serve.specs.Prelude.{notification_message, left_of, first_become
 use Rattle.coap_serve.specs.Prelude.{session_shown, HeldValue, link_sent, held_message, after_sent}
 use Rattle.std.proofs.lemmas.Bool.{and_parts, cond_both, le-leb}
 use Rattle.std.proofs.lemmas.List.{length-map}
-use Rattle.coap_serve.proofs.world.KnownLaws.{IsWatchable, entry_watchable, IsKnown, IsVersioned}
-use Rattle.coap_serve.proofs.world.KnownLaws.{tells_on_to_observer, left_watchable}
+use Rattle.coap_model.proofs.world.KnownLaws.{IsWatchable, entry_watchable, IsKnown, IsVersioned}
+use Rattle.coap_model.proofs.world.KnownLaws.{tells_on_to_observer, left_watchable}
 use Rattle.coap_serve.proofs.world.KnownShown.{mark_now, due_is_stale}
-use Rattle.coap_serve.proofs.world.EntryLemmas.{asks_to_enter, all_to}
+use Rattle.coap_model.proofs.world.EntryLemmas.{asks_to_enter, all_to}
 use Rattle.coap_serve.proofs.world.EntryShown.{without_shown, entered_shown, TellTheSame, found_shown, become_shown}
-use Rattle.coap_serve.proofs.world.GoingOn.{GoesOn, call_goes_on, sent_goes_on}
+use Rattle.coap_model.proofs.world.GoingOn.{GoesOn, call_goes_on, sent_goes_on}
 use Rattle.coap_conn.proofs.LinkLemmas.{after_link}
-use Rattle.coap_serve.proofs.world.WalkLaws.{there_or_not}
+use Rattle.coap_model.proofs.world.WalkLaws.{there_or_not}
 use Rattle.coap_conn.specs.Calls as call
-use Rattle.coap_serve.proofs.world.SideLaws.{next_known, once_known, AreKnown, IsKnownSide, handles_parts}
+use Rattle.coap_model.proofs.world.SideLaws.{next_known, once_known, AreKnown, IsKnownSide, handles_parts}
 use Rattle.coap_conn.specs.Held as held
 
 -- what a host holds

@@ -2,10 +2,10 @@
 use Rattle.std.proofs.Common.{◌≡◌, ℕ, List, [], ◌∷◌, ◌++◌, map, Option, Some, None, refl}
 use Rattle.coap_serve.specs.Prelude.{ConfigValues, SessionValue, announced_refusal_on, AnnounceFault, Side, side_of}
 use Rattle.coap_serve.specs.Prelude.{Event, Opened, Took, Wrote, Announced, stream_on, world_after, session_shown}
-use Rattle.coap_serve.specs.declared.answers.AnnounceFault.TheVariants as fault
+use Rattle.coap_model.specs.declared.answers.AnnounceFault.TheVariants as fault
 use Rattle.coap_text.proofs.HexDigits.{hex}
-use Rattle.coap_serve.proofs.world.Rows.{told}
-use Rattle.coap_serve.proofs.world.Worked.{config_with, narrow_limits}
+use Rattle.coap_model.proofs.world.Rows.{told}
+use Rattle.coap_model.proofs.world.Worked.{config_with, narrow_limits}
 
 narrow_config : ConfigValues
 narrow_config = config_with (narrow_limits 1152) 0

@@ -3,7 +3,7 @@ use Rattle.std.specs.Prelude.{◌≡◌, ℕ, true, List, drop}
 use Rattle.coap_serve.specs.script.Replay.{fed_turns, goes_on}
 use Rattle.coap_serve.specs.values.Servers.{ServerValue}
 use Rattle.coap_serve.specs.values.ServerAnswers.{IsNotTaken}
-use Rattle.coap_serve.specs.declared.answers.TakeFault.TheVariants as taking
+use Rattle.coap_model.specs.declared.answers.TakeFault.TheVariants as taking
 
 -- Some takes were made, and the next one was not taken for want of memory.
 pub record IsPartlyFed (v : ServerValue) (id : ℕ) (bytes : List ℕ) (after : ServerValue) : Type 0 where

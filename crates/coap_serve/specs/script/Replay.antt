@@ -10,10 +10,10 @@ use Rattle.coap_serve.specs.script.Lines.{open_line, in_line, out_line, tick_lin
 use Rattle.coap_serve.specs.values.Sessions.{SessionValue}
 use Rattle.coap_serve.specs.values.Servers.{ServerValue, session_of, server_opened, server_taken, count_taken, server_written, server_ticked, server_put, server_removed, server_ended, server_released, server_dropped}
 use Rattle.coap_serve.specs.values.ServerAnswers.{open_refusal, released_refusal}
-use Rattle.coap_serve.specs.declared.answers.OpenFault.{OpenFault}
-use Rattle.coap_serve.specs.declared.answers.OpenFault.TheVariants as opening
-use Rattle.coap_serve.specs.declared.answers.ReleaseFault.{ReleaseFault}
-use Rattle.coap_serve.specs.declared.answers.ReleaseFault.TheVariants as releasing
+use Rattle.coap_model.specs.declared.answers.OpenFault.{OpenFault}
+use Rattle.coap_model.specs.declared.answers.OpenFault.TheVariants as opening
+use Rattle.coap_model.specs.declared.answers.ReleaseFault.{ReleaseFault}
+use Rattle.coap_model.specs.declared.answers.ReleaseFault.TheVariants as releasing
 
 -- what events come to: the server after them, and what they write
 pub record Ran : Type 0 where

@@ -8,7 +8,7 @@ use Rattle.coap_serve.specs.script.PartlyFed.{IsPartlyFed}
 use Rattle.coap_serve.specs.values.Sessions.{SessionValue}
 use Rattle.coap_serve.specs.values.Servers.{ServerValue, session_of, count_taken}
 use Rattle.coap_serve.specs.values.ServerAnswers.{open_refusal, released_refusal}
-use Rattle.coap_serve.specs.world.Events.{Event, Opened, Took, Wrote, Ticked, Stored, Removed, Ended, Released, Dropped}
+use Rattle.coap_model.specs.world.Events.{Event, Opened, Took, Wrote, Ticked, Stored, Removed, Ended, Released, Dropped}
 use Rattle.coap_serve.specs.world.Shows.{Shows}
 use Rattle.coap_serve.specs.declared.replay.ReplayFault.{ReplayFault}
 use Rattle.coap_serve.specs.declared.replay.ReplayFault.TheVariants.{Write, Memory}

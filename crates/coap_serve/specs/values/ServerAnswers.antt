@@ -6,22 +6,22 @@ use Rattle.coap_conn.specs.Phases.{stop_of, is_open}
 use Rattle.coap_conn.specs.Fit.{fits}
 use Rattle.coap_conn.specs.LinkValue.{is_finished, limit_in, own_csm}
 use Rattle.coap_conn.specs.Release.{release_refusal}
-use Rattle.coap_serve.specs.Answers.{release_fault}
+use Rattle.coap_model.specs.Answers.{release_fault}
 use Rattle.coap_serve.specs.values.Sessions.{SessionValue, session_ready, session_takes, taking, RefusesPiece}
 use Rattle.coap_serve.specs.values.Servers.{ServerValue, session_of, server_taken}
-use Rattle.coap_serve.specs.declared.answers.Handled.{Handled}
-use Rattle.coap_serve.specs.declared.answers.Handled.TheVariants as handled
-use Rattle.coap_serve.specs.declared.answers.Status.{Status}
-use Rattle.coap_serve.specs.declared.answers.OpenFault.{OpenFault}
-use Rattle.coap_serve.specs.declared.answers.OpenFault.TheVariants as opening
-use Rattle.coap_serve.specs.declared.answers.TakeFault.{TakeFault}
-use Rattle.coap_serve.specs.declared.answers.TakeFault.TheVariants as taken
-use Rattle.coap_serve.specs.declared.answers.WrittenFault.{WrittenFault}
-use Rattle.coap_serve.specs.declared.answers.WrittenFault.TheVariants as writing
-use Rattle.coap_serve.specs.declared.answers.AnnounceFault.{AnnounceFault}
-use Rattle.coap_serve.specs.declared.answers.AnnounceFault.TheVariants as announcing
-use Rattle.coap_serve.specs.declared.answers.ReleaseFault.{ReleaseFault}
-use Rattle.coap_serve.specs.declared.answers.ReleaseFault.TheVariants as releasing
+use Rattle.coap_model.specs.declared.answers.Handled.{Handled}
+use Rattle.coap_model.specs.declared.answers.Handled.TheVariants as handled
+use Rattle.coap_model.specs.declared.answers.Status.{Status}
+use Rattle.coap_model.specs.declared.answers.OpenFault.{OpenFault}
+use Rattle.coap_model.specs.declared.answers.OpenFault.TheVariants as opening
+use Rattle.coap_model.specs.declared.answers.TakeFault.{TakeFault}
+use Rattle.coap_model.specs.declared.answers.TakeFault.TheVariants as taken
+use Rattle.coap_model.specs.declared.answers.WrittenFault.{WrittenFault}
+use Rattle.coap_model.specs.declared.answers.WrittenFault.TheVariants as writing
+use Rattle.coap_model.specs.declared.answers.AnnounceFault.{AnnounceFault}
+use Rattle.coap_model.specs.declared.answers.AnnounceFault.TheVariants as announcing
+use Rattle.coap_model.specs.declared.answers.ReleaseFault.{ReleaseFault}
+use Rattle.coap_model.specs.declared.answers.ReleaseFault.TheVariants as releasing
 
 -- ---- open
 

@@ -29,8 +29,8 @@ use Rattle.coap_store.specs.Changes.{IsPut}
 use Rattle.coap_store.specs.Messages.{response_with_observe}
 use Rattle.coap_store.specs.Notifications.{notification_of}
 use Rattle.coap_serve.specs.declared.host.Host.{Host}
-use Rattle.coap_serve.specs.world.Sides.{is_cut, moment_after, held_message}
-use Rattle.coap_serve.specs.world.Observers.{format_of, has_place, is_whole, with_entry, goes_on, notification_message, first_becomes}
+use Rattle.coap_model.specs.world.Sides.{is_cut, moment_after, held_message}
+use Rattle.coap_model.specs.world.Observers.{format_of, has_place, is_whole, with_entry, goes_on, notification_message, first_becomes}
 
 -- an observer: the format that it was told, and the mark of the state that it was told
 pub record ObserverValue : Type 0 where

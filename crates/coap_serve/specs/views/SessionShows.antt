@@ -1,9 +1,9 @@
--- How a connection of the world is seen in the code's value of it.
+-- The code's value that shows a connection of the world.
 use Rattle.std.specs.Prelude.{ℕ, List, map}
 use Rattle.coap_conn.specs.History.{link_of}
 use Rattle.coap_serve.specs.values.Sessions.{ObserverValue, SessionValue}
-use Rattle.coap_serve.specs.world.Observers.{Observer, format_of, mark_told}
-use Rattle.coap_serve.specs.world.Sides.{Side, kept_on}
+use Rattle.coap_model.specs.world.Observers.{Observer, format_of, mark_told}
+use Rattle.coap_model.specs.world.Sides.{Side, kept_on}
 
 abbrev pub observer_shown : Observer → ObserverValue
 observer_shown o = record { token = o.token; path = o.path; format = format_of o.told; mark = mark_told o.told }

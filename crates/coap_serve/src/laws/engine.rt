@@ -1,4 +1,4 @@
-//! Theorems on a server: on what it holds after the calls that were made, and on scripts.
+//! Theorems on a server after any calls, and on scripts.
 
 ghost use Rattle.std.specs.Prelude.{◌≡◌, ◌⊎◌, ℕ, Bool, ◌+◌, ◌<◌, ◌^◌, ◌≤◌, List, ◌∷◌, ◌++◌, map, false, Some};
 ghost use Rattle.coap_serve.specs.Prelude.{concat, StreamFault, reject_of, reject_reason, takes_messages};
@@ -9,10 +9,10 @@ ghost use Rattle.coap_serve.specs.Prelude.{AreAccepted, Shows, server_of, heard_
 ghost use Rattle.coap_serve.specs.Prelude.{IsRefusedStored, StoresNothing, EventValue, fed, replayed, DifferInCuts};
 ghost use Rattle.coap_serve.specs.Prelude.{AreInTime, lines_of, other_lines};
 ghost use Rattle.coap_conn.specs.declared.phase.Phase.TheVariants.{Stopped};
-ghost use Rattle.coap_serve.specs.declared.answers.TakeFault.TheVariants.{Memory};
-ghost use Rattle.coap_serve.specs.declared.answers.WrittenFault.TheVariants as writing;
-ghost use Rattle.coap_serve.specs.declared.answers.ReleaseFault.TheVariants as releasing;
-ghost use Rattle.coap_serve.specs.world.World.{Ended};
+ghost use Rattle.coap_model.specs.declared.answers.TakeFault.TheVariants.{Memory};
+ghost use Rattle.coap_model.specs.declared.answers.WrittenFault.TheVariants as writing;
+ghost use Rattle.coap_model.specs.declared.answers.ReleaseFault.TheVariants as releasing;
+ghost use Rattle.coap_model.specs.world.World.{Ended};
 
 /// No change is lost: after every call, on each connection less than the greatest message sent is free in the queue, or
 /// every observer was told the state that its path has now, every held answer whose moment has come was sent, and no

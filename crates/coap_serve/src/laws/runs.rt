@@ -1,4 +1,4 @@
-//! Theorems on runs: on a flush, and on a door that skips connections with nothing to do.
+//! Theorems on runs: on a flush, and on a door that skips idle connections.
 
 ghost use Rattle.std.specs.Prelude.{◌≡◌, ℕ, Bool, Option, Result, ◌+◌, ◌≤◌, List, [], false};
 ghost use Rattle.coap_serve.specs.Prelude.{ConfigValues, ServerValue, AreSettled, LiesAt, server_opened};

@@ -5,9 +5,9 @@ ghost use Rattle.std.specs.Prelude.{◌≡◌, ◌≤◌, ◌+◌, ◌++◌, IfO
 ghost use Rattle.coap_serve.specs.Prelude.{array_vec_len};
 ghost use Rattle.coap_serve.specs.script.Lines as spec;
 
-use crate::answers::Status;
 use arrayvec::ArrayVec;
 use coap_conn::Phase;
+use coap_model::Status;
 use itoa::{Buffer, Integer};
 use std::alloc::{AllocError, Global};
 use std::fmt::Write;

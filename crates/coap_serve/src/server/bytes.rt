@@ -2,8 +2,8 @@
 
 use super::sessions::{find, flush_at, settle_after, what_was_handled, written_at};
 use super::{Flushed, Server};
-use crate::answers::{ConnId, TakeFault, Taken, WrittenFault};
 use coap_io::{Outlet, WriteFailed};
+use coap_model::{ConnId, TakeFault, Taken, WrittenFault};
 use std::alloc::AllocError;
 
 impl Server {

@@ -6,7 +6,7 @@ use Rattle.coap_serve.specs.declared.observers.Observer.{Observer}
 use Rattle.coap_serve.proofs.values.EntryLemmas.{others_seen}
 use Rattle.coap_serve.specs.Prelude.{IsTagged}
 use Rattle.coap_serve.proofs.values.TagLemmas.{all_kept_stay, others_keep_marks}
-use Rattle.coap_serve.proofs.world.EntryLemmas.{all_filter}
+use Rattle.coap_model.proofs.world.EntryLemmas.{all_filter}
 use Rattle.coap_serve.proofs.observers.keep_others.Goals as goal
 
 abbrev keeps : List ℕ → Observer → Bool

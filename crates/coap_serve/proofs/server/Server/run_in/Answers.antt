@@ -2,7 +2,7 @@ use Rattle.std.proofs.Common.{not, refl, sym, ap, ◌∙◌}
 use Rattle.coap_serve.specs.Prelude.{event_ran, events_made, is_there, session_status}
 use Rattle.coap_serve.proofs.scripting.ShownLemmas.{shows_same, none_taken_there}
 use Rattle.coap_serve.proofs.server.Server.run_in.Goals as goal
-use Rattle.coap_serve.proofs.values.OptionLemmas.{there_is, there_is_none, none_made, one_made}
+use Rattle.coap_model.proofs.OptionLemmas.{there_is, there_is_none, none_made, one_made}
 
 pub returns-then-is_none : goal.returns-then-is_none
 unfolding event_ran events_made

@@ -9,7 +9,7 @@ use Rattle.coap_serve.proofs.values.TakenLemmas.{count_is, taken_value, taken_se
 use Rattle.coap_serve.proofs.world.CallLaws.{take_takes, take_shows, refused_take_shows}
 use Rattle.coap_serve.proofs.world.HandledLaws.{take_says}
 use Rattle.coap_serve.proofs.world.RefusedLaws.{take_refused_for}
-use Rattle.coap_serve.specs.declared.answers.TakeFault.TheVariants as taking
+use Rattle.coap_model.specs.declared.answers.TakeFault.TheVariants as taking
 use Rattle.coap_serve.proofs.values.TurnLemmas.{same_session}
 use Rattle.coap_serve.proofs.server.Server.take_at.Goals as goal
 
