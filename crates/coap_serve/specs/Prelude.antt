@@ -214,11 +214,12 @@ pub use Rattle.coap_serve.specs.values.Flushes.{IsFlushedAt, flush_once, more_in
 unfoldable pub use Rattle.coap_serve.specs.values.Flushes.{flush_turns}
 pub use Rattle.coap_serve.specs.values.ServerAnswers.{stop_on, open_refusal, IsNotTaken, open_refusal_in}
 pub use Rattle.coap_serve.specs.values.ServerAnswers.{release_fault, can_take_on, written_refusal, front_of}
-pub use Rattle.coap_serve.specs.values.ServerAnswers.{OpenedOrMemory, released_refusal, IsAnnounced, status_of}
+pub use Rattle.coap_serve.specs.values.ServerAnswers.{OpenedOrMemory, released_refusal, status_of}
 pub use Rattle.coap_serve.specs.values.ServerAnswers.{released_refusal_on, handled_so, RefusesPieceOn}
-pub use Rattle.coap_serve.specs.values.ServerAnswers.{announced_refusal_on, handled_on, session_refusal}
+pub use Rattle.coap_serve.specs.values.ServerAnswers.{handled_on}
 pub use Rattle.coap_serve.specs.values.ServerAnswers.{session_status, take_number, written_refusal_on}
 unfoldable pub use Rattle.coap_serve.specs.values.ServerAnswers.{handled_by}
+pub use Rattle.coap_serve.specs.values.SessionAnswers.{IsAnnounced, announced_refusal_on, session_refusal}
 pub use Rattle.coap_serve.specs.values.Servers.{new_server, server_put, server_removed, server_ticked, AreSettled}
 pub use Rattle.coap_serve.specs.values.Servers.{server_dropped, new_host, ServerValue, LiesAt, server_opened}
 pub use Rattle.coap_serve.specs.values.Servers.{is_there, server_written, server_ended, server_released}

@@ -6,3 +6,4 @@ pub mod Flushes
 pub mod Dues
 pub mod Causes
 pub mod Responses
+pub mod SessionAnswers
