@@ -237,7 +237,7 @@ pub use Rattle.coap_serve.specs.values.Sessions.{ObserversValue, Taking, asks_th
 pub use Rattle.coap_serve.specs.values.Sessions.{mark_of, session_max, session_raises, session_ready}
 pub use Rattle.coap_serve.specs.values.Sessions.{session_rejected, session_replied, session_settled_so, state_on}
 pub use Rattle.coap_serve.specs.values.Sessions.{taking_found, taking_read, MarkedSession, AreMarked, IsMarked}
-pub use Rattle.coap_serve.specs.values.Sessions.{marks_on, observers_left}
+pub use Rattle.coap_serve.specs.values.Sessions.{empty_host, marks_on, observers_left}
 unfoldable pub use Rattle.coap_serve.specs.values.Sessions.{changed_mark}
 unfoldable pub use Rattle.coap_serve.specs.values.Sessions.{without_entry, is_stale, session_settled, session_handled}
 unfoldable pub use Rattle.coap_serve.specs.values.Sessions.{next_held_in, next_stale, session_settled_once, taking}

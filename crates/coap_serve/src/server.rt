@@ -282,11 +282,19 @@ impl Server {
         ensures value { IfOk result (λ s. s ≡ new_server config) }
         ensures shows { IfOk result (λ s. Shows s []) }
     {
+        let starts = config.starts();
+        let host = Host::open(
+            alloc,
+            config.dynamic_max(),
+            config.rep_max(),
+            starts.versions,
+            starts.moment,
+        )?;
         Ok(Server {
             alloc,
             config,
-            host: Host::open(alloc, &config)?,
-            ids: config.starts().ids,
+            host,
+            ids: starts.ids,
             sessions: IndexMap::with_capacity(alloc, config.connections())?,
         })
     }

@@ -60,6 +60,15 @@ pub record MarkedSession : Type 0 where
 abbrev pub session_max : SessionValue → ℕ
 session_max v = v.link.own_max
 
+-- ---- the host
+
+-- a host at a time whose store is empty
+abbrev pub empty_host : (dynamic_max rep_max versions now : ℕ) → Host
+empty_host dynamic_max rep_max versions now = record {
+  store = record { dynamic_max = dynamic_max; rep_max = rep_max; resources = []; versions = versions };
+  now = now;
+}
+
 -- ---- marks
 
 -- what tells a state of a path from the others that it has in time: the version of what is stored, and the moment for what
