@@ -200,12 +200,12 @@ pub use Rattle.coap_serve.specs.streams.Turns.{wants_in, ComesToNothing, can_go_
 pub use Rattle.coap_serve.specs.streams.Turns.{IsTakenAndWritten, least_with, left_behind, IsOffered, CanAnyGoOn}
 pub use Rattle.coap_serve.specs.streams.Turns.{concerns_earlier, wait_for}
 -- ---- coap_serve, values
-pub use Rattle.coap_serve.specs.values.Causes.{change_hash, ObservesNone, hash_behind, path_hash, AreSettledUntouched}
-pub use Rattle.coap_serve.specs.values.Causes.{AreOthersSettled, IsUntouched, AreUntouched, segments_hash, is_concerned}
-pub use Rattle.coap_serve.specs.values.Causes.{ConcernsNone, mark_anew, marks_after, IsMarkedBut, AreMarkedBut, AreMarkedAfter}
+pub use Rattle.coap_serve.specs.values.Causes.{change_hash, ObservesNone, hash_behind, path_hash}
+pub use Rattle.coap_serve.specs.values.Causes.{IsUntouched, segments_hash, is_concerned}
+pub use Rattle.coap_serve.specs.values.Causes.{ConcernsNone, mark_anew, marks_after, IsMarkedBut}
 unfoldable pub use Rattle.coap_serve.specs.values.Causes.{marks_anew}
-pub use Rattle.coap_serve.specs.values.Dues.{same_stamp, stamp_of, WaitsForWhatIsDue, outlook_of, tells_time, sooner}
-pub use Rattle.coap_serve.specs.values.Dues.{due_on, IsBefore, next_told, session_outlook}
+pub use Rattle.coap_serve.specs.values.Dues.{tells_time, sooner}
+pub use Rattle.coap_serve.specs.values.Dues.{due_on, IsBefore, next_told}
 pub use Rattle.coap_serve.specs.values.Entries.{IsFirstStale, IsFirstMarked, link_replied, entries_replied, entries_notified}
 pub use Rattle.coap_serve.specs.values.Entries.{settled_held, framer_on, is_observed, is_sent, response_on}
 unfoldable pub use Rattle.coap_serve.specs.values.Entries.{first_index}
@@ -220,6 +220,10 @@ pub use Rattle.coap_serve.specs.values.ServerAnswers.{handled_on}
 pub use Rattle.coap_serve.specs.values.ServerAnswers.{session_status, take_number, written_refusal_on}
 unfoldable pub use Rattle.coap_serve.specs.values.ServerAnswers.{handled_by}
 pub use Rattle.coap_serve.specs.values.SessionAnswers.{IsAnnounced, announced_refusal_on, session_refusal}
+pub use Rattle.coap_serve.specs.values.ServerCauses.{AreSettledUntouched, AreOthersSettled, AreUntouched}
+pub use Rattle.coap_serve.specs.values.ServerCauses.{AreMarkedBut, AreMarkedAfter}
+pub use Rattle.coap_serve.specs.values.ServerDues.{same_stamp, stamp_of, WaitsForWhatIsDue, outlook_of}
+pub use Rattle.coap_serve.specs.values.ServerDues.{session_outlook}
 pub use Rattle.coap_serve.specs.values.Servers.{new_server, server_put, server_removed, server_ticked, AreSettled}
 pub use Rattle.coap_serve.specs.values.Servers.{server_dropped, new_host, ServerValue, LiesAt, server_opened}
 pub use Rattle.coap_serve.specs.values.Servers.{is_there, server_written, server_ended, server_released}

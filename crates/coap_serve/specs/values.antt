@@ -7,3 +7,5 @@ pub mod Dues
 pub mod Causes
 pub mod Responses
 pub mod SessionAnswers
+pub mod ServerDues
+pub mod ServerCauses

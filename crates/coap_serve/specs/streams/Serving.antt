@@ -7,7 +7,7 @@ use Rattle.coap_io.specs.streams.Telling.{DoorCall, Asked}
 use Rattle.coap_serve.specs.streams.Notes.{true_end}
 use Rattle.coap_serve.specs.streams.Turns.{IsServed, IsAtRest, IsInTurn, IsAgendaOf, IsWaitAfter, concerns_earlier, end_of}
 use Rattle.coap_io.specs.streams.Wires.{WireTrace}
-use Rattle.coap_serve.specs.values.Dues.{stamp_of}
+use Rattle.coap_serve.specs.values.ServerDues.{stamp_of}
 use Rattle.coap_serve.specs.values.ServerAnswers.{open_refusal}
 use Rattle.coap_serve.specs.values.Servers.{ServerValue, server_opened, server_dropped}
 use Rattle.coap_serve.specs.world.Events.{Event, Opened, Took, Wrote, Ticked, Stored, Removed, Ended, Released, Announced, Dropped}

@@ -5,7 +5,8 @@ use Rattle.coap_conn.specs.declared.reason.Reason.{Reason}
 use Rattle.coap_serve.specs.values.Servers.{ServerValue, session_of, server_ended, server_written}
 use Rattle.coap_serve.specs.values.ServerAnswers.{can_take_on, stop_on}
 use Rattle.coap_serve.specs.script.Replay.{fed}
-use Rattle.coap_serve.specs.values.Dues.{outlook_of, stamp_of, same_stamp, sooner}
+use Rattle.coap_serve.specs.values.Dues.{sooner}
+use Rattle.coap_serve.specs.values.ServerDues.{outlook_of, stamp_of, same_stamp}
 use Rattle.coap_serve.specs.values.Flushes.{waiting_at}
 use Rattle.coap_io.specs.streams.Wires.{IsTold, WireTrace, IsReadOnce, IsWrittenOnce, read_room}
 use Rattle.coap_serve.specs.declared.door.peer.Course.{Course}

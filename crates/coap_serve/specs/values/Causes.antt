@@ -1,15 +1,13 @@
 -- What makes connections due, and which of them it cannot touch.
-use Rattle.std.specs.Prelude.{◌≡◌, ◌≢◌, ◌≤◌, ◌<◌, slice_get, ℕ, ◌+◌, ◌*◌, ◌%◌, Bool, false, List, [], ◌∷◌, map, Option, Some, None, ◌==◌, if◌then◌else◌}
+use Rattle.std.specs.Prelude.{◌≡◌, ◌≢◌, ℕ, ◌+◌, ◌*◌, ◌%◌, Bool, false, List, [], ◌∷◌, map, Option, Some, None, ◌==◌, if◌then◌else◌}
 use Rattle.std.specs.List.{AllByRecursion, list_any}
-use Rattle.std.specs.Map.{values_of}
 use Rattle.coap_store.specs.Paths.{Path}
 use Rattle.coap_store.specs.Answer.{Change, Nothing, Put, Delete}
 use Rattle.coap_serve.specs.declared.host.Host.{Host}
 use Rattle.coap_serve.specs.declared.cause.Cause.{Cause}
 use Rattle.coap_serve.specs.declared.cause.Cause.TheVariants as cause
-use Rattle.coap_serve.specs.values.Sessions.{ObserverValue, SessionValue, MarkedSession, changed_mark, IsSettled}
+use Rattle.coap_serve.specs.values.Sessions.{ObserverValue, SessionValue, MarkedSession, changed_mark}
 use Rattle.coap_serve.specs.values.Dues.{IsBefore, due_on, tells_time}
-use Rattle.coap_serve.specs.values.Servers.{changed_at, AreAllMarked}
 
 -- ---- the hash of a path, below 256
 
@@ -43,16 +41,6 @@ abbrev pub IsUntouched : Cause → ℕ → SessionValue → Type 0
 IsUntouched (cause.Path hash) now s = ObservesNone hash s.observers
 IsUntouched (cause.Moment before) now s = IsBefore now (due_on before s)
 
--- every connection that it does not touch is settled
-abbrev pub AreSettledUntouched : Cause → Host → List (ℕ × SessionValue) → Type 0
-AreSettledUntouched why host sessions = AllByRecursion (λ e. IsUntouched why host.now e.1 → IsSettled host e.1) sessions
-
--- the same of a change of the path with this hash, where the connection at an index is settled too
-abbrev pub AreOthersSettled : Option ℕ → ℕ → Host → List (ℕ × SessionValue) → Type 0
-AreOthersSettled None at host sessions = Unit {0}
-AreOthersSettled (Some hash) at host sessions =
-    (s : SessionValue) → IsSettled host s → AreSettledUntouched (cause.Path hash) host (changed_at at (λ _. s) sessions)
-
 -- ---- the marks that a cause sets
 
 -- what changed may have made this observer stale
@@ -64,11 +52,6 @@ is_concerned (cause.Moment before) o = tells_time o
 abbrev pub ConcernsNone : Cause → List ObserverValue → Type 0
 ConcernsNone (cause.Path hash) observers = ObservesNone hash observers
 ConcernsNone (cause.Moment before) observers = list_any tells_time observers ≡ false
-
--- no connection from one index up to another one is touched
-abbrev pub AreUntouched : Cause → ℕ → ℕ → ℕ → List (ℕ × MarkedSession) → Type 0
-AreUntouched why now from to sessions =
-    (i : ℕ) (s : MarkedSession) → from ≤ i → i < to → slice_get (values_of sessions) i ≡ Some s → IsUntouched why now s.session × ConcernsNone why s.session.observers
 
 abbrev pub mark_anew : Cause → Host → ObserverValue → Option ℕ → Option ℕ
 mark_anew why host o mark = if is_concerned why o then changed_mark host o else mark
@@ -87,11 +70,3 @@ marks_after (Some hash) host observers marks = marks_anew (cause.Path hash) host
 -- once these are set anew, all are as they are to be
 abbrev pub IsMarkedBut : Cause → Host → MarkedSession → Type 0
 IsMarkedBut why host s = marks_anew why host s.session.observers s.marks ≡ map (changed_mark host) s.session.observers
-
-abbrev pub AreMarkedBut : Cause → Host → List (ℕ × MarkedSession) → Type 0
-AreMarkedBut why host sessions = AllByRecursion (λ e. IsMarkedBut why host e.1) sessions
-
--- the same of a change of the path with this hash, if there was any
-abbrev pub AreMarkedAfter : Option ℕ → Host → List (ℕ × MarkedSession) → Type 0
-AreMarkedAfter None host sessions = AreAllMarked host sessions
-AreMarkedAfter (Some hash) host sessions = AreMarkedBut (cause.Path hash) host sessions
