@@ -14,3 +14,6 @@ pub mod DueLemmas
 pub mod CauseLemmas
 pub mod FlagLemmas
 pub mod ChainLemmas
+pub mod ServerDueLemmas
+pub mod ServerCauseLemmas
+pub mod ServerTakenLemmas

@@ -5,7 +5,7 @@ use Rattle.coap_serve.specs.declared.cause.Cause.TheVariants as cause
 use Rattle.coap_serve.proofs.values.OptionLemmas.{there_is_none}
 use Rattle.coap_serve.proofs.values.DueLemmas.{at_moment}
 use Rattle.coap_serve.proofs.values.ServerLemmas.{Entries, settled_server, same_moment}
-use Rattle.coap_serve.proofs.values.CauseLemmas.{untouched_by_moment, all_but_later, none_touched}
+use Rattle.coap_serve.proofs.values.ServerCauseLemmas.{untouched_by_moment, all_but_later, none_touched}
 use Rattle.coap_serve.proofs.world.CallLaws.{tick_shows}
 use Rattle.coap_serve.proofs.server.Server.tick.Goals.{Else-is_some}
 use Rattle.coap_serve.proofs.server.Server.tick.Goals as goal
