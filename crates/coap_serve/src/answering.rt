@@ -6,7 +6,8 @@ ghost use Rattle.coap_conn.specs.Calls as call;
 
 use crate::cause::Cause;
 use crate::host::{Host, mark_at};
-use crate::observers::{Observer, Observers, Stale};
+use crate::observer::Observer;
+use crate::observers::{Observers, Stale};
 use crate::path_hash::hash_of;
 use crate::response::respond;
 use coap_conn::{Due, Link, Reply};

@@ -10,6 +10,7 @@ mod event;
 mod flags;
 mod host;
 pub mod laws;
+mod observer;
 mod observers;
 mod output;
 mod path_hash;

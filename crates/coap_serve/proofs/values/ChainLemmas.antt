@@ -7,7 +7,7 @@ use Rattle.std.proofs.Math.Seq.{map-set_same}
 use Rattle.coap_serve.specs.Prelude.{AllByRecursion, list_any, Cause, Path, Host, ObserverValue, ObservesNone, path_hash, is_concerned, changed_mark, marks_anew, observer_value, mark_in, IsTagged, AreFlagged}
 use Rattle.coap_serve.specs.Prelude.{Chains, Linked, linked, concerns_path, last_in, previous_in, next_index, IsLastBefore, AreChainedTo}
 use Rattle.coap_serve.specs.declared.cause.Cause.TheVariants as cause
-use Rattle.coap_serve.specs.declared.observers.Observer.{Observer}
+use Rattle.coap_serve.specs.declared.observer.Observer.{Observer}
 use Rattle.coap_serve.proofs.values.FlagLemmas.{written, not_written, pushed, not_pushed}
 use Rattle.coap_serve.proofs.values.EntryLemmas.{read_at}
 use Rattle.coap_serve.proofs.values.MarkLemmas.{marks_from, from_end, passed_over, one_set}

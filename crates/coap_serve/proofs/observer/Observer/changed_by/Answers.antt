@@ -1,7 +1,7 @@
 use Rattle.std.proofs.Common.{ap, ◌∙◌, Option, ℕ}
 use Rattle.coap_serve.specs.Prelude.{untold_by, observer_value}
 use Rattle.coap_serve.proofs.values.MarkLemmas.{untold_is_changed}
-use Rattle.coap_serve.proofs.observers.Observer.changed_by.Goals as goal
+use Rattle.coap_serve.proofs.observer.Observer.changed_by.Goals as goal
 
 pub returns : goal.returns
 returns c =
