@@ -1,7 +1,7 @@
 //! The observers of a connection (RFC 7641).
 
 ghost use Rattle.std.specs.Prelude.{◌≡◌, ◌<◌, ◌≤◌, None, false, length, map, is_some, IfNone, IfSome, Option, ℕ, vec_capacity, ◌++◌, ◌∷◌, [], not, nat_lt, IfOk, Some, slice_get, slice_set, remove};
-ghost use Rattle.coap_serve.specs.Prelude.{list_any, tells_time as observes_time, IsFirstMarked, AllByRecursion, AreChainedTo, AreFlagged, linked, IsTagged, mark_in, marks_anew, first_index, without_entry, observer_value, ObservesNone, ObserverValue};
+ghost use Rattle.coap_serve.specs.Prelude.{list_any, tells_time as observes_time, IsFirstMarked, AllByRecursion, AreChainedTo, AreFlagged, linked, IsTagged, mark_in, marks_anew, first_index, without_entry, observer_value, observes_hash, ObserverValue};
 
 use crate::cause::Cause;
 use crate::chains::{Chains, chains_of};
@@ -85,9 +85,9 @@ impl Observers {
         self.chains.last(Cause::Moment(0)).is_some()
     }
 
-    /// Whether one of them may observe a path with this hash.
+    /// Returns `true` if one of them observes a path with this hash.
     pub(crate) fn may_observe(&self, hash: u8) -> bool
-        ensures { result ≡ false → ObservesNone hash self.now.entries }
+        ensures { result ≡ list_any (observes_hash hash) self.now.entries }
     {
         self.chains.last(Cause::Path(hash)).is_some()
     }

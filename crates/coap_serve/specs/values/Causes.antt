@@ -32,6 +32,10 @@ change_hash (Delete path) = Some (path_hash path)
 
 -- ---- what a cause touches
 
+-- an observer observes a path with this hash
+abbrev pub observes_hash : ℕ → ObserverValue → Bool
+observes_hash hash o = path_hash o.path == hash
+
 abbrev pub ObservesNone : ℕ → List ObserverValue → Type 0
 ObservesNone hash observers = AllByRecursion (λ o. path_hash o.path ≢ hash) observers
 

@@ -10,6 +10,7 @@ use crate::cause::Cause;
 impl Session {
     /// Returns `true` if a change may make something due: an observer of such a path or of the moment may be there, or
     /// the moment of a pending answer came.
+    #[tactic(auto, using(crate::proofs::values::ChainLemmas::none_observes))]
     pub(crate) fn is_touched(&self, cause: Cause, now: u64) -> bool
         ensures untouched { result ≡ false → IsUntouched cause now self.now.session }
         ensures unmarked { result ≡ false → ConcernsNone cause self.now.session.observers }
