@@ -201,7 +201,7 @@ pub use Rattle.coap_serve.specs.streams.Turns.{IsTakenAndWritten, least_with, le
 pub use Rattle.coap_serve.specs.streams.Turns.{concerns_earlier, wait_for}
 -- ---- coap_serve, values
 pub use Rattle.coap_serve.specs.values.Causes.{change_hash, ObservesNone, hash_behind, path_hash}
-pub use Rattle.coap_serve.specs.values.Causes.{IsUntouched, observes_hash, segments_hash, is_concerned}
+pub use Rattle.coap_serve.specs.values.Causes.{IsUntouched, has_come, may_touch, observes_hash, segments_hash, is_concerned}
 pub use Rattle.coap_serve.specs.values.Causes.{ConcernsNone, mark_anew, marks_after, IsMarkedBut}
 unfoldable pub use Rattle.coap_serve.specs.values.Causes.{marks_anew}
 pub use Rattle.coap_serve.specs.values.Dues.{tells_time, sooner}

@@ -1,5 +1,5 @@
 -- What makes connections due, and which of them it cannot touch.
-use Rattle.std.specs.Prelude.{◌≡◌, ◌≢◌, ℕ, ◌+◌, ◌*◌, ◌%◌, Bool, false, List, [], ◌∷◌, map, Option, Some, None, ◌==◌, if◌then◌else◌}
+use Rattle.std.specs.Prelude.{◌≡◌, ◌≢◌, ℕ, ◌+◌, ◌*◌, ◌%◌, Bool, ◌||◌, false, List, [], ◌∷◌, map, nat_le, Option, Some, None, ◌==◌, if◌then◌else◌}
 use Rattle.std.specs.List.{AllByRecursion, list_any}
 use Rattle.coap_store.specs.Paths.{Path}
 use Rattle.coap_store.specs.Answer.{Change, Nothing, Put, Delete}
@@ -38,6 +38,17 @@ observes_hash hash o = path_hash o.path == hash
 
 abbrev pub ObservesNone : ℕ → List ObserverValue → Type 0
 ObservesNone hash observers = AllByRecursion (λ o. path_hash o.path ≢ hash) observers
+
+-- a moment has come, if there is one
+abbrev pub has_come : ℕ → Option ℕ → Bool
+has_come now None = false
+has_come now (Some due) = nat_le due now
+
+-- A cause may make something due on a connection: an observer has a path with its hash; or, as the moment moves on, an observer tells the
+-- moment, or something came due after the moment before.
+abbrev pub may_touch : Cause → ℕ → SessionValue → Bool
+may_touch (cause.Path hash) now s = list_any (observes_hash hash) s.observers
+may_touch (cause.Moment before) now s = list_any tells_time s.observers || has_come now (due_on before s)
 
 -- A connection does not observe what changed: no path with its hash, or, where it is the moment, nothing was due on it between the
 -- moment before and this one.

@@ -2,16 +2,17 @@
 
 ghost use Rattle.std.specs.Prelude.{◌≡◌, ℕ, false, None, ◌+◌, ◌||◌, Some};
 ghost use Rattle.coap_serve.specs.Prelude.{sooner as lesser, IsUntouched, ConcernsNone, due_on, IsBefore};
-ghost use Rattle.coap_serve.specs.Prelude.{next_told as next_told_of};
+ghost use Rattle.coap_serve.specs.Prelude.{next_told as next_told_of, has_come, may_touch};
 
 use super::Session;
 use crate::cause::Cause;
 
 impl Session {
-    /// Returns `true` if a change may make something due: an observer of such a path or of the moment may be there, or
-    /// the moment of a pending answer came.
+    /// Returns `true` if a change may make something due: an observer has a path with that hash, or observes the time, or
+    /// a pending response came due.
     #[tactic(auto, using(crate::proofs::values::ChainLemmas::none_observes))]
     pub(crate) fn is_touched(&self, cause: Cause, now: u64) -> bool
+        ensures exact { result ≡ may_touch cause now self.now.session }
         ensures untouched { result ≡ false → IsUntouched cause now self.now.session }
         ensures unmarked { result ≡ false → ConcernsNone cause self.now.session.observers }
     {
@@ -32,7 +33,8 @@ impl Session {
 
     /// Returns `true` if something came due after a moment, up to now.
     fn comes_due(&self, before: u64, now: u64) -> bool
-        ensures { result ≡ false → IsBefore now (due_on before self.now.session) }
+        ensures exact { result ≡ has_come now (due_on before self.now.session) }
+        ensures before { result ≡ false → IsBefore now (due_on before self.now.session) }
     {
         match self.due(before) {
             None => false,
