@@ -50,7 +50,7 @@ pub use Rattle.coap_wire.specs.declared.fault.BuildFault.{BuildFault}
 pub use Rattle.coap_wire.specs.declared.fault.BuildFault.TheVariants.{TooLong}
 pub use Rattle.coap_wire.specs.declared.fault.FormatFault.{FormatFault}
 pub use Rattle.coap_wire.specs.declared.fault.FrameFault.{FrameFault}
-pub use Rattle.coap_wire.specs.declared.options.OptionRef.{OptionRef}
+pub use Rattle.coap_wire.specs.declared.option.OptionRef.{OptionRef}
 -- ---- coap_frame
 pub use Rattle.coap_frame.specs.FramedViews.{finding_read}
 pub use Rattle.coap_frame.specs.Framing.{IsFramer, framing_of, framer_after, frame_back, AFault, AFrame, Finding}
