@@ -204,8 +204,9 @@ fn preconditions_hold(asked: &Asked, state: Option<&Found>) -> bool
 fn read<'s, 'r>(asked: &Asked<'_, 'r>, target: Target<'s>) -> Plan<'s, 'r>
     ensures { result ≡ read_answer target.entry.place (option_map found_value target.entry.state) asked.now }
 {
-    match target.state {
-        Some(found) => get(asked, target.place, found),
+    let Target { place, state, .. } = target;
+    match state {
+        Some(found) => get(asked, place, found),
         None => Plan::only(Code::NOT_FOUND),
     }
 }
