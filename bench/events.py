@@ -114,58 +114,72 @@ def notified():
     return met
 
 
-def told_together(count, path, changes):
-    """What a notification of this path costs with its drain, where one connection has so many observers and these lines change it."""
+def told_on_one(observers_of, path, changes):
+    """Returns the instructions of all notifications of this path with their drains, when these lines change it. `observers_of` returns the
+    observers that one connection registers, where some of them observe the path that it is given."""
     totals = []
     for observed in (path, SEEN):
-        observers = [f"in 1 {observation(it, observed)}" for it in range(1, count + 1)]
+        observers = [f"in 1 {it}" for it in observers_of(observed)]
         lines = [*before(Setting(1, 0, 1)), *observers, "drain 1", *[it for change in changes for it in (change, "drain 1", "drain 2")], ""]
         totals.append(counted_alone(MANY_OBSERVERS, "\n".join(lines).encode()))
-    return round((totals[0] - totals[1]) / (count * len(changes)))
+    return totals[0] - totals[1]
 
 
-def together():
-    """Tells what a notification costs beside others of its connection, and whether that is what it may."""
-    print("\n| observers of one connection | a notification after a tick | after a PUT |\n|---|---|---|")
-    rows = []
-    for count in TOGETHER:
-        ticked = told_together(count, MOMENT, [f"tick {it}" for it in range(1, CHANGES + 1)])
-        rows.append((ticked, told_together(count, ASKED, [f"in 2 {PUT}"] * CHANGES)))
-        print(f"| {count} | {rows[-1][0]:,} | {rows[-1][1]:,} |", flush=True)
-    all_met = True
-    for kind, costs_of in zip(("a tick", "a PUT"), zip(*rows)):
-        met = max(costs_of) <= TOGETHER_EACH and costs_of[-1] <= TOGETHER_TIMES * costs_of[0]
-        all_met = met and all_met
-        print(f"{'met' if met else 'MISSED'}: a notification after {kind}, {max(costs_of):,} instructions, at most {TOGETHER_EACH:,}, and "
-              f"{costs_of[-1] / costs_of[0]:.2f} times with {TOGETHER[-1]} observers, at most {TOGETHER_TIMES}", flush=True)
-    return all_met
+def told_together(count, path, changes):
+    """Returns the instructions of a notification with its drain, when one connection has `count` observers of the path that changes."""
+
+    def observers_of(observed):
+        return [observation(it, observed) for it in range(1, count + 1)]
+
+    return round(told_on_one(observers_of, path, changes) / (count * len(changes)))
 
 
 def told_beside(count, path, changes):
-    """What a notification of this path costs with its drain, where so many other observers of the connection observe something else."""
-    totals = []
-    for observed in (path, SEEN):
-        observers = [f"in 1 {observation(0, observed)}", *(f"in 1 {observation(it)}" for it in range(1, count + 1))]
-        lines = [*before(Setting(1, 0, 1)), *observers, "drain 1", *[it for change in changes for it in (change, "drain 1", "drain 2")], ""]
-        totals.append(counted_alone(MANY_OBSERVERS, "\n".join(lines).encode()))
-    return round((totals[0] - totals[1]) / len(changes))
+    """Returns the same for one observer, when `count` other observers of its connection observe something else."""
+
+    def observers_of(observed):
+        return [observation(0, observed), *(observation(it) for it in range(1, count + 1))]
+
+    return round(told_on_one(observers_of, path, changes) / len(changes))
 
 
-def beside():
-    """Tells what a notification costs beside observers of its connection that observe something else, and whether that is what it may."""
-    print("\n| other observers of the connection | a notification after a tick | after a PUT |\n|---|---|---|")
+def on_one_connection(title, counts, told, judge):
+    """Prints the cost of a notification by the number of observers, and returns `True` if it is within its limits. `told` returns one cost;
+    `judge` returns whether a column of costs is within its limits, and the words for it."""
+    print(f"\n| {title} | a notification after a tick | after a PUT |\n|---|---|---|")
     rows = []
-    for count in BESIDE:
-        ticked = told_beside(count, MOMENT, [f"tick {it}" for it in range(1, CHANGES + 1)])
-        rows.append((ticked, told_beside(count, ASKED, [f"in 2 {PUT}"] * CHANGES)))
+    for count in counts:
+        ticked = told(count, MOMENT, [f"tick {it}" for it in range(1, CHANGES + 1)])
+        rows.append((ticked, told(count, ASKED, [f"in 2 {PUT}"] * CHANGES)))
         print(f"| {count} | {rows[-1][0]:,} | {rows[-1][1]:,} |", flush=True)
     all_met = True
     for kind, costs_of in zip(("a tick", "a PUT"), zip(*rows)):
-        met = costs_of[-1] <= BESIDE_TIMES * costs_of[0]
+        met, words = judge(costs_of)
         all_met = met and all_met
-        print(f"{'met' if met else 'MISSED'}: a notification after {kind}, {costs_of[-1] / costs_of[0]:.2f} times with {BESIDE[-1]} others, "
-              f"at most {BESIDE_TIMES}", flush=True)
+        print(f"{'met' if met else 'MISSED'}: a notification after {kind}, {words}", flush=True)
     return all_met
+
+
+def together():
+    """Prints the cost of a notification beside others of its connection, and returns `True` if it is within its limits."""
+
+    def judge(costs_of):
+        met = max(costs_of) <= TOGETHER_EACH and costs_of[-1] <= TOGETHER_TIMES * costs_of[0]
+        return met, (f"{max(costs_of):,} instructions, at most {TOGETHER_EACH:,}, and "
+                     f"{costs_of[-1] / costs_of[0]:.2f} times with {TOGETHER[-1]} observers, at most {TOGETHER_TIMES}")
+
+    return on_one_connection("observers of one connection", TOGETHER, told_together, judge)
+
+
+def beside():
+    """Prints the cost of a notification beside observers of its connection that observe something else, and returns `True` if it is within its
+    limits."""
+
+    def judge(costs_of):
+        return (costs_of[-1] <= BESIDE_TIMES * costs_of[0],
+                f"{costs_of[-1] / costs_of[0]:.2f} times with {BESIDE[-1]} others, at most {BESIDE_TIMES}")
+
+    return on_one_connection("other observers of the connection", BESIDE, told_beside, judge)
 
 
 def over_settings():

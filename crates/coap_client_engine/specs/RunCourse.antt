@@ -14,6 +14,7 @@ use Rattle.coap_client_engine.specs.ClientWorld.{ClientCall, Took, Sent, Cancell
 use Rattle.coap_client_engine.specs.RunTexts.{stop_line}
 use Rattle.coap_client_engine.specs.RunSteps.{has_passed, is_to_ask, is_to_cancel, planned_extras, asking_refusal, cancelling_refusal, ended_by, refusal_text, status_told, first_told, output_told, errors_told, stop_behind, stop_written, calls_read, calls_written}
 use Rattle.coap_request.specs.declared.plan.ClientPlan.{ClientPlan}
+use Rattle.coap_wire.specs.declared.sizes.TheConstants.{LARGEST_SENT_MESSAGE, DEFAULT_QUEUE}
 
 -- what happens in a run, each behind all that happened before it
 pub data Course : Type 0 where
@@ -38,7 +39,7 @@ pub data Course : Type 0 where
 
 -- the limits that both programs have where nothing else is said
 abbrev pub own_limits : LimitValues
-own_limits = limits_of 65536 65536 131072 16 16 16
+own_limits = limits_of LARGEST_SENT_MESSAGE LARGEST_SENT_MESSAGE DEFAULT_QUEUE 16 16 16
 
 -- the calls that it accepted
 abbrev pub calls_in : Course → List ClientCall

@@ -11,6 +11,7 @@ use coap_client::{ClientPlan, Target, client_words, run_client};
 use coap_io::WriteOutlet;
 use coap_program::{FAULT, Program, Trouble, USAGE, hold_standard, read_whole};
 use coap_sockets::{ConnectFault, Hindrance, Line};
+use coap_wire::LARGEST_MESSAGE;
 use std::io::Write;
 use std::net::Net;
 use std::process::ExitCode;
@@ -21,9 +22,6 @@ use std::{fs, io, str, time};
 const PROGRAM: Program = Program {
     name: "coap-client",
 };
-
-/// The bytes of a payload, at most.
-const MAX_PAYLOAD: usize = 1_048_576;
 
 /// Tells what is wrong with a file, and answers the status.
 fn tell_trouble(rt: &impl Eprint, trouble: Trouble, name: &str) -> u8
@@ -108,7 +106,7 @@ fn run(
     ensures { result ≤ 4 }
 {
     if let Some(name) = &plan.input {
-        match read_whole(rt, name.as_str(), MAX_PAYLOAD) {
+        match read_whole(rt, name.as_str(), LARGEST_MESSAGE) {
             Ok(bytes) => plan.payload = bytes,
             Err(trouble) => return tell_trouble(rt, trouble, name.as_str()),
         }

@@ -8,6 +8,8 @@ use Rattle.clap.specs.Words.{App, Row, Text, fault_of, first_of, matches_of}
 use Rattle.coap_conn.specs.Limits.{LimitValues, limits_of}
 use Rattle.coap_command_line.specs.CommandLines.{◌>>=◌, WordsFaultValue, Clash, Value, is_used, letter_option, number_within, option_value, unless_refused, word_flag, word_option}
 use Rattle.coap_command_line.specs.declared.words.server.ServerValues.{ServerValues}
+use Rattle.coap_wire.specs.declared.sizes.TheConstants.{BASE_MESSAGE_SIZE, LARGEST_MESSAGE, LARGEST_SENT_MESSAGE}
+use Rattle.coap_wire.specs.declared.sizes.TheConstants.{LARGEST_QUEUE, DEFAULT_QUEUE}
 
 -- ---- the plan
 
@@ -63,9 +65,9 @@ every_address = ip.V4 (record { octets = 0 ∷ 0 ∷ 0 ∷ 0 ∷ [] })
 -- the limits of each connection: bytes of a message taken and of one sent, bytes of the queue, held answers, observers
 unfoldable pub limits_said : List Row → Result LimitValues Text
 limits_said rows = do
-  message ← option_value (codes "--max-message") (number_within 1152 1048576) 65536 rows
-  sent ← option_value (codes "--max-sent") (number_within 1152 65536) 65536 rows
-  queue ← option_value (codes "--queue") (number_within sent 4194304) 131072 rows
+  message ← option_value (codes "--max-message") (number_within BASE_MESSAGE_SIZE LARGEST_MESSAGE) LARGEST_SENT_MESSAGE rows
+  sent ← option_value (codes "--max-sent") (number_within BASE_MESSAGE_SIZE LARGEST_SENT_MESSAGE) LARGEST_SENT_MESSAGE rows
+  queue ← option_value (codes "--queue") (number_within sent LARGEST_QUEUE) DEFAULT_QUEUE rows
   pending ← option_value (codes "--pending") (number_within 0 256) 16 rows
   observers ← option_value (codes "--observers") (number_within 0 256) 16 rows
   Ok (limits_of message sent queue pending observers 16)

@@ -6,6 +6,7 @@ use Rattle.coap_wire.specs.Recognition.{is_critical}
 use Rattle.coap_wire.specs.Uint.{uint_of}
 use Rattle.coap_wire.specs.Codes as code
 use Rattle.coap_conn.specs.SignalOptions as option
+use Rattle.coap_wire.specs.declared.sizes.TheConstants.{BASE_MESSAGE_SIZE, MAX_EXTENDED_LENGTH}
 
 -- as in any message, an option of a Signalling Message is critical where its number is odd (RFC 8323 section 5.2)
 abbrev pub has_critical_option : Message → Bool
@@ -49,17 +50,13 @@ abbrev pub last_or : ℕ → List ℕ → ℕ
 last_or n [] = n
 last_or n (x ∷ xs) = last_or x xs
 
--- the greatest message of a peer that has announced none (RFC 8323 section 5.3.1)
-abbrev pub base_size : ℕ
-base_size = 1152
-
 -- the last that messages told, and this where none told anything
 abbrev pub last_told : (Message → Option ℕ) → ℕ → List Message → ℕ
 last_told tells base ms = last_or base (filter_map tells ms)
 
 -- what messages announced: the last announcement, and the base size where there is none
 unfoldable pub announced : List Message → ℕ
-announced ms = last_told announcement base_size ms
+announced ms = last_told announcement BASE_MESSAGE_SIZE ms
 
 -- ---- tokens (RFC 8974 section 2.2.1)
 
@@ -71,16 +68,13 @@ is_token_length o = o.number == option.extended_token_length
 abbrev pub first_token_length : Message → Option CoapOption
 first_token_length m = find is_token_length m.options
 
--- the longest token that a message can have, and of a peer that has told none
-abbrev pub longest_stated_token : ℕ
-longest_stated_token = 65804
-
+-- the longest token that a peer accepts which has announced no length
 abbrev pub base_token : ℕ
 base_token = 8
 
 -- What a value tells: one of more than 3 bytes, or of less than the base value, nothing, and one above the longest token that.
 abbrev pub token_length : List ℕ → Option ℕ
-token_length value = if nat_le (length value) 3 && nat_le base_token (uint_of value) then Some (min (uint_of value) longest_stated_token) else None
+token_length value = if nat_le (length value) 3 && nat_le base_token (uint_of value) then Some (min (uint_of value) MAX_EXTENDED_LENGTH) else None
 
 abbrev pub token_told : Option CoapOption → Option ℕ
 token_told None = None

@@ -1,5 +1,7 @@
 -- The limits of a connection, and why values are refused as limits.
 use Rattle.std.specs.Prelude.{ℕ, ◌≤◌, Bool, ◌&&◌, Option, Some, None, nat_le, if◌then◌else◌}
+use Rattle.coap_wire.specs.declared.sizes.TheConstants.{BASE_MESSAGE_SIZE, LARGEST_MESSAGE, LARGEST_SENT_MESSAGE}
+use Rattle.coap_wire.specs.declared.sizes.TheConstants.{LARGEST_QUEUE}
 use Rattle.coap_conn.specs.declared.limits.LimitFault.{LimitFault}
 use Rattle.coap_conn.specs.declared.limits.LimitFault.TheVariants as limit
 
@@ -19,12 +21,12 @@ limits_of max_message max_sent queue pending observers outstanding =
 
 -- the ranges
 pub record AreInRange (l : LimitValues) : Type 0 where
-  pub message_low : 1152 ≤ l.max_message
-  pub message_high : l.max_message ≤ 1048576
-  pub sent_low : 1152 ≤ l.max_sent
-  pub sent_high : l.max_sent ≤ 65536
+  pub message_low : BASE_MESSAGE_SIZE ≤ l.max_message
+  pub message_high : l.max_message ≤ LARGEST_MESSAGE
+  pub sent_low : BASE_MESSAGE_SIZE ≤ l.max_sent
+  pub sent_high : l.max_sent ≤ LARGEST_SENT_MESSAGE
   pub queue_low : l.max_sent ≤ l.queue
-  pub queue_high : l.queue ≤ 4194304
+  pub queue_high : l.queue ≤ LARGEST_QUEUE
   pub pending_high : l.pending ≤ 256
   pub observers_high : l.observers ≤ 256
   pub outstanding_low : 1 ≤ l.outstanding
@@ -36,9 +38,9 @@ is_within low n high = nat_le low n && nat_le n high
 -- the first value out of its range
 abbrev pub limit_refusal : LimitValues → Option LimitFault
 limit_refusal l =
-    if is_within 1152 l.max_message 1048576
-    then (if is_within 1152 l.max_sent 65536
-    then (if is_within l.max_sent l.queue 4194304
+    if is_within BASE_MESSAGE_SIZE l.max_message LARGEST_MESSAGE
+    then (if is_within BASE_MESSAGE_SIZE l.max_sent LARGEST_SENT_MESSAGE
+    then (if is_within l.max_sent l.queue LARGEST_QUEUE
     then (if nat_le l.pending 256
     then (if nat_le l.observers 256
     then (if is_within 1 l.outstanding 256 then None else Some limit.Outstanding)

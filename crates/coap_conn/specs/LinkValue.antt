@@ -12,11 +12,12 @@ use Rattle.coap_conn.specs.declared.phase.Phase.TheVariants.{Waiting}
 use Rattle.coap_conn.specs.declared.phase.Role.{Role}
 use Rattle.coap_conn.specs.Phases.{is_over, answers}
 use Rattle.coap_conn.specs.Limits.{LimitValues}
-use Rattle.coap_conn.specs.Announced.{base_size, base_token, bad_csm_option, csm_size, csm_token, announcement, token_announcement, size_limit}
+use Rattle.coap_conn.specs.Announced.{base_token, bad_csm_option, csm_size, csm_token, announcement, token_announcement, size_limit}
 use Rattle.coap_conn.specs.Held.{HeldValue}
 use Rattle.coap_conn.specs.Outstanding.{OutstandingValue}
 use Rattle.coap_conn.specs.Asking.{Asking}
 use Rattle.coap_conn.specs.Reaction.{Standing, Effect, csm_reaction, live_reaction}
+use Rattle.coap_wire.specs.declared.sizes.TheConstants.{BASE_MESSAGE_SIZE}
 
 -- waiting are the bytes to be written, own_max the greatest message that we take, as announced last, peer_max the one that the peer
 -- takes, peer_token its longest token, held what is sent later, outstanding what was asked; tokens is the number of the last token given
@@ -104,7 +105,7 @@ first_csm M = first_csm_with (bytes_of_uint M)
 -- a new link: our first Capabilities and Settings wait
 abbrev pub new_link : Role → LimitValues → ℕ → LinkValue
 new_link role limits tokens =
-    record { role = role; limits = limits; waiting = bytes_of (first_csm limits.max_message ∷ []); phase = Waiting; own_max = limits.max_message; peer_max = base_size; peer_token = base_token; held = []; outstanding = []; tokens = tokens }
+    record { role = role; limits = limits; waiting = bytes_of (first_csm limits.max_message ∷ []); phase = Waiting; own_max = limits.max_message; peer_max = BASE_MESSAGE_SIZE; peer_token = base_token; held = []; outstanding = []; tokens = tokens }
 
 -- an effect
 abbrev pub link_with : LinkValue → Effect → LinkValue

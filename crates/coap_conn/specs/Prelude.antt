@@ -21,6 +21,8 @@ unfoldable pub use Rattle.coap_wire.specs.Spelling.{spelling, front_spelling}
 pub use Rattle.coap_wire.specs.Uint.{uint_of, without_leading_zeros}
 unfoldable pub use Rattle.coap_wire.specs.Uint.{bytes_of_uint}
 pub use Rattle.coap_wire.specs.Views.{coap_option}
+pub use Rattle.coap_wire.specs.declared.sizes.TheConstants.{BASE_MESSAGE_SIZE, LARGEST_MESSAGE}
+pub use Rattle.coap_wire.specs.declared.sizes.TheConstants.{LARGEST_SENT_MESSAGE, LARGEST_QUEUE}
 -- ---- coap_conn
 pub use Rattle.coap_conn.specs.Announced.{is_bad, first_size, has_critical_option, bad_csm_option, first_token_length}
 pub use Rattle.coap_conn.specs.Announced.{token_length, token_told, announcement, token_announcement, csm_size}

@@ -3,7 +3,7 @@
 ghost use Rattle.std.specs.Prelude.{◌≡◌, Some, None, option_map, find, IfOk, IfErr, OnOk};
 ghost use Rattle.coap_conn.specs.Prelude.{uint_of, coap_option, is_bad, first_size as first_size_in, has_critical_option as critical_option_in, bad_csm_option as bad_option_in, first_token_length as first_token_length_in, token_length as told_length, token_told, asks_custody as custody_asked};
 
-use coap_wire::{MessageRef, OptionRef, uint_value};
+use coap_wire::{MAX_EXTENDED_LENGTH, MessageRef, OptionRef, uint_value};
 
 /// Max-Message-Size, an option of Capabilities and Settings (RFC 8323 section 5.3.1).
 pub(crate) const MAX_MESSAGE_SIZE: u16 = 2;
@@ -13,9 +13,6 @@ pub(crate) const EXTENDED_TOKEN_LENGTH: u16 = 6;
 
 /// The longest token of a peer that has told none, and the least that it may tell.
 pub(crate) const BASE_TOKEN: u32 = 8;
-
-/// The longest token that a message can have.
-const GREATEST_TOKEN: u32 = 65_804;
 
 /// Custody, an option of Ping and Pong (RFC 8323 section 5.4.1).
 pub(crate) const CUSTODY: u16 = 2;
@@ -99,7 +96,7 @@ fn token_length(value: &[u8]) -> Option<u32>
             if length < BASE_TOKEN {
                 None
             } else {
-                Some(length.min(GREATEST_TOKEN))
+                Some(length.min(MAX_EXTENDED_LENGTH as u32))
             }
         }
     }

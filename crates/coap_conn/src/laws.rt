@@ -1,6 +1,7 @@
 //! What holds of every connection, each as the contract of a function that does nothing.
 
 ghost use Rattle.std.specs.Prelude.{◌≡◌, ℕ, ◌+◌, ◌<◌, ◌≤◌, ◌&&◌, List, [], ◌∷◌, ◌++◌, length, Bool, true, false, Option, Some, None};
+ghost use Rattle.coap_conn.specs.Prelude.{BASE_MESSAGE_SIZE};
 ghost use Rattle.coap_conn.specs.Prelude.{AllByRecursion, list_any, Message, own_csm, bad_csm_option, has_critical_option, announcement, announced, token_announcement, announced_token, AllFit, LimitValues, AreInRange, History, AnnouncedFirst, link_of, new_history, limit_now, standing_now, after, after_send, asking_now, after_asking, Call, release, may_announce, needs_live, gives_token, announces, asking_refusal, cancel_refusal, next_token, OutstandingValue, is_asked, is_pinged, is_notification, is_request_entry, without_asked, without_pinged, stop_of, HeldValue, Answer, Pong, HoldsNothingDue, IsDueFirst, come, first_due, without_due, Standing, react, send, abort, stay, due_effect, is_custody_pong, asks_custody, is_reserved, is_signal, is_method, Request, Reject, Role, Reason};
 ghost use Rattle.coap_conn.specs.Calls as call;
 ghost use Rattle.coap_wire.specs.Codes as code;
@@ -11,7 +12,7 @@ ghost use Rattle.coap_conn.specs.declared.phase.Phase.TheVariants.{Waiting, Open
 /// (RFC 8323 section 5.3.1). The longest token is the one that it told last, and 8 bytes where it told none (RFC 8974
 /// section 2.2.1).
 pub fn last_announcement_counts()
-    ensures none { (ms : List Message) → AllByRecursion (λ m. announcement m ≡ None) ms → announced ms ≡ 1152 }
+    ensures none { (ms : List Message) → AllByRecursion (λ m. announcement m ≡ None) ms → announced ms ≡ BASE_MESSAGE_SIZE }
     ensures last { (before after : List Message) (m : Message) (n : ℕ) → announcement m ≡ Some n →
         AllByRecursion (λ m. announcement m ≡ None) after → announced (before ++ m ∷ after) ≡ n }
     ensures no_token { (ms : List Message) → AllByRecursion (λ m. token_announcement m ≡ None) ms →

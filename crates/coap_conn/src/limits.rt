@@ -2,7 +2,9 @@
 
 ghost use Rattle.std.specs.Prelude.{◌≡◌, ◌≤◌, IfOk};
 ghost use Rattle.coap_conn.specs.Prelude.{RefusedBy, limits_of, limit_refusal, AreInRange};
+ghost use Rattle.coap_conn.specs.Prelude.{BASE_MESSAGE_SIZE, LARGEST_MESSAGE, LARGEST_SENT_MESSAGE, LARGEST_QUEUE};
 
+use coap_wire::{BASE_MESSAGE_SIZE, LARGEST_MESSAGE, LARGEST_QUEUE, LARGEST_SENT_MESSAGE};
 use std::marker::Model;
 use thiserror::Error;
 
@@ -85,13 +87,13 @@ impl Limits {
             outstanding)) }
         ensures ok { IfOk result (λ l. l ≡ limits_of max_message max_sent queue pending observers outstanding) }
     {
-        if max_message < 1_152 || max_message > 1_048_576 {
+        if max_message < BASE_MESSAGE_SIZE || max_message > LARGEST_MESSAGE {
             return Err(LimitFault::MaxMessage);
         }
-        if max_sent < 1_152 || max_sent > 65_536 {
+        if max_sent < BASE_MESSAGE_SIZE || max_sent > LARGEST_SENT_MESSAGE {
             return Err(LimitFault::MaxSent);
         }
-        if queue < max_sent || queue > 4_194_304 {
+        if queue < max_sent || queue > LARGEST_QUEUE {
             return Err(LimitFault::Queue);
         }
         if pending > 256 {
@@ -117,8 +119,8 @@ impl Limits {
     pub fn max_message(&self) -> usize
         ensures value { result ≡ self.now.max_message }
         ensures ranges { AreInRange self.now }
-        ensures low { 1152 ≤ result }
-        ensures high { result ≤ 1048576 }
+        ensures low { BASE_MESSAGE_SIZE ≤ result }
+        ensures high { result ≤ LARGEST_MESSAGE }
     {
         self.max_message
     }
@@ -126,8 +128,8 @@ impl Limits {
     /// The bytes of the greatest message sent.
     pub fn max_sent(&self) -> usize
         ensures value { result ≡ self.now.max_sent }
-        ensures low { 1152 ≤ result }
-        ensures high { result ≤ 65536 }
+        ensures low { BASE_MESSAGE_SIZE ≤ result }
+        ensures high { result ≤ LARGEST_SENT_MESSAGE }
     {
         self.max_sent
     }
@@ -136,7 +138,7 @@ impl Limits {
     pub fn queue(&self) -> usize
         ensures value { result ≡ self.now.queue }
         ensures low { self.now.max_sent ≤ result }
-        ensures high { result ≤ 4194304 }
+        ensures high { result ≤ LARGEST_QUEUE }
     {
         self.queue
     }

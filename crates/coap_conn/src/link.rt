@@ -12,11 +12,9 @@ use crate::messages::announce_first;
 use crate::pending::Pending;
 use crate::phase::{Phase, Role};
 use crate::queue::OutQueue;
+use coap_wire::BASE_MESSAGE_SIZE;
 use std::alloc::{AllocError, Global};
 use std::marker::Model;
-
-/// The greatest message that a peer takes which has announced none (RFC 8323 section 5.3.1).
-const BASE_SIZE: u32 = 1_152;
 
 /// One side of a connection: what was announced, how it stands, what is held and outstanding, and the bytes that wait
 /// to be written. Contracts see a `LinkValue`, and which history of messages it shows.
@@ -77,7 +75,7 @@ impl Link {
             queue,
             phase: Phase::Waiting,
             own_max: limits.max_message(),
-            peer_max: BASE_SIZE,
+            peer_max: BASE_MESSAGE_SIZE as u32,
             peer_token: BASE_TOKEN,
             pending,
             asked,

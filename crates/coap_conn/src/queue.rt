@@ -3,6 +3,7 @@
 ghost use Rattle.std.specs.Prelude.{◌≡◌, ◌≤◌, ◌++◌, IfOk, [], ⊤, length, drop, if◌then◌else◌};
 ghost use Rattle.coap_conn.specs.Prelude.{sem, follows_so, none, spelling, front_spelling, IsQueue, IsNextPart, free_of, fits as message_fits};
 ghost use Rattle.coap_conn.specs.contracts.queue.OutQueue.{the_row};
+ghost use Rattle.coap_conn.specs.Prelude.{BASE_MESSAGE_SIZE, LARGEST_QUEUE};
 
 use crate::ring::contiguous;
 use arrayvec::ArrayVec;
@@ -43,8 +44,8 @@ impl OutQueue {
     ///
     /// `AllocError` if allocation fails.
     pub fn new(alloc: Global, bytes: usize) -> Result<OutQueue, AllocError>
-        requires low { 1152 ≤ bytes }
-        requires high { bytes ≤ 4194304 }
+        requires low { BASE_MESSAGE_SIZE ≤ bytes }
+        requires high { bytes ≤ LARGEST_QUEUE }
         ensures { IfOk result (λ q. q ≡ record { bytes = bytes; waiting = [] }) }
     {
         Ok(OutQueue {

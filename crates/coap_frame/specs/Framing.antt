@@ -1,6 +1,7 @@
 -- What a framer does with a piece of a stream.
 use Rattle.std.specs.Prelude.{◌≡◌, ◌≢◌, ℕ, ◌+◌, ◌-◌, ◌≤◌, List, [], ◌∷◌, ◌++◌, length, take, min, ◌⊎◌}
 use Rattle.coap_wire.specs.Beginning.{Beginning, Unfinished, Whole, Faulty, beginning, fault_bytes}
+use Rattle.coap_wire.specs.declared.sizes.TheConstants.{BASE_MESSAGE_SIZE, LARGEST_MESSAGE}
 use Rattle.coap_wire.specs.declared.fault.FrameFault.{FrameFault}
 
 -- A framer for frames of at most max bytes: the bytes kept of an unfinished frame, the split frame that it gave last and
@@ -13,8 +14,8 @@ pub record FramerValue : Type 0 where
 
 -- what is kept is the beginning of no whole frame and of no fault; what is spent is one frame, and then nothing is kept
 pub record IsFramer (v : FramerValue) : Type 0 where
-  pub low : 1152 ≤ v.max
-  pub high : v.max ≤ 1048576
+  pub low : BASE_MESSAGE_SIZE ≤ v.max
+  pub high : v.max ≤ LARGEST_MESSAGE
   pub countable : v.copied ≤ 18446744073709551615
   pub unfinished : beginning v.max v.kept ≡ Unfinished
   pub whole : (v.spent ≡ []) ⊎ ((beginning v.max v.spent ≡ Whole v.spent []) × (v.kept ≡ []))

@@ -19,6 +19,7 @@ pub use Rattle.coap_wire.specs.declared.fault.FrameFault.{FrameFault}
 pub use Rattle.coap_wire.specs.declared.fault.FrameFault.TheVariants.{TokenLength, TooLarge}
 pub use Rattle.coap_wire.specs.declared.frame.Declared.{Declared}
 pub use Rattle.coap_wire.specs.declared.frame.Declared.TheVariants.{BadToken, Size, Unknown}
+pub use Rattle.coap_wire.specs.declared.sizes.TheConstants.{BASE_MESSAGE_SIZE, LARGEST_MESSAGE}
 -- ---- coap_frame
 pub use Rattle.coap_frame.specs.BufferViews.{framer_of, kept_in, frame_in, finding_in, spent_in}
 pub use Rattle.coap_frame.specs.Copying.{FramerCall, Clear, IsCounted, IsCountedNext, IsCountedUnread, MayCall, Next}

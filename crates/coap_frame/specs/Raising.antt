@@ -1,16 +1,13 @@
 -- When a framer takes greater frames from then on (RFC 8323 section 5.3.1).
 use Rattle.std.specs.Prelude.{◌≡◌, ℕ, ◌<◌, [], Option, Some, None, Result, Ok, Err, nat_lt, if◌then◌else◌, is_none}
+use Rattle.coap_wire.specs.declared.sizes.TheConstants.{LARGEST_MESSAGE}
 use Rattle.coap_frame.specs.Framing.{FramerValue}
 use Rattle.coap_frame.specs.declared.fault.RaiseFault.{RaiseFault}
 use Rattle.coap_frame.specs.declared.fault.RaiseFault.TheVariants.{Lower, TooLarge, Memory}
 
--- the greatest size of all
-abbrev pub greatest_size : ℕ
-greatest_size = 1048576
-
 -- why a framer for frames of at most max bytes is not one for frames of at most new bytes from then on, memory aside
 abbrev pub raise_refusal : ℕ → ℕ → Option RaiseFault
-raise_refusal max new = if nat_lt new max then Some Lower else (if nat_lt greatest_size new then Some TooLarge else None)
+raise_refusal max new = if nat_lt new max then Some Lower else (if nat_lt LARGEST_MESSAGE new then Some TooLarge else None)
 
 -- what is kept stays, with the count of the bytes copied; nothing is spent
 abbrev pub with_size : FramerValue → ℕ → FramerValue

@@ -2,6 +2,7 @@
 
 ghost use Rattle.std.specs.Prelude.{◌≡◌, ◌+◌, ◌≤◌, ◌<◌, ◌++◌, [], length, take, vec_len, vec_capacity};
 ghost use Rattle.coap_frame.specs.Prelude.{Unfinished, beginning, token_bytes, size_bytes as size_bytes_of, extension_of, IsHead, IsFilled};
+ghost use Rattle.coap_frame.specs.Prelude.{BASE_MESSAGE_SIZE};
 
 use coap_wire::{Declared, FrameFault, declared};
 
@@ -107,7 +108,7 @@ fn fill_head(buffer: &mut Vec<u8>, piece: &[u8]) -> (usize, Declared)
 /// up.
 pub(crate) fn fill(buffer: &mut Vec<u8>, max: usize, piece: &[u8]) -> (usize, Standing)
     requires unfinished { beginning max buffer.old.items ≡ Unfinished }
-    requires low { 1152 ≤ max }
+    requires low { BASE_MESSAGE_SIZE ≤ max }
     requires room { max ≤ vec_capacity buffer.old }
     ensures filled { IsFilled max buffer.old.items piece.now buffer.new.items result.0 result.1 }
     ensures capacity { vec_capacity buffer.old ≤ vec_capacity buffer.new }

@@ -2,17 +2,15 @@
 
 ghost use Rattle.std.specs.Prelude.{◌≡◌, ◌≤◌, ◌<◌, [], OnOk, OnErr, length, take, vec_capacity, max as larger, IfOk, ⊤};
 ghost use Rattle.coap_frame.specs.Prelude.{Unfinished, beginning, framing, framing_of, framer_after, framer_of, kept_in, frame_in, finding_in, finding_of, finding_read, sem, follows_so, none, IsFramer, MayUnread, with_frame_back, IsFramed, raised, IsRaiseAnswer};
+ghost use Rattle.coap_frame.specs.Prelude.{BASE_MESSAGE_SIZE, LARGEST_MESSAGE};
 ghost use Rattle.coap_frame.specs.declared.framer.Held.TheVariants as held_as;
 ghost use Rattle.coap_frame.specs.contracts.framer.Framer.{the_row};
 
 use crate::fault::RaiseFault;
 use crate::filling::{Standing, append, fill, stand};
-use coap_wire::FrameFault;
+use coap_wire::{FrameFault, LARGEST_MESSAGE};
 use std::alloc::{AllocError, Global};
 use std::marker::Model;
-
-/// The greatest size that a framer is raised to.
-pub const GREATEST_SIZE: usize = 1_048_576;
 
 /// What a piece had.
 #[derive(Clone, Copy)]
@@ -94,8 +92,8 @@ impl Framer {
     ///
     /// Where the room of `max` bytes is refused.
     pub fn new(alloc: Global, max: usize) -> Result<Framer, AllocError>
-        requires low { 1152 ≤ max }
-        requires high { max ≤ 1048576 }
+        requires low { BASE_MESSAGE_SIZE ≤ max }
+        requires high { max ≤ LARGEST_MESSAGE }
         ensures { IfOk result (λ f. f ≡ record { max = max; kept = []; spent = []; copied = 0 }) }
     {
         Ok(Framer {
@@ -155,7 +153,7 @@ impl Framer {
         if new < self.max {
             return Err(RaiseFault::Lower);
         }
-        if new > GREATEST_SIZE {
+        if new > LARGEST_MESSAGE {
             return Err(RaiseFault::TooLarge);
         }
         let Ok(()) = widen(&mut self.buffer, new) else {
@@ -201,8 +199,8 @@ impl Framer {
     /// The greatest frame that it takes.
     pub fn max(&self) -> usize
         ensures value { result ≡ self.now.max }
-        ensures low { 1152 ≤ result }
-        ensures high { result ≤ 1048576 }
+        ensures low { BASE_MESSAGE_SIZE ≤ result }
+        ensures high { result ≤ LARGEST_MESSAGE }
     {
         self.max
     }
@@ -269,7 +267,7 @@ fn advance(
 ) -> (usize, Standing)
     requires unfinished { beginning max (kept_in held.old buffer.old.items) ≡ Unfinished }
     requires countable { copied.old ≤ 18446744073709551615 }
-    requires low { 1152 ≤ max }
+    requires low { BASE_MESSAGE_SIZE ≤ max }
     requires room { max ≤ vec_capacity buffer.old }
     ensures after { framer_of max held.new buffer.new.items copied.new
         ≡ framer_after (framer_of max held.old buffer.old.items copied.old) piece.now }
@@ -296,7 +294,7 @@ fn advance_alone(
 ) -> (usize, Standing)
     requires empty { buffer.old.items ≡ [] }
     requires countable { copied.old ≤ 18446744073709551615 }
-    requires low { 1152 ≤ max }
+    requires low { BASE_MESSAGE_SIZE ≤ max }
     requires room { max ≤ vec_capacity buffer.old }
     ensures after { framer_of max held_as.Beginning buffer.new.items copied.new
         ≡ framer_after (framer_of max held_as.Beginning [] copied.old) piece.now }
@@ -327,7 +325,7 @@ fn advance_behind(
 ) -> (usize, Standing)
     requires unfinished { beginning max buffer.old.items ≡ Unfinished }
     requires some { 0 < length buffer.old.items }
-    requires low { 1152 ≤ max }
+    requires low { BASE_MESSAGE_SIZE ≤ max }
     requires room { max ≤ vec_capacity buffer.old }
     ensures after { framer_of max held.new buffer.new.items copied.new
         ≡ framer_after (framer_of max held_as.Beginning buffer.old.items copied.old) piece.now }

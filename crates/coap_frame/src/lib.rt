@@ -8,4 +8,4 @@ pub mod laws;
 
 pub use coap_wire::FrameFault;
 pub use fault::RaiseFault;
-pub use framer::{Found, Framed, Framer, GREATEST_SIZE};
+pub use framer::{Found, Framed, Framer};

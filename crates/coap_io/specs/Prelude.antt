@@ -7,6 +7,7 @@ pub use Rattle.std.specs.List.{concat}
 pub use Rattle.coap_io.specs.streams.Device.{Told, HasGiven, pieces_read, AddsBytes, is_failed_write, WritesPart}
 pub use Rattle.coap_io.specs.streams.Device.{EndsAt, FoundEnd}
 pub use Rattle.coap_io.specs.streams.Telling.{TellsMore, DoorCall, Asked, Waited}
-pub use Rattle.coap_io.specs.streams.Wires.{IsWithin, bytes_passed, count_passed, IsTold, read_room, wait_at_most}
+pub use Rattle.coap_io.specs.streams.Wires.{IsWithin, bytes_passed, count_passed, IsTold, wait_at_most}
+pub use Rattle.coap_io.specs.declared.rest.TheConstants.{READ_SIZE}
 -- ---- coap_io, declared
 pub use Rattle.coap_io.specs.declared.wire.Got.{Got}

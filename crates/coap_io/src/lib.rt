@@ -26,5 +26,5 @@ mod wire;
 pub use device::{Outlet, ReadSource, Source, WriteOutlet};
 pub use output::{WriteFailed, write_all, write_parts};
 pub use polled::{Polled, Tried, Wires};
-pub use rest::Rest;
+pub use rest::{READ_SIZE, Rest};
 pub use wire::{Clock, Door, Got, Ready, Wait, Wire};

@@ -1,14 +1,14 @@
 //! Bytes read from a wire that no connection has taken yet.
 
 ghost use Rattle.std.specs.Prelude.{◌≡◌, ◌≤◌, length, ◌==◌, ◌-◌, [], ◌∷◌, drop, IfOk};
-ghost use Rattle.coap_io.specs.Prelude.{AddsBytes, TellsMore, count_passed, read_room};
+ghost use Rattle.coap_io.specs.Prelude.{AddsBytes, TellsMore, count_passed, READ_SIZE};
 
 use crate::wire::{Got, Wire};
 use std::alloc::{AllocError, Global};
 use std::marker::Model;
 
-/// How many bytes are read at once, at most.
-const ROOM: usize = 16_384;
+/// The most bytes that one read takes.
+pub const READ_SIZE: usize = 16_384;
 
 /// The bytes read from a wire that are not taken yet. Contracts see these bytes.
 #[derive(Drop)]
@@ -40,7 +40,7 @@ impl Rest {
         ensures { IfOk result (λ r. r ≡ []) }
     {
         Ok(Rest {
-            buffer: vec![in alloc; 0; ROOM]?,
+            buffer: vec![in alloc; 0; READ_SIZE]?,
             from: 0,
             to: 0,
         })
@@ -82,7 +82,7 @@ impl Rest {
         ensures gave { AddsBytes (W.given wire.old) (W.given wire.new) self.new }
         ensures wrote { AddsBytes (W.written wire.old) (W.written wire.new) [] }
         ensures answered { TellsMore (W.answers wire.old) (W.answers wire.new) (result ∷ []) }
-        ensures had_room { TellsMore (W.rooms wire.old) (W.rooms wire.new) (read_room ∷ []) }
+        ensures had_room { TellsMore (W.rooms wire.old) (W.rooms wire.new) (READ_SIZE ∷ []) }
     {
         self.from = 0;
         self.to = 0;

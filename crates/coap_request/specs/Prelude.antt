@@ -31,7 +31,8 @@ unfoldable pub use Rattle.coap_wire.specs.Uint.{bytes_of_uint}
 pub use Rattle.coap_wire.specs.Views.{coap_options, with_option, coap_option, payload_refusal}
 pub use Rattle.coap_wire.specs.declared.fault.BuildFault.{BuildFault}
 pub use Rattle.coap_wire.specs.declared.fault.BuildFault.TheVariants.{TooLong}
-pub use Rattle.coap_wire.specs.declared.options.OptionRef.{OptionRef}
+pub use Rattle.coap_wire.specs.declared.option.OptionRef.{OptionRef}
+pub use Rattle.coap_wire.specs.declared.sizes.TheConstants.{MAX_EXTENDED_LENGTH}
 -- ---- coap_request
 pub use Rattle.coap_request.specs.RequestViews.{extras_value, AreFormatsOf, IsRow, given_option}
 pub use Rattle.coap_request.specs.Requests.{ExtrasValue, code_of_method, deregister, is_long_option, option_with}

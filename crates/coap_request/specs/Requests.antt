@@ -4,10 +4,10 @@ use Rattle.coap_wire.specs.Message.{CoapOption, Message}
 use Rattle.coap_wire.specs.Uint.{bytes_of_uint}
 use Rattle.coap_wire.specs.Codes as codes
 use Rattle.coap_wire.specs.OptionNumbers as numbers
-use Rattle.coap_wire.specs.Views.{greatest_payload}
 use Rattle.coap_request.specs.Targets.{TargetValue}
 use Rattle.coap_request.specs.declared.request.Method.{Method}
 use Rattle.coap_request.specs.declared.request.Method.TheVariants.{Get, Put, Post, Delete}
+use Rattle.coap_wire.specs.declared.sizes.TheConstants.{LARGEST_MESSAGE}
 
 -- what a request says beside its method and its target: whether it observes, whether Uri-Host is left out, the formats by
 -- number, one more option, and the payload
@@ -106,4 +106,4 @@ has_long_extra e = is_long_option e.extra
 
 -- the one more option or the payload is too long
 unfoldable pub is_too_long : ExtrasValue → Bool
-is_too_long e = has_long_extra e || nat_lt greatest_payload (length e.payload)
+is_too_long e = has_long_extra e || nat_lt LARGEST_MESSAGE (length e.payload)

@@ -2,21 +2,19 @@
 
 ghost use Rattle.std.specs.Prelude.{◌≡◌, ◌≤◌, ◌<◌, ◌+◌, ◌++◌, false, [], ◌∷◌, Some, None, length, option_map, option_copied, IfSome, if◌then◌else◌};
 ghost use Rattle.coap_request.specs.Prelude.{AllByRecursion, last_number, coap_options, with_option, AreFormatsOf, IsRow, extras_value, given_option, IsShort, byte_lists};
+ghost use Rattle.coap_request.specs.Prelude.{MAX_EXTENDED_LENGTH};
 ghost use Rattle.coap_request.specs.Requests as spec;
 
 use crate::target::Target;
 use arrayvec::ArrayVec;
 use coap_wire::option_numbers::{ACCEPT, CONTENT_FORMAT, OBSERVE, URI_HOST, URI_PATH, URI_QUERY};
-use coap_wire::{Builder, Code, OptionRef, TokenRef, UintBytes, uint_bytes};
+use coap_wire::{Builder, Code, LARGEST_MESSAGE, OptionRef, TokenRef, UintBytes, uint_bytes};
 
 /// The most options of a request: Uri-Host, Observe, 16 Uri-Path, Content-Format, 16 Uri-Query, Accept and one more.
 const MAX_OPTIONS: usize = 37;
 
 /// The greatest length of the one more option.
 const MAX_EXTRA: usize = 1_034;
-
-/// The greatest payload of a request.
-const MAX_PAYLOAD: usize = 1_048_576;
 
 /// The value 1 of Observe, by which an observation is cancelled (RFC 7641 section 3.6).
 const DEREGISTER: &[u8] = &[1];
@@ -153,7 +151,7 @@ fn has_long_extra(extras: &Extras) -> bool
 fn is_too_long(extras: &Extras) -> bool
     ensures { result ≡ spec.is_too_long (extras_value extras.now) }
 {
-    has_long_extra(extras) || extras.payload.len() > MAX_PAYLOAD
+    has_long_extra(extras) || extras.payload.len() > LARGEST_MESSAGE
 }
 
 /// The host, where it is sent as Uri-Host (RFC 7252 section 6.4).
@@ -305,7 +303,7 @@ fn all_options<'a>(
 fn add<'a>(message: &mut Builder<'a>, number: u16, value: &'a [u8])
     requires order { last_number 0 message.old.options ≤ number }
     requires few { length message.old.options < 40 }
-    requires short { length value.now ≤ 65804 }
+    requires short { length value.now ≤ MAX_EXTENDED_LENGTH }
     ensures { message.new ≡ with_option message.old number value.now }
 {
     let Ok(()) = message.option(number, value) else {

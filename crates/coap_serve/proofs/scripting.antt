@@ -1,7 +1,4 @@
-pub mod WordLemmas
-pub mod ScriptLemmas
-pub mod Worked
-pub mod LineLemmas
+pub mod WorkedCuts
 pub mod ShownLemmas
 pub mod ReplayLemmas
 pub mod CutTakes

@@ -1,5 +1,4 @@
-pub mod FlushLaws
-pub mod OutputLaws
+pub mod NothingLeft
 pub mod FlushShown
 pub mod TakeLemmas
 pub mod PieceLemmas

@@ -1,4 +1,3 @@
-pub mod OptionLemmas
 pub mod ResponseLemmas
 pub mod SettleLemmas
 pub mod EntryLemmas
@@ -14,3 +13,6 @@ pub mod DueLemmas
 pub mod CauseLemmas
 pub mod FlagLemmas
 pub mod ChainLemmas
+pub mod ServerDueLemmas
+pub mod ServerCauseLemmas
+pub mod ServerTakenLemmas

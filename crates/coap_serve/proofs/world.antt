@@ -1,34 +1,9 @@
-pub mod Rows
-mod Worked
-mod WorkedEvents
-mod WorkedMore
-mod WorkedSizes
-mod WorkedViews
-mod WorkedHeld
-mod WorkedCustody
-pub mod StepLaws
-pub mod TookLaws
-pub mod PlaceLaws
-pub mod WalkLaws
-pub mod AcrossLaws
-pub mod GoingOn
-pub mod ReachedLaws
-pub mod KnownLaws
-pub mod EntryLemmas
-pub mod SideLaws
-pub mod HearingLaws
+mod WorkedRefusals
+pub mod KnownShown
+pub mod EntryShown
+pub mod SideShown
+pub mod SameServers
 pub mod ShowLaws
 pub mod CallLaws
-pub mod CutLaws
-pub mod ViewLaws
-pub mod LimitLaws
-pub mod GrowLaws
 pub mod HandledLaws
 pub mod RefusedLaws
-pub mod ToldMessages
-pub mod CustodyLaws
-pub mod ToldLaws
-pub mod AnswerCounts
-pub mod AnswerCodes
-pub mod AnsweredLaws
-pub mod ViewEventLaws

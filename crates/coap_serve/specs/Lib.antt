@@ -1,5 +1,5 @@
 pub mod streams
-pub mod Configs
+pub use Rattle.coap_model.specs.Configs
 pub mod views
 pub mod values
 pub mod world

@@ -1,10 +1,4 @@
-pub mod Words
-pub mod Events
-pub mod Script
-pub mod EventViews
-pub mod Lines
 pub mod Replay
-pub mod PartlyFed
 pub mod Shown
 pub mod Replayed
 pub mod Cuts

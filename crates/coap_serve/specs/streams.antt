@@ -1,4 +1,3 @@
-pub mod Output
 pub mod StdioRun
 pub mod Standing
 pub mod Faults

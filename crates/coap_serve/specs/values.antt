@@ -6,3 +6,7 @@ pub mod Flushes
 pub mod Dues
 pub mod Causes
 pub mod Responses
+pub mod Fed
+pub mod SessionAnswers
+pub mod ServerDues
+pub mod ServerCauses

@@ -1,13 +1,1 @@
-pub mod Observers
-pub mod Sides
-pub mod World
-pub mod Events
 pub mod Shows
-pub mod View
-pub mod Handling
-pub mod Told
-pub mod Custody
-pub mod Memory
-pub mod Heard
-pub mod Answered
-pub mod ViewEvents

@@ -2,11 +2,13 @@
 
 ghost use Rattle.std.specs.Prelude.{◌≡◌, ◌<◌, ◌≤◌, ◌++◌, ◌∷◌, [], ℕ, Option, map, true, Some, None, is_some, length, slice_get, if◌then◌else◌, IfOk, OnOk, OnErr};
 ghost use Rattle.coap_serve.specs.Prelude.{IsAnswering, AreMarked, IsTagged, marks_after, is_open, HeldValue, first_due, IsReady, can_hold, link_after, changed, unheld, response_message, change_value, path_of, IsPut, TakesChange, change_hash, MayWatch, asks_entry as asks, is_whole as is_sent_whole, ObserverValue, answer_on, hold_on, held_in, host_changed, link_sent, new_entry, notification_on, without_entry, IsFirstStale, link_replied, entries_replied, entries_notified, observer_value};
+ghost use Rattle.coap_serve.specs.Prelude.{LARGEST_MESSAGE};
 ghost use Rattle.coap_conn.specs.Calls as call;
 
 use crate::cause::Cause;
 use crate::host::{Host, mark_at};
-use crate::observers::{Observer, Observers, Stale};
+use crate::observer::Observer;
+use crate::observers::{Observers, Stale};
 use crate::path_hash::hash_of;
 use crate::response::respond;
 use coap_conn::{Due, Link, Reply};
@@ -125,7 +127,7 @@ fn answer_late(
 )
     requires ready { IsReady link.old }
     requires open { is_open link.old.phase ≡ true }
-    requires short { length plan.response.payload ≤ 1048576 }
+    requires short { length plan.response.payload ≤ LARGEST_MESSAGE }
     ensures link { link.new
         ≡ (if can_hold link.old then link_after link.old (call.Hold request.now.token moment) else link_after link.old
         (call.Reply (response_message request.now.token (unheld plan.entry).response))) }

@@ -4,7 +4,7 @@ ghost use Rattle.std.specs.Prelude.{◌≡◌, ◌≤◌, Some, None, true, fals
 ghost use Rattle.coap_serve.specs.Prelude.{AllByRecursion, Cause, IsTagged, AreChainedTo, last_in, previous_in, concerns_path, linked, observer_value, mark_in};
 
 use crate::cause::Cause;
-use crate::observers::Observer;
+use crate::observer::Observer;
 
 /// The last observer that each change concerns, by its index. Each observer has the index of the one before it that the
 /// same change concerns.

@@ -8,9 +8,9 @@ mod service;
 mod turn;
 mod wants;
 
-use crate::config::Config;
 use crate::serve::IoFault;
 use coap_io::{Clock, Door, Wait};
+use coap_model::Config;
 pub use service::Service;
 use std::alloc::Global;
 

@@ -1,9 +1,9 @@
 //! What requests are answered from.
 
-ghost use Rattle.std.specs.Prelude.{◌≡◌, ◌<◌, ◌^◌, IfOk};
-ghost use Rattle.coap_serve.specs.Prelude.{mark_at as mark_in, new_host, present_mark};
+ghost use Rattle.std.specs.Prelude.{◌≡◌, ◌<◌, ◌≤◌, ◌^◌, IfOk};
+ghost use Rattle.coap_serve.specs.Prelude.{empty_host, mark_at as mark_in, present_mark};
+ghost use Rattle.coap_serve.specs.Prelude.{LARGEST_MESSAGE};
 
-use crate::config::Config;
 use coap_store::{PathKey, Present, State, Store};
 use std::alloc::{AllocError, Global};
 
@@ -17,24 +17,25 @@ pub(crate) struct Host {
 }
 
 impl Host {
-    /// The host of a new server: nothing is stored, and its counts begin where the configuration says.
+    /// Creates a host at a time, in seconds, whose store is empty. `Store::new` says what the other numbers mean.
     ///
     /// # Errors
     ///
-    /// Where the store's memory is refused.
-    pub(crate) fn open(alloc: Global, config: &Config) -> Result<Host, AllocError>
-        ensures value { IfOk result (λ h. h ≡ new_host config.now) }
-        ensures moment { config.now.starts.moment < 2 ^ 64 }
+    /// Returns `AllocError` if allocation fails.
+    pub(crate) fn open(
+        alloc: Global,
+        dynamic_max: usize,
+        rep_max: usize,
+        versions_from: u64,
+        now: u64,
+    ) -> Result<Host, AllocError>
+        requires few { dynamic_max ≤ 1000 }
+        requires small { rep_max ≤ LARGEST_MESSAGE }
+        ensures value { IfOk result (λ h. h ≡ empty_host dynamic_max rep_max versions_from now) }
+        ensures moment { now < 2 ^ 64 }
     {
-        let moment = config.moment();
-        let starts = config.starts();
-        let store = Store::new(
-            alloc,
-            config.dynamic_max(),
-            config.rep_max(),
-            starts.versions,
-        )?;
-        Ok(Host { store, now: moment })
+        let store = Store::new(alloc, dynamic_max, rep_max, versions_from)?;
+        Ok(Host { store, now })
     }
 
     /// Moves to a moment, in seconds.

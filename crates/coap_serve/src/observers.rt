@@ -1,83 +1,16 @@
 //! The observers of a connection (RFC 7641).
 
 ghost use Rattle.std.specs.Prelude.{◌≡◌, ◌<◌, ◌≤◌, None, false, length, map, is_some, IfNone, IfSome, Option, ℕ, vec_capacity, ◌++◌, ◌∷◌, [], not, nat_lt, IfOk, Some, slice_get, slice_set, remove};
-ghost use Rattle.coap_serve.specs.Prelude.{list_any, tells_time as observes_time, IsFirstMarked, AllByRecursion, AreChainedTo, AreFlagged, linked, previous_in, IsTagged, mark_in, marks_anew, first_index, present_mark, changed_mark, untold_by as mark_untold_by, without_entry, observer_value, ObservesNone, ObserverValue};
+ghost use Rattle.coap_serve.specs.Prelude.{list_any, tells_time as observes_time, IsFirstMarked, AllByRecursion, AreChainedTo, AreFlagged, linked, IsTagged, mark_in, marks_anew, first_index, without_entry, observer_value, observes_hash, ObserverValue};
 
 use crate::cause::Cause;
 use crate::chains::{Chains, chains_of};
 use crate::flags::Flags;
 use crate::host::Host;
-use coap_store::PathKey;
-use coap_wire::{Token, TokenRef};
+use crate::observer::{Observer, untold_by};
+use coap_wire::TokenRef;
 use std::alloc::{AllocError, Global};
 use std::marker::Model;
-
-/// An observer. Contracts see an `ObserverValue`.
-#[derive(Drop)]
-pub(crate) struct Observer {
-    /// The token of the request that entered it.
-    pub token: Token,
-    /// The path that it observes.
-    pub path: PathKey,
-    /// The Content-Format that it was told, where there was one.
-    pub format: Option<u16>,
-    /// The mark of the state that it was told.
-    pub mark: u64,
-    /// The hash of its path.
-    pub hash: u8,
-    /// Whether its path is built in, which is the path of the moment: no other one of these can be observed.
-    pub built_in: bool,
-    /// The changed mark: the mark of the state now, if the observer was told another one.
-    pub changed: Option<u64>,
-    /// The index of the last observer before it whose path has the same hash.
-    pub previous: Option<u8>,
-    /// If its path is built in: the index of the last observer before it whose path is built in too.
-    pub previous_built_in: Option<u8>,
-}
-
-impl Observer {
-    /// Returns the index of the last observer before it that the same change concerns, which concerns this one.
-    fn previous(&self, cause: Cause) -> Option<u8>
-        ensures { result ≡ previous_in cause (linked self.now) }
-    {
-        match cause {
-            Cause::Path(_) => self.previous,
-            Cause::Moment(_) => self.previous_built_in,
-        }
-    }
-
-    /// Returns the mark of the state of its path now.
-    fn present(&self, host: &Host) -> Option<u64>
-        requires { IsTagged self.now }
-        ensures { result ≡ present_mark host.entry.now self.now.path }
-    {
-        if self.built_in {
-            return Some(host.now);
-        }
-        host.mark(&self.path)
-    }
-
-    /// Returns the same, without another look at the store if the path is one whose state has a known mark.
-    fn present_by(&self, known: &PathKey, present: Option<u64>, host: &Host) -> Option<u64>
-        requires tagged { IsTagged self.now }
-        requires present { present ≡ present_mark host.now known.now }
-        ensures { result ≡ present_mark host.entry.now self.now.path }
-    {
-        if !self.built_in && self.path == *known {
-            return present;
-        }
-        self.present(host)
-    }
-
-    /// Returns the changed mark that it is to have.
-    fn changed_by(&self, known: &PathKey, present: Option<u64>, host: &Host) -> Option<u64>
-        requires tagged { IsTagged self.now }
-        requires present { present ≡ present_mark host.now known.now }
-        ensures { result ≡ changed_mark host.entry.now (observer_value self.now) }
-    {
-        untold_by(self.present_by(known, present, host), self.mark)
-    }
-}
 
 /// An observer that was told another state of its path than the one that is there.
 #[derive(Clone, Copy)]
@@ -152,9 +85,9 @@ impl Observers {
         self.chains.last(Cause::Moment(0)).is_some()
     }
 
-    /// Whether one of them may observe a path with this hash.
+    /// Returns `true` if one of them observes a path with this hash.
     pub(crate) fn may_observe(&self, hash: u8) -> bool
-        ensures { result ≡ false → ObservesNone hash self.now.entries }
+        ensures { result ≡ list_any (observes_hash hash) self.now.entries }
     {
         self.chains.last(Cause::Path(hash)).is_some()
     }
@@ -255,16 +188,6 @@ impl Observers {
             self.chains = Chains::new();
             self.marked = Flags::new();
         }
-    }
-}
-
-/// Returns the changed mark of an observer that was told the state with a mark, if the state now has another one.
-fn untold_by(present: Option<u64>, told: u64) -> Option<u64>
-    ensures { result ≡ mark_untold_by present told }
-{
-    match present {
-        None => Some(0),
-        Some(mark) => { if mark == told { None } else { Some(mark) } }
     }
 }
 

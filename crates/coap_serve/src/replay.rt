@@ -3,17 +3,17 @@
 ghost use Rattle.std.specs.Prelude.{◌≡◌, option_map, true, false, List, map, IfOk, OnErr};
 ghost use Rattle.coap_serve.specs.Prelude.{refusal_in, open_refusal_in, replay_number, line_bytes, event_value, event_ran, stop_number, drained, IsReplayed, fails_write, events_made, ShowsMore, ShowsRun, IsShownReplay, AddsBytes, session_of, is_there, IsRun, IsDrainable, Shows};
 ghost use Rattle.coap_serve.specs.script.Replay as spec;
-ghost use Rattle.coap_serve.specs.script.Events as event;
-ghost use Rattle.coap_serve.specs.script.Lines as lines;
-ghost use Rattle.coap_serve.specs.world.Events as world;
+ghost use Rattle.coap_script.specs.script.Events as event;
+ghost use Rattle.coap_script.specs.script.Lines as lines;
+ghost use Rattle.coap_model.specs.world.Events as world;
 
-use crate::event::Event;
-use crate::scripts::lines::{
-    ShortLine, fault_line, in_line, open_line, out_line, put_line, remove_line, status_line,
+use crate::server::Server;
+use coap_io::{Outlet, write_all};
+use coap_model::{ConnId, OpenFault, ReleaseFault};
+use coap_script::{
+    Event, ShortLine, fault_line, in_line, open_line, out_line, put_line, remove_line, status_line,
     tick_line, word_line,
 };
-use crate::server::{ConnId, OpenFault, ReleaseFault, Server};
-use coap_io::{Outlet, write_all};
 use coap_store::{PathKey, StoreFault};
 use std::alloc::AllocError;
 use thiserror::Error;
@@ -324,7 +324,15 @@ impl Server {
         let Some(status) = self.status(id) else {
             return Ok(Line::Short(fault_line("status", Some(id), 1)));
         };
-        let line = status_line(self.alloc(), id, &status)?;
+        let line = status_line(
+            self.alloc(),
+            id,
+            status.phase,
+            status.kept,
+            status.waiting,
+            status.pending,
+            status.observers,
+        )?;
         Ok(Line::Long(line))
     }
 }

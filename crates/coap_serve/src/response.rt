@@ -2,6 +2,7 @@
 
 ghost use Rattle.std.specs.Prelude.{◌≡◌, ◌≤◌, ◌<◌, ◌+◌, ◌++◌, true, [], length, option_map, IfSome};
 ghost use Rattle.coap_serve.specs.Prelude.{last_number, encoded_size, path_size, with_option, IsAnswering, IsReady, limit_in, link_after, fit, bare_response, is_path, path_or_root, response_with_observe, option_at, empty_at, number_at, each_at};
+ghost use Rattle.coap_serve.specs.Prelude.{LARGEST_MESSAGE, MAX_EXTENDED_LENGTH};
 ghost use Rattle.coap_wire.specs.OptionNumbers as numbers;
 ghost use Rattle.coap_conn.specs.Calls as call;
 
@@ -18,7 +19,7 @@ const LOCATION_OPTIONS: usize = 368;
 pub(crate) fn respond(link: &mut Link, token: &TokenRef, plan: &Plan, observes: bool) -> Reply
     requires ready { IsReady link.old }
     requires answering { IsAnswering link.old.phase }
-    requires short { length plan.now.response.payload ≤ 1048576 }
+    requires short { length plan.now.response.payload ≤ LARGEST_MESSAGE }
     ensures reply { let response = response_with_observe token.now observes plan.now.response in result
         ≡ fit (limit_in link.old) response (bare_response response) }
     ensures after { link.new
@@ -40,11 +41,11 @@ fn respond_from<'a, const N: usize>(
 ) -> Reply
     requires ready { IsReady link.old }
     requires answering { IsAnswering link.old.phase }
-    requires short { length plan.now.response.payload ≤ 1048576 }
+    requires short { length plan.now.response.payload ≤ LARGEST_MESSAGE }
     requires path { IfSome path (λ path. is_path path ≡ true) }
     requires told { path_or_root path ≡ plan.now.response.location }
     requires room { path_size plan.now.response.location + 45 ≤ N }
-    requires few { N ≤ 65804 }
+    requires few { N ≤ MAX_EXTENDED_LENGTH }
     ensures reply { let response = response_with_observe token.now observes plan.now.response in result
         ≡ fit (limit_in link.old) response (bare_response response) }
     ensures after { link.new

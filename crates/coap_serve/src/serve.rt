@@ -4,11 +4,11 @@ ghost use Rattle.std.specs.Prelude.{◌≡◌, ◌+◌, ◌<◌, ◌≤◌, ◌^
 ghost use Rattle.coap_serve.specs.Prelude.{AllByRecursion, end_reason, AreInRange, ConfigValues, session_of, stop_on, count_of, is_cut, HasGiven, AddsBytes, only_id, stream_of, stdio_output, Stands, IsGoing, IsTurn, IsStdioRun, is_read_fault, is_write_fault};
 ghost use Rattle.coap_serve.specs.streams.Standing.{IsServed};
 
-use crate::config::Config;
 use crate::output::flush;
-use crate::server::{ConnId, Handled, Server};
+use crate::server::Server;
 use coap_conn::Reason;
 use coap_io::{Outlet, Source};
+use coap_model::{Config, ConnId, Handled};
 use std::alloc::Global;
 use thiserror::Error;
 /// What a run over one input and one output did.

@@ -1,17 +1,20 @@
 //! A connection of a server.
 
-ghost use Rattle.std.specs.Prelude.{◌≡◌, ℕ, List, [], IfOk, OnOk, OnErr, false, None, ◌≤◌, ◌+◌, ◌++◌, ◌||◌, ⊤, Some, length, take, is_some, IfErr};
-ghost use Rattle.coap_serve.specs.Prelude.{IsLive, IsReady, IsPut, Host as HostValue, change_hash, change_by, host_changed, session_handled, session_with, sizes_of, sooner as lesser, framer_on, sem, follows_so, none, RefusedBy, AreInRange, is_finished, release_refusal, IsUntouched, IsMarkedBut, ConcernsNone, MarkedSession, IsMarked, AreMarked, observers_left, new_session, session_takes, next_held_in, next_stale, session_notified, session_settled_once, taking, session_written, session_ended, session_released, session_announced, session_settled, IsSettled, RefusesPiece, IsAnnounced, due_on, IsBefore, next_told as next_told_of, settled_held};
+ghost use Rattle.std.specs.Prelude.{◌≡◌, ℕ, List, [], IfOk, OnOk, OnErr, false, None, ◌≤◌, ◌+◌, ◌++◌, ⊤, Some, length, take, IfErr};
+ghost use Rattle.coap_serve.specs.Prelude.{IsLive, IsReady, IsPut, Host as HostValue, change_hash, change_by, host_changed, session_handled, session_with, sizes_of, framer_on, sem, follows_so, none, RefusedBy, AreInRange, is_finished, release_refusal, MarkedSession, IsMarked, AreMarked, observers_left, new_session, session_takes, taking, session_written, session_ended, session_released, session_announced, RefusesPiece, IsAnnounced};
 ghost use Rattle.coap_serve.specs.contracts.session.Session.{the_row};
 
-use crate::answering::{answer, notify, send_due};
-use crate::cause::Cause;
+mod due;
+mod settling;
+
+use crate::answering::answer;
 use crate::host::Host;
 use crate::observers::Observers;
-use crate::server::AnnounceFault;
 use coap_conn::{Limits, Link, Phase, Reject, Role, SendFault, Verdict};
-use coap_frame::{Framer, GREATEST_SIZE};
-use coap_wire::{MessageRef, parse};
+use coap_frame::Framer;
+use coap_model::AnnounceFault;
+use coap_wire::{LARGEST_MESSAGE, MessageRef, parse};
+pub(crate) use due::sooner;
 use std::alloc::{AllocError, Global};
 use std::marker::Model;
 
@@ -143,124 +146,6 @@ impl Session {
         }
     }
 
-    /// Sends what is held and due, and notifies the observers that are due, one after the other, as long as there is
-    /// room for the greatest message sent (RFC 8323 section 5.4.1, RFC 7641 section 4.2).
-    #[inline]
-    pub(crate) fn settle(&mut self, host: &Host)
-        requires { IsMarked host.now self.old }
-        ensures after { self.new.session ≡ session_settled host.entry.now self.old.session }
-        ensures settled { IsSettled host.entry.now self.new.session }
-        ensures marked { IsMarked host.entry.now self.new }
-    {
-        if self.more() > 0 {
-            self.settle_each(host);
-        }
-    }
-
-    /// Settles as `settle`, turn by turn. (Apart from `settle`, so that a connection with nothing to send costs a test.)
-    #[inline(never)]
-    fn settle_each(&mut self, host: &Host)
-        requires { IsMarked host.now self.old }
-        ensures after { self.new.session ≡ session_settled host.entry.now self.old.session }
-        ensures settled { IsSettled host.entry.now self.new.session }
-        ensures marked { IsMarked host.entry.now self.new }
-    {
-        for _ in 0..self.more() {
-            if !self.settle_once(host) {
-                return;
-            }
-        }
-    }
-
-    /// Marks the observers that a change concerns, and settles.
-    pub(crate) fn mark_and_settle(&mut self, host: &Host, cause: Cause)
-        requires { IsMarkedBut cause host.now self.old }
-        ensures after { self.new.session ≡ session_settled host.entry.now self.old.session }
-        ensures marked { IsMarked host.entry.now self.new }
-    {
-        self.observers.mark(cause, host);
-        self.settle(host);
-    }
-
-    /// Returns `true` if a change may make something due: an observer of such a path or of the moment may be there, or
-    /// the moment of a pending answer came.
-    pub(crate) fn is_touched(&self, cause: Cause, now: u64) -> bool
-        ensures untouched { result ≡ false → IsUntouched cause now self.now.session }
-        ensures unmarked { result ≡ false → ConcernsNone cause self.now.session.observers }
-    {
-        match cause {
-            Cause::Path(hash) => self.observers.may_observe(hash),
-            Cause::Moment(before) => {
-                self.observers.tell_time() || (self.may_come_due() && self.comes_due(before, now))
-            }
-        }
-    }
-
-    /// Returns `true` if time alone may make anything due: something is pending, or an observer of the moment may be there.
-    fn may_come_due(&self) -> bool
-        ensures { result ≡ false → (now : ℕ) → due_on now self.now.session ≡ None }
-    {
-        self.link.pending() > 0 || self.observers.tell_time()
-    }
-
-    /// Returns `true` if something came due after a moment, up to now.
-    fn comes_due(&self, before: u64, now: u64) -> bool
-        ensures { result ≡ false → IsBefore now (due_on before self.now.session) }
-    {
-        match self.due(before) {
-            None => false,
-            Some(due) => due <= now,
-        }
-    }
-
-    /// The same where something is held: no observer is due then.
-    pub(crate) fn settle_held(&mut self, host: &Host)
-        requires { IsMarked host.now self.old }
-        ensures after { self.new.session ≡ settled_held host.entry.now self.old.session }
-        ensures marked { IsMarked host.entry.now self.new }
-    {
-        if self.link.pending() > 0 {
-            self.settle(host);
-        }
-    }
-
-    /// Sends what is held and due first, or else notifies the first observer that is due, where there is room, and
-    /// answers whether there was any.
-    fn settle_once(&mut self, host: &Host) -> bool
-        requires { IsMarked host.now self.old }
-        ensures after { self.new.session ≡ session_settled_once host.entry.now self.old.session }
-        ensures found { result ≡ (is_some (next_held_in host.entry.now.now self.old.session)
-            || is_some (next_stale host.entry.now self.old.session)) }
-        ensures marked { IsMarked host.entry.now self.new }
-    {
-        if !self.link.ready() {
-            return false;
-        }
-        if send_due(&mut self.link, host.now) {
-            give_up(&mut self.framer, &self.link, &mut self.observers);
-            return true;
-        }
-        self.notify_once(host)
-    }
-
-    /// Notifies the first observer that is marked as changed, where there is one, and answers whether there was. There
-    /// must be room.
-    fn notify_once(&mut self, host: &Host) -> bool
-        requires ready { IsReady self.old.session.link }
-        requires marked { IsMarked host.now self.old }
-        ensures after { self.new.session
-            ≡ session_notified host.entry.now self.old.session (next_stale host.entry.now self.old.session) }
-        ensures found { result ≡ is_some (next_stale host.entry.now self.old.session) }
-        ensures marked { IsMarked host.entry.now self.new }
-    {
-        let Some(stale) = self.observers.first_changed() else {
-            return false;
-        };
-        notify(&mut self.link, &mut self.observers, host, stale);
-        give_up(&mut self.framer, &self.link, &mut self.observers);
-        true
-    }
-
     /// All bytes that wait.
     pub(crate) fn front<'a>(&'a mut self) -> &'a [u8]
         ensures* unchanged { sem 𝓛 (follows_so the_row the_row self.entry.ghost_name none (λ _ _. ⊤)
@@ -283,22 +168,6 @@ impl Session {
         ensures { self.new ≡ record self.old { session = session_written self.old.session count } }
     {
         self.link.written(count);
-    }
-
-    /// The same of a settled one, and it settles: where there was room before, nothing is due, and so nothing is behind
-    /// it.
-    pub(crate) fn written_and_settled(&mut self, host: &Host, count: usize)
-        requires within { count ≤ length self.old.session.link.waiting }
-        requires settled { IsSettled host.now self.old.session }
-        requires marked { IsMarked host.now self.old }
-        ensures after { self.new.session ≡ session_settled host.entry.now (session_written self.old.session count) }
-        ensures marked { IsMarked host.entry.now self.new }
-    {
-        let had_room = self.link.ready();
-        self.written(count);
-        if !had_room {
-            self.settle(host);
-        }
     }
 
     /// The input ended, within a frame where bytes of one are kept. Nothing changes where no message is taken any more.
@@ -344,7 +213,7 @@ impl Session {
         if (size as usize) < self.link.own_max() {
             return Err(AnnounceFault::Lower);
         }
-        if size as usize > GREATEST_SIZE {
+        if size as usize > LARGEST_MESSAGE {
             return Err(AnnounceFault::TooLarge);
         }
         if !self.link.ready() {
@@ -358,24 +227,6 @@ impl Session {
         };
         self.link.announce(size);
         Ok(())
-    }
-
-    /// The next moment, in seconds, at which time alone may queue something: until then an answer is held, or an
-    /// observer of the moment is to be told it.
-    pub(crate) fn due(&self, now: u64) -> Option<u64>
-        ensures { result ≡ due_on now self.now.session }
-    {
-        sooner(self.link.next_moment(now), self.next_told(now))
-    }
-
-    /// The moment behind this one, where an observer is to be told it.
-    fn next_told(&self, now: u64) -> Option<u64>
-        ensures { result ≡ next_told_of now self.now.session.observers }
-    {
-        if !self.observers.tell_time() || now == u64::MAX {
-            return None;
-        }
-        Some(now + 1)
     }
 
     /// How it stands.
@@ -432,19 +283,6 @@ impl Session {
         ensures { result ≡ is_finished self.now.session.link }
     {
         self.link.finished()
-    }
-}
-
-/// The lesser of two moments, where there are any.
-pub(crate) fn sooner(one: Option<u64>, other: Option<u64>) -> Option<u64>
-    ensures { result ≡ lesser one other }
-{
-    let Some(second) = other else {
-        return one;
-    };
-    match one {
-        Some(first) => Some(first.min(second)),
-        None => other,
     }
 }
 

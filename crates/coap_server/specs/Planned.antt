@@ -2,7 +2,7 @@
 use Rattle.std.specs.Prelude.{ℕ, ◌*◌, ◌-◌, ◌^◌, min}
 use Rattle.coap_request.specs.declared.plan.ServerPlan.{ServerPlan}
 use Rattle.coap_serve.specs.Configs.{ConfigValues, config_of}
-use Rattle.coap_serve.specs.declared.config.Starts.{Starts}
+use Rattle.coap_serve.specs.declared.Starts.{Starts}
 use Rattle.coap_serve.specs.views.ConfigViews.{start_values}
 
 -- the bytes of a representation, at most, which no option sets

@@ -12,7 +12,7 @@ use crate::answers::{Refused, accept_fault};
 use crate::clock::monotonic;
 use crate::moments::{at_most, left_of, left_until, second};
 use crate::readiness::Readiness;
-use coap_io::{Door, Got, Ready, Wait, Wire};
+use coap_io::{Door, Got, READ_SIZE, Ready, Wait, Wire};
 use mio::net::{TcpListener, TcpStream};
 use mio::{Events, Interest, Poll, Token};
 use std::alloc::{AllocError, Global};
@@ -87,7 +87,7 @@ impl Drop for SocketWire {
 
 /// Reads what has come and gives it up, at most a mebibyte.
 fn give_up<S: Read>(stream: &mut S) {
-    let mut bytes = [0; 16_384];
+    let mut bytes = [0; READ_SIZE];
     for _ in 0..64 {
         match stream.read(&mut bytes) {
             Ok(0) => return,

@@ -5,6 +5,7 @@ use Rattle.coap_store.specs.Paths.{is_path}
 use Rattle.coap_store.specs.Store.{Resource, StoreValue, found_in}
 use Rattle.coap_store.specs.State.{place_of}
 use Rattle.coap_store.specs.declared.place.Place.TheVariants.{Dynamic}
+use Rattle.coap_wire.specs.declared.sizes.TheConstants.{LARGEST_MESSAGE}
 
 -- no path stands twice
 abbrev pub AreDistinct : List Resource → Type 0
@@ -33,5 +34,5 @@ pub record IsStore (s : StoreValue) : Type 0 where
   pub kept : AllByRecursion (IsKept s.versions s.rep_max) s.resources
   pub few : length s.resources ≤ s.dynamic_max
   pub most : s.dynamic_max ≤ 1000
-  pub largest : s.rep_max ≤ 1048576
+  pub largest : s.rep_max ≤ LARGEST_MESSAGE
   pub versions : s.versions < 2 ^ 64

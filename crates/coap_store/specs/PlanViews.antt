@@ -3,8 +3,8 @@ use Rattle.std.specs.Prelude.{◌≡◌, ◌≢◌, ℕ, Bool, true, false, List
 use Rattle.coap_store.specs.Paths.{Path, is_path}
 use Rattle.coap_store.specs.UriPaths.{path_told}
 use Rattle.coap_store.specs.Answer as answer
-use Rattle.coap_store.specs.declared.plan.Bytes.{Bytes}
-use Rattle.coap_store.specs.declared.plan.Bytes.TheVariants.{Stored, Decimal}
+use Rattle.coap_store.specs.declared.found.Bytes.{Bytes}
+use Rattle.coap_store.specs.declared.found.Bytes.TheVariants.{Stored, Decimal}
 use Rattle.coap_store.specs.declared.plan.Change.{Change}
 use Rattle.coap_store.specs.declared.plan.Change.TheVariants as changes
 use Rattle.coap_store.specs.declared.plan.Effect.{Effect}

@@ -29,6 +29,7 @@ pub use Rattle.coap_wire.specs.Uint.{uint_of}
 unfoldable pub use Rattle.coap_wire.specs.Uint.{bytes_of_uint}
 pub use Rattle.coap_wire.specs.Views.{coap_option}
 pub use Rattle.coap_wire.specs.declared.kinds.OptionKind.{OptionKind}
+pub use Rattle.coap_wire.specs.declared.sizes.TheConstants.{LARGEST_MESSAGE}
 -- ---- coap_store
 pub use Rattle.coap_store.specs.Answer.{read_answer, etag_at, max_age_at, is_accepted, is_among, watch_of}
 pub use Rattle.coap_store.specs.Answer.{removes_watch, stored, delete_answer, needs_resource, says, held_response}

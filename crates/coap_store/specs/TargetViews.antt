@@ -5,7 +5,7 @@ use Rattle.coap_store.specs.Requests.{path_of}
 use Rattle.coap_store.specs.Store.{Representation}
 use Rattle.coap_store.specs.State as state
 use Rattle.coap_store.specs.PlanViews.{bytes_in}
-use Rattle.coap_store.specs.declared.target.Found.{Found}
+use Rattle.coap_store.specs.declared.found.Found.{Found}
 use Rattle.coap_store.specs.declared.target.Target.{Target}
 
 abbrev pub found_value : Found → Representation

@@ -1,16 +1,18 @@
 //! The answers to requests.
 
 ghost use Rattle.std.specs.Prelude.{◌≡◌, ◌≢◌, true, [], Option, option_map, is_none, ◌≤◌, ℕ, length};
+ghost use Rattle.coap_store.specs.Prelude.{LARGEST_MESSAGE};
 ghost use Rattle.coap_store.specs.Prelude.{Message, is_path, Representation, path_of as path_asked, values_of, is_method as is_known_method, preconditions_hold as hold, get_answer, read_answer, etag_at, max_age_at, is_accepted as accepts, is_among as is_one_of, watch_of, removes_watch as asks_removal, stored as stored_there, delete_answer, found_value, target_value, found_in, place_of, target_of, state_at, answer_of, answer_at, resource_answer, store_answer, needs_resource as needs, TakesChange, changes, IsStore};
 ghost use Rattle.coap_wire.specs.OptionNumbers as numbers;
 ghost use Rattle.coap_store.specs.declared.place.Place.TheVariants.{Dynamic};
 
+use crate::found::{Bytes, Found};
 use crate::path::PathKey;
 use crate::place::Place;
-use crate::plan::{Bytes, Effect, Plan, Watch};
+use crate::plan::{Effect, Plan, Watch};
 use crate::request::Asked;
 use crate::store::Store;
-use crate::target::{Found, LINK_FORMAT, TEXT_PLAIN, Target};
+use crate::target::{LINK_FORMAT, TEXT_PLAIN, Target};
 use arrayvec::ArrayVec;
 use coap_wire::{Code, MessageRef, uint_bytes};
 
@@ -23,7 +25,7 @@ impl Store {
         ensures answer { result ≡ answer_of self.now now request.now }
         ensures taken { TakesChange self.now result.change }
         ensures bare { changes result.change ≡ true → result.response.payload ≡ [] }
-        ensures short { length result.response.payload ≤ 1048576 }
+        ensures short { length result.response.payload ≤ LARGEST_MESSAGE }
         ensures store { IsStore self.now }
     {
         self.is_kept();
@@ -202,11 +204,7 @@ fn preconditions_hold(asked: &Asked, state: Option<&Found>) -> bool
 fn read<'s, 'r>(asked: &Asked<'_, 'r>, target: Target<'s>) -> Plan<'s, 'r>
     ensures { result ≡ read_answer target.entry.place (option_map found_value target.entry.state) asked.now }
 {
-    let Target {
-        is_path: _,
-        place,
-        state,
-    } = target;
+    let Target { place, state, .. } = target;
     match state {
         Some(found) => get(asked, place, found),
         None => Plan::only(Code::NOT_FOUND),
@@ -239,13 +237,7 @@ fn get<'s, 'r>(asked: &Asked<'_, 'r>, place: Place, found: Found<'s>) -> Plan<'s
 fn is_accepted(wanted: Option<u16>, format: Option<u16>) -> bool
     ensures { result ≡ accepts wanted format }
 {
-    match wanted {
-        Some(wanted) => match format {
-            Some(format) => format == wanted,
-            None => false,
-        },
-        None => true,
-    }
+    wanted.is_none() || format == wanted
 }
 
 /// The ETag of a representation with this version, where it is stored.

@@ -3,8 +3,9 @@
 ghost use Rattle.std.specs.Prelude.{◌≡◌};
 ghost use Rattle.coap_store.specs.Prelude.{says, held_response as response_held};
 
-use crate::plan::{Bytes, Plan, Watch};
-use crate::target::{Found, TEXT_PLAIN};
+use crate::found::{Bytes, Found};
+use crate::plan::{Plan, Watch};
+use crate::target::TEXT_PLAIN;
 
 /// The response of every answer that was held, once its time has come: 2.05 with `done` (RFC 7252 sections 5.2.2,
 /// 5.9.1.5).

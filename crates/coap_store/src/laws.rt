@@ -1,6 +1,7 @@
 //! What holds of every store and every answer, each as the contract of a function that does nothing.
 
 ghost use Rattle.std.specs.Prelude.{◌≡◌, ◌≢◌, ◌↔◌, ℕ, ◌+◌, ◌<◌, ◌≤◌, ◌^◌, List, [], Option, Some, None, IsTrue, IsFalse, IfSome};
+ghost use Rattle.coap_store.specs.Prelude.{LARGEST_MESSAGE};
 ghost use Rattle.coap_store.specs.Prelude.{Message, Path, is_path, Representation, StoreValue, found_in, put_in, removed_in, place_of, state_of, is_get, path_of, etag_of, Change, Nothing, Put, Delete, only, held_response, asks_late, answer_of, prompt_answer, changed, says_change, TakesChange, HasSmallFormat, changed_by, TakesChanges, AreDistinct, IsStore, put_refusal, WasStored, notification_of, MayWatch, plain_get, IsStoredCode, TellsState, TellsEtag, IsElsewhere, content_of, put_by};
 ghost use Rattle.coap_wire.specs.Codes as code;
 ghost use Rattle.coap_store.specs.declared.place.Place.TheVariants.{Listing, Dynamic};
@@ -59,7 +60,7 @@ pub fn paths_stay_distinct()
 /// An empty store is a store, and a store stays one over each change that it takes, whose format is one of two bytes
 /// where it has one.
 pub fn stores_stay_stores()
-    ensures empty { (dynamic_max rep_max versions : ℕ) → dynamic_max ≤ 1000 → rep_max ≤ 1048576 → versions < 2 ^ 64 →
+    ensures empty { (dynamic_max rep_max versions : ℕ) → dynamic_max ≤ 1000 → rep_max ≤ LARGEST_MESSAGE → versions < 2 ^ 64 →
         IsStore (record { dynamic_max = dynamic_max; rep_max = rep_max; resources = []; versions = versions }) }
     ensures changed { (s : StoreValue) (change : Change) → IsStore s → TakesChange s change → HasSmallFormat change →
         IsStore (changed s change) }

@@ -2,13 +2,13 @@
 
 use crate::answer::{etag_for, max_age_of};
 use crate::path::PathKey;
-use crate::place::place_of;
 use crate::plan::{Plan, Watch};
 use crate::store::Store;
 use coap_wire::Code;
 
 impl Store {
     ghost use Rattle.std.specs.Prelude.{◌≡◌, ◌≤◌, length};
+    ghost use Rattle.coap_store.specs.Prelude.{LARGEST_MESSAGE};
     ghost use Rattle.coap_store.specs.Prelude.{says, IsStore, notification_of};
 
     /// What an observer of a path that was told representations of this Content-Format, or of none, is told of it at a
@@ -22,12 +22,12 @@ impl Store {
         now: u64,
     ) -> Plan<'s, 'r>
         ensures told { result ≡ says (notification_of self.now now path.now format) }
-        ensures short { length result.response.payload ≤ 1048576 }
+        ensures short { length result.response.payload ≤ LARGEST_MESSAGE }
         ensures store { IsStore self.now }
     {
         self.is_kept();
         path.is_kept();
-        let place = place_of(path);
+        let place = path.place();
         let Some(found) = self.found_at(Some(path), place, now) else {
             return Plan::only(Code::NOT_FOUND);
         };

@@ -25,68 +25,43 @@ impl Place {
     pub fn is_dynamic(self) -> bool
         ensures { result ≡ is_dynamic_place self }
     {
-        match self {
-            Place::Root => false,
-            Place::Time => false,
-            Place::Async => false,
-            Place::Listing => false,
-            Place::Dynamic => true,
-        }
+        self == Place::Dynamic
     }
 
     /// Whether it is the resource that answers late.
     pub(crate) fn is_async(self) -> bool
         ensures { result ≡ is_async_place self }
     {
-        match self {
-            Place::Root => false,
-            Place::Time => false,
-            Place::Async => true,
-            Place::Listing => false,
-            Place::Dynamic => false,
-        }
+        self == Place::Async
     }
 
     /// Whether its changes can be observed (RFC 7641 section 1.2).
     pub(crate) fn is_observable(self) -> bool
         ensures { result ≡ is_observable_place self }
     {
-        match self {
-            Place::Root => false,
-            Place::Time => true,
-            Place::Async => false,
-            Place::Listing => false,
-            Place::Dynamic => true,
-        }
+        self == Place::Time || self == Place::Dynamic
     }
 }
 
 impl PathKey {
-    /// Which resource the path names.
+    /// Returns the resource that the path names.
+    #[tactic(auto, using(crate::proofs::PlaceLemmas::at_root, crate::proofs::PlaceLemmas::at_time, crate::proofs::PlaceLemmas::at_async, crate::proofs::PlaceLemmas::at_listing, crate::proofs::PlaceLemmas::elsewhere), unfolding(crate::specs::PathViews::written))]
     pub fn place(&self) -> Place
         ensures { result ≡ place_named self.now }
     {
-        place_of(self)
+        let written = self.written();
+        if written.is_empty() {
+            return Place::Root;
+        }
+        if written == b"\x04time".as_slice() {
+            return Place::Time;
+        }
+        if written == b"\x05async".as_slice() {
+            return Place::Async;
+        }
+        if written == b"\x0b.well-known\x04core".as_slice() {
+            return Place::Listing;
+        }
+        Place::Dynamic
     }
-}
-
-/// Which resource the path names.
-#[tactic(auto, using(crate::proofs::PlaceLemmas::at_root, crate::proofs::PlaceLemmas::at_time, crate::proofs::PlaceLemmas::at_async, crate::proofs::PlaceLemmas::at_listing, crate::proofs::PlaceLemmas::elsewhere), unfolding(crate::specs::PathViews::written))]
-pub(crate) fn place_of(path: &PathKey) -> Place
-    ensures { result ≡ place_named path.now }
-{
-    let written = path.written();
-    if written.is_empty() {
-        return Place::Root;
-    }
-    if written == b"\x04time".as_slice() {
-        return Place::Time;
-    }
-    if written == b"\x05async".as_slice() {
-        return Place::Async;
-    }
-    if written == b"\x0b.well-known\x04core".as_slice() {
-        return Place::Listing;
-    }
-    Place::Dynamic
 }

@@ -4,34 +4,13 @@ ghost use Rattle.std.specs.Prelude.{◌≡◌, ◌≢◌, ◌≤◌, true, [], S
 ghost use Rattle.coap_store.specs.Prelude.{bytes_in, change_value, says, only, unheld, changes as is_change, is_path, effect_value, IsAtPath, IsToldNamed, path_or_root, location_in};
 ghost use Rattle.coap_wire.specs.Codes as code;
 
+use crate::found::{Bytes, Found};
 use crate::path::PathKey;
 use crate::request::path_in;
-use crate::target::Found;
 use crate::uri_path::UriPath;
 use arrayvec::ArrayVec;
 use coap_wire::{Body, Code};
 use std::marker::Model;
-
-/// The bytes of a representation: they lie elsewhere, or are a decimal number.
-#[derive(Drop)]
-pub enum Bytes<'s> {
-    /// They lie in the store.
-    Stored(&'s [u8]),
-    /// A decimal number.
-    Decimal(ArrayVec<u8, 20>),
-}
-
-impl<'s> Bytes<'s> {
-    /// The bytes.
-    pub(crate) fn as_slice(&self) -> &[u8]
-        ensures { result.now ≡ bytes_in self.now }
-    {
-        match self {
-            Bytes::Stored(bytes) => bytes,
-            Bytes::Decimal(text) => text.as_slice(),
-        }
-    }
-}
 
 /// What a request changes.
 #[derive(Drop)]
@@ -276,8 +255,7 @@ impl<'s, 'r> Plan<'s, 'r> {
         }
         match &self.effect {
             Effect::Put { body, .. } => Some(UriPath::of(body)),
-            Effect::Nothing => None,
-            Effect::Delete { .. } => None,
+            _ => None,
         }
     }
 
@@ -316,8 +294,7 @@ impl<'s, 'r> Plan<'s, 'r> {
     {
         match &self.effect {
             Effect::Nothing => false,
-            Effect::Put { .. } => true,
-            Effect::Delete { .. } => true,
+            _ => true,
         }
     }
 

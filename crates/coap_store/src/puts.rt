@@ -2,7 +2,6 @@
 
 use crate::fault::StoreFault;
 use crate::path::PathKey;
-use crate::place::place_of;
 use crate::store::Store;
 
 impl Store {
@@ -78,7 +77,7 @@ impl Store {
         if bytes.len() > self.rep_max() {
             return Err(StoreFault::TooLarge);
         }
-        if !place_of(path).is_dynamic() {
+        if !path.place().is_dynamic() {
             return Err(StoreFault::BadPath);
         }
         if self.is_full() && self.find(path).is_none() {

@@ -3,10 +3,9 @@
 ghost use Rattle.std.specs.Prelude.{◌≡◌};
 ghost use Rattle.coap_store.specs.Prelude.{state_of, state_value};
 
+use crate::found::Found;
 use crate::path::PathKey;
-use crate::place::place_of;
 use crate::store::Store;
-use crate::target::Found;
 use std::marker::Model;
 
 /// The state of a path at a moment. It borrows the bytes of the store.
@@ -63,7 +62,7 @@ impl Store {
         ensures { state_value result ≡ state_of self.now now path.now }
     {
         path.is_kept();
-        match self.found_at(Some(path), place_of(path), now) {
+        match self.found_at(Some(path), path.place(), now) {
             Some(found) => State::Present(Present { found }),
             None => State::Absent,
         }

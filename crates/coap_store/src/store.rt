@@ -1,12 +1,14 @@
 //! The store of a server's resources.
 
 ghost use Rattle.std.specs.Prelude.{◌≡◌, ◌<◌, IfSome, ◌≤◌, [], IfOk, OnOk, OnErr, length, not, nat_le, ◌==◌, option_map, decimal};
+ghost use Rattle.coap_store.specs.Prelude.{LARGEST_MESSAGE};
 ghost use Rattle.coap_store.specs.Prelude.{changed, greatest_version, found_in, put_in, removed_in, listing as listing_of, representation, TakesChange, TakesPut, IsPut, IsStore, change_value, bytes_in};
 
 use crate::catalogue::Catalogue;
 use crate::decimal::{Decimal, decimal_digits};
+use crate::found::Bytes;
 use crate::path::PathKey;
-use crate::plan::{Bytes, Change};
+use crate::plan::Change;
 use crate::resource::Resource;
 use std::alloc::{AllocError, Global};
 use std::marker::Model;
@@ -50,7 +52,7 @@ impl Store {
         versions_from: u64,
     ) -> Result<Store, AllocError>
         requires few { dynamic_max ≤ 1000 }
-        requires small { rep_max ≤ 1048576 }
+        requires small { rep_max ≤ LARGEST_MESSAGE }
         ensures empty { IfOk result (λ s. s ≡ record {
           dynamic_max = dynamic_max;
           rep_max = rep_max;
@@ -117,7 +119,7 @@ impl Store {
     /// What is stored at a path.
     pub(crate) fn find(&self, path: &PathKey) -> Option<&Resource>
         ensures value { option_map (λ r. representation r.now) result ≡ found_in self.now.resources path.now }
-        ensures small { IfSome result (λ r. length r.now.bytes.items ≤ 1048576) }
+        ensures small { IfSome result (λ r. length r.now.bytes.items ≤ LARGEST_MESSAGE) }
     {
         self.resources.get(path)
     }
@@ -125,7 +127,7 @@ impl Store {
     /// The bytes of `/.well-known/core` (RFC 6690).
     pub(crate) fn listing(&self) -> &[u8]
         ensures value { result.now ≡ listing_of self.now.resources }
-        ensures short { length result.now ≤ 1048576 }
+        ensures short { length result.now ≤ LARGEST_MESSAGE }
     {
         self.resources.listing()
     }
@@ -147,7 +149,7 @@ impl Store {
     /// The most bytes of a representation.
     pub(crate) fn rep_max(&self) -> usize
         ensures value { result ≡ self.now.rep_max }
-        ensures small { result ≤ 1048576 }
+        ensures small { result ≤ LARGEST_MESSAGE }
     {
         self.rep_max
     }

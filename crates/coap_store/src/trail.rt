@@ -52,10 +52,7 @@ impl Trail {
                     Trail::Elsewhere
                 }
             }
-            Trail::Time => Trail::Elsewhere,
-            Trail::Async => Trail::Elsewhere,
-            Trail::Listing => Trail::Elsewhere,
-            Trail::Elsewhere => Trail::Elsewhere,
+            _ => Trail::Elsewhere,
         }
     }
 
@@ -68,8 +65,7 @@ impl Trail {
             Trail::Time => Place::Time,
             Trail::Async => Place::Async,
             Trail::Listing => Place::Listing,
-            Trail::WellKnown => Place::Dynamic,
-            Trail::Elsewhere => Place::Dynamic,
+            Trail::WellKnown | Trail::Elsewhere => Place::Dynamic,
         }
     }
 }

@@ -1,14 +1,15 @@
 -- What a builder holds, and the parts that it writes.
-use Rattle.std.proofs.Common.{◌≡◌, ℕ, ◌+◌, ◌*◌, ◌≤◌, ◌<◌, List, [], ◌∷◌, ◌++◌, length, refl, sym, ap, subst, ◌∙◌, append_assoc, arith}
+use Rattle.std.proofs.Common.{◌≡◌, ℕ, ◌+◌, ◌≤◌, ◌<◌, List, [], ◌∷◌, ◌++◌, length, refl, sym, ap, subst, ◌∙◌, append_assoc, arith}
 use Rattle.coap_wire.specs.Prelude.{AllByRecursion, OptionRef, Message, AreOrdered, last_number}
 use Rattle.coap_wire.specs.Prelude.{HasOptionForm, options_spelling, payload_bytes, body_spelling}
 use Rattle.coap_wire.specs.Prelude.{payload_marker, head_spelling, spelling, front_spelling, coap_option, coap_options, CanBeBuilt}
 use Rattle.std.proofs.lemmas.List.{map_push, length-append, length-map}
 use Rattle.coap_wire.proofs.OptionLists.{ordered-push, forms-push}
+use Rattle.coap_wire.specs.Prelude.{MAX_EXTENDED_LENGTH}
 
 -- with one option more, a builder still holds what it can hold
 pub option_added : (m : Message) (xs ys : List OptionRef) (o : OptionRef) → m.options ≡ coap_options xs → CanBeBuilt m → ys ≡ xs ++ o ∷ [] → last_number 0 (coap_options xs) ≤ o.number → o.number ≤ 65535
-    → length o.value.now ≤ 65804 → length xs < 40 → CanBeBuilt (record m { options = coap_options ys })
+    → length o.value.now ≤ MAX_EXTENDED_LENGTH → length xs < 40 → CanBeBuilt (record m { options = coap_options ys })
 option_added m xs ys o options_are built more order number value room =
     let same : coap_options ys ≡ coap_options xs ++ coap_option o ∷ [] = ap coap_options more ∙ map_push coap_option xs o in
     let ordered : AreOrdered 0 (coap_options xs) = rw (← options_are) built.ordered in

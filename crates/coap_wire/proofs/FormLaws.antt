@@ -1,7 +1,7 @@
 -- The one form of a number is its only form.
 use Rattle.std.proofs.Common.{◌≡◌, ℕ, zero, suc, ◌-◌, ◌<◌, ◌≤◌, List, [], ◌∷◌, length, get_or, refl, sym, ap, subst, ◌∙◌, arith, inl, inr, le-ltb, lt-ltb}
 use Rattle.coap_wire.specs.Prelude.{w16, w32, to_be_bytes, from_be_bytes, AllByRecursion, IsByte, IsLengthForm}
-use Rattle.coap_wire.specs.Prelude.{length_form, greatest_length, IsOptionForm, option_form, greatest_option_form}
+use Rattle.coap_wire.specs.Prelude.{length_form, greatest_length, IsOptionForm, option_form, MAX_EXTENDED_LENGTH}
 use Rattle.coap_wire.specs.Prelude.{option_extension, greatest_token, IsTokenForm, token_form}
 use Rattle.std.proofs.lemmas.Bool.{cases_lt, cases_eq, ne_eqb}
 use Rattle.std.proofs.lemmas.Nat.{be_bytes_2, be_bytes_4, from_be_bytes-to_be_bytes_2, from_be_bytes-to_be_bytes_4}
@@ -105,7 +105,7 @@ option_form_two n le =
     rw (le-ltb n 13 a, le-ltb n 269 le) refl
 
 -- The form that an option delta or length is given means that number.
-pub option_form_is : (n : ℕ) → n ≤ greatest_option_form → IsOptionForm (option_form n).0 (option_form n).1 n
+pub option_form_is : (n : ℕ) → n ≤ MAX_EXTENDED_LENGTH → IsOptionForm (option_form n).0 (option_form n).1 n
 option_form_is n fits =
     elim (cases_lt n 13) [
       | inl lt ↦ subst (λ (p : ℕ × List ℕ). IsOptionForm p.0 p.1 n) (sym (option_form_none n lt)) (lt, refl)
@@ -132,7 +132,7 @@ option_form_only x (a ∷ b ∷ []) n form =
 option_form_only x (a ∷ b ∷ c ∷ es) n form = absurd form
 
 -- The nibble of an option delta or length is none of 15, and the number has a form.
-pub option_form_bound : (x : ℕ) (e : List ℕ) (n : ℕ) → IsOptionForm x e n → (x < 15) × (n ≤ greatest_option_form)
+pub option_form_bound : (x : ℕ) (e : List ℕ) (n : ℕ) → IsOptionForm x e n → (x < 15) × (n ≤ MAX_EXTENDED_LENGTH)
 option_form_bound x [] n form = (omega (arith, form.0), omega (arith, form.0, form.1))
 option_form_bound x (a ∷ []) n form = (omega (arith, form.0), omega (arith, form.1, form.2))
 option_form_bound x (a ∷ b ∷ []) n form = (omega (arith, form.0), omega (arith, number_2 a b form.1, form.2))

@@ -4,9 +4,9 @@ use Rattle.std.specs.List.{AllByRecursion}
 use Rattle.coap_wire.specs.Message.{Message, AreOrdered, last_number}
 use Rattle.coap_wire.specs.Spelling.{options_spelling, HasOptionForm}
 use Rattle.coap_wire.specs.Reading.{options_in}
-use Rattle.coap_wire.specs.Forms.{greatest_token, greatest_option_form}
-use Rattle.coap_wire.specs.Views.{greatest_payload}
+use Rattle.coap_wire.specs.Forms.{greatest_token}
 use Rattle.coap_wire.specs.declared.compact.CompactBuilder.TheInside.{Inside}
+use Rattle.coap_wire.specs.declared.sizes.TheConstants.{MAX_EXTENDED_LENGTH, LARGEST_MESSAGE}
 
 -- the message that is being built: its options are those that the encoded ones are read as
 abbrev pub compact_message : {N : ℕ} → Inside N → Message
@@ -27,5 +27,5 @@ pub record IsEncoding (bytes : List ℕ) (last : ℕ) : Type 0 where
 pub record IsCompact {N : ℕ} (b : Inside N) : Type 0 where
   pub options : IsEncoding b.options.items b.last
   pub token : length b.token ≤ greatest_token
-  pub payload : length b.payload.now ≤ greatest_payload
-  pub few : N ≤ greatest_option_form
+  pub payload : length b.payload.now ≤ LARGEST_MESSAGE
+  pub few : N ≤ MAX_EXTENDED_LENGTH

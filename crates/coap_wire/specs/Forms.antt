@@ -41,10 +41,6 @@ IsOptionForm x (a ∷ b ∷ c ∷ es) n = ⊥
 abbrev pub option_extension : ℕ → ℕ
 option_extension x = if nat_lt x 13 then 0 else (if x == 13 then 1 else 2)
 
--- the greatest option delta or option length that has a form
-abbrev pub greatest_option_form : ℕ
-greatest_option_form = 65804
-
 -- the one form of an option delta or an option length: its nibble and its extension
 abbrev pub option_form : ℕ → ℕ × List ℕ
 option_form n =

@@ -8,12 +8,15 @@ pub use Rattle.std.specs.List.{AllByRecursion, concat}
 pub use Rattle.std.specs.Prelude.{All, IfErr, IfOk, IsOk, IsTrue, is_ok, not, slice_get, unwrap_or, ◌&&◌, ◌==◌, ◌||◌}
 pub use Rattle.std.specs.Prelude.{◌↔◌}
 -- ---- coap_wire
+pub use Rattle.coap_wire.specs.declared.sizes.TheConstants.{BASE_MESSAGE_SIZE, MAX_EXTENDED_LENGTH}
+pub use Rattle.coap_wire.specs.declared.sizes.TheConstants.{LARGEST_MESSAGE, LARGEST_SENT_MESSAGE, LARGEST_QUEUE}
+pub use Rattle.coap_wire.specs.declared.sizes.TheConstants.{DEFAULT_QUEUE}
 pub use Rattle.coap_wire.specs.Beginning.{IsFrameFault, IsUnfinished, Unfinished, Whole, Faulty, fault_bytes}
 pub use Rattle.coap_wire.specs.Beginning.{Beginning, IsTooLarge, begins_with, size_bytes, token_bytes}
 unfoldable pub use Rattle.coap_wire.specs.Beginning.{beginning}
 pub use Rattle.coap_wire.specs.BuilderViews.{built_message}
 pub use Rattle.coap_wire.specs.Faults.{IsFirstFault, HasOptionFault, IsOptionFault, IsOptionHeadCut}
-pub use Rattle.coap_wire.specs.Forms.{length_form, option_form, greatest_length, greatest_option_form, IsLengthForm}
+pub use Rattle.coap_wire.specs.Forms.{length_form, option_form, greatest_length, IsLengthForm}
 pub use Rattle.coap_wire.specs.Forms.{IsOptionForm, IsTokenForm, token_form, greatest_token, extension_of}
 pub use Rattle.coap_wire.specs.Forms.{option_extension}
 pub use Rattle.coap_wire.specs.Frames.{Frames, Sizes, FramedAs, always, size_for, sizes_behind, sizes_of_rest}
@@ -60,4 +63,4 @@ pub use Rattle.coap_wire.specs.declared.fault.FrameFault.TheVariants.{TooLarge}
 pub use Rattle.coap_wire.specs.declared.frame.Declared.{Declared}
 pub use Rattle.coap_wire.specs.declared.frame.Declared.TheVariants.{BadToken, Size, Unknown}
 pub use Rattle.coap_wire.specs.declared.kinds.OptionKind.{OptionKind}
-pub use Rattle.coap_wire.specs.declared.options.OptionRef.{OptionRef}
+pub use Rattle.coap_wire.specs.declared.option.OptionRef.{OptionRef}

@@ -2,7 +2,8 @@
 use Rattle.std.specs.Prelude.{◌≡◌, ℕ, ◌+◌, ◌-◌, ◌*◌, ◌≤◌, List, [], ◌∷◌, ◌++◌, length}
 use Rattle.std.specs.List.{AllByRecursion}
 use Rattle.coap_wire.specs.Message.{CoapOption, Message, AreOrdered}
-use Rattle.coap_wire.specs.Forms.{IsLengthForm, length_form, IsOptionForm, option_form, greatest_token, IsTokenForm, token_form, greatest_length, greatest_option_form}
+use Rattle.coap_wire.specs.Forms.{IsLengthForm, length_form, IsOptionForm, option_form, greatest_token, IsTokenForm, token_form, greatest_length}
+use Rattle.coap_wire.specs.declared.sizes.TheConstants.{MAX_EXTENDED_LENGTH}
 
 -- The option with this delta and this length begins s: a byte of two nibbles and both extensions. Behind them stands after.
 pub record IsOptionHead (s : List ℕ) (delta len : ℕ) (after : List ℕ) : Type 0 where
@@ -84,7 +85,7 @@ front_spelling m = head_spelling m.code m.token (length (body_spelling m)) ++ (o
 -- ---- what has a spelling
 
 abbrev pub HasOptionForm : CoapOption → Type 0
-HasOptionForm o = (o.number ≤ 65535) × (length o.value ≤ greatest_option_form)
+HasOptionForm o = (o.number ≤ 65535) × (length o.value ≤ MAX_EXTENDED_LENGTH)
 
 -- the message has a spelling
 pub record HasSpelling (m : Message) : Type 0 where

@@ -3,15 +3,16 @@ use Rattle.std.specs.Prelude.{◌≡◌, ℕ, ◌≤◌, List, [], ◌∷◌, �
 use Rattle.std.specs.List.{AllByRecursion}
 use Rattle.std.specs.Borrow.{Bor}
 use Rattle.coap_wire.specs.Message.{CoapOption, Message, AreOrdered, last_number}
-use Rattle.coap_wire.specs.Forms.{greatest_token, greatest_option_form}
+use Rattle.coap_wire.specs.Forms.{greatest_token}
 use Rattle.coap_wire.specs.Spelling.{HasOptionForm}
 use Rattle.coap_wire.specs.Reading.{options_read}
 use Rattle.coap_wire.specs.Recognition.{CheckedOptionValue}
 use Rattle.coap_wire.specs.declared.fault.FormatFault.{FormatFault}
 use Rattle.coap_wire.specs.declared.fault.BuildFault.{BuildFault}
 use Rattle.coap_wire.specs.declared.fault.BuildFault.TheVariants.{Order, TooLong, Full}
-use Rattle.coap_wire.specs.declared.options.OptionRef.{OptionRef}
+use Rattle.coap_wire.specs.declared.option.OptionRef.{OptionRef}
 use Rattle.coap_wire.specs.declared.recognition.CheckedOption.{CheckedOption}
+use Rattle.coap_wire.specs.declared.sizes.TheConstants.{MAX_EXTENDED_LENGTH, LARGEST_MESSAGE}
 
 -- an option without where its value lies in memory
 abbrev pub coap_option : OptionRef → CoapOption
@@ -34,10 +35,6 @@ abbrev pub GivesPayload : Result (Bor (List ℕ)) FormatFault → Result (List C
 GivesPayload (Ok payload) read = read ≡ Ok (options_read read, payload.now)
 GivesPayload (Err e) read = read ≡ Err e
 
--- the greatest payload that a builder takes
-abbrev pub greatest_payload : ℕ
-greatest_payload = 1048576
-
 -- the most options that any builder takes
 abbrev pub most_options : ℕ
 most_options = 40
@@ -48,18 +45,18 @@ pub record CanBeBuilt (m : Message) : Type 0 where
   pub ordered : AreOrdered 0 m.options
   pub each : AllByRecursion HasOptionForm m.options
   pub few : length m.options ≤ most_options
-  pub payload : length m.payload ≤ greatest_payload
+  pub payload : length m.payload ≤ LARGEST_MESSAGE
 
 -- why a builder with room for so many options does not take one
 abbrev pub option_refusal : ℕ → Message → ℕ → List ℕ → Option BuildFault
 option_refusal room m number value =
     if nat_lt number (last_number 0 m.options) then Some Order
-    else (if nat_lt greatest_option_form (length value) then Some TooLong
+    else (if nat_lt MAX_EXTENDED_LENGTH (length value) then Some TooLong
     else (if nat_lt (length m.options) room then (if nat_lt (length m.options) most_options then None else Some Full) else Some Full))
 
 -- why a builder does not take a payload
 abbrev pub payload_refusal : List ℕ → Option BuildFault
-payload_refusal payload = if nat_lt greatest_payload (length payload) then Some TooLong else None
+payload_refusal payload = if nat_lt LARGEST_MESSAGE (length payload) then Some TooLong else None
 
 -- a message with one option more
 abbrev pub with_option : Message → ℕ → List ℕ → Message

@@ -5,8 +5,9 @@ ghost use Rattle.coap_wire.specs.Prelude.{last_number as number_of_last, coap_op
 
 use crate::code::Code;
 use crate::fault::BuildFault;
-use crate::options::OptionRef;
+use crate::option::OptionRef;
 use crate::sink::Sink;
+use crate::sizes::{LARGEST_MESSAGE, MAX_EXTENDED_LENGTH};
 use crate::token::{Token, TokenRef};
 use crate::writing::{
     head_size, marker_size, option_size, write_head, write_marker, write_options,
@@ -16,12 +17,6 @@ use std::marker::Model;
 
 /// The most options that any builder takes.
 const MAX_OPTIONS: usize = 40;
-
-/// The greatest length of an option's value (RFC 7252 section 3.1).
-const MAX_VALUE: usize = 65_804;
-
-/// The greatest payload that a builder takes.
-const MAX_PAYLOAD: usize = 1_048_576;
 
 /// A message that is being built, of at most 40 options.
 pub type Builder<'a> = MessageBuilder<'a, MAX_OPTIONS>;
@@ -88,7 +83,7 @@ impl<'a, const N: usize> MessageBuilder<'a, N> {
         if number < last {
             return Err(BuildFault::Order);
         }
-        if value.len() > MAX_VALUE {
+        if value.len() > MAX_EXTENDED_LENGTH {
             return Err(BuildFault::TooLong);
         }
         if self.options.is_full() || self.options.len() >= MAX_OPTIONS {
@@ -110,7 +105,7 @@ impl<'a, const N: usize> MessageBuilder<'a, N> {
         ensures ok { OnOk result (self.new ≡ record self.old { payload = payload.now }) }
         ensures err { OnErr result (self.new ≡ self.old) }
     {
-        if payload.len() > MAX_PAYLOAD {
+        if payload.len() > LARGEST_MESSAGE {
             return Err(BuildFault::TooLong);
         }
         self.payload = payload;

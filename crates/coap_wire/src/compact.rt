@@ -2,6 +2,7 @@
 
 ghost use Rattle.std.specs.Prelude.{◌≡◌, ◌+◌, ◌≤◌, ◌++◌, [], length};
 ghost use Rattle.coap_wire.specs.Prelude.{last_number, Spells, spelling, front_spelling, body_spelling, HasSpelling, with_option, encoded_size, bytes_of_uint};
+ghost use Rattle.coap_wire.specs.Prelude.{MAX_EXTENDED_LENGTH, LARGEST_MESSAGE};
 
 use crate::code::Code;
 use crate::sink::Sink;
@@ -47,7 +48,7 @@ impl<'t, 'p, const N: usize> Model for CompactBuilder<'t, 'p, N> {
 impl<'t, 'p, const N: usize> CompactBuilder<'t, 'p, N> {
     /// Creates a message with this code and this token, with no options and no payload.
     pub fn new(code: Code, token: TokenRef<'t>) -> CompactBuilder<'t, 'p, N>
-        requires { N ≤ 65804 }
+        requires { N ≤ MAX_EXTENDED_LENGTH }
         ensures { result ≡ record { code = code; token = token.entry; options = []; payload = [] } }
     {
         CompactBuilder {
@@ -97,7 +98,7 @@ impl<'t, 'p, const N: usize> CompactBuilder<'t, 'p, N> {
 
     /// Sets the payload, at most 1,048,576 bytes. An empty one is no payload, and no marker is written for it.
     pub fn payload(&mut self, payload: &'p [u8])
-        requires { length payload.now ≤ 1048576 }
+        requires { length payload.now ≤ LARGEST_MESSAGE }
         ensures { self.new ≡ record self.old { payload = payload.now } }
     {
         self.payload = payload;

@@ -1,7 +1,7 @@
 //! The forms of numbers: a nibble and the bytes that extend it.
 
 ghost use Rattle.std.specs.Prelude.{◌≡◌, ◌+◌, ◌≤◌, ◌++◌, length};
-ghost use Rattle.coap_wire.specs.Prelude.{length_form, option_form, greatest_length, greatest_option_form};
+ghost use Rattle.coap_wire.specs.Prelude.{length_form, option_form, greatest_length, MAX_EXTENDED_LENGTH};
 
 use crate::sink::Sink;
 
@@ -67,7 +67,7 @@ pub(crate) fn write_length_extension<S: Sink>(out: &mut S, count: u64)
 /// 2.1).
 #[inline]
 pub(crate) fn option_nibble(number: u32) -> u8
-    requires { number ≤ greatest_option_form }
+    requires { number ≤ MAX_EXTENDED_LENGTH }
     ensures nibble { result ≡ (option_form number).0 }
     ensures small { result ≤ 14 }
 {
@@ -83,7 +83,7 @@ pub(crate) fn option_nibble(number: u32) -> u8
 /// Returns the number of bytes that extend the nibble of an option delta, an option length or a token length.
 #[inline]
 pub(crate) fn option_extension_size(number: u32) -> u64
-    requires { number ≤ greatest_option_form }
+    requires { number ≤ MAX_EXTENDED_LENGTH }
     ensures size { result ≡ length (option_form number).1 }
     ensures bound { result ≤ 2 }
 {
@@ -99,7 +99,7 @@ pub(crate) fn option_extension_size(number: u32) -> u64
 /// Writes the bytes that extend the nibble of an option delta, an option length or a token length.
 #[inline]
 pub(crate) fn write_option_extension<S: Sink>(out: &mut S, number: u32)
-    requires fits { number ≤ greatest_option_form }
+    requires fits { number ≤ MAX_EXTENDED_LENGTH }
     requires room { length (option_form number).1 ≤ S.space out.old }
     ensures appended { S.contents out.new ≡ S.contents out.old ++ (option_form number).1 }
     ensures less_room { S.space out.new + length (option_form number).1 ≡ S.space out.old }

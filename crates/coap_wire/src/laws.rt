@@ -1,7 +1,7 @@
 //! What holds of spellings, streams and options, each as the contract of a function that does nothing.
 
 ghost use Rattle.std.specs.Prelude.{◌≡◌, ◌≢◌, ◌↔◌, ℕ, ◌^◌, ◌<◌, ◌≤◌, List, [], ◌∷◌, ◌++◌, length, None, IsTrue};
-ghost use Rattle.coap_wire.specs.Prelude.{Message, CoapOption, AreBytes, AreOrdered, IsLengthForm, length_form, greatest_length, IsOptionForm, option_form, greatest_option_form, IsTokenForm, token_form, greatest_token, Spells, spelling, HasSpelling, IsDeclaredSize, IsFrame, Declares, declared_of, IsFirstFault, IsFrameFault, IsUnfinished, Unfinished, Whole, Faulty, beginning, fault_bytes, Frames, Sizes, FramedAs, always, size_for, sizes_behind, sizes_of_rest, sized_frames, frames_on, Stream, SplitsAs, sized_split, split, stream_then, sized_split_on, split_on, uint_of, bytes_of_uint, IsFirstWithNumber, IsRecognised, is_recognised, Declared, FormatFault, FrameFault};
+ghost use Rattle.coap_wire.specs.Prelude.{Message, CoapOption, AreBytes, AreOrdered, IsLengthForm, length_form, greatest_length, IsOptionForm, option_form, MAX_EXTENDED_LENGTH, IsTokenForm, token_form, greatest_token, Spells, spelling, HasSpelling, IsDeclaredSize, IsFrame, Declares, declared_of, IsFirstFault, IsFrameFault, IsUnfinished, Unfinished, Whole, Faulty, beginning, fault_bytes, Frames, Sizes, FramedAs, always, size_for, sizes_behind, sizes_of_rest, sized_frames, frames_on, Stream, SplitsAs, sized_split, split, stream_then, sized_split_on, split_on, uint_of, bytes_of_uint, IsFirstWithNumber, IsRecognised, is_recognised, Declared, FormatFault, FrameFault};
 
 /// Each length up to 4,295,033,100 has exactly one form (RFC 8323 section 3.2).
 pub fn length_has_one_form()
@@ -11,7 +11,7 @@ pub fn length_has_one_form()
 
 /// Each option delta and option length up to 65,804 has exactly one form (RFC 7252 section 3.1).
 pub fn option_number_has_one_form()
-    ensures has { (n : ℕ) → n ≤ greatest_option_form → IsOptionForm (option_form n).0 (option_form n).1 n }
+    ensures has { (n : ℕ) → n ≤ MAX_EXTENDED_LENGTH → IsOptionForm (option_form n).0 (option_form n).1 n }
     ensures no_other { (n x : ℕ) (e : List ℕ) → IsOptionForm x e n → (x ≡ (option_form n).0) × (e ≡ (option_form n).1) }
 {}
 

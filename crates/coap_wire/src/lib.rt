@@ -12,12 +12,14 @@ mod frame;
 mod kinds;
 pub mod laws;
 mod message;
+mod option;
 pub mod option_numbers;
 mod options;
 mod reading;
 mod recognition;
 mod sink;
 mod size;
+mod sizes;
 mod token;
 mod uint;
 mod writing;
@@ -30,9 +32,14 @@ pub use fault::{BuildFault, FormatFault, FrameFault};
 pub use frame::Declared;
 pub use kinds::{OptionKind, kind};
 pub use message::{MessageRef, parse};
-pub use options::{OptionRef, Options};
+pub use option::OptionRef;
+pub use options::Options;
 pub use recognition::{CheckedOption, CheckedOptions, Known};
 pub use sink::{Sink, SliceSink};
 pub use size::declared;
+pub use sizes::{
+    BASE_MESSAGE_SIZE, DEFAULT_QUEUE, LARGEST_MESSAGE, LARGEST_QUEUE, LARGEST_SENT_MESSAGE,
+    MAX_EXTENDED_LENGTH,
+};
 pub use token::{Token, TokenRef, copy_of};
 pub use uint::{UintBytes, significant_bytes, uint_bytes, uint_value};

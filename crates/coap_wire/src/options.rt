@@ -1,22 +1,11 @@
-//! Options, and the iterator over those of a message.
+//! The iterator over the options of a message.
 
 ghost use Rattle.std.specs.Prelude.{◌≡◌, IsOk};
 ghost use Rattle.coap_wire.specs.Prelude.{body_at, options_in, YieldsFirstBy, item_count, coap_option};
 
+use crate::option::{OptionRef, PAYLOAD_MARKER};
 use crate::reading::option_after;
 use std::marker::Model;
-
-/// The byte that stands between the options and the payload (RFC 7252 section 3).
-pub(crate) const PAYLOAD_MARKER: u8 = 0xff;
-
-/// An option: its number, and its value within the bytes that it was read from or is written from.
-#[derive(Clone, Copy, Default)]
-pub struct OptionRef<'a> {
-    /// The option number, which says what the option means (RFC 7252 section 5.10).
-    pub number: u16,
-    /// The value.
-    pub value: &'a [u8],
-}
 
 /// The options of a message, in order of number. Contracts see the list of those that are left.
 #[derive(Drop)]

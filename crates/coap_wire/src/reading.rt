@@ -1,11 +1,11 @@
 //! Reads the parts of a frame from left to right.
 
 ghost use Rattle.std.specs.Prelude.{◌≡◌, ◌≤◌, length, option_map, IfSome, IfOk};
-ghost use Rattle.coap_wire.specs.Prelude.{greatest_length, greatest_option_form, one_byte_at, two_bytes_at, four_bytes_at, length_at, option_number_at, token_length_at, head_at, option_head_at, option_at, body_at, Gives, GivesPayload, coap_option};
+ghost use Rattle.coap_wire.specs.Prelude.{greatest_length, MAX_EXTENDED_LENGTH, one_byte_at, two_bytes_at, four_bytes_at, length_at, option_number_at, token_length_at, head_at, option_head_at, option_at, body_at, Gives, GivesPayload, coap_option};
 
 use crate::code::Code;
 use crate::fault::FormatFault;
-use crate::options::{OptionRef, PAYLOAD_MARKER};
+use crate::option::{OptionRef, PAYLOAD_MARKER};
 use crate::token::{MAX_TOKEN, TokenRef};
 
 /// The nibble that means no token length (RFC 8974 section 2.1).
@@ -65,7 +65,7 @@ pub(crate) fn length_after(nibble: u8, bytes: &[u8]) -> Option<(u64, &[u8])>
 #[tactic(auto, unfolding(crate::specs::Reading::option_number_at, crate::specs::Reading::one_byte_at))]
 fn option_number_after(nibble: u8, bytes: &[u8]) -> Option<(u32, &[u8])>
     ensures value { option_map (λ x. (x.0, x.1.now)) result ≡ option_number_at nibble bytes.now }
-    ensures bound { IfSome result (λ x. x.0 ≤ greatest_option_form) }
+    ensures bound { IfSome result (λ x. x.0 ≤ MAX_EXTENDED_LENGTH) }
     ensures rest { IfSome result (λ x. length x.1.now ≤ length bytes.now) }
 {
     if nibble < 13 {
@@ -83,7 +83,7 @@ fn option_number_after(nibble: u8, bytes: &[u8]) -> Option<(u32, &[u8])>
 /// extension (RFC 8974 section 2.1).
 pub(crate) fn token_length_after(nibble: u8, bytes: &[u8]) -> Option<(u32, &[u8])>
     ensures value { option_map (λ x. (x.0, x.1.now)) result ≡ token_length_at nibble bytes.now }
-    ensures bound { IfSome result (λ x. x.0 ≤ greatest_option_form) }
+    ensures bound { IfSome result (λ x. x.0 ≤ MAX_EXTENDED_LENGTH) }
     ensures rest { IfSome result (λ x. length x.1.now ≤ length bytes.now) }
 {
     option_number_after(nibble, bytes)
@@ -124,7 +124,7 @@ pub(crate) fn head_of(frame: &[u8]) -> Result<(TokenRef<'_>, &[u8], Code), Forma
 #[tactic(auto, unfolding(crate::specs::Reading::option_head_at))]
 fn option_head(first: u8, after: &[u8]) -> Result<(u32, u32, &[u8]), FormatFault>
     ensures value { Gives (λ x. (x.0, x.1, x.2.now)) result (option_head_at first after.now) }
-    ensures bound { IfOk result (λ x. x.0 ≤ greatest_option_form) }
+    ensures bound { IfOk result (λ x. x.0 ≤ MAX_EXTENDED_LENGTH) }
 {
     if first / 16 == 15 {
         return Err(FormatFault::OptionDelta);

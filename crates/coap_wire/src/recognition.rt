@@ -4,7 +4,8 @@ ghost use Rattle.std.specs.Prelude.{◌≡◌};
 ghost use Rattle.coap_wire.specs.Prelude.{AreOrdered, is_recognised, option_before, first_critical, coap_option, known_options, checked_option, checked_options, YieldsFirstBy, item_count};
 
 use crate::kinds::kind;
-use crate::options::{OptionRef, Options};
+use crate::option::OptionRef;
+use crate::options::Options;
 use std::marker::Model;
 
 /// Whether an option is recognised, where the one before it in the order of numbers has the number `before`.

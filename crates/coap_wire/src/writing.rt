@@ -1,20 +1,20 @@
 //! Writes the parts of a frame from left to right.
 
 ghost use Rattle.std.specs.Prelude.{◌≡◌, ℕ, ◌+◌, ◌-◌, ◌≤◌, ◌<◌, List, ◌++◌, length};
-ghost use Rattle.coap_wire.specs.Prelude.{AllByRecursion, AreOrdered, greatest_token, greatest_length, greatest_option_form, HasOptionForm, option_spelling, options_spelling, payload_marker, head_spelling, coap_option, coap_options};
+ghost use Rattle.coap_wire.specs.Prelude.{AllByRecursion, AreOrdered, greatest_token, greatest_length, MAX_EXTENDED_LENGTH, HasOptionForm, option_spelling, options_spelling, payload_marker, head_spelling, coap_option, coap_options};
 
 use crate::code::Code;
 use crate::form::{
     length_extension_size, length_nibble, option_extension_size, option_nibble,
     write_length_extension, write_option_extension,
 };
-use crate::options::{OptionRef, PAYLOAD_MARKER};
+use crate::option::{OptionRef, PAYLOAD_MARKER};
 use crate::sink::Sink;
 
 /// Returns the length of an option's encoding, whose number counts from `base`.
 pub(crate) fn option_size(base: u16, option: &OptionRef) -> u64
     requires ordered { base ≤ option.now.number }
-    requires short { length option.now.value.now ≤ greatest_option_form }
+    requires short { length option.now.value.now ≤ MAX_EXTENDED_LENGTH }
     ensures size { result ≡ length (option_spelling base (coap_option option.now)) }
     ensures bound { result ≤ 65809 }
 {
@@ -55,7 +55,7 @@ pub(crate) fn write_head<S: Sink>(out: &mut S, code: Code, token: &[u8], body: u
 #[inline]
 pub(crate) fn write_option<S: Sink>(out: &mut S, base: u16, number: u16, value: &[u8])
     requires ordered { base ≤ number }
-    requires short { length value.now ≤ greatest_option_form }
+    requires short { length value.now ≤ MAX_EXTENDED_LENGTH }
     requires room { length (option_spelling base (record { number = number; value = value.now })) ≤ S.space out.old }
     ensures appended { S.contents out.new
         ≡ S.contents out.old ++ option_spelling base (record { number = number; value = value.now }) }

@@ -8,7 +8,7 @@ ghost use Rattle.coap_client_engine.specs.declared.run.state.ClientFault.TheVari
 use crate::client::Client;
 use coap_conn::Limits;
 use coap_io::{Rest, WriteFailed};
-use coap_wire::Token;
+use coap_wire::{DEFAULT_QUEUE, LARGEST_SENT_MESSAGE, Token};
 use std::alloc::{AllocError, Global};
 use thiserror::Error;
 
@@ -88,7 +88,14 @@ impl Run {
         ensures started { IfOk result (λ r. (r.started ≡ started) × (r.moment ≡ started)) }
         ensures moments { IfOk result (λ r. (r.first ≡ None) × (r.cancelled ≡ None)) }
     {
-        let Ok(limits) = Limits::new(65_536, 65_536, 131_072, 16, 16, 16) else {
+        let Ok(limits) = Limits::new(
+            LARGEST_SENT_MESSAGE,
+            LARGEST_SENT_MESSAGE,
+            DEFAULT_QUEUE,
+            16,
+            16,
+            16,
+        ) else {
             unreachable!()
         };
         Ok(Run {

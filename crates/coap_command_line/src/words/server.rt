@@ -9,6 +9,9 @@ use crate::words::readings::{is_used, number, text_of};
 use clap::ArgMatches;
 use coap_conn::Limits;
 use coap_request::{Mode, ServerPlan};
+use coap_wire::{
+    BASE_MESSAGE_SIZE, DEFAULT_QUEUE, LARGEST_MESSAGE, LARGEST_QUEUE, LARGEST_SENT_MESSAGE,
+};
 use std::alloc::{AllocError, Global};
 use std::net::{IpAddr, Ipv4Addr};
 
@@ -57,9 +60,11 @@ fn address(matches: &ArgMatches<'_>) -> Result<IpAddr, &'static str>
 fn limits(matches: &ArgMatches<'_>) -> Result<Limits, &'static str>
     ensures { named result ≡ spec.limits_said (rows_of (found_of matches.now)) }
 {
-    let message = number(matches, "--max-message", 1_152, 1_048_576, 65_536)?;
-    let sent = number(matches, "--max-sent", 1_152, 65_536, 65_536)?;
-    let queue = number(matches, "--queue", sent, 4_194_304, 131_072)?;
+    let base = BASE_MESSAGE_SIZE as u64;
+    let usual = LARGEST_SENT_MESSAGE as u64;
+    let message = number(matches, "--max-message", base, LARGEST_MESSAGE as u64, usual)?;
+    let sent = number(matches, "--max-sent", base, usual, usual)?;
+    let queue = number(matches, "--queue", sent, LARGEST_QUEUE as u64, DEFAULT_QUEUE as u64)?;
     let pending = number(matches, "--pending", 0, 256, 16)?;
     let observers = number(matches, "--observers", 0, 256, 16)?;
     let Ok(limits) = Limits::new(

@@ -59,10 +59,6 @@ pub record WireTrace : Type 0 where
 abbrev pub trace_by : {W : Type 0} (given written : W → Option (List ℕ)) (answers : W → Option (List Got)) (rooms : W → Option (List ℕ)) → W → WireTrace
 trace_by given written answers rooms wire = record { given = given wire; written = written wire; answers = answers wire; rooms = rooms wire }
 
--- the length of the buffer that a wire is read into
-abbrev pub read_room : ℕ
-read_room = 16384
-
 -- A wire was read once, into a buffer of this length. The read came to this, and gave these bytes.
 pub record IsReadOnce (room : ℕ) (before after : WireTrace) (heard : Got) (bytes : List ℕ) : Type 0 where
   pub gave : AddsBytes before.given after.given bytes

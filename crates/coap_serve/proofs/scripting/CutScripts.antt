@@ -11,13 +11,13 @@ use Rattle.coap_serve.specs.Prelude.{server_removed, server_ended, server_releas
 use Rattle.coap_serve.specs.Prelude.{released_refusal_on, released_refusal, Event, Shows}
 use Rattle.std.proofs.lemmas.Bool.{leb-true, leb-false, eqb-true, eqb-false, true_from_ne_false, cond_both}
 use Rattle.std.proofs.lemmas.List.{length-take}
-use Rattle.coap_serve.specs.script.Events.{Put, End}
-use Rattle.coap_serve.specs.declared.server.OpenFault.TheVariants as opening
+use Rattle.coap_script.specs.script.Events.{Put, End}
+use Rattle.coap_model.specs.declared.answers.OpenFault.TheVariants as opening
 use Rattle.coap_serve.proofs.world.ShowLaws.{shows_opened, shows_taken, shows_written, shows_ticked, shows_put, shows_removed, shows_ended, shows_released, shows_dropped}
 use Rattle.coap_serve.proofs.scripting.CutTakes.{fed_in_parts}
 use Rattle.coap_serve.proofs.scripting.ShownLemmas.{turns_keep, absent_stuck, stuck_turns}
 use Rattle.coap_serve.proofs.world.CallLaws.{not_refused}
-use Rattle.coap_serve.proofs.values.OptionLemmas.{none_made}
+use Rattle.coap_model.proofs.OptionLemmas.{none_made}
 use Rattle.coap_store.proofs.RefusalLemmas.{passed}
 
 -- ---- a server that shows a world shows one after each event of a script

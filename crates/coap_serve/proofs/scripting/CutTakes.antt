@@ -12,12 +12,12 @@ use Rattle.coap_wire.specs.Beginning.{Whole}
 use Rattle.coap_wire.proofs.StreamSteps.{whole_more, faulty_more, fault_bytes_more}
 use Rattle.coap_frame.proofs.FrontLaws.{some_in_front}
 use Rattle.coap_frame.proofs.GivenLaws.{taken_within, nothing_taken, frame_taken, fault_taken}
-use Rattle.coap_serve.specs.script.Replay.{goes_on}
-use Rattle.coap_serve.specs.world.Events.{front_of}
-use Rattle.coap_serve.proofs.world.StepLaws.{world_same, size_then, rest_unfinished, spelled_same}
-use Rattle.coap_serve.proofs.world.CutLaws.{cut_worlds, SpellAlike, stream_alike, spelled_twice}
-use Rattle.coap_serve.proofs.world.TookLaws.{no_bytes_steps, Adds, adds_nothing}
-use Rattle.coap_serve.proofs.world.ReachedLaws.{accepted_is, handling_goes_on, takes_there}
+use Rattle.coap_serve.specs.values.Fed.{goes_on}
+use Rattle.coap_model.specs.world.Events.{front_of}
+use Rattle.coap_model.proofs.world.StepLaws.{world_same, size_then, rest_unfinished, spelled_same}
+use Rattle.coap_model.proofs.world.CutLaws.{cut_worlds, SpellAlike, stream_alike, spelled_twice}
+use Rattle.coap_model.proofs.world.TookLaws.{no_bytes_steps, Adds, adds_nothing}
+use Rattle.coap_model.proofs.world.ReachedLaws.{accepted_is, handling_goes_on, takes_there}
 use Rattle.coap_serve.proofs.world.ShowLaws.{session_there, side_there, takes_shown, shows_taken}
 use Rattle.coap_serve.proofs.streams.TakeLemmas.{config_stays}
 use Rattle.coap_serve.proofs.scripting.ReplayLemmas.{all_turns_made}

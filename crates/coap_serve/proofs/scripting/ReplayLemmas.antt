@@ -5,18 +5,19 @@ use Rattle.std.proofs.lemmas.List.{append-nil, take-append-drop, length-drop, le
 use Rattle.std.proofs.Math.Seq.{take-suc, drop-cons}
 use Rattle.std.proofs.Math.ListN.{get_or-map}
 use Rattle.std.proofs.Math.Bool.{and-false}
-use Rattle.coap_serve.specs.Prelude.{IsErr, AllocError, Path, StoreValue, remove_refusal, NoSuch, EventValue, In}
+use Rattle.coap_serve.specs.Prelude.{IsErr, AllocError, Path, StoreValue, remove_refusal, NoSuch, EventValue}
 use Rattle.coap_serve.specs.Prelude.{event_value, Ran, fed_turns, fed, event_ran, replayed, IsPartlyFed, IsUnrun}
 use Rattle.coap_serve.specs.Prelude.{IsRefusedAt, IsCutAt, where_there, took_turns, took, events_ran, ShowsMore}
-use Rattle.coap_serve.specs.Prelude.{ShowsPart, events_made, ShowsRefusedAt, AddsBytes, WritesPart, SessionValue}
+use Rattle.coap_serve.specs.Prelude.{ShowsPart, ShowsPartlyFed, events_made, ShowsRefusedAt, AddsBytes, WritesPart, SessionValue}
 use Rattle.coap_serve.specs.Prelude.{Fed, ServerValue, server_taken, count_taken, is_there, session_of, IsNotTaken, IsRun}
 use Rattle.coap_serve.specs.Prelude.{IsDrainable, Took, Drained, Line, Shows}
-use Rattle.coap_serve.specs.declared.event.Event.{Event}
-use Rattle.coap_serve.specs.script.Replay.{goes_on, behind}
+use Rattle.coap_script.specs.declared.event.Event.{Event}
+use Rattle.coap_serve.specs.script.Replay.{behind}
+use Rattle.coap_serve.specs.values.Fed.{goes_on}
 use Rattle.coap_io.proofs.streams.DeviceLemmas.{bytes_then}
 use Rattle.coap_serve.proofs.scripting.ShownLemmas.{shows_same, shows_then, shows_as, events_ran_on}
-use Rattle.coap_serve.specs.world.Events as world
-use Rattle.coap_serve.specs.declared.server.TakeFault.TheVariants as taking
+use Rattle.coap_model.specs.world.Events as world
+use Rattle.coap_model.specs.declared.answers.TakeFault.TheVariants as taking
 
 -- ---- one event
 
@@ -122,7 +123,7 @@ module _ (v : ServerValue) (id : ℕ) (bytes : List ℕ) (now : ServerValue) (ta
     refused = rw feeds.so_far refused;
   }
 
-  pub short_shows : (count : ℕ) (after : ServerValue) → IsNotTaken now id (drop taken bytes) (taking.Memory count) after → ShowsMore now after (Took id (take count (drop taken bytes)) ∷ []) → ShowsPart v (In id bytes) after
+  pub short_shows : (count : ℕ) (after : ServerValue) → IsNotTaken now id (drop taken bytes) (taking.Memory count) after → ShowsMore now after (Took id (take count (drop taken bytes)) ∷ []) → ShowsPartlyFed v id bytes after
   unfolding short
   short_shows count after refused more = record {
     more = _;

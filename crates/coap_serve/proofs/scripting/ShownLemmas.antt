@@ -2,10 +2,10 @@
 use Rattle.std.proofs.Common.{[], ◌≡◌, ℕ, false, List, ◌∷◌, ◌++◌, Option, None, Result, Ok, Err, refl, subst, append_assoc, zero, suc, drop, arith}
 use Rattle.std.proofs.lemmas.List.{append-nil}
 use Rattle.std.proofs.lemmas.Bool.{cond_both}
-use Rattle.coap_serve.specs.Prelude.{IsErr, AllocError, EventValue, event_ran, replayed, Fed, unfed, fed_more}
-use Rattle.coap_serve.specs.Prelude.{fed_turns, events_ran, ShowsMore, IsPartlyMade, ShowsPart, ShowsRun, took_turns}
+use Rattle.coap_serve.specs.Prelude.{IsErr, AllocError, EventValue, In, event_ran, replayed, Fed, unfed, fed_more}
+use Rattle.coap_serve.specs.Prelude.{fed_turns, events_ran, ShowsMore, IsPartlyMade, ShowsPart, ShowsPartlyFed, ShowsRun, took_turns}
 use Rattle.coap_serve.specs.Prelude.{ServerValue, session_of, is_there, server_taken, count_taken, Event, Shows}
-use Rattle.coap_serve.specs.script.Replay.{goes_on}
+use Rattle.coap_serve.specs.values.Fed.{goes_on}
 
 -- ---- servers
 
@@ -38,6 +38,10 @@ events_ran_on v (e ∷ es) fs = rw (events_ran_on (event_ran v e).server es fs, 
 -- memory was refused for an event that then makes none
 pub nothing_made : (v : ServerValue) (e : EventValue) (after : ServerValue) → after ≡ v → IsPartlyMade v e after [] → ShowsPart v e after
 nothing_made v e after is part = record { more = []; part = part; shows = shows_same v after is }
+
+-- it was refused within the takes of an `in`
+pub in_refused : (v : ServerValue) (id : ℕ) (bytes : List ℕ) (after : ServerValue) → ShowsPartlyFed v id bytes after → ShowsPart v (In id bytes) after
+in_refused v id bytes after partly = record { more = partly.more; part = partly.part; shows = partly.shows }
 
 pub run_refused : {T : Type 0} (v : ServerValue) (e : EventValue) (after : ServerValue) (r : Result T AllocError) → IsErr r → ShowsPart v e after → ShowsRun v e after r
 run_refused v e after (Ok line) is part = absurd cc

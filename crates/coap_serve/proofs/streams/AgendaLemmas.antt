@@ -13,8 +13,8 @@ use Rattle.std.proofs.lemmas.Option.{same_Some, slice_get_cases, slice_get-map, 
 use Rattle.std.proofs.lemmas.Bool.{or_parts, or_left}
 use Rattle.std.proofs.Math.Bool.{or_assoc, or-false}
 use Rattle.coap_serve.specs.declared.door.peer.Course.TheVariants.{Open}
-use Rattle.coap_serve.proofs.world.EntryLemmas.{all_append}
-use Rattle.coap_serve.proofs.values.OptionLemmas.{one_made}
+use Rattle.coap_model.proofs.world.EntryLemmas.{all_append}
+use Rattle.coap_model.proofs.OptionLemmas.{one_made}
 
 -- ---- stamps
 

@@ -10,16 +10,16 @@ use Rattle.coap_serve.specs.Prelude.{more_in, more_at, flush_turns, IsFlushed, S
 use Rattle.coap_serve.specs.Prelude.{settled, World, side_of, Event, Wrote, stream_on, steps_by, world_after}
 use Rattle.coap_serve.specs.Prelude.{spelled_on, Shows, session_shown, only_id, stream_of, more_of, written_times}
 use Rattle.coap_serve.specs.Prelude.{flushed, world_for, Outcome, stdio_output, Stands}
-use Rattle.coap_serve.specs.world.World as world
-use Rattle.coap_serve.proofs.world.StepLaws.{world_step, spelled_same}
-use Rattle.coap_serve.proofs.world.HearingLaws.{world_hears}
-use Rattle.coap_serve.proofs.streams.FlushLaws.{flushed_so, times_further, flush_leaves}
-use Rattle.coap_serve.proofs.streams.OutputLaws.{world_for_written, outcome_there}
+use Rattle.coap_model.specs.world.World as world
+use Rattle.coap_model.proofs.world.StepLaws.{world_step, spelled_same}
+use Rattle.coap_model.proofs.world.HearingLaws.{world_hears}
+use Rattle.coap_model.proofs.streams.FlushLaws.{flushed_so, times_further, flush_leaves}
+use Rattle.coap_model.proofs.streams.OutputLaws.{world_for_written, outcome_there}
 use Rattle.coap_serve.proofs.world.ShowLaws.{side_there, shows_written, no_session}
-use Rattle.coap_serve.proofs.world.GoingOn.{GoesOn, as_before, written_goes_on, side_is}
-use Rattle.coap_serve.proofs.world.GrowLaws.{front_written, same_front, none_waits_all_written, written_all, settled_grows}
-use Rattle.coap_serve.proofs.world.WalkLaws.{written_between}
-use Rattle.coap_serve.proofs.world.AcrossLaws.{written_there}
+use Rattle.coap_model.proofs.world.GoingOn.{GoesOn, as_before, written_goes_on, side_is}
+use Rattle.coap_model.proofs.world.GrowLaws.{front_written, same_front, none_waits_all_written, written_all, settled_grows}
+use Rattle.coap_model.proofs.world.WalkLaws.{written_between}
+use Rattle.coap_model.proofs.world.AcrossLaws.{written_there}
 
 -- The server after some turns of a flush shows this world, and this was written.
 pub record FlushShown (c : ConfigValues) (es : List Event) (id : ℕ) (s : Side) (turns : ℕ) (after : ServerValue) (text : List ℕ) : Type 0 where

@@ -5,9 +5,9 @@ use Rattle.std.proofs.lemmas.List.{append-nil, take-append-drop, nil_from_length
 use Rattle.coap_serve.specs.Prelude.{Reason, ConfigValues, ServerValue, session_of, stop_on, IsNotTaken, TakeFault}
 use Rattle.coap_serve.specs.Prelude.{AddsBytes, world_for, Outcome, outcome, IsGoing, Says, IsWhole, IsCut}
 use Rattle.coap_serve.specs.Prelude.{IsRefused}
-use Rattle.coap_serve.specs.declared.server.TakeFault.TheVariants as taking
+use Rattle.coap_model.specs.declared.answers.TakeFault.TheVariants as taking
 use Rattle.coap_io.proofs.streams.DeviceLemmas.{bytes_none, bytes_then}
-use Rattle.coap_serve.proofs.streams.OutputLaws.{output_grows, stopped_output, stopped_outcome}
+use Rattle.coap_model.proofs.streams.OutputLaws.{output_grows, stopped_output, stopped_outcome}
 use Rattle.coap_serve.proofs.streams.TakeLemmas.{front_of_nothing, FrontServed, is_not_missing, front_refused}
 
 -- Of a piece behind some bytes a front was taken and this rest is left; x and y are what the outlet told before the piece and

@@ -11,14 +11,14 @@ use Rattle.coap_serve.specs.Prelude.{GoesOn, EndsRun, IsStdioRun, Event, Opened,
 use Rattle.coap_serve.specs.Prelude.{stream_on, Shows, is_cut, new_side, Side, side_ended, settled, World, side_of}
 use Rattle.coap_serve.specs.Prelude.{step}
 use Rattle.coap_serve.specs.streams.Standing.{IsServed}
-use Rattle.coap_serve.specs.world.World as world
-use Rattle.coap_serve.proofs.world.AcrossLaws.{ended_there}
-use Rattle.coap_serve.proofs.world.EntryLemmas.{all_append}
-use Rattle.coap_serve.proofs.world.HandledLaws.{HasStopped, settled_handles_none}
+use Rattle.coap_model.specs.world.World as world
+use Rattle.coap_model.proofs.world.AcrossLaws.{ended_there}
+use Rattle.coap_model.proofs.world.EntryLemmas.{all_append}
+use Rattle.coap_model.proofs.world.BecameLaws.{HasStopped, settled_handles_none}
 use Rattle.coap_serve.proofs.world.ShowLaws.{side_there}
-use Rattle.coap_serve.proofs.world.StepLaws.{world_first, world_step}
+use Rattle.coap_model.proofs.world.StepLaws.{world_first, world_step}
 use Rattle.coap_io.proofs.streams.DeviceLemmas.{bytes_none, bytes_then, given_none, given_then}
-use Rattle.coap_serve.proofs.streams.OutputLaws.{world_for_written, world_for_none, takes_unless_stopped, outcome_at_first, opened_alone, nothing_yet}
+use Rattle.coap_model.proofs.streams.OutputLaws.{world_for_written, world_for_none, takes_unless_stopped, outcome_at_first, opened_alone, nothing_yet}
 use Rattle.coap_serve.proofs.streams.FlushShown.{LeadsTo, flush_stands}
 use Rattle.coap_serve.proofs.streams.TakeLemmas.{part_flush_leads, stop_told, session_going}
 

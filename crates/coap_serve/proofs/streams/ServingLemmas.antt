@@ -1,11 +1,11 @@
 -- What a turn of a door makes of what its server shows, part by part.
 use Rattle.std.proofs.Common.{◌≡◌, ℕ, zero, suc, ◌+◌, true, false, List, [], ◌∷◌, ◌++◌, length, Option, Result, Ok, Err, OnOk, OnErr, append_assoc, arith}
-use Rattle.coap_serve.specs.Prelude.{AllByRecursion, In, Fed, fed_turns, where_there, took_turns, took, ShowsMore}
-use Rattle.coap_serve.specs.Prelude.{ShowsPart, IsServing, HasServed, HasTurned, opening, ServerValue, session_of}
+use Rattle.coap_serve.specs.Prelude.{AllByRecursion, Fed, fed_turns, where_there, took_turns, took, ShowsMore}
+use Rattle.coap_serve.specs.Prelude.{ShowsPartlyFed, IsServing, HasServed, HasTurned, opening, ServerValue, session_of}
 use Rattle.coap_serve.specs.Prelude.{SessionValue, Event, Opened, Took, Wrote, Dropped}
-use Rattle.coap_serve.specs.script.Replay.{goes_on}
+use Rattle.coap_serve.specs.values.Fed.{goes_on}
 use Rattle.coap_serve.proofs.scripting.ShownLemmas.{shows_same, shows_then}
-use Rattle.coap_serve.proofs.world.EntryLemmas.{all_append, all_if}
+use Rattle.coap_model.proofs.world.EntryLemmas.{all_append, all_if}
 
 -- ---- events one after the other
 
@@ -48,7 +48,7 @@ takes_serving (suc turns) v id bytes =
 pub takes_served : (v after : ServerValue) (id : ℕ) (bytes : List ℕ) → ShowsMore v after (took v id bytes) → HasServed v after
 takes_served v after id bytes shows = record { events = took v id bytes; serving = takes_serving (length bytes) v id bytes; shows = shows }
 
-pub part_served : (v after : ServerValue) (id : ℕ) (bytes : List ℕ) → ShowsPart v (In id bytes) after → HasServed v after
+pub part_served : (v after : ServerValue) (id : ℕ) (bytes : List ℕ) → ShowsPartlyFed v id bytes after → HasServed v after
 part_served v after id bytes part =
     let made = part.part in
     let serving = all_append IsServing (took_turns made.fed.turns v id bytes) _ (takes_serving made.fed.turns v id bytes) (tt, tt) in

@@ -12,17 +12,17 @@ use Rattle.coap_serve.specs.Prelude.{steps_by, world_after, takes, size_on, Show
 use Rattle.coap_serve.specs.Prelude.{count_of}
 use Rattle.coap_wire.proofs.StreamSteps.{split_goes_on}
 use Rattle.coap_frame.proofs.FrontLaws.{some_in_front}
-use Rattle.coap_serve.specs.declared.server.Handled.{Handled}
-use Rattle.coap_serve.specs.world.Events.{front_of}
-use Rattle.coap_serve.proofs.world.StepLaws.{world_same, world_step, rest_unfinished}
-use Rattle.coap_serve.proofs.world.GoingOn.{side_is}
-use Rattle.coap_serve.proofs.world.ReachedLaws.{IsReached, accepted_is, takes_there, handling_goes_on}
+use Rattle.coap_model.specs.declared.answers.Handled.{Handled}
+use Rattle.coap_model.specs.world.Events.{front_of}
+use Rattle.coap_model.proofs.world.StepLaws.{world_same, world_step, rest_unfinished}
+use Rattle.coap_model.proofs.world.GoingOn.{side_is}
+use Rattle.coap_model.proofs.world.ReachedLaws.{IsReached, accepted_is, takes_there, handling_goes_on}
 use Rattle.coap_serve.proofs.world.RefusedLaws.{RefusesLast, refuses_last}
 use Rattle.coap_serve.proofs.world.ShowLaws.{side_there}
 use Rattle.coap_serve.proofs.world.HandledLaws.{messages_counted, one_step_at_most}
-use Rattle.coap_serve.proofs.world.GrowLaws.{SideGrows, front_written, same_front, none_waits_all_written, took_grows}
-use Rattle.coap_serve.proofs.streams.FlushLaws.{from_there_on, quiet_flush, flush_leaves}
-use Rattle.coap_serve.proofs.streams.OutputLaws.{world_for_written, world_goes_on, outcome_there, takes_unless_stopped, spelled_more, steps_taken}
+use Rattle.coap_model.proofs.world.GrowLaws.{SideGrows, front_written, same_front, none_waits_all_written, took_grows}
+use Rattle.coap_model.proofs.streams.FlushLaws.{from_there_on, quiet_flush, flush_leaves}
+use Rattle.coap_model.proofs.streams.OutputLaws.{world_for_written, world_goes_on, outcome_there, takes_unless_stopped, spelled_more, steps_taken}
 use Rattle.coap_serve.proofs.streams.FlushShown.{LeadsTo, turns_stand, flush_stands}
 
 -- ---- more turns write more

@@ -2,7 +2,7 @@
 use Rattle.std.proofs.Common.{◌≡◌, ℕ, Bool, true, false, ◌&&◌, List, [], Option, Some, None, refl, sym, ap, ◌∙◌, ◌==◌, slice_get, slice_set, if◌then◌else◌}
 use Rattle.coap_serve.specs.Prelude.{remove, Message, Reply, fit, bare_response, first_due, link_after, LinkValue}
 use Rattle.coap_serve.specs.Prelude.{limit_in, can_hold, path_of, says, answer_of, unheld, prompt_answer, changes}
-use Rattle.coap_serve.specs.Prelude.{response_message, response_with_observe, notification_of, MayWatch, Watch, Host}
+use Rattle.coap_serve.specs.Prelude.{response_message, response_with_observe, notification_of, MayWatch, Host}
 use Rattle.coap_serve.specs.Prelude.{moment_after, asks_entry, is_whole, with_entry, goes_on, ObserverValue}
 use Rattle.coap_serve.specs.Prelude.{new_entry, answer_on, hold_on, held_in, is_stale, mark_of, notification_on}
 use Rattle.coap_serve.specs.Prelude.{state_on, first_index, is_observed, response_on, is_sent, link_replied}
@@ -14,16 +14,12 @@ use Rattle.coap_conn.specs.Calls as call
 use Rattle.coap_conn.proofs.HeldLaws.{due_nothing}
 use Rattle.coap_store.specs.Answer as answer
 use Rattle.coap_store.specs.Answer.{Answer}
-use Rattle.coap_store.specs.declared.plan.Watch.TheVariants as watch
 use Rattle.coap_store.proofs.HoldLaws.{held_of, held_unwatched, same_change, same_at_once}
 use Rattle.coap_store.proofs.WatchLaws.{promptly_watched_is_there}
 use Rattle.coap_serve.proofs.values.EntryLemmas.{is_first}
+use Rattle.coap_model.proofs.world.EntryLemmas.{asks_to_enter}
 
 -- ---- a request
-
-pub asks_to_enter : (asked : Watch) → asks_entry asked ≡ true → asked ≡ watch.Add
-asks_to_enter watch.Add e = refl
-asks_to_enter other e = absurd cc
 
 pub may_watch : (host : Host) (m : Message) → asks_entry (answer_on host m).watch ≡ true → MayWatch host.store host.now (path_of m) (answer_on host m)
 may_watch host m asks = promptly_watched_is_there host.store host.now m (asks_to_enter (answer_on host m).watch asks)

@@ -4,10 +4,10 @@ use Rattle.std.proofs.lemmas.Bool.{cases_lt, or_parts, or_right, eqb-false}
 use Rattle.std.proofs.lemmas.List.{length-map, length_push, map-set, map_push}
 use Rattle.std.proofs.lemmas.Option.{slice_get_read, slice_get-map}
 use Rattle.std.proofs.Math.Seq.{map-set_same}
-use Rattle.coap_serve.specs.Prelude.{AllByRecursion, list_any, Cause, Path, Host, ObserverValue, ObservesNone, path_hash, is_concerned, changed_mark, marks_anew, observer_value, mark_in, IsTagged, AreFlagged}
+use Rattle.coap_serve.specs.Prelude.{AllByRecursion, list_any, Cause, Path, Host, ObserverValue, ObservesNone, observes_hash, path_hash, is_concerned, changed_mark, marks_anew, observer_value, mark_in, IsTagged, AreFlagged}
 use Rattle.coap_serve.specs.Prelude.{Chains, Linked, linked, concerns_path, last_in, previous_in, next_index, IsLastBefore, AreChainedTo}
 use Rattle.coap_serve.specs.declared.cause.Cause.TheVariants as cause
-use Rattle.coap_serve.specs.declared.observers.Observer.{Observer}
+use Rattle.coap_serve.specs.declared.observer.Observer.{Observer}
 use Rattle.coap_serve.proofs.values.FlagLemmas.{written, not_written, pushed, not_pushed}
 use Rattle.coap_serve.proofs.values.EntryLemmas.{read_at}
 use Rattle.coap_serve.proofs.values.MarkLemmas.{marks_from, from_end, passed_over, one_set}
@@ -164,10 +164,10 @@ last_tells why chains xs all = by (last_in why chains) (all.last why)
     by None is = sym (none_of (concerns_path why) xs (λ i o low at. is.others i o (omega arith) low at))
     by (Some k) is = sym (one_of (concerns_path why) xs k is.within (λ o at. is.concerned k o refl at))
 
-pub none_observes : (hash : ℕ) (os : List ObserverValue) → list_any (λ o. path_hash o.path == hash) os ≡ false → ObservesNone hash os
+pub none_observes : (hash : ℕ) (os : List ObserverValue) → list_any (observes_hash hash) os ≡ false → ObservesNone hash os
 none_observes hash [] none = tt
 none_observes hash (o ∷ os) none =
-    let parts = or_parts (path_hash o.path == hash) (list_any (λ p. path_hash p.path == hash) os) none in
+    let parts = or_parts (path_hash o.path == hash) (list_any (observes_hash hash) os) none in
     (eqb-false (path_hash o.path) hash parts.0, none_observes hash os parts.1)
 
 -- ---- a loop that marks those that a change concerns, from the last one on

@@ -1,20 +1,18 @@
--- What is not due yet: a tick to a moment before each that is due changes nothing but the moment.
-use Rattle.std.proofs.Common.{◌≡◌, ℕ, ◌+◌, ◌<◌, ◌≤◌, ◌^◌, true, false, List, [], ◌∷◌, Option, Some, None, min, refl, sym, ap, subst, ◌∙◌, arith, inl, inr, find, fold, if◌then◌else◌}
+-- What is not due yet: on a connection that is settled, nothing is due before the moment that is due.
+use Rattle.std.proofs.Common.{◌≡◌, ℕ, ◌+◌, ◌<◌, ◌≤◌, ◌^◌, true, false, List, [], ◌∷◌, Option, Some, None, min, refl, sym, ap, subst, ◌∙◌, arith, find, fold, if◌then◌else◌}
 use Rattle.coap_serve.specs.Prelude.{AllByRecursion, list_any, filter_map, reduce, HeldValue, Answer, Pong, come}
 use Rattle.coap_serve.specs.Prelude.{to_come, next_moment, first_due, Path, Representation, StoreValue, place_of}
 use Rattle.coap_serve.specs.Prelude.{key_for, stored_at, state_at, is_dynamic, Root, Time, Async, Listing, Dynamic}
 use Rattle.coap_serve.specs.Prelude.{IsStore, Host, ObserverValue, SessionValue, is_marked, is_stale, IsSettled}
-use Rattle.coap_serve.specs.Prelude.{mark_of, state_on, changed_mark}
-use Rattle.coap_serve.specs.Prelude.{ServerValue, AreSettled, sooner, tells_time, next_told, due_on, IsBefore}
-use Rattle.coap_serve.specs.Prelude.{WaitsForWhatIsDue}
-use Rattle.std.proofs.lemmas.Bool.{cases_lt, not-false, false_from_ne_true, or_parts, ne_eqb}
+use Rattle.coap_serve.specs.Prelude.{mark_of, state_on, changed_mark, sooner, tells_time, next_told, due_on}
+use Rattle.coap_serve.specs.Prelude.{IsBefore}
+use Rattle.std.proofs.lemmas.Bool.{not-false, false_from_ne_true, or_parts, ne_eqb}
 use Rattle.coap_conn.proofs.HeldLaws.{due_nothing, cons_parts}
 use Rattle.coap_store.specs.declared.place.Place.{Place}
 use Rattle.coap_store.proofs.StoreLemmas.{found_kept}
-use Rattle.coap_serve.proofs.values.ServerLemmas.{all_settled_stay, Entries}
 use Rattle.coap_serve.proofs.values.SettleLemmas.{settled_still}
-use Rattle.coap_serve.proofs.world.EntryLemmas.{none_due}
-use Rattle.coap_serve.proofs.world.SideLaws.{nothing_due_first}
+use Rattle.coap_model.proofs.world.EntryLemmas.{none_due}
+use Rattle.coap_model.proofs.world.SideLaws.{nothing_due_first}
 
 abbrev pub at_moment : Host → ℕ → Host
 at_moment host later = record host { now = later }
@@ -108,7 +106,7 @@ none_tells_time_before now later observers more fits before =
     let soon : later < now + 1 = subst (IsBefore later) next before in
     omega (arith, more, soon))
 
--- ---- a connection, and all of them
+-- ---- a connection
 
 pub stays_settled : (host : Host) (later : ℕ) (v : SessionValue) → IsStore host.store → IsSettled host v → host.now < later → later < 2 ^ 64 → IsBefore later (due_on host.now v) → IsSettled (at_moment host later) v
 stays_settled host later v store settled more fits before =
@@ -116,18 +114,3 @@ stays_settled host later v store settled more fits before =
     let stored = none_tells_time_before host.now later v.observers more fits parts.1 in
     settled_still host (at_moment host later) v (λ none. not_due_later host.now later v.link.held none parts.0)
     (λ fresh. none_stale host later v.observers store stored (none_due (is_stale host) v.observers fresh)) settled
-
-stay_settled : (host : Host) (later : ℕ) (es : Entries) → IsStore host.store → AreSettled host es → host.now < later → later < 2 ^ 64 → AllByRecursion (λ e. IsBefore later (due_on host.now e.1)) es → AreSettled (at_moment host later) es
-stay_settled host later [] store settled more fits before = tt
-stay_settled host later (e ∷ es) store settled more fits before = (stays_settled host later e.1 store settled.0 more fits before.0, stay_settled host later es store settled.1 more fits before.1)
-
--- time alone queues nothing before it is due
-pub waits_for_what_is_due : (v : ServerValue) (later : ℕ) → IsStore v.host.store → AreSettled v.host v.sessions → v.host.now ≤ later → later < 2 ^ 64 → WaitsForWhatIsDue v later
-waits_for_what_is_due v later store settled on fits before =
-    let still : AreSettled (at_moment v.host later) v.sessions = elim (cases_lt v.host.now later) [
-      | inl more ↦ stay_settled v.host later v.sessions store settled more fits before
-      | inr no_more ↦
-          let same : v.host.now ≡ later = omega (arith, on, no_more) in
-          subst (λ (n : ℕ). AreSettled (at_moment v.host n) v.sessions) same settled
-    ] in
-    ap (λ (es : Entries). record v { host = at_moment v.host later; sessions = es }) (all_settled_stay (at_moment v.host later) v.sessions still)

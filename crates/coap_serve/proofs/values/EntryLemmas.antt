@@ -5,9 +5,9 @@ use Rattle.coap_serve.specs.Prelude.{first_becomes}
 use Rattle.coap_serve.specs.Prelude.{without_entry, first_index, observer_value}
 use Rattle.std.proofs.lemmas.List.Elements.{recursion_from_All}
 use Rattle.std.proofs.lemmas.Option.{slice_get_read, slice_get-map}
-use Rattle.coap_serve.specs.declared.observers.Observer.{Observer}
-use Rattle.coap_serve.proofs.values.OptionLemmas.{none_made, one_made}
-use Rattle.coap_serve.proofs.world.EntryLemmas.{all_map}
+use Rattle.coap_serve.specs.declared.observer.Observer.{Observer}
+use Rattle.coap_model.proofs.OptionLemmas.{none_made, one_made}
+use Rattle.coap_model.proofs.world.EntryLemmas.{all_map}
 
 -- ---- the first index
 

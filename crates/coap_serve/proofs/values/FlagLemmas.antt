@@ -1,7 +1,7 @@
 -- Flags beside the changed marks of observers.
 use Rattle.std.proofs.Common.{◌≡◌, ◌≢◌, ℕ, zero, suc, ◌+◌, ◌<◌, Bool, true, false, List, [], ◌∷◌, ◌++◌, length, map, take, set, get_or, replicate, Option, Some, None, is_some, refl, ap, subst, arith, slice_get}
 use Rattle.coap_serve.specs.Prelude.{Stale, first_index, IsFirstMarked, flag_of, AreFlagged, mark_in}
-use Rattle.coap_serve.specs.declared.observers.Observer.{Observer}
+use Rattle.coap_serve.specs.declared.observer.Observer.{Observer}
 
 -- a list of the default reads as that everywhere
 pub all_default : {X : Type 0} (n i : ℕ) (x : X) → get_or (replicate n x) i x ≡ x

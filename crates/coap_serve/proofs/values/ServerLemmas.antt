@@ -13,8 +13,8 @@ use Rattle.std.proofs.lemmas.Map.Entries.{length-keys_of, length-values_of}
 use Rattle.std.proofs.lemmas.Map.Made.{keys_of-map_values}
 use Rattle.std.proofs.lemmas.Option.{cond_some}
 use Rattle.coap_serve.proofs.values.SettleLemmas.{none_held, settled_quiet, settled_is_settled, settled_stays}
-use Rattle.coap_serve.proofs.values.OptionLemmas.{there_is_none, there_at}
-use Rattle.coap_serve.proofs.world.EntryLemmas.{all_to, all_append, all_filter, all_map}
+use Rattle.coap_model.proofs.OptionLemmas.{there_is_none, there_at}
+use Rattle.coap_model.proofs.world.EntryLemmas.{all_to, all_append, all_filter, all_map}
 
 abbrev pub Entries : Type 0
 Entries = List (ℕ × SessionValue)

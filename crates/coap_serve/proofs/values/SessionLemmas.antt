@@ -24,7 +24,7 @@ use Rattle.coap_conn.specs.Calls as call
 use Rattle.coap_conn.proofs.LinkLemmas.{stays_so}
 use Rattle.coap_serve.proofs.values.EntryLemmas.{is_first}
 use Rattle.coap_serve.proofs.values.SettleLemmas.{found_ready}
-use Rattle.coap_serve.proofs.values.OptionLemmas.{there_is, there_at}
+use Rattle.coap_model.proofs.OptionLemmas.{there_is, there_at}
 
 -- ---- what a stop gives up
 

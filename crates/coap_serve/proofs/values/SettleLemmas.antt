@@ -1,8 +1,8 @@
 -- What settling leaves: nothing that is held is due and no observer is stale, or there is no room.
-use Rattle.std.proofs.Common.{◌≡◌, ℕ, zero, suc, ◌+◌, ◌≤◌, Bool, true, false, ◌&&◌, List, [], length, Option, Some, None, refl, sym, ap, ◌∙◌, arith, ◌||◌, find, is_some, if◌then◌else◌}
+use Rattle.std.proofs.Common.{◌≡◌, ℕ, zero, suc, ◌+◌, ◌≤◌, Bool, true, false, ◌&&◌, List, [], length, Some, None, refl, sym, ap, ◌∙◌, arith, ◌||◌, find, is_some, if◌then◌else◌}
 use Rattle.std.proofs.lemmas.Bool.{eq-eqb, eqb-true, and_parts, or_parts, cond_both, false_from_ne_true}
-use Rattle.coap_serve.specs.Prelude.{Message, Reply, Whole, answers, is_open, fit, bare_response, HeldValue, Answer}
-use Rattle.coap_serve.specs.Prelude.{Pong, first_due, without_due, Standing, send, send_as, due_effect, pong_with}
+use Rattle.coap_serve.specs.Prelude.{Message, answers, is_open, fit, bare_response, HeldValue, Answer}
+use Rattle.coap_serve.specs.Prelude.{Pong, first_due, without_due, send}
 use Rattle.coap_serve.specs.Prelude.{standing_due, link_after, LinkValue, limit_in, standing_in, link_with}
 use Rattle.coap_serve.specs.Prelude.{Representation, Response, notification_of, Host, held_message, goes_on}
 use Rattle.coap_serve.specs.Prelude.{is_whole, first_becomes, ObserverValue, SessionValue, mark_at, mark_of}
@@ -14,26 +14,16 @@ use Rattle.coap_wire.specs.Codes as code
 use Rattle.coap_conn.specs.Calls as call
 use Rattle.coap_conn.proofs.HeldLaws.{due_fewer}
 use Rattle.coap_store.proofs.NotificationLaws.{notification_tells}
-use Rattle.coap_serve.proofs.values.OptionLemmas.{there_is_none, none_made_where, some_where, there_is}
-use Rattle.coap_serve.proofs.world.EntryLemmas.{count_due, count_within, none_counted, count_less}
+use Rattle.coap_model.proofs.OptionLemmas.{there_is_none, none_made_where, some_where, there_is}
+use Rattle.coap_model.proofs.world.SideLaws.{send_held, due_held}
+use Rattle.coap_model.proofs.world.EntryLemmas.{count_due, count_within, none_counted, count_less}
 
 -- ---- how much is held
-
--- a message that is sent leaves no more
-pub send_held : (s : Standing) (m less : Message) (r : Reply) → length (send_as s m less r).held ≤ length s.held
-send_held s m less Whole = omega arith
-send_held s m less other = omega arith
 
 reply_held : (l : LinkValue) (m : Message) → length (link_after l (call.Reply m)).held ≤ length l.held
 reply_held l m =
     cond_both (answers l.phase) (link_with l (send (standing_in l) m (bare_response m))) l (λ k. length k.held ≤ length l.held)
     (λ _. send_held (standing_in l) m (bare_response m) (fit (limit_in l) m (bare_response m))) (λ _. omega arith)
-
--- what was due first is held no more
-pub due_held : (s : Standing) (e : Option HeldValue) → length (due_effect s e).held ≤ length s.held
-due_held s None = omega arith
-due_held s (Some (Answer token moment)) = omega arith
-due_held s (Some (Pong token)) = send_held s (pong_with true token) (pong_with false token) (fit s.limit (pong_with true token) (pong_with false token))
 
 held_where_sent : (l : LinkValue) (now : ℕ) (e : HeldValue) → length (link_sent l now e).held ≤ length (link_after l (call.Due now)).held
 held_where_sent l now (Answer token moment) = reply_held (link_after l (call.Due now)) (held_message token)

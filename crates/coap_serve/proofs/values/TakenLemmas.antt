@@ -1,19 +1,16 @@
--- What a piece leaves of a server: where no resource changed, no connection is left to settle but the one that took the piece, where
--- it holds something.
-use Rattle.std.proofs.Common.{◌≡◌, ℕ, ◌+◌, ◌-◌, Bool, true, false, cond, ◌&&◌, List, [], ◌++◌, length, take, Option, Some, None, refl, sym, ap, subst, ◌∙◌, arith, map, not, nat_lt, slice_get, ◌==◌, Result, Ok, Err}
-use Rattle.coap_serve.specs.Prelude.{AllByRecursion, values_of, set_value_at, Message, Beginning, Unfinished, Faulty}
-use Rattle.coap_serve.specs.Prelude.{beginning, FormatFault, message_of, Framing, Finding, AFrame, AFault}
-use Rattle.coap_serve.specs.Prelude.{framing_at, framing, without_last, is_open, takes_messages, stop_of, OfFrame}
-use Rattle.coap_serve.specs.Prelude.{Reason, reject_of, fit, bare_response, LinkValue, limit_in, link_after}
-use Rattle.coap_serve.specs.Prelude.{response_with_observe, same_bytes, Change, changes, IsPut, Host, moment_after}
-use Rattle.coap_serve.specs.Prelude.{asks_entry, has_place, with_entry, is_whole, ObserverValue, SessionValue}
-use Rattle.coap_serve.specs.Prelude.{Taking, is_stale, session_ready, session_takes, session_max, without_entry}
-use Rattle.coap_serve.specs.Prelude.{new_entry, session_with, answer_on, hold_on, held_in, session_replied}
-use Rattle.coap_serve.specs.Prelude.{asks_this, session_handled, taking_read, taking_found, taking, host_changed}
+-- A piece that changes no resource leaves nothing to settle on its connection but what is held.
+use Rattle.std.proofs.Common.{◌≡◌, ℕ, ◌+◌, ◌-◌, Bool, true, false, ◌&&◌, List, [], ◌++◌, length, take, Option, Some, None, refl, sym, ap, subst, ◌∙◌, arith, not, nat_lt, ◌==◌, Result, Ok, Err}
+use Rattle.coap_serve.specs.Prelude.{AllByRecursion, Message, Beginning, Unfinished, Faulty, beginning}
+use Rattle.coap_serve.specs.Prelude.{FormatFault, message_of, Framing, Finding, AFrame, AFault, framing_at}
+use Rattle.coap_serve.specs.Prelude.{framing, without_last, is_open, takes_messages, OfFrame, reject_of, fit}
+use Rattle.coap_serve.specs.Prelude.{bare_response, LinkValue, limit_in, link_after, response_with_observe}
+use Rattle.coap_serve.specs.Prelude.{same_bytes, Change, changes, IsPut, Host, moment_after, asks_entry, has_place}
+use Rattle.coap_serve.specs.Prelude.{with_entry, is_whole, ObserverValue, SessionValue, Taking, is_stale}
+use Rattle.coap_serve.specs.Prelude.{session_ready, session_takes, session_max, without_entry, new_entry}
+use Rattle.coap_serve.specs.Prelude.{session_with, answer_on, hold_on, held_in, session_replied, asks_this}
+use Rattle.coap_serve.specs.Prelude.{session_handled, taking_read, taking_found, taking, host_changed}
 use Rattle.coap_serve.specs.Prelude.{next_held_in, next_stale, session_settled, IsSettled, RefusesPiece}
-use Rattle.coap_serve.specs.Prelude.{settled_held, ServerValue, LiesAt, session_of, changed_at, session_becomes}
-use Rattle.coap_serve.specs.Prelude.{settled_entry, AreSettled, server_taken_on, server_taken, count_on, count_taken}
-use Rattle.coap_serve.specs.Prelude.{handled_so, handled_by, RefusesPieceOn, IsServer}
+use Rattle.coap_serve.specs.Prelude.{settled_held}
 use Rattle.std.proofs.lemmas.Bool.{eqb-true, and_parts, cond_both}
 use Rattle.std.proofs.lemmas.List.{length-append, take-append-le}
 use Rattle.std.proofs.Math.Seq.{take-append-add}
@@ -27,9 +24,8 @@ use Rattle.coap_store.specs.Answer.{Answer}
 use Rattle.coap_store.specs.Answer as answer
 use Rattle.coap_serve.proofs.values.AnsweringLemmas.{nothing_changed, may_watch}
 use Rattle.coap_serve.proofs.values.EntryLemmas.{none_in}
-use Rattle.coap_serve.proofs.world.EntryLemmas.{all_if, all_filter, all_entered, none_due}
+use Rattle.coap_model.proofs.world.EntryLemmas.{all_if, all_filter, all_entered, none_due}
 use Rattle.coap_serve.proofs.values.SettleLemmas.{none_held, settled_quiet, settled_stays, marked_now, found_ready}
-use Rattle.coap_serve.proofs.values.ServerLemmas.{Entries, one_of_all, written_at_index, changed_one, changed_written, settling, one_settles, all_settled_stay, all_still, taken_server_with, lies_where_taken}
 
 -- ---- no observer is stale
 
@@ -142,95 +138,3 @@ module _ (host : Host) (v : SessionValue) (piece : List ℕ) (count : ℕ) (refu
 
 pub host_stays : (host : Host) (c : Change) → changes c ≡ false → host_changed host c ≡ host
 host_stays host c quiet = ap (host_changed host) (nothing_changed c quiet)
-
--- ---- the server
-
-module _ (v : ServerValue) (id i : ℕ) (s : SessionValue) (piece : List ℕ) (server : IsServer v) (lies : LiesAt id i v.sessions) (here : slice_get (values_of v.sessions) i ≡ Some s) where
-  abbrev taking_here : Taking
-  taking_here = taking v.host s piece
-
-  abbrev host_after : Host
-  host_after = host_changed v.host taking_here.change
-
-  abbrev with_it : Entries
-  with_it = map (session_becomes id (λ _. taking_here.session)) v.sessions
-
-  pub count_is : count_taken v id piece ≡ taking_here.count
-  unfolding count_taken
-  count_is = ap (count_on v piece) (lies.found ∙ here)
-
-  written_is : set_value_at v.sessions i taking_here.session ≡ with_it
-  written_is =
-      written_at_index (λ _. taking_here.session) v.sessions i s here ∙ changed_one id (λ _. taking_here.session) v.sessions i lies.distinct lies.index lies.within
-
-  -- where no resource changed, the others are settled
-  quiet_is : changes taking_here.change ≡ false → changed_at i (settled_held host_after) (set_value_at v.sessions i taking_here.session) ≡ map (settled_entry host_after) with_it
-  quiet_is quiet =
-      let last : SessionValue → SessionValue = λ _. taking_here.session in
-      rw (host_stays v.host taking_here.change quiet)
-      (changed_written i (settled_held v.host) v.sessions taking_here.session
-      ∙ ap (λ (to : SessionValue). changed_at i (λ _. to) v.sessions)
-      (taking_settles_held v.host s piece (one_of_all (IsSettled v.host) i v.sessions s server.settled here))
-      ∙ changed_one id (settling v.host last) v.sessions i lies.distinct lies.index lies.within
-      ∙ one_settles v.host id last v.sessions server.settled)
-
-  -- the same where it holds still
-  pub still_is : changes taking_here.change ≡ false → IsSettled v.host taking_here.session → set_value_at v.sessions i taking_here.session ≡ map (settled_entry host_after) with_it
-  still_is quiet still =
-      let settled : AreSettled host_after with_it =
-      rw (host_stays v.host taking_here.change quiet)
-      (all_still (λ e. IsSettled v.host e.1) id (λ _. taking_here.session) (λ e _. still) v.sessions server.settled) in
-      written_is ∙ sym (all_settled_stay host_after with_it settled)
-
-  -- all settle where a resource changed, and else the one, where it holds something
-  abbrev left_so : Host → SessionValue → Bool → Entries
-  left_so host after changed = cond changed (map (settled_entry host) (set_value_at v.sessions i after)) (changed_at i (settled_held host) (set_value_at v.sessions i after))
-
-  -- a server with these connections
-  module _ (host : Host) (entries : Entries) (host_is : host ≡ host_after) (all : entries ≡ map (settled_entry host_after) with_it) where
-    pub becomes : IsServer (record v { host = host; sessions = entries }) × (record v { host = host; sessions = entries } ≡ server_taken v id piece)
-    unfolding server_taken
-    becomes = rw (host_is, all) (taken_server_with v id (λ _. taking_here.session) host_after server, sym (ap (server_taken_on v id piece) (lies.found ∙ here)))
-
-  module _ (host : Host) (after : SessionValue) (changed : Bool) (entries : Entries) (after_is : after ≡ taking_here.session) (host_is : host ≡ host_after) (changed_is : changed ≡ changes taking_here.change) (entries_are : entries ≡ left_so host after changed) where
-    all_are : entries ≡ map (settled_entry host_after) with_it
-    all_are =
-        let left : left_so host_after taking_here.session (changes taking_here.change) ≡ map (settled_entry host_after) with_it =
-        cond_both (changes taking_here.change) _ _ (λ es. es ≡ map (settled_entry host_after) with_it) (λ _. ap (map (settled_entry host_after)) written_is) quiet_is in
-        cc left
-
-    pub taken_value : record v { host = host; sessions = entries } ≡ server_taken v id piece
-    taken_value = (becomes host entries host_is all_are).1
-
-    pub taken_server : IsServer (record v { host = host; sessions = entries })
-    taken_server = (becomes host entries host_is all_are).0
-
-    pub taken_lies : LiesAt id i entries
-    taken_lies = rw all_are (lies_where_taken id i (λ _. taking_here.session) host_after v.sessions lies)
-
-    -- what was handled, where the connection stands so afterwards
-    pub taken_handled : (takes message : Bool) (stop : Option Reason) (now : SessionValue) → takes ≡ session_takes s → message ≡ taking_here.handled → slice_get (values_of entries) i ≡ Some now → stop ≡ stop_of now.link.phase → handled_so takes message stop ≡ handled_by v id piece
-    unfolding handled_by
-    taken_handled takes message stop now takes_is message_is there stop_is = cc (taken_lies.found, taken_value, lies.found)
-
--- ---- the server where memory was refused
-
-module _ (v : ServerValue) (id i : ℕ) (s : SessionValue) (piece : List ℕ) (count : ℕ) (server : IsServer v) (lies : LiesAt id i v.sessions) (here : slice_get (values_of v.sessions) i ≡ Some s) (refuses : RefusesPiece v.host s piece count) where
-  pub refuses_on : RefusesPieceOn v piece count (session_of id v.sessions)
-  refuses_on = subst (RefusesPieceOn v piece count) (sym (lies.found ∙ here)) refuses
-
-  module _ (host : Host) (after : SessionValue) (after_is : after ≡ (taking v.host s (take count piece)).session) (host_is : host ≡ v.host) where
-    host_after_is : host ≡ host_changed v.host (taking v.host s (take count piece)).change
-    host_after_is = host_is ∙ sym (ap (host_changed v.host) (refused_changes_nothing v.host s piece count refuses))
-
-    still_all : set_value_at v.sessions i after ≡ map (settled_entry (host_changed v.host (taking v.host s (take count piece)).change)) (map (session_becomes id (λ _. (taking v.host s (take count piece)).session)) v.sessions)
-    still_all =
-        ap (set_value_at v.sessions i) after_is
-        ∙ still_is v id i s (take count piece) server lies here (ap changes (refused_changes_nothing v.host s piece count refuses))
-        (refused_stays_settled v.host s piece count refuses (one_of_all (IsSettled v.host) i v.sessions s server.settled here))
-
-    pub refused_value : record v { host = host; sessions = set_value_at v.sessions i after } ≡ server_taken v id (take count piece)
-    refused_value = (becomes v id i s (take count piece) server lies here host _ host_after_is still_all).1
-
-    pub refused_server : IsServer (record v { host = host; sessions = set_value_at v.sessions i after })
-    refused_server = (becomes v id i s (take count piece) server lies here host _ host_after_is still_all).0

@@ -14,13 +14,13 @@ use Rattle.coap_serve.specs.Prelude.{IsAnnounced, IsNotTaken, Taken, OpenFault, 
 use Rattle.coap_serve.specs.Prelude.{ReleaseFault, AnnounceFault, Event, Opened, Took, Wrote, Ticked, Stored}
 use Rattle.coap_serve.specs.Prelude.{Removed, Ended, Released, Announced, Dropped, takes, AreAcceptedBehind, Shows}
 use Rattle.coap_serve.specs.Prelude.{ShowsRefused, server_of}
-use Rattle.coap_serve.specs.declared.server.TakeFault.TheVariants as taken
-use Rattle.coap_serve.specs.declared.server.WrittenFault.TheVariants as writing
-use Rattle.coap_serve.specs.declared.server.ReleaseFault.TheVariants as releasing
-use Rattle.coap_serve.specs.declared.server.AnnounceFault.TheVariants as announcing
+use Rattle.coap_model.specs.declared.answers.TakeFault.TheVariants as taken
+use Rattle.coap_model.specs.declared.answers.WrittenFault.TheVariants as writing
+use Rattle.coap_model.specs.declared.answers.ReleaseFault.TheVariants as releasing
+use Rattle.coap_model.specs.declared.answers.AnnounceFault.TheVariants as announcing
 use Rattle.coap_serve.proofs.world.ShowLaws.{shows_opened, shows_written, shows_ticked, shows_put, shows_removed, shows_ended, shows_released, shows_announced, shows_dropped, shows_taken, takes_shown, refused_on, shows_refused_take}
-use Rattle.coap_serve.proofs.world.StepLaws.{world_first}
-use Rattle.coap_serve.proofs.values.OptionLemmas.{none_made}
+use Rattle.coap_model.proofs.world.StepLaws.{world_first}
+use Rattle.coap_model.proofs.OptionLemmas.{none_made}
 
 -- the connection with this number where one is there, and where nothing refuses a call on it
 where_one : (o : Option SessionValue) → true ≡ is_there o → (s : SessionValue) × (o ≡ Some s)

@@ -12,16 +12,16 @@ use Rattle.std.proofs.lemmas.List.{take-append-drop}
 use Rattle.std.proofs.lemmas.Result.{IfErr-weaker}
 use Rattle.std.proofs.Math.Seq.{drop-cons}
 use Rattle.coap_frame.proofs.FrontLaws.{added_front}
-use Rattle.coap_serve.proofs.world.TookLaws.{Adds, adds_nothing, piece_adds_message, front_within, but_last_unfinished}
-use Rattle.coap_serve.proofs.world.SideLaws.{change_shown}
+use Rattle.coap_model.proofs.world.TookLaws.{Adds, adds_nothing, piece_adds_message, front_within, but_last_unfinished}
+use Rattle.coap_serve.proofs.world.SideShown.{change_shown}
 use Rattle.coap_serve.proofs.world.ShowLaws.{session_there, host_shown, sessions_shown, takes_shown, refused_on, refused_unfinished, refused_message, refused_front}
-use Rattle.coap_serve.proofs.world.StepLaws.{stream_more}
-use Rattle.coap_serve.proofs.values.OptionLemmas.{none_made}
-use Rattle.coap_serve.specs.world.World as world
-use Rattle.coap_serve.specs.declared.server.TakeFault.TheVariants as fault
-use Rattle.coap_serve.specs.declared.server.WrittenFault.TheVariants as writing
-use Rattle.coap_serve.specs.declared.server.ReleaseFault.TheVariants as releasing
-use Rattle.coap_serve.specs.world.View as view
+use Rattle.coap_model.proofs.world.StepLaws.{stream_more}
+use Rattle.coap_model.proofs.OptionLemmas.{none_made}
+use Rattle.coap_model.specs.world.World as world
+use Rattle.coap_model.specs.declared.answers.TakeFault.TheVariants as fault
+use Rattle.coap_model.specs.declared.answers.WrittenFault.TheVariants as writing
+use Rattle.coap_model.specs.declared.answers.ReleaseFault.TheVariants as releasing
+use Rattle.coap_model.specs.world.View as view
 
 -- what a connection has spelled, gone on with more bytes
 abbrev gone_on_with : ConfigValues → List Event → ℕ → List ℕ → Stream

@@ -1,11 +1,11 @@
 -- Each call of a server shows its event: what a server holds after calls is what their events leave.
-use Rattle.std.proofs.Common.{◌≡◌, ◌≢◌, ℕ, ◌+◌, ◌≤◌, Bool, true, false, List, [], ◌∷◌, ◌++◌, length, map, take, Some, None, Result, Ok, Err, refl, sym, ap, subst, ◌∙◌, take-take, arith, not, filter, find, option_map, ◌==◌, if◌then◌else◌, ◌<◌, Option, inl, inr}
+use Rattle.std.proofs.Common.{◌≡◌, ◌≢◌, ℕ, ◌+◌, ◌≤◌, Bool, true, false, List, [], ◌∷◌, ◌++◌, length, map, take, Some, None, Result, Ok, Err, refl, sym, ap, subst, ◌∙◌, take-take, arith, not, filter, option_map, ◌==◌, if◌then◌else◌, ◌<◌, Option, inl, inr}
 use Rattle.std.proofs.lemmas.Bool.Decides.{nat_tests}
-use Rattle.std.proofs.lemmas.Bool.{cases_Bool, cond_both}
+use Rattle.std.proofs.lemmas.Bool.{cases_Bool}
 use Rattle.std.proofs.lemmas.List.{length-take-le, length-map, map-append}
 use Rattle.coap_serve.specs.Prelude.{Message, message_of, Unfinished, beginning, StreamFault, OfFrame, Format}
 use Rattle.coap_serve.specs.Prelude.{Stream, frame_then, FormatFault, Framing, Finding, AFrame, AFault, framing}
-use Rattle.coap_serve.specs.Prelude.{reject_of, StoreValue, put_in, removed_in, state_of, changed, IsPut}
+use Rattle.coap_serve.specs.Prelude.{reject_of, StoreValue, put_in, removed_in, changed, IsPut}
 use Rattle.coap_serve.specs.Prelude.{ConfigValues, Host, SessionValue, session_takes, session_handled}
 use Rattle.coap_serve.specs.Prelude.{session_rejected, change_by, Taking, taking_read, taking_found, taking}
 use Rattle.coap_serve.specs.Prelude.{RefusesPiece, new_session, session_written, session_ended, session_released}
@@ -13,8 +13,8 @@ use Rattle.coap_serve.specs.Prelude.{session_announced, session_raises, session_
 use Rattle.coap_serve.specs.Prelude.{settled_entry, server_settled, server_taken_so, ServerValue, server_opened}
 use Rattle.coap_serve.specs.Prelude.{server_taken_on, server_taken, count_on, count_taken, server_written}
 use Rattle.coap_serve.specs.Prelude.{server_ticked, server_put, server_removed, server_ended, server_released}
-use Rattle.coap_serve.specs.Prelude.{server_announced, server_dropped, RefusesPieceOn, is_due, Side, has_room}
-use Rattle.coap_serve.specs.Prelude.{handles, side_after, side_faulted, next_due, settled, HearsAll, is_cut}
+use Rattle.coap_serve.specs.Prelude.{server_announced, server_dropped, RefusesPieceOn, Side}
+use Rattle.coap_serve.specs.Prelude.{handles, side_after, side_faulted, HearsAll, is_cut}
 use Rattle.coap_serve.specs.Prelude.{new_side, side_written, side_ended, side_released, side_announced, Place, World}
 use Rattle.coap_serve.specs.Prelude.{Step, side_of, on_side, stored_after, acted, settled_place, all_settled, ticks}
 use Rattle.coap_serve.specs.Prelude.{Event, Took, taken_in, stream_on, steps_by, world_after, size_on, Opened, Wrote}
@@ -24,20 +24,21 @@ use Rattle.coap_serve.specs.Prelude.{Shows, Server, LinkValue, new_link, IsHisto
 use Rattle.coap_serve.specs.Prelude.{put_refusal, remove_refusal}
 use Rattle.coap_frame.specs.Framing.{Nothing}
 use Rattle.coap_frame.proofs.FrontLaws.{added_by, front_kept}
-use Rattle.coap_serve.specs.world.World.{changed_at}
-use Rattle.coap_serve.specs.world.Events.{front_of}
-use Rattle.coap_serve.proofs.world.StepLaws.{world_same, world_step, streams_same, stream_elsewhere, rest_unfinished, accepted_more}
-use Rattle.coap_serve.proofs.world.TookLaws.{Adds, no_bytes_stream, no_bytes_steps, piece_adds, but_last_unfinished, front_within}
-use Rattle.coap_serve.proofs.world.PlaceLaws.{AreDistinct, of_number, of_each}
-use Rattle.coap_serve.proofs.world.EntryLemmas.{all_to, maps_alike, all_stay, mapped_filter, none_found}
-use Rattle.coap_serve.proofs.world.ReachedLaws.{IsReached, handling_goes_on, accepted_is, takes_there, piece_accepted, events_distinct, opens}
-use Rattle.coap_serve.proofs.world.KnownLaws.{not_due}
-use Rattle.coap_serve.proofs.world.SideLaws.{host_of, IsKnownSide, handles_parts, faulted_shown, handled_shown, change_shown, written_shown, ended_side_shown, released_shown, announced_shown, settled_shown, at_rest, hears_sent}
-use Rattle.coap_serve.proofs.world.HearingLaws.{AllHear, IsKnownPlace, IsKnownWorld, acted_known, world_known, world_hears}
-use Rattle.coap_serve.proofs.values.OptionLemmas.{one_made}
+use Rattle.coap_model.specs.world.World.{changed_at}
+use Rattle.coap_model.specs.world.Events.{front_of}
+use Rattle.coap_model.proofs.world.StepLaws.{world_same, world_step, streams_same, stream_elsewhere, rest_unfinished, accepted_more}
+use Rattle.coap_model.proofs.world.TookLaws.{Adds, no_bytes_stream, no_bytes_steps, piece_adds, but_last_unfinished, front_within}
+use Rattle.coap_model.proofs.world.PlaceLaws.{AreDistinct, of_number, of_each, places_unchanged}
+use Rattle.coap_model.proofs.world.EntryLemmas.{all_to, maps_alike, mapped_filter}
+use Rattle.coap_model.proofs.world.ReachedLaws.{IsReached, handling_goes_on, accepted_is, takes_there, piece_accepted, events_distinct, opens}
+use Rattle.coap_model.proofs.world.SideLaws.{IsKnownSide, handles_parts}
+use Rattle.coap_serve.proofs.world.SideShown.{host_of, faulted_shown, handled_shown, change_shown, written_shown}
+use Rattle.coap_serve.proofs.world.SideShown.{ended_side_shown, released_shown, announced_shown, settled_shown}
+use Rattle.coap_model.proofs.world.HearingLaws.{world_stays, IsKnownPlace, IsKnownWorld, acted_known, world_known, world_hears}
+use Rattle.coap_model.proofs.OptionLemmas.{one_made}
 use Rattle.coap_conn.proofs.LinkLemmas.{new_shown}
 use Rattle.coap_store.specs.Answer as store_change
-use Rattle.coap_serve.specs.world.World as world
+use Rattle.coap_model.specs.world.World as world
 
 -- ---- connections by their numbers
 
@@ -60,11 +61,6 @@ one_becomes M id es fs f g t ps distinct there same becomes =
     (of_each (λ n s. place_shown M fs (changed_at id f (place n s)) ≡ session_becomes id g (place_shown M es (place n s))) ps distinct
     (λ n s at. grind (arith, nat_tests, there, at, becomes, same n)))
 
--- where nothing happens to it, no connection changes
-pub places_unchanged : (id : ℕ) (ps : List Place) → map (changed_at id (λ s. s)) ps ≡ ps
-places_unchanged id [] = refl
-places_unchanged id (p ∷ ps) = cc (cond_both (p.id == id) p p (λ q. q ≡ p) (λ e. refl) (λ e. refl), places_unchanged id ps)
-
 -- ---- settling
 
 -- a server settles as its world does
@@ -78,24 +74,6 @@ server_after_settling c es w known =
     (all_to (IsKnownPlace w.store) (λ p. shown (settles p) ≡ settled_entry host (shown p))
     (λ p is. ap (λ (v : SessionValue). (p.id, v))
     (settled_shown w.store w.now known.moment known.versioned (stream_on c.limits.max_message p.id es).rest p.side is)) w.sides known.places))
-
--- a connection on which no change is lost has nothing to settle
-pub side_at_rest_stays : (store : StoreValue) (now : ℕ) (s : Side) → HearsAll store now s → settled store now s ≡ s
-unfolding settled
-side_at_rest_stays store now s hears =
-    let quiet = all_to (λ o. o.told ≡ state_of store now o.path) (λ o. is_due store now o ≡ false) (not_due store now) s.observers in
-    let rests : next_due store now s ≡ None =
-    cond_both (has_room s) (find (is_due store now) s.observers) None (λ due. due ≡ None)
-    (λ room. none_found (is_due store now) s.observers (quiet (hears.told room))) (λ full. refl) in
-    at_rest (length s.history.held + length s.observers) store now s (hears_sent store now s hears, rests)
-
--- a world in which no change is lost is settled
-pub world_stays : (w : World) → AllHear w → all_settled w ≡ w
-world_stays w hear =
-    let settles : Place → Place = settled_place w.store w.now in
-    ap (λ (ps : List Place). record w { sides = ps }) (all_stay settles w.sides
-    (all_to (λ p. HearsAll w.store w.now p.side) (λ p. settles p ≡ p)
-    (λ p hears. ap (λ (s : Side). record p { side = s }) (side_at_rest_stays w.store w.now p.side hears)) w.sides hear))
 
 -- what is known of a connection of a world that was reached
 history_there : (c : ConfigValues) (es : List Event) (id : ℕ) (t : Side) → c.starts.moment ≤ 18446744073709551615 → side_of id (world_after c es).sides ≡ Some t → IsHistory t.history

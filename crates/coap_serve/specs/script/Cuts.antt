@@ -1,7 +1,7 @@
 -- Scripts that differ only in where what a connection is handed is cut (our definition).
 use Rattle.std.specs.Prelude.{◌≡◌, ◌<◌, ◌^◌, ℕ, Bool, true, false, not, List, [], ◌∷◌, ◌++◌, filter, ◌==◌, if◌then◌else◌}
 use Rattle.std.specs.List.{AllByRecursion}
-use Rattle.coap_serve.specs.script.Events.{EventValue, In, Tick}
+use Rattle.coap_script.specs.script.Events.{EventValue, In, Tick}
 use Rattle.coap_serve.specs.script.Replay.{event_ran}
 use Rattle.coap_serve.specs.values.Servers.{ServerValue}
 

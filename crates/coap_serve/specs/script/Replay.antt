@@ -1,19 +1,20 @@
 -- What the events of a script do to a server, and the lines that they write (our definition).
-use Rattle.std.specs.Prelude.{ℕ, zero, suc, ◌+◌, Bool, false, not, ◌&&◌, List, [], ◌∷◌, ◌++◌, length, take, drop, Option, Some, None, option_map, nat_le, nat_lt, ◌==◌, codes, if◌then◌else◌}
+use Rattle.std.specs.Prelude.{ℕ, ◌+◌, List, [], ◌∷◌, ◌++◌, length, take, Option, Some, None, option_map, nat_le, codes, if◌then◌else◌}
 use Rattle.coap_conn.specs.Phases.{stop_of}
 use Rattle.coap_conn.specs.Reasons.{reason_number}
 use Rattle.coap_store.specs.Refusals.{put_refusal, remove_refusal}
 use Rattle.coap_store.specs.declared.fault.StoreFault.{StoreFault}
 use Rattle.coap_store.specs.declared.fault.StoreFault.TheVariants as storing
-use Rattle.coap_serve.specs.script.Events.{EventValue, Open, In, Drain, Tick, Put, Remove, End, Release, Drop, Status}
-use Rattle.coap_serve.specs.script.Lines.{open_line, in_line, out_line, tick_line, put_line, remove_line, word_line, status_line, fault_line}
+use Rattle.coap_script.specs.script.Events.{EventValue, Open, In, Drain, Tick, Put, Remove, End, Release, Drop, Status}
+use Rattle.coap_script.specs.script.Lines.{open_line, in_line, out_line, tick_line, put_line, remove_line, word_line, status_line, fault_line}
+use Rattle.coap_serve.specs.values.Fed.{Fed, fed}
 use Rattle.coap_serve.specs.values.Sessions.{SessionValue}
-use Rattle.coap_serve.specs.values.Servers.{ServerValue, session_of, server_opened, server_taken, count_taken, server_written, server_ticked, server_put, server_removed, server_ended, server_released, server_dropped}
+use Rattle.coap_serve.specs.values.Servers.{ServerValue, session_of, server_opened, server_written, server_ticked, server_put, server_removed, server_ended, server_released, server_dropped}
 use Rattle.coap_serve.specs.values.ServerAnswers.{open_refusal, released_refusal}
-use Rattle.coap_serve.specs.declared.server.OpenFault.{OpenFault}
-use Rattle.coap_serve.specs.declared.server.OpenFault.TheVariants as opening
-use Rattle.coap_serve.specs.declared.server.ReleaseFault.{ReleaseFault}
-use Rattle.coap_serve.specs.declared.server.ReleaseFault.TheVariants as releasing
+use Rattle.coap_model.specs.declared.answers.OpenFault.{OpenFault}
+use Rattle.coap_model.specs.declared.answers.OpenFault.TheVariants as opening
+use Rattle.coap_model.specs.declared.answers.ReleaseFault.{ReleaseFault}
+use Rattle.coap_model.specs.declared.answers.ReleaseFault.TheVariants as releasing
 
 -- what events come to: the server after them, and what they write
 pub record Ran : Type 0 where
@@ -64,35 +65,7 @@ abbrev pub on_connection : ServerValue → List ℕ → ℕ → (SessionValue �
 on_connection v word id does None = refused v word (Some id) 1
 on_connection v word id does (Some s) = does s
 
--- ---- `in`: takes, until the bytes are used up or one takes none
-
--- the server after some takes, how many bytes they took, and whether the last one took none
-pub record Fed : Type 0 where
-  pub server : ServerValue
-  pub count : ℕ
-  pub done : Bool
-
-abbrev pub unfed : ServerValue → Fed
-unfed v = record { server = v; count = 0; done = false }
-
--- one more take, of the bytes that are left
-abbrev pub fed_more : ℕ → List ℕ → Fed → Fed
-fed_more id left f = record { server = server_taken f.server id left; count = f.count + count_taken f.server id left; done = count_taken f.server id left == 0 }
-
--- bytes are left, and the last take took some
-abbrev pub goes_on : List ℕ → Fed → Bool
-goes_on bytes f = nat_lt f.count (length bytes) && not f.done
-
-abbrev pub fed_once : ℕ → List ℕ → Fed → Fed
-fed_once id bytes f = if goes_on bytes f then fed_more id (drop f.count bytes) f else f
-
-unfoldable pub fed_turns : ℕ → ServerValue → ℕ → List ℕ → Fed
-fed_turns zero v id bytes = unfed v
-fed_turns (suc turns) v id bytes = fed_once id bytes (fed_turns turns v id bytes)
-
--- Each take but the last takes a byte at least, so no more turns are needed than there are bytes.
-abbrev pub fed : ServerValue → ℕ → List ℕ → Fed
-fed v id bytes = fed_turns (length bytes) v id bytes
+-- ---- `in`
 
 -- the number of the reason for which a connection takes no message any more
 abbrev pub stop_number : Option SessionValue → Option ℕ

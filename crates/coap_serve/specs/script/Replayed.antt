@@ -1,10 +1,10 @@
 -- What a replay of events answers.
 use Rattle.std.specs.Prelude.{◌≡◌, ◌≢◌, ℕ, ◌+◌, Bool, true, false, List, [], ◌∷◌, ◌++◌, length, None, Result, Ok, Err}
 use Rattle.coap_store.specs.Refusals.{put_refusal, remove_refusal}
-use Rattle.coap_serve.specs.script.Events.{EventValue, Open, In, Drain, Tick, Put, Remove, End, Release, Drop, Status}
+use Rattle.coap_script.specs.script.Events.{EventValue, Open, In, Drain, Tick, Put, Remove, End, Release, Drop, Status}
 use Rattle.coap_serve.specs.script.Replay.{event_ran, replayed}
-use Rattle.coap_serve.specs.script.PartlyFed.{IsPartlyFed}
-use Rattle.coap_serve.specs.script.Shown.{events_ran, ShowsMore}
+use Rattle.coap_serve.specs.script.Shown.{events_ran}
+use Rattle.coap_serve.specs.values.Fed.{IsPartlyFed, ShowsMore}
 use Rattle.coap_serve.specs.values.Servers.{ServerValue, session_of, is_there}
 use Rattle.coap_serve.specs.values.ServerAnswers.{open_refusal}
 use Rattle.coap_serve.specs.declared.replay.ReplayFault.{ReplayFault}

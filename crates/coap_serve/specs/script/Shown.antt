@@ -1,14 +1,13 @@
 -- Which world a server shows after the events of a script: that of the calls which they make.
-use Rattle.std.specs.Prelude.{◌≡◌, ℕ, zero, suc, ◌+◌, List, [], ◌∷◌, ◌++◌, length, take, drop, Option, Some, None, Result, Ok, Err, if◌then◌else◌}
+use Rattle.std.specs.Prelude.{◌≡◌, ℕ, ◌+◌, List, [], ◌∷◌, ◌++◌, length, Option, Some, None, Result, Ok, Err}
 use Rattle.std.specs.declared.alloc.AllocError.{AllocError}
 use Rattle.coap_store.specs.Refusals.{put_refusal, remove_refusal}
-use Rattle.coap_serve.specs.script.Events.{EventValue, Open, In, Drain, Tick, Put, Remove, End, Release, Drop, Status}
-use Rattle.coap_serve.specs.script.Replay.{Fed, fed_turns, goes_on, drained, tick_refusal, event_ran, replayed}
-use Rattle.coap_serve.specs.script.PartlyFed.{IsPartlyFed}
-use Rattle.coap_serve.specs.values.Sessions.{SessionValue}
-use Rattle.coap_serve.specs.values.Servers.{ServerValue, session_of, count_taken}
+use Rattle.coap_script.specs.script.Events.{EventValue, Open, In, Drain, Tick, Put, Remove, End, Release, Drop, Status}
+use Rattle.coap_serve.specs.script.Replay.{drained, tick_refusal, event_ran, replayed}
+use Rattle.coap_serve.specs.values.Fed.{where_there, took, ShowsMore, IsPartlyTaken}
+use Rattle.coap_serve.specs.values.Servers.{ServerValue, session_of}
 use Rattle.coap_serve.specs.values.ServerAnswers.{open_refusal, released_refusal}
-use Rattle.coap_serve.specs.world.Events.{Event, Opened, Took, Wrote, Ticked, Stored, Removed, Ended, Released, Dropped}
+use Rattle.coap_model.specs.world.Events.{Event, Opened, Wrote, Ticked, Stored, Removed, Ended, Released, Dropped}
 use Rattle.coap_serve.specs.world.Shows.{Shows}
 use Rattle.coap_serve.specs.declared.replay.ReplayFault.{ReplayFault}
 use Rattle.coap_serve.specs.declared.replay.ReplayFault.TheVariants.{Write, Memory}
@@ -19,27 +18,6 @@ use Rattle.coap_serve.specs.declared.replay.ReplayFault.TheVariants.{Write, Memo
 abbrev pub unless : {F : Type 0} → Option F → Event → List Event
 unless None e = e ∷ []
 unless (Some refusal) e = []
-
--- a call on a connection that is there
-abbrev pub where_there : Option SessionValue → (SessionValue → Event) → List Event
-where_there None call = []
-where_there (Some s) call = call s ∷ []
-
--- one more take, of the bytes that are left
-abbrev pub took_more : ℕ → List ℕ → Fed → List Event
-took_more id left f = where_there (session_of id f.server.sessions) (λ s. Took id (take (count_taken f.server id left) left))
-
-abbrev pub took_once : ℕ → List ℕ → Fed → List Event
-took_once id bytes f = if goes_on bytes f then took_more id (drop f.count bytes) f else []
-
--- as many takes as `fed_turns` makes in so many turns
-unfoldable pub took_turns : ℕ → ServerValue → ℕ → List ℕ → List Event
-took_turns zero v id bytes = []
-took_turns (suc turns) v id bytes = took_turns turns v id bytes ++ took_once id bytes (fed_turns turns v id bytes)
-
--- the takes of `fed`: the last one takes none where bytes are left
-abbrev pub took : ServerValue → ℕ → List ℕ → List Event
-took v id bytes = took_turns (length bytes) v id bytes
 
 -- what an event of a script is to the world of a server: the calls that it makes and that are not refused
 unfoldable pub events_made : ServerValue → EventValue → List Event
@@ -60,15 +38,6 @@ events_ran v [] = []
 events_ran v (e ∷ es) = events_made v e ++ events_ran (event_ran v e).server es
 
 -- ---- one event
-
--- whatever a server shows, the one after it shows with these events behind it
-abbrev pub ShowsMore : ServerValue → ServerValue → List Event → Type 0
-ShowsMore v after more = (before : List Event) → Shows v before → Shows after (before ++ more)
-
--- Memory was refused within an `in`: it made some takes, and then that of the bytes which were taken all the same.
-pub record IsPartlyTaken (v : ServerValue) (id : ℕ) (bytes : List ℕ) (after : ServerValue) (more : List Event) : Type 0 where
-  pub fed : IsPartlyFed v id bytes after
-  pub made : more ≡ took_turns fed.turns v id bytes ++ Took id (take fed.count (drop (fed_turns fed.turns v id bytes).count bytes)) ∷ []
 
 -- what an event made before memory was refused for it: none, but for an `in`
 abbrev pub IsPartlyMade : ServerValue → EventValue → ServerValue → List Event → Type 0

@@ -1,6 +1,6 @@
 -- What a run of a door promises: whole turns, one behind the other, as its clock and its door tell them (our definition).
 use Rattle.std.specs.Prelude.{◌≡◌, ◌≤◌, ◌⊎◌, ℕ, ◌+◌, nat_le, nat_lt, Bool, List, [], ◌∷◌, ◌++◌, length, Option, Result, Ok, Err, is_none, if◌then◌else◌}
-use Rattle.coap_serve.specs.Configs.{ConfigValues}
+use Rattle.coap_model.specs.Configs.{ConfigValues}
 use Rattle.coap_serve.specs.declared.door.peer.Peer.{Peer}
 use Rattle.coap_serve.specs.declared.serve.IoFault.{IoFault}
 use Rattle.coap_serve.specs.declared.serve.IoFault.TheVariants.{Read, Write, Memory, Turns}

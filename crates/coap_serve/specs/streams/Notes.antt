@@ -2,7 +2,7 @@
 use Rattle.std.specs.Prelude.{◌≡◌, ◌≢◌, ◌≤◌, ◌+◌, ℕ, Bool, List, Option}
 use Rattle.std.specs.List.{AllByRecursion}
 use Rattle.coap_serve.specs.values.Servers.{ServerValue, AreSettled, server_opened, server_ticked, server_dropped}
-use Rattle.coap_serve.specs.values.Dues.{stamp_of}
+use Rattle.coap_serve.specs.values.ServerDues.{stamp_of}
 use Rattle.coap_serve.specs.streams.Turns.{IsServedOnce, wants_of, FarEnd}
 use Rattle.coap_io.specs.streams.Wires.{WireTrace}
 use Rattle.coap_serve.specs.declared.door.peer.Course.{Course}

@@ -2,15 +2,15 @@
 use Rattle.std.specs.Prelude.{◌≡◌, ◌≢◌, ◌⊎◌, ℕ, ◌+◌, ◌≤◌, List, [], ◌∷◌, ◌++◌, length, None, Some, Result, Ok, Err}
 use Rattle.coap_conn.specs.Limits.{AreInRange}
 use Rattle.coap_conn.specs.Calls.{end_reason}
-use Rattle.coap_serve.specs.Configs.{ConfigValues}
+use Rattle.coap_model.specs.Configs.{ConfigValues}
 use Rattle.coap_serve.specs.declared.serve.Turn.{Turn}
 use Rattle.coap_serve.specs.declared.serve.IoFault.{IoFault}
 use Rattle.coap_serve.specs.declared.serve.IoFault.TheVariants.{Read, Write, Memory, Turns}
 use Rattle.coap_serve.specs.values.Servers.{ServerValue}
-use Rattle.coap_serve.specs.world.Sides.{is_cut}
-use Rattle.coap_serve.specs.world.Events.{Event, spelled_on, world_after}
+use Rattle.coap_model.specs.world.Sides.{is_cut}
+use Rattle.coap_model.specs.world.Events.{Event, spelled_on, world_after}
 use Rattle.coap_serve.specs.world.Shows.{Shows}
-use Rattle.coap_serve.specs.streams.Output.{only_id, stream_of, world_for, outcome, stdio_output}
+use Rattle.coap_model.specs.streams.Output.{only_id, stream_of, world_for, outcome, stdio_output}
 use Rattle.coap_serve.specs.streams.StdioRun.{IsLastByte}
 
 -- A server of this configuration stands behind these bytes: it shows events that leave the world for these bytes, and in which the

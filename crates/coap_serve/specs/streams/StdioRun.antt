@@ -9,10 +9,10 @@ use Rattle.coap_serve.specs.declared.serve.Report.{Report}
 use Rattle.coap_serve.specs.declared.serve.IoFault.{IoFault}
 use Rattle.coap_serve.specs.declared.serve.IoFault.TheVariants.{Read, Write, Memory, Turns}
 use Rattle.coap_store.specs.Changes.{IsPut}
-use Rattle.coap_serve.specs.Configs.{ConfigValues}
-use Rattle.coap_serve.specs.world.Sides.{Side, is_cut, waiting_on}
-use Rattle.coap_serve.specs.world.View.{change_made}
-use Rattle.coap_serve.specs.streams.Output.{only_id, stream_of, world_for, side_for, outcome, stdio_output}
+use Rattle.coap_model.specs.Configs.{ConfigValues}
+use Rattle.coap_model.specs.world.Sides.{Side, is_cut, waiting_on}
+use Rattle.coap_model.specs.world.View.{change_made}
+use Rattle.coap_model.specs.streams.Output.{only_id, stream_of, world_for, side_for, outcome, stdio_output}
 
 -- no read found the end
 abbrev pub AreNotEmpty : List (List ℕ) → Type 0

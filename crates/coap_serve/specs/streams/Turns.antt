@@ -4,10 +4,11 @@ use Rattle.std.specs.List.{AllByRecursion}
 use Rattle.coap_conn.specs.declared.reason.Reason.{Reason}
 use Rattle.coap_serve.specs.values.Servers.{ServerValue, session_of, server_ended, server_written}
 use Rattle.coap_serve.specs.values.ServerAnswers.{can_take_on, stop_on}
-use Rattle.coap_serve.specs.script.Replay.{fed}
-use Rattle.coap_serve.specs.values.Dues.{outlook_of, stamp_of, same_stamp, sooner}
+use Rattle.coap_serve.specs.values.Dues.{sooner}
+use Rattle.coap_serve.specs.values.Fed.{fed}
+use Rattle.coap_serve.specs.values.ServerDues.{outlook_of, stamp_of, same_stamp}
 use Rattle.coap_serve.specs.values.Flushes.{waiting_at}
-use Rattle.coap_io.specs.streams.Wires.{IsTold, WireTrace, IsReadOnce, IsWrittenOnce, read_room}
+use Rattle.coap_io.specs.streams.Wires.{IsTold, WireTrace, IsReadOnce, IsWrittenOnce}
 use Rattle.coap_serve.specs.declared.door.peer.Course.{Course}
 use Rattle.coap_serve.specs.declared.door.peer.Course.TheVariants.{Open, Over}
 use Rattle.coap_serve.specs.declared.door.wants.Wants.{Wants}
@@ -19,6 +20,7 @@ use Rattle.coap_serve.specs.declared.server.Outlook.{Outlook}
 use Rattle.coap_serve.specs.declared.server.Stamp.{Stamp}
 use Rattle.coap_io.specs.declared.wire.Got.{Got}
 use Rattle.coap_io.specs.declared.wire.Got.TheVariants.{Bytes, Later, End, Failed}
+use Rattle.coap_io.specs.declared.rest.TheConstants.{READ_SIZE}
 
 -- A wire is read only where it may be, nothing is left of what was read before, and its connection takes bytes.
 abbrev pub is_heard : (may_read : Bool) → ServerValue → ℕ → List ℕ → Bool
@@ -71,7 +73,7 @@ course_of wrote is_over = if has_failed wrote || is_over then Over else Open
 -- The bytes that are there to be taken, and what the wire tells then: if a read is due, the wire was read once and gave these bytes;
 -- otherwise they were left before, and the wire was not touched.
 abbrev pub IsLaidOut : (is_due : Bool) → List ℕ → WireTrace → Got → List ℕ → WireTrace → Type 0
-IsLaidOut true rest wire heard bytes after = IsReadOnce read_room wire after heard bytes
+IsLaidOut true rest wire heard bytes after = IsReadOnce READ_SIZE wire after heard bytes
 IsLaidOut false rest wire heard bytes after = (heard ≡ Later) × (bytes ≡ rest) × (after ≡ wire)
 
 -- What was offered to a wire was written once if it is not empty; otherwise the wire was not touched.

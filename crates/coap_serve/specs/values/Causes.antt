@@ -1,15 +1,13 @@
 -- What makes connections due, and which of them it cannot touch.
-use Rattle.std.specs.Prelude.{◌≡◌, ◌≢◌, ◌≤◌, ◌<◌, slice_get, ℕ, ◌+◌, ◌*◌, ◌%◌, Bool, false, List, [], ◌∷◌, map, Option, Some, None, ◌==◌, if◌then◌else◌}
+use Rattle.std.specs.Prelude.{◌≡◌, ◌≢◌, ℕ, ◌+◌, ◌*◌, ◌%◌, Bool, ◌||◌, false, List, [], ◌∷◌, map, nat_le, Option, Some, None, ◌==◌, if◌then◌else◌}
 use Rattle.std.specs.List.{AllByRecursion, list_any}
-use Rattle.std.specs.Map.{values_of}
 use Rattle.coap_store.specs.Paths.{Path}
 use Rattle.coap_store.specs.Answer.{Change, Nothing, Put, Delete}
 use Rattle.coap_serve.specs.declared.host.Host.{Host}
 use Rattle.coap_serve.specs.declared.cause.Cause.{Cause}
 use Rattle.coap_serve.specs.declared.cause.Cause.TheVariants as cause
-use Rattle.coap_serve.specs.values.Sessions.{ObserverValue, SessionValue, MarkedSession, changed_mark, IsSettled}
+use Rattle.coap_serve.specs.values.Sessions.{ObserverValue, SessionValue, MarkedSession, changed_mark}
 use Rattle.coap_serve.specs.values.Dues.{IsBefore, due_on, tells_time}
-use Rattle.coap_serve.specs.values.Servers.{changed_at, AreAllMarked}
 
 -- ---- the hash of a path, below 256
 
@@ -34,24 +32,29 @@ change_hash (Delete path) = Some (path_hash path)
 
 -- ---- what a cause touches
 
+-- an observer observes a path with this hash
+abbrev pub observes_hash : ℕ → ObserverValue → Bool
+observes_hash hash o = path_hash o.path == hash
+
 abbrev pub ObservesNone : ℕ → List ObserverValue → Type 0
 ObservesNone hash observers = AllByRecursion (λ o. path_hash o.path ≢ hash) observers
+
+-- a moment has come, if there is one
+abbrev pub has_come : ℕ → Option ℕ → Bool
+has_come now None = false
+has_come now (Some due) = nat_le due now
+
+-- A cause may make something due on a connection: an observer has a path with its hash; or, as the moment moves on, an observer tells the
+-- moment, or something came due after the moment before.
+abbrev pub may_touch : Cause → ℕ → SessionValue → Bool
+may_touch (cause.Path hash) now s = list_any (observes_hash hash) s.observers
+may_touch (cause.Moment before) now s = list_any tells_time s.observers || has_come now (due_on before s)
 
 -- A connection does not observe what changed: no path with its hash, or, where it is the moment, nothing was due on it between the
 -- moment before and this one.
 abbrev pub IsUntouched : Cause → ℕ → SessionValue → Type 0
 IsUntouched (cause.Path hash) now s = ObservesNone hash s.observers
 IsUntouched (cause.Moment before) now s = IsBefore now (due_on before s)
-
--- every connection that it does not touch is settled
-abbrev pub AreSettledUntouched : Cause → Host → List (ℕ × SessionValue) → Type 0
-AreSettledUntouched why host sessions = AllByRecursion (λ e. IsUntouched why host.now e.1 → IsSettled host e.1) sessions
-
--- the same of a change of the path with this hash, where the connection at an index is settled too
-abbrev pub AreOthersSettled : Option ℕ → ℕ → Host → List (ℕ × SessionValue) → Type 0
-AreOthersSettled None at host sessions = Unit {0}
-AreOthersSettled (Some hash) at host sessions =
-    (s : SessionValue) → IsSettled host s → AreSettledUntouched (cause.Path hash) host (changed_at at (λ _. s) sessions)
 
 -- ---- the marks that a cause sets
 
@@ -64,11 +67,6 @@ is_concerned (cause.Moment before) o = tells_time o
 abbrev pub ConcernsNone : Cause → List ObserverValue → Type 0
 ConcernsNone (cause.Path hash) observers = ObservesNone hash observers
 ConcernsNone (cause.Moment before) observers = list_any tells_time observers ≡ false
-
--- no connection from one index up to another one is touched
-abbrev pub AreUntouched : Cause → ℕ → ℕ → ℕ → List (ℕ × MarkedSession) → Type 0
-AreUntouched why now from to sessions =
-    (i : ℕ) (s : MarkedSession) → from ≤ i → i < to → slice_get (values_of sessions) i ≡ Some s → IsUntouched why now s.session × ConcernsNone why s.session.observers
 
 abbrev pub mark_anew : Cause → Host → ObserverValue → Option ℕ → Option ℕ
 mark_anew why host o mark = if is_concerned why o then changed_mark host o else mark
@@ -87,11 +85,3 @@ marks_after (Some hash) host observers marks = marks_anew (cause.Path hash) host
 -- once these are set anew, all are as they are to be
 abbrev pub IsMarkedBut : Cause → Host → MarkedSession → Type 0
 IsMarkedBut why host s = marks_anew why host s.session.observers s.marks ≡ map (changed_mark host) s.session.observers
-
-abbrev pub AreMarkedBut : Cause → Host → List (ℕ × MarkedSession) → Type 0
-AreMarkedBut why host sessions = AllByRecursion (λ e. IsMarkedBut why host e.1) sessions
-
--- the same of a change of the path with this hash, if there was any
-abbrev pub AreMarkedAfter : Option ℕ → Host → List (ℕ × MarkedSession) → Type 0
-AreMarkedAfter None host sessions = AreAllMarked host sessions
-AreMarkedAfter (Some hash) host sessions = AreMarkedBut (cause.Path hash) host sessions

@@ -1,28 +1,24 @@
 -- What the calls of a server answer, and why they are refused.
-use Rattle.std.specs.Prelude.{◌≡◌, ◌<◌, ℕ, Bool, true, false, List, length, take, Option, Some, None, Result, Ok, Err, option_map, nat_le, nat_lt, ◌==◌, if◌then◌else◌}
+use Rattle.std.specs.Prelude.{◌≡◌, ℕ, Bool, true, false, List, length, take, Option, Some, None, Result, Ok, Err, option_map, nat_le, nat_lt, ◌==◌, if◌then◌else◌}
 use Rattle.coap_conn.specs.declared.reason.Reason.{Reason}
 use Rattle.coap_conn.specs.declared.phase.SendFault.{SendFault}
 use Rattle.coap_conn.specs.declared.phase.SendFault.TheVariants as send
-use Rattle.coap_frame.specs.Raising.{greatest_size}
-use Rattle.coap_conn.specs.Phases.{stop_of, is_open}
-use Rattle.coap_conn.specs.Fit.{fits}
-use Rattle.coap_conn.specs.LinkValue.{is_finished, limit_in, own_csm}
+use Rattle.coap_conn.specs.Phases.{stop_of}
+use Rattle.coap_conn.specs.LinkValue.{is_finished}
 use Rattle.coap_conn.specs.Release.{release_refusal}
-use Rattle.coap_serve.specs.values.Sessions.{SessionValue, session_ready, session_takes, taking, RefusesPiece}
+use Rattle.coap_serve.specs.values.Sessions.{SessionValue, session_takes, taking, RefusesPiece}
 use Rattle.coap_serve.specs.values.Servers.{ServerValue, session_of, server_taken}
-use Rattle.coap_serve.specs.declared.server.Handled.{Handled}
-use Rattle.coap_serve.specs.declared.server.Handled.TheVariants as handled
-use Rattle.coap_serve.specs.declared.server.Status.{Status}
-use Rattle.coap_serve.specs.declared.server.OpenFault.{OpenFault}
-use Rattle.coap_serve.specs.declared.server.OpenFault.TheVariants as opening
-use Rattle.coap_serve.specs.declared.server.TakeFault.{TakeFault}
-use Rattle.coap_serve.specs.declared.server.TakeFault.TheVariants as taken
-use Rattle.coap_serve.specs.declared.server.WrittenFault.{WrittenFault}
-use Rattle.coap_serve.specs.declared.server.WrittenFault.TheVariants as writing
-use Rattle.coap_serve.specs.declared.server.AnnounceFault.{AnnounceFault}
-use Rattle.coap_serve.specs.declared.server.AnnounceFault.TheVariants as announcing
-use Rattle.coap_serve.specs.declared.server.ReleaseFault.{ReleaseFault}
-use Rattle.coap_serve.specs.declared.server.ReleaseFault.TheVariants as releasing
+use Rattle.coap_model.specs.declared.answers.Handled.{Handled}
+use Rattle.coap_model.specs.declared.answers.Handled.TheVariants as handled
+use Rattle.coap_model.specs.declared.answers.Status.{Status}
+use Rattle.coap_model.specs.declared.answers.OpenFault.{OpenFault}
+use Rattle.coap_model.specs.declared.answers.OpenFault.TheVariants as opening
+use Rattle.coap_model.specs.declared.answers.TakeFault.{TakeFault}
+use Rattle.coap_model.specs.declared.answers.TakeFault.TheVariants as taken
+use Rattle.coap_model.specs.declared.answers.WrittenFault.{WrittenFault}
+use Rattle.coap_model.specs.declared.answers.WrittenFault.TheVariants as writing
+use Rattle.coap_model.specs.declared.answers.ReleaseFault.{ReleaseFault}
+use Rattle.coap_model.specs.declared.answers.ReleaseFault.TheVariants as releasing
 
 -- ---- open
 
@@ -55,11 +51,6 @@ written_refusal v id count = written_refusal_on count (session_of id v.sessions)
 
 -- ---- release
 
-abbrev pub release_fault : SendFault → ReleaseFault
-release_fault send.NotOpen = releasing.NotOpen
-release_fault send.NoRoom = releasing.NoRoom
-release_fault send.PeerTooSmall = releasing.PeerTooSmall
-
 -- no connection has the number, or its link refuses
 abbrev pub released_refusal_on : Option SessionValue → Option ReleaseFault
 released_refusal_on None = Some releasing.NoSuch
@@ -67,41 +58,6 @@ released_refusal_on (Some s) = option_map release_fault (release_refusal s.link)
 
 abbrev pub released_refusal : ServerValue → ℕ → Option ReleaseFault
 released_refusal v id = released_refusal_on (session_of id v.sessions)
-
--- ---- announce
-
--- Why a size is not announced on a connection, memory aside, in this order: it is not open; the size is below the one in force; it is
--- above the greatest of all; the queue has no room for the greatest message sent; the peer does not take the announcement.
-abbrev pub unfit_refusal : SessionValue → ℕ → Option AnnounceFault
-unfit_refusal s size = if fits (limit_in s.link) (own_csm size) then None else Some announcing.PeerTooSmall
-
-abbrev pub roomless_refusal : SessionValue → ℕ → Option AnnounceFault
-roomless_refusal s size = if session_ready s then unfit_refusal s size else Some announcing.NoRoom
-
-abbrev pub size_refusal : SessionValue → ℕ → Option AnnounceFault
-size_refusal s size =
-    if nat_lt size s.link.own_max then Some announcing.Lower
-    else (if nat_lt greatest_size size then Some announcing.TooLarge else roomless_refusal s size)
-
-abbrev pub session_refusal : SessionValue → ℕ → Option AnnounceFault
-session_refusal s size = if is_open s.link.phase then size_refusal s size else Some announcing.NotOpen
-
--- no connection has the number, or it refuses
-abbrev pub announced_refusal_on : ℕ → Option SessionValue → Option AnnounceFault
-announced_refusal_on size None = Some announcing.NoSuch
-announced_refusal_on size (Some s) = session_refusal s size
-
--- room is wanted for a greater message
-abbrev pub WantsRoom : ℕ → Option SessionValue → Type 0
-WantsRoom size None = ⊥
-WantsRoom size (Some s) = s.link.own_max < size
-
--- It is announced where nothing refuses it; another fault than Memory is the refusal; and memory is refused only where nothing else
--- refuses a greater size.
-abbrev pub IsAnnounced : {T : Type 0} → ℕ → Option SessionValue → Result T AnnounceFault → Type 0
-IsAnnounced size there (Ok done) = announced_refusal_on size there ≡ None
-IsAnnounced size there (Err announcing.Memory) = (announced_refusal_on size there ≡ None) × WantsRoom size there
-IsAnnounced size there (Err fault) = announced_refusal_on size there ≡ Some fault
 
 -- ---- take
 
@@ -134,11 +90,6 @@ handled_by v id piece = handled_on v piece (session_of id v.sessions) (stop_on (
 abbrev pub RefusesPieceOn : ServerValue → List ℕ → ℕ → Option SessionValue → Type 0
 RefusesPieceOn v piece bytes None = ⊥
 RefusesPieceOn v piece bytes (Some s) = RefusesPiece v.host s piece bytes
-
--- the number of a fault
-abbrev pub take_number : TakeFault → ℕ
-take_number taken.NoSuch = 1
-take_number (taken.Memory bytes) = 2
 
 -- A piece is not taken: no connection has the number, and nothing changes; or memory was refused, and the server is the one that
 -- took so many bytes of the piece.

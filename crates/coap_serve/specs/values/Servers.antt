@@ -4,9 +4,9 @@ use Rattle.std.specs.List.{AllByRecursion, IsDistinct, position_or_len}
 use Rattle.std.specs.Map.{keys_of, values_of}
 use Rattle.coap_store.specs.Paths.{Path}
 use Rattle.coap_store.specs.Store.{put_in, removed_in}
-use Rattle.coap_serve.specs.Configs.{ConfigValues}
+use Rattle.coap_model.specs.Configs.{ConfigValues}
 use Rattle.coap_serve.specs.declared.host.Host.{Host}
-use Rattle.coap_serve.specs.values.Sessions.{SessionValue, MarkedSession, IsMarked, Taking, new_session, taking, host_changed, session_written, session_ended, session_released, session_announced, session_settled, IsSettled}
+use Rattle.coap_serve.specs.values.Sessions.{empty_host, SessionValue, MarkedSession, IsMarked, Taking, new_session, taking, host_changed, session_written, session_ended, session_released, session_announced, session_settled, IsSettled}
 
 -- the configuration, the resources and the moment, the number given last, and the connections in order of their numbers
 pub record ServerValue : Type 0 where
@@ -76,10 +76,7 @@ is_there (Some x) = true
 
 -- at first nothing is stored
 abbrev pub new_host : ConfigValues → Host
-new_host c = record {
-  store = record { dynamic_max = c.dynamic_max; rep_max = c.rep_max; resources = []; versions = c.starts.versions };
-  now = c.starts.moment;
-}
+new_host c = empty_host c.dynamic_max c.rep_max c.starts.versions c.starts.moment
 
 -- a new server has no connection
 abbrev pub new_server : ConfigValues → ServerValue

@@ -5,7 +5,6 @@ use Rattle.coap_wire.specs.Reading.{message_of}
 use Rattle.coap_wire.specs.Stream.{OfFrame}
 use Rattle.coap_wire.specs.declared.fault.FormatFault.{FormatFault}
 use Rattle.coap_frame.specs.Framing.{Framing, Finding, Nothing, AFrame, AFault, framing}
-use Rattle.coap_frame.specs.Raising.{greatest_size}
 use Rattle.coap_conn.specs.declared.phase.Role.TheVariants.{Server}
 use Rattle.coap_conn.specs.declared.phase.Reject.{Reject}
 use Rattle.coap_conn.specs.declared.phase.Reject.TheVariants as reject
@@ -29,8 +28,9 @@ use Rattle.coap_store.specs.Changes.{IsPut}
 use Rattle.coap_store.specs.Messages.{response_with_observe}
 use Rattle.coap_store.specs.Notifications.{notification_of}
 use Rattle.coap_serve.specs.declared.host.Host.{Host}
-use Rattle.coap_serve.specs.world.Sides.{is_cut, moment_after, held_message}
-use Rattle.coap_serve.specs.world.Observers.{format_of, has_place, is_whole, with_entry, goes_on, notification_message, first_becomes}
+use Rattle.coap_model.specs.world.Sides.{is_cut, moment_after, held_message}
+use Rattle.coap_model.specs.world.Observers.{format_of, has_place, is_whole, with_entry, goes_on, notification_message, first_becomes}
+use Rattle.coap_wire.specs.declared.sizes.TheConstants.{LARGEST_MESSAGE}
 
 -- an observer: the format that it was told, and the mark of the state that it was told
 pub record ObserverValue : Type 0 where
@@ -59,6 +59,15 @@ pub record MarkedSession : Type 0 where
 -- the greatest message that it takes, as announced last
 abbrev pub session_max : SessionValue → ℕ
 session_max v = v.link.own_max
+
+-- ---- the host
+
+-- a host at a time whose store is empty
+abbrev pub empty_host : (dynamic_max rep_max versions now : ℕ) → Host
+empty_host dynamic_max rep_max versions now = record {
+  store = record { dynamic_max = dynamic_max; rep_max = rep_max; resources = []; versions = versions };
+  now = now;
+}
 
 -- ---- marks
 
@@ -241,7 +250,7 @@ session_released v = session_with v.frame (link_after v.link call.Release) v.obs
 
 -- a size may be announced: none below the one in force, and at most the greatest of all, where there is room and the peer takes it
 abbrev pub session_raises : SessionValue → ℕ → Bool
-session_raises v size = (nat_le v.link.own_max size && nat_le size greatest_size) && (session_ready v && may_announce v.link size)
+session_raises v size = (nat_le v.link.own_max size && nat_le size LARGEST_MESSAGE) && (session_ready v && may_announce v.link size)
 
 abbrev pub session_announced : SessionValue → ℕ → SessionValue
 session_announced v size = session_with v.frame (link_after v.link (call.Announce size)) v.observers

@@ -5,7 +5,7 @@ use Rattle.coap_store.specs.State.{place_of, is_dynamic}
 use Rattle.coap_serve.specs.values.Causes.{path_hash}
 use Rattle.coap_serve.specs.declared.cause.Cause.{Cause}
 use Rattle.coap_serve.specs.declared.cause.Cause.TheVariants as cause
-use Rattle.coap_serve.specs.declared.observers.Observer.{Observer}
+use Rattle.coap_serve.specs.declared.observer.Observer.{Observer}
 use Rattle.coap_serve.specs.declared.chains.Chains.{Chains}
 
 -- what an observer is found by: its path, and the indices of those before it

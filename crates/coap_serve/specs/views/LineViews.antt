@@ -1,8 +1,8 @@
 -- How an event that was run, and its line, are seen in contracts.
 use Rattle.std.specs.Prelude.{◌≡◌, ℕ, List, length, Option, Some, None, Result, Ok, Err}
 use Rattle.std.specs.declared.alloc.AllocError.{AllocError}
-use Rattle.coap_serve.specs.script.Events.{EventValue}
-use Rattle.coap_serve.specs.script.Lines.{out_line}
+use Rattle.coap_script.specs.script.Events.{EventValue}
+use Rattle.coap_script.specs.script.Lines.{out_line}
 use Rattle.coap_serve.specs.script.Replay.{event_ran, drained}
 use Rattle.coap_serve.specs.script.Replayed.{IsUnrun}
 use Rattle.coap_serve.specs.values.Sessions.{SessionValue}

@@ -5,7 +5,7 @@ use Rattle.std.specs.Vec.{vec_capacity}
 use Rattle.coap_serve.specs.values.Sessions.{ObserverValue, ObserversValue}
 use Rattle.coap_serve.specs.values.Dues.{tells_time}
 use Rattle.coap_serve.specs.values.Causes.{path_hash}
-use Rattle.coap_serve.specs.declared.observers.Observer.{Observer}
+use Rattle.coap_serve.specs.declared.observer.Observer.{Observer}
 use Rattle.coap_serve.specs.declared.observers.Observers.TheInside.{Inside}
 use Rattle.coap_serve.specs.views.ChainViews.{linked, AreChainedTo}
 use Rattle.coap_serve.specs.views.FlagViews.{AreFlagged}

@@ -1,33 +1,13 @@
 -- Which world a server shows: the server as the code holds it, computed from the events alone.
-use Rattle.std.specs.Prelude.{◌≡◌, ℕ, ◌≤◌, List, [], map, Option, Some, None, if◌then◌else◌, ◌==◌, ◌∷◌, ◌++◌, take}
-use Rattle.std.specs.Str.Parse.{digits_value}
-use Rattle.coap_conn.specs.History.{link_of}
-use Rattle.coap_conn.specs.Phases.{takes_messages}
-use Rattle.coap_store.specs.Store.{Representation}
-use Rattle.coap_serve.specs.Configs.{ConfigValues}
-use Rattle.coap_serve.specs.values.Sessions.{ObserverValue, SessionValue}
+use Rattle.std.specs.Prelude.{◌≡◌, ℕ, ◌≤◌, List, [], map, ◌∷◌, ◌++◌, take}
+use Rattle.coap_model.specs.Configs.{ConfigValues}
+use Rattle.coap_serve.specs.values.Sessions.{SessionValue}
 use Rattle.coap_serve.specs.values.Servers.{ServerValue}
-use Rattle.coap_serve.specs.world.Observers.{Observer, format_of}
-use Rattle.coap_serve.specs.world.Sides.{Side}
-use Rattle.coap_serve.specs.world.World.{Place, World}
-use Rattle.coap_serve.specs.world.Events.{Event, Took, stream_on, world_after, AreAccepted}
-use Rattle.coap_serve.specs.declared.server.TakeFault.{TakeFault}
-use Rattle.coap_serve.specs.declared.server.TakeFault.TheVariants as fault
-
--- what tells a state from the others of its path: its version, and for what is built in the number that it says
-abbrev pub mark_told : Option Representation → ℕ
-mark_told None = 0
-mark_told (Some r) = if r.version == 0 then digits_value 10 r.bytes else r.version
-
-abbrev pub observer_shown : Observer → ObserverValue
-observer_shown o = record { token = o.token; path = o.path; format = format_of o.told; mark = mark_told o.told }
-
--- the bytes kept of an unfinished frame: what is left of the bytes so far, where messages are taken
-abbrev pub kept_on : Side → List ℕ → List ℕ
-kept_on s rest = if takes_messages s.history.phase then rest else []
-
-abbrev pub session_shown : List ℕ → Side → SessionValue
-session_shown rest s = record { frame = kept_on s rest; link = link_of s.history; observers = map observer_shown s.observers }
+use Rattle.coap_serve.specs.views.SessionShows.{session_shown}
+use Rattle.coap_model.specs.world.World.{Place, World}
+use Rattle.coap_model.specs.world.Events.{Event, Took, stream_on, world_after, AreAccepted}
+use Rattle.coap_model.specs.declared.answers.TakeFault.{TakeFault}
+use Rattle.coap_model.specs.declared.answers.TakeFault.TheVariants as fault
 
 abbrev pub place_shown : ℕ → List Event → Place → ℕ × SessionValue
 place_shown M events p = (p.id, session_shown (stream_on M p.id events).rest p.side)

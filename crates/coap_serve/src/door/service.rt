@@ -5,10 +5,10 @@ ghost use Rattle.coap_serve.specs.streams.Notes.{IsNoted};
 
 use super::peer::Peers;
 use super::turn::take_turn;
-use crate::config::Config;
 use crate::serve::IoFault;
-use crate::server::{Backwards, Server};
+use crate::server::Server;
 use coap_io::{Door, Ready, Wait, Wire};
+use coap_model::{Backwards, Config};
 use coap_store::{PathKey, StoreFault};
 use indexmap::IndexMap;
 use std::alloc::{AllocError, Global};

@@ -1,15 +1,15 @@
 //! The bytes of a server's connections: taken, and written.
 
 use super::sessions::{find, flush_at, settle_after, what_was_handled, written_at};
-use super::{ConnId, Flushed, Server, TakeFault, Taken, WrittenFault};
+use super::{Flushed, Server};
 use coap_io::{Outlet, WriteFailed};
+use coap_model::{ConnId, TakeFault, Taken, WrittenFault};
 use std::alloc::AllocError;
 
 impl Server {
     ghost use Rattle.std.specs.Prelude.{◌≡◌, ◌+◌, ◌≤◌, ◌++◌, ◌∷◌, ⊤, List, [], length, take, true, false, is_err, is_some, IfOk, IfErr, IfSome, OnOk, OnErr, option_copied};
-    ghost use Rattle.coap_serve.specs.Prelude.{sem, follows_so, none, RefusedBy, IsPartlyFed, fed, took, ShowsMore, ShowsPart, AddsBytes, WritesPart, waiting_at, more_at, IsFlushedOnce, session_of, is_there, count_taken, server_taken, server_written, can_take_on, handled_by, IsNotTaken, written_refusal, front_of, stop_on, LiesAt, Event, Took, Wrote, takes, handled_in, Shows, ShowsRefused, IsRefusedFor};
+    ghost use Rattle.coap_serve.specs.Prelude.{sem, follows_so, none, RefusedBy, IsPartlyFed, fed, took, ShowsMore, ShowsPartlyFed, AddsBytes, WritesPart, waiting_at, more_at, IsFlushedOnce, session_of, is_there, count_taken, server_taken, server_written, can_take_on, handled_by, IsNotTaken, written_refusal, front_of, stop_on, LiesAt, Event, Took, Wrote, takes, handled_in, Shows, ShowsRefused, IsRefusedFor};
     ghost use Rattle.coap_serve.specs.contracts.server.Server.{the_row};
-    ghost use Rattle.coap_serve.specs.script.Events as event;
 
     /// Whether a connection takes bytes: it is there, has neither stopped nor been released, and has room in its queue
     /// for the greatest message sent.
@@ -108,7 +108,7 @@ impl Server {
         ensures after { OnOk result (self.new ≡ (fed self.old id bytes.now).server) }
         ensures shows { OnOk result (ShowsMore self.old self.new (took self.old id bytes.now)) }
         ensures err { OnErr result (IsPartlyFed self.old id bytes.now self.new) }
-        ensures shows_refused { OnErr result (ShowsPart self.old (event.In id bytes.now) self.new) }
+        ensures shows_refused { OnErr result (ShowsPartlyFed self.old id bytes.now self.new) }
     {
         let Some(at) = find(&self.sessions, id) else {
             return Ok(0);

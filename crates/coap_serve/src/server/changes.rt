@@ -1,9 +1,10 @@
 //! What changes for every connection of a server: the moment, and what is stored.
 
 use super::sessions::{next_touched, settle_touched};
-use super::{Backwards, Server, Stamp};
+use super::{Server, Stamp};
 use crate::cause::Cause;
 use crate::path_hash::hash_of;
+use coap_model::Backwards;
 use coap_store::{PathKey, StoreFault};
 
 impl Server {

@@ -1,8 +1,9 @@
 //! The connections of a server: opened, ended, released, dropped, and how each is.
 
 use super::sessions::{announce_at, end_at, find, release_at};
-use super::{AnnounceFault, ConnId, NoSuch, OpenFault, Outlook, ReleaseFault, Server, Status};
+use super::{Outlook, Server};
 use crate::session::Session;
+use coap_model::{AnnounceFault, ConnId, NoSuch, OpenFault, ReleaseFault, Status};
 
 impl Server {
     ghost use Rattle.std.specs.Prelude.{◌≡◌, ◌+◌, ◌++◌, ◌∷◌, List, [], is_ok, is_none, IfOk, OnOk, OnErr};

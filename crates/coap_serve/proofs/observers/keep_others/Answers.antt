@@ -2,11 +2,11 @@ use Rattle.std.proofs.Common.{◌≡◌, ◌≤◌, ℕ, Bool, List, length, rul
 use Rattle.coap_serve.specs.Prelude.{filter, not, same_bytes, observer_value}
 use Rattle.std.proofs.lemmas.Bool.{ltb-false}
 use Rattle.std.proofs.lemmas.Fn.{filter_same}
-use Rattle.coap_serve.specs.declared.observers.Observer.{Observer}
+use Rattle.coap_serve.specs.declared.observer.Observer.{Observer}
 use Rattle.coap_serve.proofs.values.EntryLemmas.{others_seen}
 use Rattle.coap_serve.specs.Prelude.{IsTagged}
 use Rattle.coap_serve.proofs.values.TagLemmas.{all_kept_stay, others_keep_marks}
-use Rattle.coap_serve.proofs.world.EntryLemmas.{all_filter}
+use Rattle.coap_model.proofs.world.EntryLemmas.{all_filter}
 use Rattle.coap_serve.proofs.observers.keep_others.Goals as goal
 
 abbrev keeps : List ℕ → Observer → Bool

@@ -5,7 +5,7 @@ use Rattle.coap_serve.proofs.streams.TakeLemmas.{front_served, front_cut, front_
 use Rattle.coap_serve.proofs.streams.PieceLemmas.{serves_none, served_all, serves_more, serves_last, cut_off, piece_refused, is_filled, is_used_up}
 use Rattle.coap_serve.proofs.serve.serve_piece.Given.{Over}
 use Rattle.coap_serve.proofs.serve.serve_piece.Goals as goal
-use Rattle.coap_serve.proofs.values.OptionLemmas.{there_is, there_is_none}
+use Rattle.coap_model.proofs.OptionLemmas.{there_is, there_is_none}
 
 pub loop-rest-init : goal.loop-rest-init
 loop-rest-init g c = record { serves = λ k bytes goes. serves_none k c.args.server.now c.args.id bytes c.args.piece.now _ goes; works = c.requires.works; few = omega arith }

@@ -3,7 +3,7 @@ use Rattle.std.proofs.lemmas.List.{length-map, length_push, map_push}
 use Rattle.coap_serve.specs.Prelude.{observer_value, mark_in, IsTagged, concerns_path, last_in}
 use Rattle.coap_serve.proofs.values.ChainLemmas.{entered_chained}
 use Rattle.coap_serve.proofs.values.FlagLemmas.{entered_flagged}
-use Rattle.coap_serve.proofs.world.EntryLemmas.{all_append}
+use Rattle.coap_model.proofs.world.EntryLemmas.{all_append}
 use Rattle.coap_serve.proofs.observers.Observers.enter.Goals as goal
 
 pub invariant_of-self : goal.invariant_of-self

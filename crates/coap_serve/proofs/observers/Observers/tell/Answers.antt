@@ -2,7 +2,7 @@ use Rattle.std.proofs.Common.{arith, ◌<◌, None, map, ap, length}
 use Rattle.std.proofs.Math.Seq.{map-set_same}
 use Rattle.std.proofs.lemmas.List.{length-set, length-map, map-set}
 use Rattle.coap_serve.specs.Prelude.{IsTagged, observer_value, mark_in, linked}
-use Rattle.coap_serve.specs.declared.observers.Observer.{Observer}
+use Rattle.coap_serve.specs.declared.observer.Observer.{Observer}
 use Rattle.coap_serve.proofs.values.FlagLemmas.{put_flagged}
 use Rattle.coap_serve.proofs.values.TagLemmas.{all_at, all_set, told_value}
 use Rattle.coap_serve.proofs.observers.Observers.tell.Goals as goal

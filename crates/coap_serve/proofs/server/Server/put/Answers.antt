@@ -1,6 +1,6 @@
 use Rattle.std.proofs.Common.{Ok, rules}
 use Rattle.coap_serve.proofs.values.ServerLemmas.{settled_server}
-use Rattle.coap_serve.proofs.values.CauseLemmas.{untouched_by_put, all_but_put}
+use Rattle.coap_serve.proofs.values.ServerCauseLemmas.{untouched_by_put, all_but_put}
 use Rattle.coap_serve.proofs.world.CallLaws.{put_shows}
 use Rattle.coap_serve.proofs.server.Server.put.Goals as goal
 

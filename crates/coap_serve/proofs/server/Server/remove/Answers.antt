@@ -1,6 +1,6 @@
 use Rattle.std.proofs.Common.{Ok, rules}
 use Rattle.coap_serve.proofs.values.ServerLemmas.{settled_server}
-use Rattle.coap_serve.proofs.values.CauseLemmas.{untouched_by_removal, all_but_removed}
+use Rattle.coap_serve.proofs.values.ServerCauseLemmas.{untouched_by_removal, all_but_removed}
 use Rattle.coap_serve.proofs.world.CallLaws.{remove_shows}
 use Rattle.coap_serve.proofs.server.Server.remove.Goals as goal
 

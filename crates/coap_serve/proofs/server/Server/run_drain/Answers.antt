@@ -3,7 +3,7 @@ use Rattle.coap_serve.specs.Prelude.{event_ran, events_made, Drain, session_of}
 use Rattle.coap_serve.proofs.scripting.ReplayLemmas.{enough, none_drainable}
 use Rattle.coap_serve.proofs.scripting.ShownLemmas.{shows_same, nothing_made, run_refused}
 use Rattle.coap_serve.proofs.server.Server.run_drain.Goals as goal
-use Rattle.coap_serve.proofs.values.OptionLemmas.{there_is_none}
+use Rattle.coap_model.proofs.OptionLemmas.{there_is_none}
 
 pub returns-in_default : goal.returns-in_default
 unfolding event_ran events_made

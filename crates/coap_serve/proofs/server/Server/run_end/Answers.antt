@@ -2,7 +2,7 @@ use Rattle.std.proofs.Common.{sym}
 use Rattle.coap_serve.specs.Prelude.{event_ran, events_made}
 use Rattle.coap_serve.proofs.scripting.ShownLemmas.{shows_same}
 use Rattle.coap_serve.proofs.server.Server.run_end.Goals as goal
-use Rattle.coap_serve.proofs.values.OptionLemmas.{there_is, there_is_none}
+use Rattle.coap_model.proofs.OptionLemmas.{there_is, there_is_none}
 
 pub returns-in-Ok : goal.returns-in-Ok
 unfolding event_ran events_made

@@ -1,8 +1,8 @@
 use Rattle.std.proofs.Common.{not, refl, sym, ap, ◌∙◌}
 use Rattle.coap_serve.specs.Prelude.{event_ran, events_made, is_there, session_status}
-use Rattle.coap_serve.proofs.scripting.ShownLemmas.{shows_same, none_taken_there}
+use Rattle.coap_serve.proofs.scripting.ShownLemmas.{shows_same, none_taken_there, in_refused, run_refused}
 use Rattle.coap_serve.proofs.server.Server.run_in.Goals as goal
-use Rattle.coap_serve.proofs.values.OptionLemmas.{there_is, there_is_none, none_made, one_made}
+use Rattle.coap_model.proofs.OptionLemmas.{there_is, there_is_none, none_made, one_made}
 
 pub returns-then-is_none : goal.returns-then-is_none
 unfolding event_ran events_made
@@ -16,3 +16,6 @@ returns c =
     let it = one_made session_status _ _ (sym c.status.ensures ∙ (there_is _ (c.is_none.ensures ∙ ap not c.if-is_none.false)).1) in
     let e = c.in_ok-taken.ensures in
     rw it.1 (record { run = (e.after, rw (← e.count, ← e.after, ← c.stop_number-stop.ensures) c.in_line.ensures); shows = e.shows })
+
+pub returns-in_err-taken-clause-shows : goal.returns-in_err-taken-clause-shows
+returns-in_err-taken-clause-shows c = run_refused _ _ _ _ c.from_residual.ensures.0 (in_refused _ _ _ _ c.in_err-taken.ensures.shows_refused)

@@ -2,7 +2,7 @@ use Rattle.std.proofs.Common.{ap, sym, ◌∙◌, option_map, refl}
 use Rattle.coap_serve.specs.Prelude.{event_ran, open_number, events_made, Open}
 use Rattle.coap_serve.proofs.scripting.ShownLemmas.{shows_same, nothing_made}
 use Rattle.coap_serve.proofs.server.Server.run_open.Goals as goal
-use Rattle.coap_serve.proofs.values.OptionLemmas.{one_made}
+use Rattle.coap_model.proofs.OptionLemmas.{one_made}
 
 pub returns-in-Ok : goal.returns-in-Ok
 unfolding event_ran events_made

@@ -1,9 +1,9 @@
 use Rattle.std.proofs.Common.{ap, sym, ◌∙◌, option_map, refl}
 use Rattle.coap_serve.specs.Prelude.{event_ran, store_number, events_made}
-use Rattle.coap_serve.specs.script.Events.{Put}
+use Rattle.coap_script.specs.script.Events.{Put}
 use Rattle.coap_serve.proofs.scripting.ShownLemmas.{shows_same, nothing_made}
 use Rattle.coap_serve.proofs.server.Server.run_put.Goals as goal
-use Rattle.coap_serve.proofs.values.OptionLemmas.{one_made}
+use Rattle.coap_model.proofs.OptionLemmas.{one_made}
 
 pub returns-in-Ok : goal.returns-in-Ok
 unfolding event_ran events_made

@@ -1,9 +1,9 @@
 use Rattle.std.proofs.Common.{refl, sym, ◌∙◌}
 use Rattle.coap_serve.specs.Prelude.{event_ran, events_made, session_status}
-use Rattle.coap_serve.specs.script.Events as event
+use Rattle.coap_script.specs.script.Events as event
 use Rattle.coap_serve.proofs.scripting.ShownLemmas.{shows_same, nothing_made, run_refused}
 use Rattle.coap_serve.proofs.server.Server.run_status.Goals as goal
-use Rattle.coap_serve.proofs.values.OptionLemmas.{one_made, none_made}
+use Rattle.coap_model.proofs.OptionLemmas.{one_made, none_made}
 
 pub returns-in_default : goal.returns-in_default
 unfolding event_ran events_made

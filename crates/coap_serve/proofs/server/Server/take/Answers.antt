@@ -1,6 +1,6 @@
 use Rattle.std.proofs.Common.{Err, rules}
 use Rattle.coap_serve.proofs.world.RefusedLaws.{take_refused_for}
-use Rattle.coap_serve.specs.declared.server.TakeFault.TheVariants as taking
+use Rattle.coap_model.specs.declared.answers.TakeFault.TheVariants as taking
 use Rattle.coap_serve.proofs.server.Server.take.Goals as goal
 
 pub returns-in_default-clause-refused_for : goal.returns-in_default-clause-refused_for

@@ -2,7 +2,7 @@ use Rattle.std.proofs.Common.{◌≡◌, None, ◌≤◌, length, sym, ◌∙◌
 use Rattle.coap_serve.specs.Prelude.{fed_turns, took_turns, server_taken, count_taken, LiesAt, session_of}
 use Rattle.coap_io.proofs.streams.WriteLemmas.{rest_of}
 use Rattle.coap_serve.proofs.scripting.ReplayLemmas.{used_up, used_up_shows, feeds_more, fed_and_stopped, short, stopped_shows, short_shows, fed_nothing}
-use Rattle.coap_serve.proofs.values.OptionLemmas.{there_is}
+use Rattle.coap_model.proofs.OptionLemmas.{there_is}
 use Rattle.coap_serve.proofs.server.Server.take_all.Goals as goal
 use Rattle.coap_serve.proofs.scripting.ShownLemmas.{shows_same}
 

@@ -4,12 +4,13 @@ use Rattle.coap_serve.specs.Prelude.{stop_of, is_there, session_takes, taking as
 use Rattle.coap_serve.specs.Prelude.{IsMarked, IsServer, AreOthersSettled, LiesAt}
 use Rattle.coap_serve.specs.Prelude.{unmarked_entry, server_value, settled_entry, settled_held, changed_at}
 use Rattle.coap_serve.proofs.values.ServerLemmas.{Entries, length-written, one_of_all, set_unmarked, unmarked_at, within_unmarked, all_written, own_written}
-use Rattle.coap_serve.proofs.values.CauseLemmas.{hash_where_changed, others_settled, marked_after_take}
-use Rattle.coap_serve.proofs.values.TakenLemmas.{count_is, taken_value, taken_server, taken_lies, taken_handled, refuses_on, refused_value, refused_server}
+use Rattle.coap_serve.proofs.values.CauseLemmas.{hash_where_changed}
+use Rattle.coap_serve.proofs.values.ServerCauseLemmas.{others_settled, marked_after_take}
+use Rattle.coap_serve.proofs.values.ServerTakenLemmas.{count_is, taken_value, taken_server, taken_lies, taken_handled, refuses_on, refused_value, refused_server}
 use Rattle.coap_serve.proofs.world.CallLaws.{take_takes, take_shows, refused_take_shows}
 use Rattle.coap_serve.proofs.world.HandledLaws.{take_says}
 use Rattle.coap_serve.proofs.world.RefusedLaws.{take_refused_for}
-use Rattle.coap_serve.specs.declared.server.TakeFault.TheVariants as taking
+use Rattle.coap_model.specs.declared.answers.TakeFault.TheVariants as taking
 use Rattle.coap_serve.proofs.values.TurnLemmas.{same_session}
 use Rattle.coap_serve.proofs.server.Server.take_at.Goals as goal
 

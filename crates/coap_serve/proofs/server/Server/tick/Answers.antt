@@ -2,10 +2,10 @@ use Rattle.std.proofs.Common.{◌≡◌, ℕ, Option, IfNone, Ok, refl, sym, ap,
 use Rattle.coap_serve.specs.Prelude.{ServerValue, server_ticked, server_value, settled_entry, unmarked, AreAllMarked}
 use Rattle.coap_serve.specs.Prelude.{AreUntouched}
 use Rattle.coap_serve.specs.declared.cause.Cause.TheVariants as cause
-use Rattle.coap_serve.proofs.values.OptionLemmas.{there_is_none}
+use Rattle.coap_model.proofs.OptionLemmas.{there_is_none}
 use Rattle.coap_serve.proofs.values.DueLemmas.{at_moment}
 use Rattle.coap_serve.proofs.values.ServerLemmas.{Entries, settled_server, same_moment}
-use Rattle.coap_serve.proofs.values.CauseLemmas.{untouched_by_moment, all_but_later, none_touched}
+use Rattle.coap_serve.proofs.values.ServerCauseLemmas.{untouched_by_moment, all_but_later, none_touched}
 use Rattle.coap_serve.proofs.world.CallLaws.{tick_shows}
 use Rattle.coap_serve.proofs.server.Server.tick.Goals.{Else-is_some}
 use Rattle.coap_serve.proofs.server.Server.tick.Goals as goal

@@ -1,4 +1,4 @@
-use Rattle.coap_serve.proofs.values.CauseLemmas.{none_passed, one_passed}
+use Rattle.coap_serve.proofs.values.ServerCauseLemmas.{none_passed, one_passed}
 use Rattle.coap_serve.proofs.server.sessions.next_touched.Goals as goal
 
 pub loop-at-init : goal.loop-at-init

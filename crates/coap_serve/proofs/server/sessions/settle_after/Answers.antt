@@ -3,7 +3,8 @@ use Rattle.coap_serve.specs.Prelude.{MarkedSession, IsMarked, IsMarkedBut, AreSe
 use Rattle.coap_serve.specs.Prelude.{settled_held}
 use Rattle.coap_serve.specs.declared.cause.Cause.TheVariants as cause
 use Rattle.coap_serve.proofs.values.ServerLemmas.{written_unmarked, set_unmarked, unmarked_at, all_written}
-use Rattle.coap_serve.proofs.values.CauseLemmas.{others_untouched, all_settle, but_none}
+use Rattle.coap_serve.proofs.values.CauseLemmas.{but_none}
+use Rattle.coap_serve.proofs.values.ServerCauseLemmas.{others_untouched, all_settle}
 use Rattle.coap_serve.proofs.server.sessions.settle_after.Goals as goal
 
 pub settle_held-requires : goal.settle_held-requires

@@ -1,7 +1,7 @@
 use Rattle.std.proofs.Common.{refl, arith, length}
 use Rattle.coap_serve.specs.Prelude.{unmarked}
 use Rattle.coap_serve.proofs.values.ServerLemmas.{none_settled, length-written}
-use Rattle.coap_serve.proofs.values.CauseLemmas.{AreUpTo, next_but, passed, one_more, none_left}
+use Rattle.coap_serve.proofs.values.ServerCauseLemmas.{AreUpTo, next_but, passed, one_more, none_left}
 use Rattle.coap_serve.proofs.server.sessions.settle_touched.Goals.{After-index_mut}
 use Rattle.coap_serve.proofs.server.sessions.settle_touched.Goals as goal
 

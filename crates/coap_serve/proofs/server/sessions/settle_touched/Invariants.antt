@@ -1,5 +1,5 @@
 use Rattle.std.proofs.Common.{◌≤◌, ◌-◌, length}
-use Rattle.coap_serve.proofs.values.CauseLemmas.{AreUpTo}
+use Rattle.coap_serve.proofs.values.ServerCauseLemmas.{AreUpTo}
 use Rattle.coap_serve.proofs.server.sessions.settle_touched.Given as goal
 
 -- those before this one are settled, and their marks are as they are to be

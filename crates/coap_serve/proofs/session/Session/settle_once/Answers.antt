@@ -7,7 +7,7 @@ use Rattle.coap_serve.proofs.values.MarkLemmas.{left_marked_by}
 use Rattle.coap_serve.proofs.values.SettleLemmas.{stays_once, settled_unready, found_ready}
 use Rattle.coap_serve.proofs.values.SessionLemmas.{ready_is, held_found, sent_session, sent_once}
 use Rattle.coap_serve.proofs.session.Session.settle_once.Goals as goal
-use Rattle.coap_serve.proofs.values.OptionLemmas.{there_is_none}
+use Rattle.coap_model.proofs.OptionLemmas.{there_is_none}
 
 pub returns-then-not-ready : goal.returns-then-not-ready
 returns-then-not-ready c =

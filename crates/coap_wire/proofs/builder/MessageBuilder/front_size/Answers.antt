@@ -1,5 +1,5 @@
-use Rattle.std.proofs.Common.{◌≡◌, length, ap, refl, ◌∙◌, arith}
-use Rattle.coap_wire.specs.Prelude.{Message, built_message}
+use Rattle.std.proofs.Common.{refl, arith}
+use Rattle.coap_wire.specs.Prelude.{built_message}
 use Rattle.coap_wire.proofs.BuiltLemmas.{front_size_is, length-whole}
 use Rattle.coap_wire.proofs.builder.MessageBuilder.front_size.Goals as goal
 

@@ -1,4 +1,3 @@
-use Rattle.std.proofs.Common.{◌≡◌, ◌++◌}
 use Rattle.coap_wire.proofs.BuiltLemmas.{front_then_payload}
 use Rattle.coap_wire.proofs.builder.MessageBuilder.payload_bytes.Goals as goal
 

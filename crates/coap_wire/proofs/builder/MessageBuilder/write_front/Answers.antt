@@ -1,5 +1,5 @@
 use Rattle.std.proofs.Common.{◌≤◌, length, arith}
-use Rattle.coap_wire.specs.Prelude.{Message, built_message, body_spelling, greatest_length}
+use Rattle.coap_wire.specs.Prelude.{built_message, body_spelling, greatest_length}
 use Rattle.coap_wire.proofs.SpellingLaws.{spelling_spells}
 use Rattle.coap_wire.proofs.BuiltLemmas.{head_room, options_room, marker_room, all_written, all_room, front_then_payload}
 use Rattle.coap_wire.proofs.builder.MessageBuilder.write_front.Goals as goal

@@ -1,5 +1,5 @@
-use Rattle.std.proofs.Common.{◌≡◌, length, ap, refl, ◌∙◌, arith}
-use Rattle.coap_wire.specs.Prelude.{Message, compact_message}
+use Rattle.std.proofs.Common.{length, ap, refl, ◌∙◌, arith}
+use Rattle.coap_wire.specs.Prelude.{compact_message}
 use Rattle.coap_wire.proofs.BuiltLemmas.{front_size_is, length-whole}
 use Rattle.coap_wire.proofs.compact.CompactBuilder.front_size.Goals as goal
 

@@ -1,5 +1,5 @@
-use Rattle.std.proofs.Common.{◌≡◌, ℕ, ◌≤◌, ◌++◌, ◌∷◌, [], List, length, ap, ◌∙◌, arith}
-use Rattle.coap_wire.specs.Prelude.{CoapOption, Message, HasOptionForm, last_number, options_spelling, options_in, with_option}
+use Rattle.std.proofs.Common.{◌≡◌, List, length, ap, ◌∙◌, arith}
+use Rattle.coap_wire.specs.Prelude.{CoapOption, Message, HasOptionForm, last_number, options_spelling, with_option}
 use Rattle.coap_wire.proofs.CompactLemmas.{added, encoded_more, longer, option_size_bound}
 use Rattle.coap_wire.proofs.compact.CompactBuilder.option.Goals as goal
 

@@ -1,5 +1,4 @@
-use Rattle.std.proofs.Common.{length}
-use Rattle.coap_wire.specs.Prelude.{Message, compact_message}
+use Rattle.coap_wire.specs.Prelude.{compact_message}
 use Rattle.coap_wire.proofs.SpellingLaws.{spelling_spells}
 use Rattle.coap_wire.proofs.BuiltLemmas.{head_room, options_room, marker_room, all_written, all_room, front_then_payload}
 use Rattle.coap_wire.proofs.compact.CompactBuilder.write_front.Goals as goal

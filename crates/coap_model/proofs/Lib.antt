@@ -1,0 +1,3 @@
+pub mod OptionLemmas
+pub mod world
+pub mod streams

@@ -1,0 +1,2 @@
+pub mod FlushLaws
+pub mod OutputLaws

@@ -1,0 +1,208 @@
+-- The world of one connection whose bytes are taken with a flush behind each step: it goes on with more bytes, what is written only
+-- grows, and a connection that has stopped stays as it is.
+use Rattle.std.proofs.Common.{◌≡◌, ℕ, false, List, [], ◌∷◌, ◌++◌, map, Some, None, refl, sym, ap, subst, ◌∙◌, ◌==◌, append_assoc, length, is_none}
+use Rattle.coap_model.specs.Prelude.{AllByRecursion, Message, StreamFault, Stream, split_on, Reason, takes_messages}
+use Rattle.coap_model.specs.Prelude.{stop_of, LimitValues, bytes_of, ConfigValues, Side, side_after, change_after}
+use Rattle.coap_model.specs.Prelude.{side_faulted, settled, new_side, waiting_on, settled_within, Place, World}
+use Rattle.coap_model.specs.Prelude.{side_of, acted, step, Step, new_world, Event, Opened, Took, spelled_on}
+use Rattle.coap_model.specs.Prelude.{taken_in, size_by, beyond, steps_by, steps_behind, steps_of, written_times}
+use Rattle.coap_model.specs.Prelude.{flushed, flushed_after, only_id, stream_of, steps_for, world_for, side_for}
+use Rattle.coap_model.specs.Prelude.{Outcome, outcome_on, outcome, stdio_output}
+use Rattle.std.proofs.lemmas.Bool.{eqb-true, cond_both}
+use Rattle.std.proofs.lemmas.List.{append-nil}
+use Rattle.coap_wire.proofs.StreamSteps.{unfinished_empty, split_unfinished, split_goes_on}
+use Rattle.coap_conn.proofs.LinkLemmas.{bytes_more}
+use Rattle.coap_model.specs.world.World.{changed_at}
+use Rattle.coap_model.specs.world.World as world
+use Rattle.coap_model.proofs.streams.FlushLaws.{map_stays, idle_step, flush_leaves, quiet_flush}
+use Rattle.coap_model.proofs.world.PlaceLaws.{AreDistinct, of_each, first_there}
+use Rattle.coap_model.proofs.world.HearingLaws.{AllHear, step_hears}
+use Rattle.coap_model.proofs.world.AcrossLaws.{handled_there, faulted_there}
+use Rattle.coap_model.proofs.world.ReachedLaws.{step_distinct}
+use Rattle.coap_model.proofs.world.LimitLaws.{step_fits}
+use Rattle.coap_model.proofs.world.StepLaws.{steps_of_more, spelled_by, spelled_then, spelled_same, first_spelled, taken_here, each_beyond}
+use Rattle.coap_model.proofs.world.CutLaws.{cut_steps}
+
+-- ---- what bytes bring about
+
+-- a message of a connection, or the fault of its bytes
+pub data IsOfBytes (id : ℕ) : Step → Type 0 where
+  OfMessage : (m : Message) → IsOfBytes id (world.Handled id m)
+  OfFault : (fault : StreamFault) → IsOfBytes id (world.Faulted id fault)
+
+-- the connection is there behind it
+stays_there : (limits : LimitValues) (id : ℕ) (w : World) (st : Step) (s : Side) → IsOfBytes id st → side_of id w.sides ≡ Some s → (t : Side) × (side_of id (step limits w st).sides ≡ Some t)
+stays_there limits id w st s (OfMessage m) there = let then = handled_there limits w id m s there in (settled then.0 w.now (side_after w.store w.now s m), then.1)
+stays_there limits id w st s (OfFault fault) there = (settled w.store w.now (side_faulted s fault), faulted_there limits w id fault s there)
+
+-- ---- a connection that has stopped
+
+-- numbers are distinct, so that it is enough that the one connection stays
+one_stays : (id : ℕ) (f : Side → Side) (s : Side) (ps : List Place) → AreDistinct ps → side_of id ps ≡ Some s → f s ≡ s → map (changed_at id f) ps ≡ ps
+one_stays id f s ps distinct there stays =
+    map_stays (changed_at id f) ps
+    (of_each (λ n t. changed_at id f (record { id = n; side = t }) ≡ record { id = n; side = t }) ps distinct
+    (λ n t at. cond_both (n == id) _ _ (λ (p : Place). p ≡ record { id = n; side = t }) (λ same. let here = eqb-true n id same in cc) (λ apart. refl)))
+
+-- where it takes no message, nothing changes
+nothing_acted : (limits : LimitValues) (id : ℕ) (w : World) (st : Step) (s : Side) → AreDistinct w.sides → side_of id w.sides ≡ Some s → takes_messages s.history.phase ≡ false → IsOfBytes id st → acted limits w st ≡ w
+unfolding acted side_after change_after side_faulted
+nothing_acted limits id w st s distinct there over (OfMessage m) = rw (one_stays id (λ t. side_after w.store w.now t m) s w.sides distinct there (rw over), there, over) refl
+nothing_acted limits id w st s distinct there over (OfFault fault) = rw (one_stays id (λ t. side_faulted t fault) s w.sides distinct there (rw over)) refl
+
+-- ---- what a flush behind each step leaves
+
+-- A connection is there that was this one, and more was queued on it; nothing waits on it. Numbers are distinct, and no change is lost.
+pub record IsWrittenOut (id : ℕ) (s : Side) (w : World) : Type 0 where
+  pub side : Side
+  pub there : side_of id w.sides ≡ Some side
+  pub waits : waiting_on side ≡ []
+  pub more : List Message
+  pub queued : side.history.queued ≡ s.history.queued ++ more
+  pub distinct : AreDistinct w.sides
+  pub hears : AllHear w
+
+-- so it is behind a flush
+written_out : (limits : LimitValues) (id : ℕ) (w : World) (s t : Side) (more : List Message) → side_of id w.sides ≡ Some t → AreDistinct w.sides → t.history.queued ≡ s.history.queued ++ more → IsWrittenOut id s (flushed limits id w)
+unfolding flushed written_times
+written_out limits id w s t more there distinct queued =
+    let left = flush_leaves limits id w t there in
+    record {
+      side = left.0.side;
+      there = left.0.there;
+      waits = left.1;
+      more = more ++ left.0.more;
+      queued = left.0.queued ∙ ap (λ (ms : List Message). ms ++ left.0.more) queued ∙ append_assoc s.history.queued more left.0.more;
+      distinct = left.0.distinct distinct;
+      hears = step_hears limits _ _;
+    }
+
+after_bytes : (limits : LimitValues) (id : ℕ) (w : World) (ss : List Step) (s : Side) → AllByRecursion (IsOfBytes id) ss → IsWrittenOut id s w → IsWrittenOut id s (flushed_after limits id w ss)
+unfolding flushed_after
+after_bytes limits id w [] s all one = one
+after_bytes limits id w (st ∷ ss) s all one =
+    let now = stays_there limits id w st one.side all.0 one.there in
+    let fits = step_fits limits w st id one.side now.0 one.there now.1 in
+    after_bytes limits id (flushed limits id (step limits w st)) ss s all.1
+    (written_out limits id (step limits w st) s now.0 (one.more ++ fits.0) now.1 (step_distinct limits w st one.distinct)
+    (fits.1 ∙ ap (λ (ms : List Message). ms ++ fits.0) one.queued ∙ append_assoc s.history.queued one.more fits.0))
+
+after_stopped : (c : ConfigValues) (id : ℕ) (w : World) (ss : List Step) (s : Side) (one : IsWrittenOut id s w) → AllByRecursion (IsOfBytes id) ss → takes_messages one.side.history.phase ≡ false → flushed_after c.limits id w ss ≡ w
+unfolding flushed_after
+after_stopped c id w [] s one all over = refl
+after_stopped c id w (st ∷ ss) s one all over =
+    ap (λ (v : World). flushed_after c.limits id (flushed c.limits id v) ss) (idle_step c.limits w st one.hears (nothing_acted c.limits id w st one.side one.distinct one.there over all.0))
+    ∙ ap (λ (v : World). flushed_after c.limits id v ss) (quiet_flush c.limits id w one.side one.hears one.there one.waits)
+    ∙ after_stopped c id w ss s one all.1 over
+
+after_then : (limits : LimitValues) (id : ℕ) (w : World) (ss ts : List Step) → flushed_after limits id w (ss ++ ts) ≡ flushed_after limits id (flushed_after limits id w ss) ts
+unfolding flushed_after
+after_then limits id w [] ts = refl
+after_then limits id w (s ∷ ss) ts = after_then limits id (flushed limits id (step limits w s)) ss ts
+
+-- ---- what the bytes of the only connection spell
+
+module _ (c : ConfigValues) where
+  abbrev M : ℕ
+  M = c.limits.max_message
+
+  abbrev id : ℕ
+  id = only_id c
+
+  -- it is opened
+  abbrev opening : List Event
+  opening = Opened id ∷ []
+
+  no_bytes_spell : stream_of c [] ≡ record { messages = []; rest = []; fault = None }
+  no_bytes_spell = split_unfinished M [] (unfinished_empty M)
+
+  pub nothing_yet : spelled_on M id opening ≡ (stream_of c [], M)
+  nothing_yet = spelled_same M id [] (Opened id) refl (λ N. refl) ∙ first_spelled M id ∙ ap (λ (s : Stream). (s, M)) (sym no_bytes_spell)
+
+  -- events behind which these bytes were spelled, and more bytes behind them
+  module _ (es : List Event) (bytes more : List ℕ) (spelled : spelled_on M id es ≡ (stream_of c bytes, M)) where
+    pub spelled_more : spelled_on M id (es ++ Took id more ∷ []) ≡ (stream_of c (bytes ++ more), M)
+    spelled_more =
+        spelled_then M id es (Took id more)
+        ∙ ap (λ (s : Stream × ℕ). spelled_by s (taken_in id (Took id more)) (size_by id (Took id more))) spelled
+        ∙ ap (λ (s : Stream). (s, M)) (ap (split_on M (stream_of c bytes)) (taken_here id more) ∙ sym (split_goes_on M bytes more))
+
+    pub steps_taken : steps_by M es (Took id more) ≡ beyond id (stream_of c bytes) (stream_of c (bytes ++ more))
+    unfolding steps_by
+    steps_taken = cc (ap (λ (s : Stream × ℕ). s.0) spelled, ap (λ (s : Stream × ℕ). s.0) spelled_more)
+
+  -- ---- the world for bytes
+
+  -- the world goes on with the steps that more bytes make
+  pub world_goes_on : (xs ys : List ℕ) → world_for c (xs ++ ys) ≡ flushed_after c.limits id (world_for c xs) (beyond id (stream_of c xs) (stream_of c (xs ++ ys)))
+  unfolding world_for
+  world_goes_on xs ys =
+      let fed : List Event = opening ++ Took id xs ∷ [] in
+      ap (flushed_after c.limits id (new_world c))
+      (cut_steps M opening [] id xs ys ∙ steps_of_more M fed (Took id ys) ∙ ap (λ (ss : List Step). steps_for c xs ++ ss) (steps_taken fed xs ys (spelled_more opening [] xs nothing_yet)))
+      ∙ after_then c.limits id (new_world c) (steps_for c xs) (beyond id (stream_of c xs) (stream_of c (xs ++ ys)))
+
+  -- what more bytes bring about
+  beyond_are : (xs ys : List ℕ) → AllByRecursion (IsOfBytes id) (beyond id (stream_of c xs) (stream_of c (xs ++ ys)))
+  beyond_are xs ys = each_beyond (IsOfBytes id) id (stream_of c xs) (stream_of c (xs ++ ys)) OfMessage OfFault
+
+  more_written_out : (xs ys : List ℕ) (s : Side) → IsWrittenOut id s (world_for c xs) → IsWrittenOut id s (world_for c (xs ++ ys))
+  more_written_out xs ys s before = subst (IsWrittenOut id s) (sym (world_goes_on xs ys)) (after_bytes c.limits id (world_for c xs) _ s (beyond_are xs ys) before)
+
+  -- the world in which the connection was opened: it has announced itself
+  abbrev world_opened : World
+  world_opened = step c.limits (new_world c) (world.Opened id)
+
+  pub opened_alone : side_of id world_opened.sides ≡ Some (new_side c.limits)
+  unfolding step acted side_of settled settled_within
+  opened_alone = first_there id (record { id = id; side = new_side c.limits }) [] refl
+
+  -- For no bytes it is the one in which that was written.
+  pub world_for_none : world_for c [] ≡ flushed c.limits id world_opened
+  unfolding world_for flushed_after steps_of steps_behind steps_by
+  world_for_none =
+      ap (flushed_after c.limits id (new_world c))
+      (steps_of_more M opening (Took id []) ∙ ap (λ (ss : List Step). world.Opened id ∷ ss) (steps_taken opening [] [] nothing_yet ∙ ap (λ (s : Stream). beyond id s s) no_bytes_spell))
+
+  -- the connection is there, and nothing waits on it
+  pub world_for_written : (bytes : List ℕ) → IsWrittenOut id (new_side c.limits) (world_for c bytes)
+  world_for_written bytes =
+      let new : Side = new_side c.limits in
+      more_written_out [] bytes new
+      (subst (IsWrittenOut id new) (sym world_for_none) (written_out c.limits id world_opened new new [] opened_alone (step_distinct c.limits (new_world c) (world.Opened id) tt) (sym (append-nil new.history.queued))))
+
+  -- ---- what comes of it
+
+  pub outcome_there : (bytes : List ℕ) (s : Side) → side_for c bytes ≡ Some s → outcome c bytes ≡ outcome_on (Some s)
+  unfolding outcome
+  outcome_there bytes s there = ap outcome_on there
+
+  -- it takes messages until something stops it
+  pub takes_unless_stopped : (bytes : List ℕ) → takes_messages (world_for_written bytes).side.history.phase ≡ is_none (outcome c bytes).stop
+  takes_unless_stopped bytes = let all = world_for_written bytes in ap (λ (o : Outcome). is_none o.stop) (sym (outcome_there bytes all.side all.there))
+
+  -- at first no message was handled, and nothing stops the connection
+  pub outcome_at_first : ((outcome c []).messages ≡ 0) × ((outcome c []).stop ≡ None)
+  outcome_at_first =
+      let left = flush_leaves c.limits id world_opened (new_side c.limits) opened_alone in
+      let is = outcome_there [] left.0.side (ap (λ (w : World). side_of id w.sides) world_for_none ∙ left.0.there) in
+      (ap (λ (o : Outcome). o.messages) is ∙ ap length left.0.handled, ap (λ (o : Outcome). o.stop) is ∙ ap stop_of (left.0.alone refl).1)
+
+  -- What is written for bytes stands in front of what is written for more.
+  pub output_grows : (xs ys : List ℕ) → (more : List ℕ) × (stdio_output c (xs ++ ys) ≡ stdio_output c xs ++ more)
+  output_grows xs ys =
+      let all = world_for_written xs in
+      let s : Side = all.side in
+      let before : IsWrittenOut id s (world_for c xs) = record { side = s; there = all.there; waits = all.waits; more = []; queued = sym (append-nil s.history.queued); distinct = all.distinct; hears = all.hears } in
+      let now = more_written_out xs ys s before in
+      (bytes_of now.more, cc (outcome_there xs s all.there, outcome_there (xs ++ ys) now.side now.there, now.queued, bytes_more s.history.queued now.more))
+
+  -- Behind what stops the connection, nothing changes.
+  pub stopped_output : (xs ys : List ℕ) (why : Reason) → (outcome c xs).stop ≡ Some why → world_for c (xs ++ ys) ≡ world_for c xs
+  stopped_output xs ys why stopped =
+      let over = takes_unless_stopped xs ∙ ap is_none stopped in
+      world_goes_on xs ys ∙ after_stopped c id (world_for c xs) _ (new_side c.limits) (world_for_written xs) (beyond_are xs ys) over
+
+  pub stopped_outcome : (xs ys : List ℕ) (why : Reason) → (outcome c xs).stop ≡ Some why → outcome c (xs ++ ys) ≡ outcome c xs
+  unfolding outcome
+  stopped_outcome xs ys why stopped = ap (λ (w : World). outcome_on (side_of id w.sides)) (stopped_output xs ys why stopped)

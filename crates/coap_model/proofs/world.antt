@@ -1,0 +1,31 @@
+pub mod Rows
+pub mod Worked
+mod WorkedEvents
+mod WorkedMore
+mod WorkedSizes
+mod WorkedViews
+mod WorkedHeld
+mod WorkedCustody
+pub mod StepLaws
+pub mod TookLaws
+pub mod PlaceLaws
+pub mod WalkLaws
+pub mod AcrossLaws
+pub mod GoingOn
+pub mod ReachedLaws
+pub mod KnownLaws
+pub mod EntryLemmas
+pub mod SideLaws
+pub mod HearingLaws
+pub mod CutLaws
+pub mod ViewLaws
+pub mod LimitLaws
+pub mod GrowLaws
+pub mod BecameLaws
+pub mod ToldMessages
+pub mod CustodyLaws
+pub mod ToldLaws
+pub mod AnswerCounts
+pub mod AnswerCodes
+pub mod AnsweredLaws
+pub mod ViewEventLaws

@@ -1,0 +1,193 @@
+-- A connection after bytes were taken on it: a message was handled, a fault stopped it, or it is unchanged; and settling handles nothing.
+use Rattle.std.proofs.Common.{◌≡◌, ℕ, Bool, true, false, List, [], ◌∷◌, ◌++◌, Some, None, refl, sym, ap, subst, ◌∙◌}
+use Rattle.std.proofs.Common.{arith, ◌≢◌}
+use Rattle.std.proofs.lemmas.Bool.{both_ways}
+use Rattle.std.proofs.lemmas.List.{append-nil}
+use Rattle.coap_model.specs.Prelude.{Message, StreamFault, Stream, Phase, Reject, Reason, takes_messages, answers}
+use Rattle.coap_model.specs.Prelude.{is_open, fit, pong_with, HeldValue, without_due, due_index, reject_of}
+use Rattle.coap_model.specs.Prelude.{reject_reason, History, standing_now, limit_now, StoreValue, ConfigValues}
+use Rattle.coap_model.specs.Prelude.{Side, handles, side_after, side_faulted, settled, new_side, settled_once, World}
+use Rattle.coap_model.specs.Prelude.{Step, side_of, Event, Took, stream_on, steps_by, world_after, spelled_on}
+use Rattle.coap_model.specs.Prelude.{message_reason, LimitValues}
+use Rattle.coap_model.proofs.world.StepLaws.{world_same, world_step, nothing_spelled, world_first}
+use Rattle.coap_model.proofs.world.TookLaws.{Adds}
+use Rattle.coap_conn.proofs.ReactionLaws.{StopsAtMost}
+use Rattle.coap_model.proofs.world.ToldMessages.{sent_either}
+use Rattle.coap_model.proofs.world.WalkLaws.{sent, Replies, LetsGo, Pongs, settled_between, Between, once_between}
+use Rattle.coap_model.proofs.world.WalkLaws.{written_between, ended_between, released_between, announced_between}
+use Rattle.coap_model.proofs.world.WalkLaws.{holding}
+use Rattle.coap_model.proofs.world.AcrossLaws.{handled_there, faulted_there, HoldsOf}
+use Rattle.coap_model.proofs.world.PlaceLaws.{nobody}
+use Rattle.coap_conn.specs.declared.phase.Phase.TheVariants as phase
+use Rattle.coap_model.specs.world.World as world
+use Rattle.coap_conn.proofs.HeldLaws.{due_pong}
+use Rattle.coap_wire.proofs.NumberLaws.{none_or_some}
+use Rattle.coap_model.proofs.world.CustodyLaws.{HasHeard, handled_hears}
+use Rattle.coap_model.proofs.world.SideLaws.{handles_parts}
+
+-- ---- what is sent changes nothing of what was handled
+
+-- a connection that stopped for a reason holds nothing
+abbrev pub HasStopped : History → Reason → Type 0
+HasStopped h why = (h.phase ≡ phase.Stopped why) × (h.held ≡ [])
+
+-- no message was handled since this, and a stop stays
+pub record HandlesNothing (before : History) (heard : List Message) (now : Phase) (held : List HeldValue) : Type 0 where
+  pub handled : heard ≡ before.handled
+  pub stopped : (why : Reason) → HasStopped before why → (now ≡ phase.Stopped why) × (held ≡ [])
+  pub stops : StopsAtMost before.phase → StopsAtMost now
+
+abbrev pub HandlesNone : History → History → Type 0
+HandlesNone h k = HandlesNothing h k.handled k.phase k.held
+
+rests_self : (h : History) → HandlesNone h h
+rests_self h = record { handled = refl; stopped = λ why is. is; stops = λ is. is }
+
+rests_then : (h k g : History) → HandlesNone h k → HandlesNone k g → HandlesNone h g
+rests_then h k g p q = record {
+  handled = q.handled ∙ p.handled;
+  stopped = λ why is. q.stopped why (p.stopped why is);
+  stops = λ is. q.stops (p.stops is);
+}
+
+-- a message is sent on a connection that has not stopped
+sent_rests : (h : History) (held : List HeldValue) (m less : Message) → ((why : Reason) → HasStopped h why → ⊥) → HandlesNone h (sent (holding h held) m less)
+sent_rests h held m less live = record {
+  handled = refl;
+  stopped = λ why is. absurd (live why is);
+  stops = λ is. sent_either (standing_now (holding h held)) m less (fit (limit_now h) m less) (λ es now. StopsAtMost now) is refl;
+}
+
+response_rests : Replies HandlesNone
+response_rests h token observe r does room = sent_rests h h.held _ _ (λ why is. both_ways (answers h.phase) (ap answers is.0) does)
+
+-- where nothing is held, nothing is due
+first_rests : LetsGo HandlesNone
+unfolding without_due due_index
+first_rests h now = grind arith
+
+pong_rests : Pongs HandlesNone
+pong_rests h now token due room =
+    let there = due_pong now h.held token due in
+    sent_rests h (without_due now h.held) (pong_with true token) (pong_with false token) (λ why is. cc)
+
+-- settling handles nothing
+pub settled_handles_none : (store : StoreValue) (now : ℕ) (s : Side) → HandlesNone s.history (settled store now s).history
+settled_handles_none = settled_between HandlesNone (record { same = rests_self; then = rests_then }) response_rests first_rests pong_rests
+
+-- ---- a fault
+
+-- a fault stops the connection, and no message was handled
+pub record HasRejected (fault : StreamFault) (h k : History) : Type 0 where
+  pub handled : k.handled ≡ h.handled
+  pub stopped : HasStopped k (reject_reason (reject_of fault))
+
+side_rejects : (s : Side) (fault : StreamFault) → handles s ≡ true → HasRejected fault s.history (side_faulted s fault).history
+unfolding side_faulted
+side_rejects s fault does = grind arith
+
+-- only a fault of the bytes has such a reason
+pub no_message_reason : (fault : Reject) → message_reason (reject_reason fault) ≡ 0
+no_message_reason fault = grind arith
+
+-- ---- what a take does
+
+-- the steps of a take: none, or the one of the message or of the fault that it ends; and whether it handled a message
+pub data TakesSo (M id : ℕ) (es : List Event) (bytes : List ℕ) (s : Side) (message : Bool) : Type 0 where
+  NoStep : message ≡ false → steps_by M es (Took id bytes) ≡ [] → (stream_on M id (es ++ Took id bytes ∷ [])).messages ≡ (stream_on M id es).messages → (stream_on M id (es ++ Took id bytes ∷ [])).fault ≡ (stream_on M id es).fault → TakesSo M id es bytes s message
+  OneMessage : message ≡ true → handles s ≡ true → (m : Message) → Adds M id es bytes (record { messages = m ∷ []; rest = []; fault = None }) → TakesSo M id es bytes s message
+  OneFault : message ≡ false → handles s ≡ true → (fault : StreamFault) (rest : List ℕ) → Adds M id es bytes (record { messages = []; rest = rest; fault = Some fault }) → TakesSo M id es bytes s message
+
+-- ---- the connection after it
+
+-- What a take made of a connection whose stream was one and became another: the same, where the stream goes on with no message
+-- and no fault; one message was handled, which stops it at most as a message may; or the fault stopped it.
+pub data Became (before after : Stream) (s t : Side) (message : Bool) : Type 0 where
+  Stayed : message ≡ false → t ≡ s → after.messages ≡ before.messages → after.fault ≡ before.fault → Became before after s t message
+  Heard : message ≡ true → handles s ≡ true → (m : Message) → t.history.handled ≡ s.history.handled ++ m ∷ [] → StopsAtMost t.history.phase → after.messages ≡ before.messages ++ m ∷ [] → after.fault ≡ None → Became before after s t message
+  Rejected : message ≡ false → handles s ≡ true → (fault : StreamFault) → HasRejected fault s.history t.history → after.messages ≡ before.messages → after.fault ≡ Some fault → Became before after s t message
+
+-- a connection that takes messages has not stopped
+live_stop : (s : Side) → handles s ≡ true → StopsAtMost s.history.phase
+live_stop s does = grind arith
+
+module _ (c : ConfigValues) (es : List Event) (id : ℕ) (bytes : List ℕ) (s : Side) (message : Bool) (there : side_of id (world_after c es).sides ≡ Some s) where
+  abbrev w : World
+  w = world_after c es
+
+  abbrev pub BecameOne : Type 0
+  BecameOne = (t : Side) × (side_of id (world_after c (es ++ Took id bytes ∷ [])).sides ≡ Some t)
+      × Became (stream_on c.limits.max_message id es) (stream_on c.limits.max_message id (es ++ Took id bytes ∷ [])) s t message
+
+  pub became : TakesSo c.limits.max_message id es bytes s message → BecameOne
+  unfolding side_after
+  became (NoStep e steps messages fault) = (s, ap (λ (v : World). side_of id v.sides) (world_same c es (Took id bytes) steps) ∙ there, Stayed e refl messages fault)
+  became (OneMessage e does m adds) =
+      let after = handled_there c.limits w id m s there in
+      let heard : HasHeard m s.history (side_after w.store w.now s m).history = rw does (handled_hears w.store w.now s m) in
+      let rests = settled_handles_none after.0 w.now (side_after w.store w.now s m) in (
+        settled after.0 w.now (side_after w.store w.now s m),
+        ap (λ (v : World). side_of id v.sides) (world_step c es (Took id bytes) (world.Handled id m) adds.steps) ∙ after.1,
+        Heard e does m (rests.handled ∙ heard.handled_more (handles_parts s does).0) (rests.stops (heard.stops (live_stop s does)))
+            (ap (λ (u : Stream). u.messages) adds.stream) (ap (λ (u : Stream). u.fault) adds.stream),
+      )
+  became (OneFault e does fault rest adds) =
+      let rejects = side_rejects s fault does in
+      let rests = settled_handles_none w.store w.now (side_faulted s fault) in (
+        settled w.store w.now (side_faulted s fault),
+        ap (λ (v : World). side_of id v.sides) (world_step c es (Took id bytes) (world.Faulted id fault) adds.steps) ∙ faulted_there c.limits w id fault s there,
+        Rejected e does fault (record { handled = rests.handled ∙ rejects.handled; stopped = rests.stopped (reject_reason (reject_of fault)) rejects.stopped })
+            (ap (λ (u : Stream). u.messages) adds.stream ∙ append-nil (stream_on c.limits.max_message id es).messages) (ap (λ (u : Stream). u.fault) adds.stream),
+      )
+
+-- ---- what is no message and no fault
+
+-- no message and no fault of the connection
+abbrev pub IsElsewhere : Step → ℕ → Type 0
+IsElsewhere (world.Handled at m) id = at ≢ id
+IsElsewhere (world.Faulted at fault) id = at ≢ id
+IsElsewhere other id = Unit {0}
+
+pub rests_of : (w : World) (st : Step) (id : ℕ) → IsElsewhere st id → HoldsOf (Between HandlesNone) w st id
+rests_of w st id away = record {
+  same = λ s. rests_self s.history;
+  handled = λ m is s. absurd (subst (λ (did : Step). IsElsewhere did id) is away refl);
+  faulted = λ fault is s. absurd (subst (λ (did : Step). IsElsewhere did id) is away refl);
+  written = written_between HandlesNone rests_self (λ h n within. rests_self h);
+  ended = ended_between HandlesNone rests_self
+      (λ h cut takes. record { handled = refl; stopped = λ why is. absurd (both_ways _ (ap takes_messages is.0) takes); stops = λ is. grind arith });
+  released = released_between HandlesNone rests_self
+      (λ h opened none. record { handled = refl; stopped = λ why is. absurd (both_ways _ (ap is_open is.0) opened); stops = λ is. refl });
+  announced = λ size is s. announced_between HandlesNone rests_self (λ h n opened room fit. rests_self h) s size;
+  told = λ store now s t is. rests_then s.history t.history (settled_once store now t).history is
+      (once_between HandlesNone HandlesNone rests_self rests_then response_rests first_rests pong_rests store now t);
+}
+
+-- ---- what a connection handled is what its stream spells
+
+pub record Agrees (u : Stream) (s : Side) : Type 0 where
+  pub handled : s.history.handled ≡ u.messages
+  pub stopped : (fault : StreamFault) → u.fault ≡ Some fault → HasStopped s.history (reject_reason (reject_of fault))
+
+pub rests_agrees : (u : Stream) (s t : Side) → Agrees u s → Between HandlesNone s t → Agrees u t
+rests_agrees u s t is rests = record {
+  handled = rests.handled ∙ is.handled;
+  stopped = λ fault e. rests.stopped (reject_reason (reject_of fault)) (is.stopped fault e);
+}
+
+pub silent_agrees : (limits : LimitValues) (M id : ℕ) (es : List Event) → spelled_on M id es ≡ nothing_spelled M → Agrees (stream_on M id es) (new_side limits)
+silent_agrees limits M id es none = grind arith
+
+pub became_agrees : (u v : Stream) (s t : Side) (message : Bool) → Became u v s t message → Agrees u s → Agrees v t
+became_agrees u v s t message (Stayed none same messages fault) is =
+    rw same (record { handled = is.handled ∙ sym messages; stopped = λ f e. is.stopped f (sym fault ∙ e) })
+became_agrees u v s t message (Heard one does m handled stops messages fault) is = grind arith
+became_agrees u v s t message (Rejected none does fault rejects messages at) is = grind arith
+
+-- ---- after accepted events
+
+abbrev pub AgreesOn : ConfigValues → List Event → ℕ → Type 0
+AgreesOn c es id = (s : Side) → side_of id (world_after c es).sides ≡ Some s → Agrees (stream_on c.limits.max_message id es) s
+
+pub first_agrees : (c : ConfigValues) (id : ℕ) → AgreesOn c [] id
+first_agrees c id s there = absurd (none_or_some s (sym (ap (λ (w : World). side_of id w.sides) (world_first c) ∙ nobody id) ∙ there))

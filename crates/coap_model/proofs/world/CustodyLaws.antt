@@ -1,0 +1,313 @@
+-- What is held stands in the order of the messages that asked for it, and a Pong with Custody is queued only where nothing that is
+-- held came before its Ping.
+use Rattle.std.proofs.Common.{◌≡◌, ℕ, zero, suc, Bool, true, false, cond, ◌&&◌, ◌==◌, List, [], ◌∷◌, ◌++◌, length, Option, Some, None, refl, sym, ap, subst, ◌∙◌, inl, inr, ◌⊎◌, arith, append_assoc}
+use Rattle.coap_model.specs.Prelude.{AllByRecursion, list_any, remove, Message, Phase, LimitValues, takes_messages}
+use Rattle.coap_model.specs.Prelude.{answers, is_open, fit, bare_response, HeldValue, Answer, Pong, without_due}
+use Rattle.coap_model.specs.Prelude.{Standing, send, is_custody_pong, pong_with, History, limit_now, standing_now}
+use Rattle.coap_model.specs.Prelude.{after, may_hold, StoreValue, Response, answer_of, prompt_answer, each_at}
+use Rattle.coap_model.specs.Prelude.{response_with_observe, Observer, without_token, notification}
+use Rattle.coap_model.specs.Prelude.{notification_message, Side, handles, with_history, held_for, moment_after}
+use Rattle.coap_model.specs.Prelude.{asks_answer, side_handled, side_after, next_held, held_message, settled_once}
+use Rattle.coap_model.specs.Prelude.{side_written, next_due, notified, side_answered, side_with, asks_held, StandFor}
+use Rattle.coap_model.specs.Prelude.{QueuesCustody, IsFirstHeld, KeepsHeld, AddsAsked, KeepsHeldOver, Reason}
+use Rattle.coap_model.specs.Prelude.{PeerTooSmall, standing_due}
+use Rattle.std.proofs.lemmas.Bool.{and_from, both_ways, cond-true, cond_both, or_from}
+use Rattle.std.proofs.lemmas.List.{append_cancel_left, append-nil}
+use lib.Pointwise.{bytes_decides}
+use Rattle.coap_conn.proofs.HeldLaws.{custody_at_once, due_pong}
+use Rattle.coap_conn.proofs.RequestLemmas.{react_asks}
+use Rattle.coap_store.proofs.HoldLaws.{held_of}
+use Rattle.coap_model.proofs.world.EntryLemmas.{all_to}
+use Rattle.coap_model.proofs.world.WalkLaws.{said_request, sent, without_first, Replies, after_between, faulted_between, written_between, ended_between, released_between, announced_between, once_between, heard, holding}
+use Rattle.coap_model.proofs.world.GoingOn.{Keeps}
+use Rattle.coap_conn.proofs.ReactionLaws.{IsPlain, react_so, IsNoPong, StopsAtMost}
+use Rattle.coap_model.proofs.world.ToldMessages.{Queues, sent_either, reply_either}
+use Rattle.coap_model.proofs.world.SideLaws.{replied_cases, handles_parts}
+use Rattle.coap_wire.specs.OptionNumbers as numbers
+use Rattle.coap_conn.specs.SignalOptions as option
+use Rattle.coap_conn.specs.declared.phase.Phase.TheVariants as phase
+use Rattle.coap_conn.specs.Calls as call
+use Rattle.std.proofs.lemmas.List.Folds.{list_any-append}
+use Rattle.coap_conn.proofs.StopLaws.{told_over}
+
+-- ---- a Pong with Custody among what is queued
+
+-- messages are queued, and where a Pong with Custody is among them, this holds
+abbrev Gives : Type 0 → History → History → Type 0
+Gives G h k = (more : List Message) × (k.queued ≡ h.queued ++ more) × (list_any is_custody_pong more ≡ true → G)
+
+gives_none : (G : Type 0) (h k : History) → k.queued ≡ h.queued → Gives G h k
+gives_none G h k same = ([], same ∙ sym (append-nil h.queued), λ pong. absurd cc)
+
+-- it goes on over messages of which none is one
+gives_then : (G : Type 0) (h k g : History) → Gives G h k → Gives ⊥ k g → Gives G h g
+gives_then G h k g one two =
+    (one.0 ++ two.0, two.1 ∙ ap (λ ms. ms ++ two.0) one.1 ∙ append_assoc h.queued one.0 two.0, λ pong. grind (arith, list_any-append))
+
+custody_gives : (G : Type 0) (s t : Side) → Gives G s.history t.history → QueuesCustody s t → G
+custody_gives G s t gives custody = let same = append_cancel_left s.history.queued custody.more gives.0 (sym custody.queued ∙ gives.1) in grind arith
+
+none_pass : {X : Type 0} (p : X → Bool) (xs : List X) → AllByRecursion (λ x. p x ≡ false) xs → list_any p xs ≡ false
+none_pass p [] none = refl
+none_pass p (x ∷ xs) none = or_from (p x) (list_any p xs) none.0 (none_pass p xs none.1)
+
+-- ---- responses
+
+-- no option of a response is Custody
+path_no_custody : (path : List (List ℕ)) → list_any (λ o. o.number == option.custody && length o.value == 0) (each_at numbers.location_path path) ≡ false
+path_no_custody [] = refl
+path_no_custody (segment ∷ path) = path_no_custody path
+
+pub response_no_pong : (token : List ℕ) (observe : Bool) (r : Response) → IsNoPong (response_with_observe token observe r)
+response_no_pong token observe r = grind (arith, list_any-append, path_no_custody)
+
+pub bare_no_pong : (m : Message) → IsNoPong (bare_response m)
+bare_no_pong m = grind arith
+
+-- a response is no Pong with Custody
+reply_gives : Replies (Gives ⊥)
+reply_gives h token observe r does room =
+    let m : Message = response_with_observe token observe r in
+    ((send (standing_now h) m (bare_response m)).queued, refl, λ pong. grind (arith, response_no_pong token observe r, bare_no_pong m))
+
+-- ---- where one is queued
+
+pub custody_waits : (store : StoreValue) (now : ℕ) (s : Side) (m : Message) → QueuesCustody s (side_after store now s m) → s.history.held ≡ []
+custody_waits store now s m =
+    custody_gives (s.history.held ≡ []) s (side_after store now s m)
+    (after_between (λ h. Gives (h.held ≡ []) h) (Gives ⊥) (λ h. gives_none (h.held ≡ []) h h refl) (λ h. gives_then (h.held ≡ []) h)
+    (λ h m takes room. (_, refl, custody_at_once (standing_now h) m)) (λ h. gives_none ⊥ h h refl) reply_gives
+    (λ h token moment opened may. gives_none ⊥ h (holding h (h.held ++ Answer token moment ∷ [])) refl) store now s m)
+
+-- none is queued where all is plain
+pub plain_queues_no_custody : (s t : Side) → Queues IsPlain s.history t.history → QueuesCustody s t → ⊥
+plain_queues_no_custody s t queues =
+    custody_gives ⊥ s t
+    (queues.more, queues.same, both_ways _ (none_pass is_custody_pong queues.more (all_to IsPlain IsNoPong (λ m is. is.1) queues.more queues.such)))
+
+-- the first that is held is a Pong
+abbrev IsPongFirst : History → Type 0
+IsPongFirst h = (token : List ℕ) × (rest : List HeldValue) × (h.held ≡ Pong token ∷ rest)
+
+pub custody_comes_first : (store : StoreValue) (now : ℕ) (s : Side) → QueuesCustody s (settled_once store now s) → (token : List ℕ) × IsFirstHeld s token
+custody_comes_first store now s custody =
+    let first = custody_gives (IsPongFirst s.history) s (settled_once store now s)
+    (once_between (λ h. Gives (IsPongFirst h) h) (Gives ⊥) (λ h. gives_none (IsPongFirst h) h h refl) (λ h. gives_then (IsPongFirst h) h) reply_gives
+    (λ h now. gives_none (IsPongFirst h) h (without_first h now) refl)
+    (λ h now token due room. (_, refl, λ pong. (token, without_due now h.held, due_pong now h.held token due))) store now s) custody in
+    (first.0, record { rest = first.1; first = first.2 })
+
+-- ---- the order of what is held
+
+-- a message more
+stand_skip : (m : Message) (ms : List Message) (es : List HeldValue) → StandFor ms es → StandFor (m ∷ ms) es
+unfolding StandFor
+stand_skip m ms [] stand = tt
+stand_skip m ms (e ∷ es) stand = inr stand
+
+-- more messages, and what they ask for
+stand_append : (ms ns : List Message) (es fs : List HeldValue) → StandFor ms es → StandFor ns fs → StandFor (ms ++ ns) (es ++ fs)
+unfolding StandFor
+stand_append [] ns [] fs stand more = more
+stand_append [] ns (e ∷ es) fs stand more = absurd stand
+stand_append (m ∷ ms) ns [] fs stand more = stand_skip m (ms ++ ns) fs (stand_append ms ns [] fs tt more)
+stand_append (m ∷ ms) ns (e ∷ es) fs (inl here) more = inl (here.0, stand_append ms ns es fs here.1 more)
+stand_append (m ∷ ms) ns (e ∷ es) fs (inr later) more = inr (stand_append ms ns (e ∷ es) fs later more)
+
+-- a message stands for what it adds
+stand_added : (m : Message) (es : List HeldValue) → AddsAsked m es → StandFor (m ∷ []) es
+unfolding StandFor
+stand_added m [] adds = tt
+stand_added m (e ∷ []) adds = inl (adds.asked.0, tt)
+stand_added m (e ∷ d ∷ es) adds = absurd (omega (arith, adds.few))
+
+-- without the first of what is held, and without any of it
+stand_tail : (ms : List Message) (e : HeldValue) (es : List HeldValue) → StandFor ms (e ∷ es) → StandFor ms es
+unfolding StandFor
+stand_tail [] e es stand = absurd stand
+stand_tail (m ∷ ms) e es (inl here) = stand_skip m ms es here.1
+stand_tail (m ∷ ms) e es (inr later) = stand_skip m ms es (stand_tail ms e es later)
+
+stand_removed : (ms : List Message) (es : List HeldValue) (i : ℕ) → StandFor ms es → StandFor ms (remove es i)
+unfolding StandFor
+stand_removed ms [] zero stand = stand
+stand_removed ms [] (suc i) stand = stand
+stand_removed ms (e ∷ es) zero stand = stand_tail ms e es stand
+stand_removed [] (e ∷ es) (suc i) stand = absurd stand
+stand_removed (m ∷ ms) (e ∷ es) (suc i) (inl here) = inl (here.0, stand_removed ms es i here.1)
+stand_removed (m ∷ ms) (e ∷ es) (suc i) (inr later) = inr (stand_removed ms (e ∷ es) (suc i) later)
+
+stand_due : (ms : List Message) (now : ℕ) (es : List HeldValue) → StandFor ms es → StandFor ms (without_due now es)
+unfolding without_due
+stand_due ms now es stand = grind (arith, stand_removed)
+
+-- each was asked for
+pub stand_asked : (ms : List Message) (before : List HeldValue) (e : HeldValue) (after : List HeldValue) → StandFor ms (before ++ e ∷ after) → list_any (λ m. asks_held m e) ms ≡ true
+unfolding StandFor
+stand_asked [] [] e after stand = absurd stand
+stand_asked [] (b ∷ before) e after stand = absurd stand
+stand_asked (m ∷ ms) [] e after stand = grind (arith, stand_asked ms [] e after)
+stand_asked (m ∷ ms) (b ∷ before) e after stand = grind (arith, stand_asked ms before e after, stand_asked ms (b ∷ before) e after)
+
+-- ---- a request
+
+-- a request leaves what is held as it is, and the connection open
+pub asked_quiet : (s : Side) (m : Message) → asks_answer s m ≡ true → ((after s.history (call.Handle m)).held ≡ s.history.held) × (is_open (after s.history (call.Handle m)).phase ≡ true)
+asked_quiet s m asks = let quiet = react_asks (standing_now s.history) m (said_request _ asks) in grind (arith, told_over (standing_now s.history) m)
+
+-- so its answer is held behind what was
+pub held_when_asked : (store : StoreValue) (now : ℕ) (s : Side) (m : Message) (seconds : ℕ) → handles s ≡ true → asks_answer s m ≡ true → held_for (after s.history (call.Handle m)) (answer_of store now m).hold ≡ Some seconds → (side_after store now s m).history.held ≡ s.history.held ++ Answer m.token (moment_after now seconds) ∷ []
+unfolding side_after
+held_when_asked store now s m seconds does asks is = grind (arith, asked_quiet s m asks)
+
+-- What a message may make of a connection: it is no request; its answer is held; or it is answered at once.
+pub handled_cases : (store : StoreValue) (now : ℕ) (s : Side) (m : Message) (P : Side → Type 0)
+    → (asks_answer s m ≡ false → P (with_history s (after s.history (call.Handle m))))
+    → (asks_answer s m ≡ true → (moment : ℕ) → asks_held m (Answer m.token moment) ≡ true → P (side_with (holding (after s.history (call.Handle m)) ((after s.history (call.Handle m)).held ++ Answer m.token moment ∷ [])) (without_token m.token s.observers)))
+    → (asks_answer s m ≡ true → P (side_answered store now (after s.history (call.Handle m)) (without_token m.token s.observers) m (prompt_answer store now m)))
+    → P (side_handled store now s m)
+handled_cases store now s m P other late prompt =
+    let h : History = after s.history (call.Handle m) in
+    let others : List Observer = without_token m.token s.observers in
+    let hold : Option ℕ = (answer_of store now m).hold in
+    cond_both (asks_answer s m) _ _ P (λ asks. replied_cases store now h others m hold P (λ seconds is. (
+    let both : (may_hold h ≡ true) × (hold ≡ Some seconds) = grind arith in
+    let asked : asks_held m (Answer m.token (moment_after now seconds)) ≡ true =
+    rw ((held_of store now m seconds both.1).asked, (bytes_decides m.token m.token).1 refl) refl in
+    subst (λ (k : History). P (side_with k others)) (sym (cond-true _ _ h (and_from _ _ (asked_quiet s m asks).1 both.0))) (late asks (moment_after now seconds) asked)
+    )) (λ none. prompt asks)) other
+
+-- ---- what a message adds
+
+-- more is held, each of it asked for by the message, or the connection stopped and holds nothing
+abbrev Over : Message → List HeldValue → List HeldValue → Phase → Type 0
+Over m before after now = ((more : List HeldValue) × (after ≡ before ++ more) × AddsAsked m more) ⊎ ((why : Reason) × (now ≡ phase.Stopped why) × (after ≡ []))
+
+adds_none : (m : Message) (es : List HeldValue) (now : Phase) → Over m es es now
+adds_none m es now = inl ([], sym (append-nil es), record { few = omega arith; asked = tt })
+
+adds_one : (m : Message) (before : List HeldValue) (e : HeldValue) (now : Phase) → asks_held m e ≡ true → Over m before (before ++ e ∷ []) now
+adds_one m before e now asks = inl (e ∷ [], refl, record { few = omega arith; asked = (asks, tt) })
+
+-- a message was handled where messages are taken, and it stops the connection at most as a message may
+pub record HandlesOne (m : Message) (before : History) (handled : List Message) (held : List HeldValue) (now : Phase) : Type 0 where
+  pub handled_more : takes_messages before.phase ≡ true → handled ≡ before.handled ++ m ∷ []
+  pub stops : StopsAtMost before.phase → StopsAtMost now
+  pub adds : Over m before.held held now
+
+abbrev pub HasHeard : Message → History → History → Type 0
+HasHeard m h k = HandlesOne m h k.handled k.held k.phase
+
+message_hears : (h : History) (m : Message) → HasHeard m h (after h (call.Handle m))
+message_hears h m =
+    let s : Standing = standing_now h in
+    let does = react_so s m (λ e. (StopsAtMost s.phase → StopsAtMost e.phase) × Over m s.held e.held e.phase) (record {
+      stays = (λ is. is, adds_none m s.held s.phase);
+      stands = λ now outstanding stands. (stands, adds_none m s.held now);
+      stops = λ why farewell plain one may. (λ is. may, inr (why, refl, refl));
+      queues = λ n none. (λ is. is, adds_none m s.held s.phase);
+      keeps = λ ping custody some. (λ is. is, adds_one m s.held (Pong m.token) s.phase (rw (ping, custody, (bytes_decides m.token m.token).1 refl) refl));
+    }) in
+    cond_both (takes_messages h.phase) (heard h m) h (HasHeard m h) (λ takes. record { handled_more = λ takes. refl; stops = does.0; adds = does.1 })
+    (λ off. record { handled_more = λ takes. absurd (both_ways _ off takes); stops = λ is. is; adds = adds_none m h.held h.phase })
+
+pub handled_hears : (store : StoreValue) (now : ℕ) (s : Side) (m : Message) → HasHeard m s.history (side_handled store now s m).history
+handled_hears store now s m =
+    let h : History = after s.history (call.Handle m) in
+    let heard : HasHeard m s.history h = message_hears s.history m in
+    handled_cases store now s m (λ t. HasHeard m s.history t.history) (λ other. heard)
+    (λ asks moment asked. record {
+      handled_more = heard.handled_more;
+      stops = heard.stops;
+      adds = rw (asked_quiet s m asks).0 (adds_one m s.history.held (Answer m.token moment) h.phase asked);
+    })
+    (λ asks. reply_either h _ (HandlesOne m s.history) heard
+    (record { handled_more = heard.handled_more; stops = λ is. refl; adds = inr (PeerTooSmall, refl, refl) }))
+
+pub handled_over : (store : StoreValue) (now : ℕ) (s : Side) (m : Message) → KeepsHeldOver m s (side_handled store now s m)
+handled_over store now s m = grind (arith, handled_hears store now s m)
+
+pub if_over : (m : Message) (does : Bool) (s t : Side) → KeepsHeldOver m s t → KeepsHeldOver m s (cond does t s)
+if_over m true s t over = over
+if_over m false s t over = inl ([], sym (append-nil s.history.held), record { few = omega arith; asked = tt })
+
+-- ---- histories
+
+abbrev pub Stands : History → Type 0
+Stands h = StandFor h.handled h.held
+
+sent_still_stands : (h : History) (m less : Message) → Stands h → Stands (sent h m less)
+unfolding StandFor
+sent_still_stands h m less stand = sent_either (standing_now h) m less (fit (limit_now h) m less) (λ es now. StandFor h.handled es) stand tt
+
+-- a message stands for what it added
+heard_stands : (m : Message) (h k : History) → takes_messages h.phase ≡ true → HasHeard m h k → Stands h → Stands k
+unfolding StandFor
+heard_stands m h k takes heard stand = rw (heard.handled_more takes) (by heard.adds)
+  where
+    by : Over m h.held k.held k.phase → StandFor (h.handled ++ m ∷ []) k.held
+    by (inl more) = rw more.1 (stand_append h.handled (m ∷ []) h.held more.0 stand (stand_added m more.0 more.2))
+    by (inr over) = rw over.2 tt
+
+pub stands_keeps : (limits : LimitValues) → Keeps limits (λ s. Stands s.history)
+unfolding side_after StandFor
+stands_keeps limits = let R : History → History → Type 0 = λ h k. Stands h → Stands k in record {
+  first = tt;
+  handled = λ store now s m is stand. cond_both (handles s) (side_handled store now s m) s (λ t. Stands t.history)
+      (λ does. heard_stands m s.history (side_handled store now s m).history (handles_parts s does).0 (handled_hears store now s m) stand) (λ off. stand);
+  faulted = faulted_between R (λ h stand. stand) (λ h fault takes room stand. tt);
+  written = written_between R (λ h stand. stand) (λ h n within stand. stand);
+  ended = ended_between R (λ h stand. stand) (λ h cut takes stand. tt);
+  released = released_between R (λ h stand. stand) (λ h opened none stand. tt);
+  announced = announced_between R (λ h stand. stand) (λ h n opened room fit stand. stand);
+  told = once_between R R (λ h stand. stand) (λ h k g one two stand. two (one stand)) (λ h token observe r does room. sent_still_stands h _ _)
+      (λ h now. stand_due h.handled now h.held)
+      (λ h now token due room stand. sent_still_stands (without_first h now) _ _ (stand_due h.handled now h.held stand));
+}
+
+-- ---- what leaves what is held as it is
+
+-- what is held is the same, or the connection stopped
+abbrev pub Leaves : History → History → Type 0
+Leaves h k = (k.held ≡ h.held) ⊎ ((why : Reason) × (k.phase ≡ phase.Stopped why))
+
+-- so what is held stays
+pub left_kept : (s t : Side) → Leaves s.history t.history → KeepsHeld s t
+left_kept s t leaves = let none = append-nil s.history.held in grind arith
+
+pub written_same : (s : Side) (n : ℕ) → (side_written s n).history.held ≡ s.history.held
+written_same s n = written_between (λ h k. k.held ≡ h.held) (λ h. refl) (λ h n within. refl) s n
+
+-- where nothing that is held is due, an observer is told
+pub told_keeps : (store : StoreValue) (now : ℕ) (s : Side) → next_held now s ≡ None → KeepsHeld s (settled_once store now s)
+unfolding settled_once
+told_keeps store now s is = rw is (by (next_due store now s))
+  where
+    by : (found : Option Observer) → KeepsHeld s (notified store now s found)
+    by None = left_kept s s (inl refl)
+    by (Some o) =
+        left_kept s (notified store now s (Some o))
+        (reply_either s.history (notification_message o.token (notification store now o))
+        (λ ms es now. (es ≡ s.history.held) ⊎ ((why : Reason) × (now ≡ phase.Stopped why))) (inl refl) (inr (PeerTooSmall, refl)))
+
+-- ---- what is due first is held no more
+
+pub sent_when_due : (store : StoreValue) (now : ℕ) (s : Side) (token : List ℕ) (moment : ℕ) → next_held now s ≡ Some (Answer token moment) → (settled_once store now s).history ≡ after (after s.history (call.Due now)) (call.Reply (held_message token))
+unfolding settled_once
+sent_when_due store now s token moment is = rw is refl
+
+pub taken_out : (store : StoreValue) (now : ℕ) (s : Side) (e : HeldValue) → next_held now s ≡ Some e → answers s.history.phase ≡ true → (settled_once store now s).history.phase ≡ s.history.phase → (settled_once store now s).history.held ≡ without_due now s.history.held
+unfolding settled_once
+taken_out store now s e is answering same = grind arith
+
+-- ---- it is sent
+
+pub answer_sent : (store : StoreValue) (now : ℕ) (s : Side) (token : List ℕ) (moment : ℕ) → next_held now s ≡ Some (Answer token moment) → answers s.history.phase ≡ true
+    → (settled_once store now s).history.queued ≡ s.history.queued ++ (send (standing_due now (standing_now s.history)) (held_message token) (bare_response (held_message token))).queued
+unfolding settled_once
+answer_sent store now s token moment is answering = grind (arith, append-nil)
+
+pub pong_sent : (store : StoreValue) (now : ℕ) (s : Side) (token : List ℕ) → next_held now s ≡ Some (Pong token)
+    → (settled_once store now s).history.queued ≡ s.history.queued ++ (send (standing_due now (standing_now s.history)) (pong_with true token) (pong_with false token)).queued
+unfolding settled_once
+pong_sent store now s token is = grind arith

@@ -1,0 +1,160 @@
+-- A history that another one goes on to: one of the same connection, which takes no message any more once it does not. What each call
+-- keeps of a history.
+use Rattle.std.proofs.Common.{◌≡◌, ℕ, ◌≤◌, Bool, true, false, List, [], ◌∷◌, length, Option, Some, refl, ◌∙◌, arith, ◌&&◌}
+use Rattle.std.proofs.lemmas.Bool.{both_ways, and_parts, true_from_ne_false}
+use Rattle.std.proofs.lemmas.List.{length-drop}
+use Rattle.coap_model.specs.Prelude.{Message, StreamFault, Reply, Server, LimitValues, takes_messages, answers}
+use Rattle.coap_model.specs.Prelude.{is_open, fit, bare_response, HeldValue, first_due, Standing, Effect, send_as}
+use Rattle.coap_model.specs.Prelude.{pong_with, due_effect, History, IsHistory, standing_now, with_effect, after}
+use Rattle.coap_model.specs.Prelude.{link_of, may_hold, bytes_of, own_csm, Call, doing, standing_due}
+use Rattle.coap_model.specs.Prelude.{StoreValue, ConfigValues, Side, new_side, handles, has_room}
+use Rattle.coap_model.specs.Prelude.{side_after, side_faulted, side_written, side_ended, side_released}
+use Rattle.coap_model.specs.Prelude.{side_announced, held_message, after_sent, settled_once, settled, World, Step}
+use Rattle.coap_model.specs.Prelude.{side_of, Event, world_after}
+use Rattle.coap_conn.specs.declared.phase.Reply.TheVariants as reply
+use Rattle.coap_conn.specs.Held as held
+use Rattle.coap_conn.specs.Calls.{IsWithin}
+use Rattle.coap_conn.specs.Calls as call
+use Rattle.coap_conn.proofs.LinkLemmas.{new_shown, history_more}
+use Rattle.coap_model.proofs.world.WalkLaws.{sent, holding, without_first, Between, if_between, settled_between}
+use Rattle.coap_model.proofs.world.AcrossLaws.{kept_by, HoldsOf, KeepsAll, all_across}
+
+-- ---- what is kept
+
+-- a history went on: it is one of the same connection, and stays over once it is
+pub record GoesOn (before after : History) : Type 0 where
+  pub role : after.role ≡ before.role
+  pub limits : after.limits ≡ before.limits
+  pub history : IsHistory before → IsHistory after
+  pub over : takes_messages before.phase ≡ false → takes_messages after.phase ≡ false
+
+pub as_before : (h : History) → GoesOn h h
+as_before h = record { role = refl; limits = refl; history = λ is. is; over = λ e. e }
+
+pub further : (g h k : History) → GoesOn g h → GoesOn h k → GoesOn g k
+further g h k one two = record {
+  role = two.role ∙ one.role;
+  limits = two.limits ∙ one.limits;
+  history = λ is. two.history (one.history is);
+  over = λ e. two.over (one.over e);
+}
+
+-- one that takes messages took them before
+pub was_live : (h k : History) → GoesOn h k → takes_messages k.phase ≡ true → takes_messages h.phase ≡ true
+was_live h k goes takes = true_from_ne_false (takes_messages h.phase) (λ e. both_ways (takes_messages k.phase) (goes.over e) takes)
+
+-- ---- each part
+
+-- more is queued
+pub effect_goes_on : (h : History) (e : Effect) → (takes_messages h.phase ≡ false → takes_messages e.phase ≡ false) → GoesOn h (with_effect h e)
+effect_goes_on h e over = record { role = refl; limits = refl; history = history_more h e.queued; over = over }
+
+sent_over : (s : Standing) (m less : Message) (r : Reply) → takes_messages s.phase ≡ false → takes_messages (send_as s m less r).phase ≡ false
+sent_over s m less reply.Stopped e = refl
+sent_over s m less other e = e
+
+pub sent_goes_so : (h : History) (m less : Message) → GoesOn h (sent h m less)
+sent_goes_so h m less = effect_goes_on h _ (sent_over (standing_now h) m less (fit (standing_now h).limit m less))
+
+pub holding_so : (h : History) (held : List HeldValue) → GoesOn h (holding h held)
+holding_so h held = record { role = refl; limits = refl; history = λ is. is; over = λ e. e }
+
+pub written_goes_on : (h : History) (n : ℕ) → n ≤ length (link_of h).waiting → GoesOn h (after h (call.Written n))
+written_goes_on h n within = record { role = refl; limits = refl; history = λ is. omega (arith, within, is, length-drop h.written (bytes_of h.queued)); over = λ e. e }
+
+pub all_go_on : KeepsAll GoesOn
+all_go_on = record {
+  composes = record { same = as_before; then = further };
+  hears = λ h m takes room. record { role = refl; limits = refl; history = history_more h _; over = λ none. absurd cc };
+  replies = λ h token observe r does room. sent_goes_so h _ _;
+  holds = λ h token moment opened may. holding_so h _;
+  lets_go = λ h now. holding_so h _;
+  pongs = λ h now token due room. further h (without_first h now) _ (holding_so h _) (sent_goes_so (without_first h now) _ _);
+  rejects = λ h fault takes room. effect_goes_on h _ (λ none. refl);
+  ends = λ h cut takes. effect_goes_on h _ (λ none. refl);
+  releases = λ h opened none. effect_goes_on h _ (λ none. refl);
+  announces = λ h size opened room fits. record { role = refl; limits = refl; history = history_more h (own_csm size ∷ []); over = λ e. e };
+  writes = written_goes_on;
+}
+
+-- ---- each call
+
+due_over : (s : Standing) (first : Option HeldValue) → takes_messages s.phase ≡ false → takes_messages (due_effect s first).phase ≡ false
+due_over s (Some (held.Pong token)) e =
+    sent_over s (pong_with true token) (pong_with false token) (fit s.limit (pong_with true token) (pong_with false token)) e
+due_over s other e = e
+
+-- no call makes another connection of it, or one take messages again
+pub call_goes_on : (h : History) (c : Call) → IsWithin (link_of h) (doing (link_of h) c).deed → GoesOn h (after h c)
+call_goes_on h (call.Reply m) within = if_between GoesOn (answers h.phase) h _ (as_before h) (λ does. sent_goes_so h m (bare_response m))
+call_goes_on h (call.Hold token moment) within = if_between GoesOn (is_open h.phase && may_hold h) h _ (as_before h) (λ may. holding_so h _)
+call_goes_on h (call.Due now) within = effect_goes_on h _ (due_over (standing_due now (standing_now h)) (first_due now h.held))
+call_goes_on h (call.Written n) within = written_goes_on h n within
+call_goes_on h other within = if_between GoesOn _ h _ (as_before h) (λ so. record { role = refl; limits = refl; history = history_more h _; over = λ e. cc })
+
+-- what is due first is held no more, and is sent
+pub sent_goes_on : (h : History) (now : ℕ) (e : HeldValue) → GoesOn h (after_sent h now e)
+sent_goes_on h now (held.Answer token moment) =
+    let k : History = after h (call.Due now) in further h k _ (call_goes_on h (call.Due now) tt) (call_goes_on k (call.Reply (held_message token)) tt)
+sent_goes_on h now (held.Pong token) = call_goes_on h (call.Due now) tt
+
+pub settled_goes_on : (store : StoreValue) (now : ℕ) (s : Side) → Between GoesOn s (settled store now s)
+settled_goes_on = settled_between GoesOn all_go_on.composes all_go_on.replies all_go_on.lets_go all_go_on.pongs
+
+-- ---- what stops
+
+-- a fault stops a connection that takes messages
+pub faulted_stops : (s : Side) (fault : StreamFault) → handles s ≡ true → takes_messages (side_faulted s fault).history.phase ≡ false
+unfolding side_faulted
+faulted_stops s fault does = let takes = (and_parts (takes_messages s.history.phase) (has_room s) does).0 in rw does (rw takes refl)
+
+-- ---- what each connection of a server is
+
+-- no more was written than was queued, and it has these limits and is the server's end
+pub record IsSide (limits : LimitValues) (s : Side) : Type 0 where
+  pub is_history : IsHistory s.history
+  pub same_limits : s.history.limits ≡ limits
+  pub is_server : s.history.role ≡ Server
+
+pub follower_is : (limits : LimitValues) (s t : Side) → Between GoesOn s t → IsSide limits s → IsSide limits t
+follower_is limits s t goes is = record { is_history = goes.history is.is_history; same_limits = goes.limits ∙ is.same_limits; is_server = goes.role ∙ is.is_server }
+
+new_side_is : (limits : LimitValues) → IsSide limits (new_side limits)
+new_side_is limits = record { is_history = (new_shown Server limits 0 _ refl).is_history; same_limits = refl; is_server = refl }
+
+-- the connection with a number is one
+pub side_is : (c : ConfigValues) (es : List Event) (id : ℕ) (s : Side) → side_of id (world_after c es).sides ≡ Some s → IsSide c.limits s
+side_is c = kept_by c (Between GoesOn) (IsSide c.limits) (new_side_is c.limits) (follower_is c.limits) (all_across GoesOn all_go_on)
+
+-- what such connections keep: a new one has it, and whatever happens to one that has it leaves it
+pub record Keeps (limits : LimitValues) (P : Side → Type 0) : Type 0 where
+  pub first : P (new_side limits)
+  pub handled : (store : StoreValue) (now : ℕ) (s : Side) (m : Message) → IsSide limits s → P s → P (side_after store now s m)
+  pub faulted : (s : Side) (fault : StreamFault) → P s → P (side_faulted s fault)
+  pub written : (s : Side) (n : ℕ) → P s → P (side_written s n)
+  pub ended : (s : Side) (cut : Bool) → P s → P (side_ended s cut)
+  pub released : (s : Side) → P s → P (side_released s)
+  pub announced : (s : Side) (size : ℕ) → P s → P (side_announced s size)
+  pub told : (store : StoreValue) (now : ℕ) (s : Side) → P s → P (settled_once store now s)
+
+-- each connection goes on, and has it afterwards
+abbrev GoesOnKeeping : LimitValues → (Side → Type 0) → Side → Side → Type 0
+GoesOnKeeping limits P s t = Between GoesOn s t × (IsSide limits s → P s → P t)
+
+keeps_hold : (limits : LimitValues) (P : Side → Type 0) → Keeps limits P → (w : World) (st : Step) (id : ℕ) → HoldsOf (GoesOnKeeping limits P) w st id
+keeps_hold limits P keeps w st id = let goes : HoldsOf (Between GoesOn) w st id = all_across GoesOn all_go_on w st id in record {
+  same = λ s. (goes.same s, λ side is. is);
+  handled = λ m at s. (goes.handled m at s, keeps.handled w.store w.now s m);
+  faulted = λ fault at s. (goes.faulted fault at s, λ side. keeps.faulted s fault);
+  written = λ s n. (goes.written s n, λ side. keeps.written s n);
+  ended = λ s cut. (goes.ended s cut, λ side. keeps.ended s cut);
+  released = λ s. (goes.released s, λ side. keeps.released s);
+  announced = λ size at s. (goes.announced size at s, λ side. keeps.announced s size);
+  told = λ store now s t before. (goes.told store now s t before.0, λ side is. keeps.told store now t (before.1 side is));
+}
+
+-- so each connection has it after any events
+pub kept_after : (c : ConfigValues) (P : Side → Type 0) → Keeps c.limits P → (es : List Event) (id : ℕ) (s : Side) → side_of id (world_after c es).sides ≡ Some s → P s
+kept_after c P keeps es id s there =
+    (kept_by c (GoesOnKeeping c.limits P) (λ t. IsSide c.limits t × P t) (new_side_is c.limits, keeps.first)
+    (λ s t goes is. (follower_is c.limits s t goes.0 is.0, goes.1 is.0 is.1)) (keeps_hold c.limits P keeps) es id s there).1

@@ -1,0 +1,179 @@
+-- What is known of every world, and that no change is lost in it.
+use Rattle.std.proofs.Common.{◌≡◌, ℕ, ◌≤◌, Bool, true, false, cond, List, [], ◌∷◌, map, Option, Some, None, refl, ◌==◌, not, is_none, nat_le, arith, ◌&&◌, sym, ap, ◌∙◌}
+use Rattle.coap_model.specs.Prelude.{AllByRecursion, LimitValues, StoreValue, found_in, Change, Put, Delete, changed}
+use Rattle.coap_model.specs.Prelude.{put_refusal, ConfigValues, Side, side_after, change_after, side_faulted}
+use Rattle.coap_model.specs.Prelude.{side_written, side_ended, side_released, side_announced, HearsAll, settled}
+use Rattle.coap_model.specs.Prelude.{with_history, Place, World, new_world, side_of, stored_after, Step, Handled}
+use Rattle.coap_model.specs.Prelude.{Faulted, Written, ticks, acted, settled_place, step, after_steps, Event}
+use Rattle.coap_model.specs.Prelude.{steps_of, world_after, takes_messages, stop, end_reason}
+use Rattle.coap_model.specs.Prelude.{standing_now, with_effect}
+use Rattle.coap_model.specs.Prelude.{hears, heard_step, heard_steps, steps_heard}
+use Rattle.coap_model.specs.Prelude.{all_settled}
+use Rattle.std.proofs.lemmas.Bool.{and_parts, leb-true, eqb-true, cond_both}
+use Rattle.coap_model.specs.world.World.{changed_at, Opened, Ticked, Stored, Removed, Ended, Released, Announced, Dropped}
+use Rattle.coap_model.proofs.world.KnownLaws.{still_versioned, IsVersioned}
+use Rattle.coap_model.proofs.world.AcrossLaws.{world_keeps}
+use Rattle.coap_model.proofs.world.EntryLemmas.{all_to, all_append, all_filter, all_map}
+use Rattle.coap_model.proofs.world.EntryLemmas.{all_stay}
+use Rattle.coap_model.proofs.world.SideLaws.{IsKnownSide, still_known_side, calls_known, after_known, hears_at_rest, settled_rests, settled_known}
+use Rattle.coap_model.proofs.world.SideLaws.{side_at_rest_stays}
+use Rattle.coap_model.proofs.world.PlaceLaws.{AreDistinct, of_each}
+use Rattle.coap_model.proofs.world.ReachedLaws.{step_distinct}
+use Rattle.coap_model.specs.world.World as world
+
+-- ---- what is known of a world
+
+-- a place whose side is known
+abbrev pub IsKnownPlace : StoreValue → Place → Type 0
+IsKnownPlace store p = IsKnownSide store p.side
+
+pub record IsKnownWorld (w : World) : Type 0 where
+  pub versioned : IsVersioned w.store
+  pub moment : w.now ≤ 18446744073709551615
+  pub places : AllByRecursion (IsKnownPlace w.store) w.sides
+
+-- ---- steps
+
+-- the connections are known ones
+with_places : (w : World) (sides : List Place) → IsKnownWorld w → AllByRecursion (IsKnownPlace w.store) sides → IsKnownWorld (record w { sides = sides })
+with_places w sides known places = record { versioned = known.versioned; moment = known.moment; places = places }
+
+on_side_known : (w : World) (id : ℕ) (f : Side → Side) → ((s : Side) → IsKnownSide w.store s → IsKnownSide w.store (f s)) → IsKnownWorld w → IsKnownWorld (record w { sides = map (changed_at id f) w.sides })
+on_side_known w id f keeps known =
+    with_places w _ known (all_map (IsKnownPlace w.store) (IsKnownPlace w.store) (changed_at id f)
+    (λ p is. cond_both (p.id == id) (record p { side = f p.side }) p (IsKnownPlace w.store) (λ here. keeps p.side is) (λ apart. is)) w.sides known.places)
+
+-- whatever changes in the store
+changed_known : (w : World) (change : Change) → IsKnownWorld w → IsKnownWorld (record w { store = changed w.store change })
+changed_known w change known = record {
+  versioned = still_versioned w.store change known.versioned;
+  moment = known.moment;
+  places = all_to (IsKnownPlace w.store) (IsKnownPlace (changed w.store change)) (λ p. still_known_side w.store change p.side known.versioned) w.sides known.places;
+}
+
+pub acted_known : (limits : LimitValues) (w : World) (s : Step) → IsKnownWorld w → IsKnownWorld (acted limits w s)
+unfolding acted
+acted_known limits w (Opened id) known =
+    cond_both (is_none (side_of id w.sides)) _ w IsKnownWorld
+    (λ e. record { versioned = known.versioned; moment = known.moment; places = all_append (IsKnownPlace w.store) w.sides _ known.places ((record { is_history = omega arith; told = tt }), tt) })
+    (λ e. known)
+acted_known limits w (Handled id m) known =
+    let sides : List Place = map (changed_at id (λ s. side_after w.store w.now s m)) w.sides in
+    let after : IsKnownWorld (record w { sides = sides }) =
+    on_side_known w id (λ s. side_after w.store w.now s m) (λ s. after_known w.store w.now known.moment known.versioned s m) known in
+    elim (side_of id w.sides) as (λ found. IsKnownWorld (record w { sides = sides; store = stored_after w m found })) [
+      | None ↦ after
+      | Some s ↦ changed_known (record w { sides = sides }) (change_after w.store w.now s m) after
+    ]
+acted_known limits w (Faulted id fault) known = on_side_known w id (λ s. side_faulted s fault) (λ s. (calls_known w.store).faulted s fault) known
+acted_known limits w (Written id n) known = on_side_known w id (λ s. side_written s n) (λ s. (calls_known w.store).written s n) known
+acted_known limits w (Ticked now) known =
+    cond_both (ticks w.now now) (record w { now = now }) w IsKnownWorld
+    (λ e. record { versioned = known.versioned; moment = leb-true now 18446744073709551615 (and_parts (nat_le w.now now) (nat_le now 18446744073709551615) e).1; places = known.places })
+    (λ e. known)
+acted_known limits w (Stored path format bytes) known =
+    cond_both (is_none (put_refusal w.store path bytes)) _ w IsKnownWorld (λ e. changed_known w (Put path format bytes) known) (λ e. known)
+acted_known limits w (Removed path) known = changed_known w (Delete path) known
+acted_known limits w (Ended id cut) known = on_side_known w id (λ s. side_ended s cut) (λ s. (calls_known w.store).ended s cut) known
+acted_known limits w (Released id) known = on_side_known w id side_released (calls_known w.store).released known
+acted_known limits w (Announced id size) known = on_side_known w id (λ s. side_announced s size) (λ s. (calls_known w.store).announced s size) known
+acted_known limits w (Dropped id) known = with_places w _ known (all_filter (IsKnownPlace w.store) (λ p. not (p.id == id)) w.sides known.places)
+
+step_known : (limits : LimitValues) (w : World) (s : Step) → IsKnownWorld w → IsKnownWorld (step limits w s)
+unfolding step
+step_known limits w s before =
+    let v : World = acted limits w s in
+    let known : IsKnownWorld v = acted_known limits w s before in
+    let Known : Place → Type 0 = IsKnownPlace v.store in
+    with_places v _ known (all_map Known Known (settled_place v.store v.now) (λ p. settled_known v.store v.now known.moment known.versioned p.side) v.sides known.places)
+
+-- the world after any events is known
+pub world_known : (c : ConfigValues) (events : List Event) → c.starts.moment ≤ 18446744073709551615 → IsKnownWorld (world_after c events)
+unfolding found_in
+world_known c events small =
+    let versioned : IsVersioned (new_world c).store = record { distinct = tt; numbered = λ path r found. absurd cc; given = λ path r found. absurd cc } in
+    world_keeps c IsKnownWorld (step_known c.limits) (record { versioned = versioned; moment = small; places = tt }) events
+
+-- ---- no change is lost
+
+-- On each connection where there is room, each observer was told the state that its path has now.
+abbrev pub AllHear : World → Type 0
+AllHear w = AllByRecursion (λ p. HearsAll w.store w.now p.side) w.sides
+
+settled_hear : (store : StoreValue) (now : ℕ) (ps : List Place) → AllByRecursion (λ p. HearsAll store now p.side) (map (settled_place store now) ps)
+settled_hear store now [] = tt
+settled_hear store now (p ∷ ps) = (hears_at_rest store now (settled store now p.side) (settled_rests store now p.side), settled_hear store now ps)
+
+pub step_hears : (limits : LimitValues) (w : World) (s : Step) → AllHear (step limits w s)
+unfolding step
+step_hears limits w s = settled_hear (acted limits w s).store (acted limits w s).now (acted limits w s).sides
+
+-- after any events
+pub world_hears : (c : ConfigValues) (events : List Event) → AllHear (world_after c events)
+world_hears c = world_keeps c AllHear (λ w s hear. step_hears c.limits w s) tt
+
+-- a world in which no change is lost is settled
+pub world_stays : (w : World) → AllHear w → all_settled w ≡ w
+world_stays w hear =
+    let settles : Place → Place = settled_place w.store w.now in
+    ap (λ (ps : List Place). record w { sides = ps }) (all_stay settles w.sides
+    (all_to (λ p. HearsAll w.store w.now p.side) (λ p. settles p ≡ p)
+    (λ p hears. ap (λ (s : Side). record p { side = s }) (side_at_rest_stays w.store w.now p.side hears)) w.sides hear))
+
+-- ---- the end of input
+
+-- behind a stop it does nothing, cut or not
+ends_if_taking : (s : Side) (cut : Bool) → side_ended s (takes_messages s.history.phase && cut) ≡ side_ended s cut
+unfolding side_ended
+ends_if_taking s cut =
+    let ended : Bool → Bool → Side = λ takes cut. with_history s (cond takes (with_effect s.history (stop (standing_now s.history) (end_reason cut) [])) s.history) in
+    elim (takes_messages s.history.phase) as (λ takes. ended takes (takes && cut) ≡ ended takes cut) [ true ↦ refl | false ↦ refl ]
+
+-- changes of a connection do the same to a place where they do the same to the connection with the number
+place_same : (id : ℕ) (f g : Side → Side) (p : Place) (here : Bool) → (p.id == id) ≡ here → (p.id ≡ id → f p.side ≡ g p.side) → changed_at id f p ≡ changed_at id g p
+place_same id f g p true is same = rw is (ap (λ (s : Side). record p { side = s }) (same (eqb-true p.id id is)))
+place_same id f g p false is same = rw is refl
+
+map_same : {B : Type 0} (f g : Place → B) (ps : List Place) → AllByRecursion (λ p. f p ≡ g p) ps → map f ps ≡ map g ps
+map_same f g [] each = refl
+map_same f g (p ∷ ps) each = cc (each.0, map_same f g ps each.1)
+
+-- what is the same of each connection with a number
+pub each_same : {B : Type 0} (f g : Place → B) (ps : List Place) → AreDistinct ps → ((id : ℕ) (s : Side) → side_of id ps ≡ Some s → f (record { id = id; side = s }) ≡ g (record { id = id; side = s })) → map f ps ≡ map g ps
+each_same f g ps distinct same = map_same f g ps (of_each (λ id s. f (record { id = id; side = s }) ≡ g (record { id = id; side = s })) ps distinct same)
+
+-- ---- a step, and all of them
+
+heard_acted : (limits : LimitValues) (w : World) (s : Step) → AreDistinct w.sides → acted limits w (heard_step w s) ≡ acted limits w s
+unfolding acted
+heard_acted limits w (world.Ended id cut) distinct =
+    let f : Side → Side = λ t. side_ended t (hears (side_of id w.sides) && cut) in
+    let g : Side → Side = λ t. side_ended t cut in
+    ap (λ (ps : List Place). record w { sides = ps }) (each_same (changed_at id f) (changed_at id g) w.sides distinct (λ other s there.
+    place_same id f g (record { id = other; side = s }) (other == id) refl
+    (λ same. ap (λ (o : Option Side). side_ended s (hears o && cut)) (ap (λ (n : ℕ). side_of n w.sides) (sym same) ∙ there) ∙ ends_if_taking s cut)))
+heard_acted limits w other distinct = refl
+
+all_heard : (limits : LimitValues) (w : World) (ss : List Step) → AreDistinct w.sides → after_steps limits w (heard_steps limits w ss) ≡ after_steps limits w ss
+unfolding after_steps heard_steps world.step
+all_heard limits w [] distinct = refl
+all_heard limits w (s ∷ ss) distinct =
+    rw (heard_acted limits w s distinct, after_steps) (all_heard limits (world.step limits w s) ss (step_distinct limits w s distinct))
+
+-- they leave the world of the events
+pub heard_world : (c : ConfigValues) (es : List Event) → after_steps c.limits (new_world c) (steps_heard c es) ≡ world_after c es
+unfolding steps_heard world_after
+heard_world c es = all_heard c.limits (new_world c) (steps_of c.limits.max_message es) tt
+
+-- so where they are equal, the worlds are
+pub same_heard : (c : ConfigValues) (es fs : List Event) → steps_heard c es ≡ steps_heard c fs → world_after c es ≡ world_after c fs
+same_heard c es fs alike = sym (heard_world c es) ∙ ap (after_steps c.limits (new_world c)) alike ∙ heard_world c fs
+
+-- equal steps are heard alike
+pub heard_alike : (c : ConfigValues) (es fs : List Event) → steps_of c.limits.max_message es ≡ steps_of c.limits.max_message fs → steps_heard c es ≡ steps_heard c fs
+unfolding steps_heard
+heard_alike c es fs alike = ap (heard_steps c.limits (new_world c)) alike
+
+-- behind a stop
+pub quiet_end : (w : World) (id : ℕ) (s : Side) (cut : Bool) → side_of id w.sides ≡ Some s → takes_messages s.history.phase ≡ false → heard_step w (world.Ended id cut) ≡ world.Ended id false
+quiet_end w id s cut there over = ap (λ (o : Option Side). world.Ended id (hears o && cut)) there ∙ ap (λ (b : Bool). world.Ended id (b && cut)) over

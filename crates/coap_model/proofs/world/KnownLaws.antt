@@ -1,0 +1,257 @@
+-- Known facts of an observer: the state that it was told last is a state that its path had.
+use Rattle.std.proofs.Common.{◌≡◌, ℕ, ◌+◌, ◌<◌, ◌≤◌, true, false, List, Option, Some, None, refl, sym, ap, ◌∙◌, arith, ◌==◌, nat_eq, not, ◌&&◌, inl, inr, ◌⊎◌}
+use Rattle.coap_model.specs.Prelude.{decimal, option_eq, Message, Path, same_bytes}
+use Rattle.coap_model.specs.Prelude.{Representation, StoreValue, found_in, place_of, key_for, state_at, state_of}
+use Rattle.coap_model.specs.Prelude.{built, text_plain, is_observable, is_dynamic, Target, target_of, path_of}
+use Rattle.coap_model.specs.Prelude.{Change, Nothing, Put, Delete, changed, prompt_answer, only, content, Response}
+use Rattle.coap_model.specs.Prelude.{etag_at, is_among, valid, answer_at, removes_watch, finally, answer_of}
+use Rattle.coap_model.specs.Prelude.{unheld_by, AreDistinct, notification_at, Time, Dynamic}
+use Rattle.coap_model.specs.Prelude.{Observer, same_state, is_due, entry_for, format_of}
+use Rattle.coap_model.specs.Prelude.{goes_on, notification, notification_message}
+use Rattle.coap_model.specs.Prelude.{response_with_observe, responds, etag_of_state, TellsState}
+use Rattle.std.proofs.lemmas.Bool.{not-false, eqb-true, eq-eqb, and_parts, cond_both}
+use lib.Pointwise.{bytes_decides}
+use Rattle.coap_store.specs.Answer.{Answer}
+use Rattle.coap_store.specs.declared.place.Place.{Place}
+use Rattle.coap_store.proofs.CatalogueLemmas.{same_format}
+use Rattle.coap_store.proofs.ChangeLaws.{put_is_stored, other_is_kept_on_put, other_is_kept_on_delete, deleted_is_gone, distinct_stays}
+use Rattle.coap_store.proofs.VersionLaws.{by_path}
+use Rattle.coap_store.proofs.WatchLaws.{promptly_watched_is_there, stored_unwatched, watched_at_once}
+use Rattle.coap_model.proofs.world.WalkLaws.{there_or_not}
+use Rattle.coap_store.proofs.AnswerLaws.{answer_cases, get_cases, store_cases}
+use Rattle.coap_wire.specs.Codes as code
+use Rattle.coap_store.specs.declared.plan.Watch.TheVariants as watch
+use Rattle.coap_model.specs.world.Observers as world
+
+-- ---- what is known
+
+-- what was told was stored: it has a version, and whatever has that version now at the path is no other
+pub record KnowsStored (store : StoreValue) (o : Observer) : Type 0 where
+  pub state : Representation
+  pub was : o.told ≡ Some state
+  pub numbered : 1 ≤ state.version
+  pub given : state.version ≤ store.versions
+  pub same : (r : Representation) → found_in store.resources o.path ≡ Some r → r.version ≡ state.version → r ≡ state
+
+-- what was told was a moment
+pub record KnowsMoment (o : Observer) : Type 0 where
+  pub moment : ℕ
+  pub was : o.told ≡ built text_plain (decimal moment)
+  pub small : moment ≤ 18446744073709551615
+
+-- what is dynamic and the moment are observed, and nothing else
+abbrev pub IsKnownAt : Place → StoreValue → Observer → Type 0
+IsKnownAt Time store o = KnowsMoment o
+IsKnownAt Dynamic store o = KnowsStored store o
+IsKnownAt other store o = ⊥
+
+pub record IsKnown (store : StoreValue) (o : Observer) : Type 0 where
+  pub key : key_for o.path ≡ Some o.path
+  pub state : IsKnownAt (place_of o.path) store o
+
+-- no path stands twice, and each version was given
+pub record IsVersioned (store : StoreValue) : Type 0 where
+  pub distinct : AreDistinct store.resources
+  pub numbered : (path : Path) (r : Representation) → found_in store.resources path ≡ Some r → 1 ≤ r.version
+  pub given : (path : Path) (r : Representation) → found_in store.resources path ≡ Some r → r.version ≤ store.versions
+
+pub bytes_itself : (xs : List ℕ) → same_bytes xs xs ≡ true
+bytes_itself xs = (bytes_decides xs xs).1 refl
+
+-- ---- states
+
+pub state_itself : (state : Option Representation) → same_state state state ≡ true
+state_itself None = refl
+state_itself (Some r) =
+    let format = elim r.format as (λ f. world.same_format f f ≡ true) [ None ↦ refl | Some n ↦ eq-eqb n n refl ] in
+    rw (eq-eqb r.version r.version refl, format, bytes_itself r.bytes) refl
+
+format_is : (f g : Option ℕ) → world.same_format f g ≡ true → f ≡ g
+format_is None None e = refl
+format_is (Some m) (Some n) e = ap Some (eqb-true m n e)
+format_is f g e = absurd cc
+
+-- states that compare equal are one
+pub state_is : (told state : Option Representation) → same_state told state ≡ true → told ≡ state
+state_is None None e = refl
+state_is (Some r) (Some q) e =
+    let first = and_parts (r.version == q.version && world.same_format r.format q.format) (same_bytes r.bytes q.bytes) e in
+    let second = and_parts (r.version == q.version) (world.same_format r.format q.format) first.0 in
+    let version : r.version ≡ q.version = eqb-true r.version q.version second.0 in
+    let format : r.format ≡ q.format = format_is r.format q.format second.1 in
+    let bytes : r.bytes ≡ q.bytes = (bytes_decides r.bytes q.bytes).0 first.1 in
+    λ i. Some (record { version = version i; format = format i; bytes = bytes i })
+state_is told state e = absurd cc
+
+-- an observer that is not due was told the state now
+pub told_now : (store : StoreValue) (now : ℕ) (o : Observer) → is_due store now o ≡ false → o.told ≡ state_of store now o.path
+unfolding is_due
+told_now store now o e = state_is o.told (state_of store now o.path) (not-false (same_state o.told (state_of store now o.path)) e)
+
+-- one that is told the state now is not due
+pub not_due : (store : StoreValue) (now : ℕ) (o : Observer) → o.told ≡ state_of store now o.path → is_due store now o ≡ false
+unfolding is_due
+not_due store now o e = ap (λ told. not (same_state told (state_of store now o.path))) e ∙ ap not (state_itself (state_of store now o.path))
+
+-- ---- over changes of the store
+
+-- what is found after a change has a version that the change gave, or it was there
+found_behind : (store : StoreValue) (change : Change) (path : Path) (r : Representation) → AreDistinct store.resources → found_in (changed store change).resources path ≡ Some r
+    → ((store.versions < r.version) × (r.version ≤ (changed store change).versions)) ⊎ (found_in store.resources path ≡ Some r)
+found_behind store Nothing path r distinct found = inr found
+found_behind store (Put at format bytes) path r distinct found = by_path path at
+    (λ here. (let version : store.versions + 1 ≡ r.version = cc (put_is_stored store at format bytes) in inl (omega arith, omega arith)))
+    (λ apart. inr (sym (other_is_kept_on_put store at path format bytes apart) ∙ found))
+found_behind store (Delete at) path r distinct found =
+    by_path path at (λ here. absurd (cc (deleted_is_gone store at distinct))) (λ apart. inr (sym (other_is_kept_on_delete store at path apart) ∙ found))
+
+versions_grow : (store : StoreValue) (change : Change) → store.versions ≤ (changed store change).versions
+versions_grow store (Put at format bytes) = omega arith
+versions_grow store other = omega arith
+
+pub still_versioned : (store : StoreValue) (change : Change) → IsVersioned store → IsVersioned (changed store change)
+still_versioned store change is = record {
+  distinct = distinct_stays store change is.distinct;
+  numbered = λ path r found. elim (found_behind store change path r is.distinct found) [ inl new ↦ omega arith | inr old ↦ is.numbered path r old ];
+  given = λ path r found. elim (found_behind store change path r is.distinct found) [
+    | inl new ↦ new.1
+    | inr old ↦ omega (arith, is.given path r old, versions_grow store change)
+  ];
+}
+
+known_at_still : (place : Place) (store : StoreValue) (change : Change) (o : Observer) → IsVersioned store → IsKnownAt place store o → IsKnownAt place (changed store change) o
+known_at_still Dynamic store change o is known = record {
+  state = known.state;
+  was = known.was;
+  numbered = known.numbered;
+  given = omega (arith, known.given, versions_grow store change);
+  same = λ r found version. elim (found_behind store change o.path r is.distinct found) [
+    | inl new ↦ absurd (omega (arith, known.given))
+    | inr old ↦ known.same r old version
+  ];
+}
+known_at_still other store change o is known = known
+
+-- what was told is known whatever changes
+pub still_known : (store : StoreValue) (change : Change) (o : Observer) → IsVersioned store → IsKnown store o → IsKnown (changed store change) o
+still_known store change o is known = record { key = known.key; state = known_at_still (place_of o.path) store change o is known.state }
+
+-- ---- being told the state now
+
+-- a path whose state can be observed, and that has one
+pub record IsWatchable (store : StoreValue) (now : ℕ) (path : Path) : Type 0 where
+  pub key : key_for path ≡ Some path
+  pub observable : is_observable (place_of path) ≡ true
+  pub representation : Representation
+  pub there : state_of store now path ≡ Some representation
+
+told_at : (place : Place) (store : StoreValue) (now : ℕ) (token : List ℕ) (path : Path) (r : Representation) → now ≤ 18446744073709551615 → IsVersioned store → is_observable place ≡ true → state_at store now (Some path) place ≡ Some r → IsKnownAt place store (record { token = token; path = path; told = Some r })
+unfolding state_at
+told_at Time store now token path r small is e there = record { moment = now; was = sym there; small = small }
+told_at Dynamic store now token path r small is e there = record {
+  state = r;
+  was = refl;
+  numbered = is.numbered path r there;
+  given = is.given path r there;
+  same = λ q found version. (let one : Some q ≡ Some r = sym found ∙ there in cc);
+}
+told_at other store now token path r small is e there = absurd cc
+
+-- an observer that is told the state now is known
+pub told_known : (store : StoreValue) (now : ℕ) (token : List ℕ) (path : Path) → now ≤ 18446744073709551615 → IsVersioned store → IsWatchable store now path → IsKnown store (record { token = token; path = path; told = state_of store now path })
+told_known store now token path small is can =
+    rw can.there (record { key = can.key; state = told_at (place_of path) store now token path can.representation small is can.observable (rw can.key at can.there) })
+
+-- ---- which states are told
+
+-- a request that asks for an entry is about such a path
+pub entry_watchable : (store : StoreValue) (now : ℕ) (m : Message) → (prompt_answer store now m).watch ≡ watch.Add → IsWatchable store now (path_of m)
+entry_watchable store now m e = let may = promptly_watched_is_there store now m e in record { key = may.key; observable = may.observable; representation = may.representation; there = may.there }
+
+known_observable : (place : Place) (store : StoreValue) (o : Observer) → IsKnownAt place store o → is_observable place ≡ true
+known_observable Time store o known = refl
+known_observable Dynamic store o known = refl
+known_observable other store o known = absurd known
+
+-- a notification with Observe is the 2.05 of the state, whose format is the one that was told
+pub record TellsOn (place : Place) (state : Option Representation) (format : Option ℕ) (a : Response) : Type 0 where
+  pub representation : Representation
+  pub there : state ≡ Some representation
+  pub same : representation.format ≡ format
+  pub says : a ≡ content place representation
+
+tells_on_at : (place : Place) (state : Option Representation) (format : Option ℕ) → goes_on (notification_at place state format) ≡ true → TellsOn place state format (notification_at place state format)
+unfolding notification_at
+tells_on_at place None format e = absurd cc
+tells_on_at place (Some r) format e =
+    cond_both (option_eq nat_eq r.format format) (content place r) (only code.not_acceptable) (λ a. goes_on a ≡ true → TellsOn place (Some r) format a)
+    (λ same on. record { representation = r; there = refl; same = same_format r.format format (ap not same); says = refl }) (λ other on. absurd cc) e
+
+pub tells_on_to_observer : (store : StoreValue) (now : ℕ) (o : Observer) → goes_on (notification store now o) ≡ true → TellsOn (place_of o.path) (state_of store now o.path) (format_of o.told) (notification store now o)
+tells_on_to_observer store now o e = tells_on_at (place_of o.path) (state_of store now o.path) (format_of o.told) e
+
+pub left_watchable : (store : StoreValue) (now : ℕ) (o : Observer) → IsKnown store o → goes_on (notification store now o) ≡ true → IsWatchable store now o.path
+left_watchable store now o known e =
+    let tells = tells_on_to_observer store now o e in
+    record { key = known.key; observable = known_observable (place_of o.path) store o known.state; representation = tells.representation; there = tells.there }
+
+-- ---- responses that tell a state
+
+-- the 2.05 of a state, or the 2.03 of a stored one
+abbrev pub SaysState : Place → Representation → Response → Type 0
+SaysState place r a = (a ≡ content place r) ⊎ ((a ≡ etag_of_state r) × (is_dynamic place ≡ true))
+
+-- such a response tells it, with Observe
+pub says_tells : (o : Observer) (state : Option Representation) (r : Representation) (a : Response) → state ≡ Some r → SaysState (place_of o.path) r a → TellsState o state (response_with_observe o.token true a)
+says_tells o state r a there (inl e) = rw there (inl (ap (response_with_observe o.token true) e))
+says_tells o state r a there (inr e) = rw there (inr (ap (response_with_observe o.token true) e.0, e.1))
+
+-- what tells a state is a response with the observer's token
+pub tells_responds : (o : Observer) (state : Option Representation) (m : Message) → TellsState o state m → responds o.token m ≡ true
+tells_responds o None m tells = absurd tells
+tells_responds o (Some r) m (inl e) = ap (responds o.token) e ∙ bytes_itself o.token
+tells_responds o (Some r) m (inr e) = ap (responds o.token) e.0 ∙ bytes_itself o.token
+
+-- ---- answers
+
+-- an answer that enters an observer tells the state of the path
+abbrev TellsWell : Place → Option Representation → Answer → Type 0
+TellsWell place state a = a.watch ≡ watch.Add → (r : Representation) × (state ≡ Some r) × SaysState place r a.response
+
+-- an ETag is among others only where the state is stored
+valid_says : (place : Place) (r : Representation) (etags : List (List ℕ)) → is_among (etag_at place r) etags ≡ true → SaysState place r (valid place r)
+valid_says Dynamic r etags e = inr (refl, refl)
+valid_says other r etags e = absurd cc
+
+telling_at : (s : StoreValue) (t : Target) (m : Message) → TellsWell t.place t.state (answer_at s t m)
+telling_at s t m =
+    let P : Answer → Type 0 = TellsWell t.place t.state in
+    answer_cases P s t m (λ c error e. absurd cc) (record {
+      read = λ r is. get_cases P t.place r m (λ c error e. absurd cc) (record {
+        valid = λ among e. (r, is, valid_says t.place r _ among);
+        late = λ e. absurd cc;
+        content = λ e. (r, is, inl refl);
+      });
+      deleted = λ dynamic other e. absurd cc;
+      stored = λ dynamic other. store_cases P s t m (λ c error e. absurd cc) (λ e. absurd cc) (λ can e. absurd (cc (stored_unwatched t.key t.state m)));
+    })
+
+-- the answer that enters an observer is not held, and tells it what it is told
+pub entry_tells : (store : StoreValue) (now : ℕ) (m : Message) → (prompt_answer store now m).watch ≡ watch.Add → TellsState (entry_for store now m) (state_of store now (path_of m)) (response_with_observe m.token true (prompt_answer store now m).response)
+unfolding answer_of prompt_answer
+entry_tells store now m e =
+    let t : Target = target_of store now (path_of m) in
+    let tells : TellsWell t.place t.state (prompt_answer store now m) =
+    there_or_not (answer_of store now m).hold (λ hold. TellsWell t.place t.state (unheld_by hold (answer_of store now m)))
+    (λ none. elim (removes_watch m) as (λ b. TellsWell t.place t.state (finally b (answer_at store t m))) [ true ↦ λ e. absurd cc | false ↦ telling_at store t m ])
+    (λ seconds held e. (let at_once = watched_at_once store now m e in absurd cc)) in
+    let is = tells e in
+    says_tells (entry_for store now m) (state_of store now (path_of m)) is.0 (prompt_answer store now m).response is.1 is.2
+
+-- ---- notifications
+
+-- a notification with Observe tells what the observer is told from then on
+pub notification_tells_observer : (store : StoreValue) (now : ℕ) (o : Observer) → goes_on (notification store now o) ≡ true → TellsState o (state_of store now o.path) (notification_message o.token (notification store now o))
+notification_tells_observer store now o on =
+    let is = tells_on_to_observer store now o on in
+    rw on (says_tells o (state_of store now o.path) is.representation (notification store now o) is.there (inl is.says))

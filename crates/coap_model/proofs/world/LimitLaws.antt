@@ -1,0 +1,292 @@
+-- The limits of a server hold: after any events of the bytes that wait on a connection, of what it holds and of its observers, and
+-- after accepted events of the bytes that are kept of an unfinished frame.
+use Rattle.std.proofs.Common.{◌≡◌, ℕ, ◌+◌, ◌<◌, ◌≤◌, Bool, true, false, List, [], ◌∷◌, ◌++◌, length, Some, None, refl, ap, ◌∙◌, arith, sym, subst, append_assoc, inl, inr, ◌==◌}
+use Rattle.std.proofs.lemmas.Bool.{cond_both, leb-true, ltb-true, eqb-true}
+use Rattle.std.proofs.lemmas.List.{length-append, length-drop, append-nil}
+use Rattle.std.proofs.lemmas.List.Sums.{length-filter, count_by-le-length}
+use Rattle.coap_model.specs.Prelude.{same_bytes, not, Message, spelling, Reply, Whole, LimitValues, AreInRange}
+use Rattle.coap_model.specs.Prelude.{takes_messages, stop_of, announced, bad_csm_option, size_unless, csm_size}
+use Rattle.coap_model.specs.Prelude.{announcement, size_limit, AllFit, fit, bare_response, HeldValue, Answer}
+use Rattle.coap_model.specs.Prelude.{first_due, Standing, send_as, send, react, pong_with, Effect, stop}
+use Rattle.coap_model.specs.Prelude.{reaction_unless, live_reaction, reject_reason, History, IsHistory, limit_now}
+use Rattle.coap_model.specs.Prelude.{standing_now, after, link_of, with_effect, bytes_of, own_csm, free_in, release}
+use Rattle.coap_model.specs.Prelude.{end_reason, StoreValue, response_with_observe, ConfigValues, Observer, is_due}
+use Rattle.coap_model.specs.Prelude.{without_token, entry_for, left_of, first_becomes, Side, new_side, waiting_on}
+use Rattle.coap_model.specs.Prelude.{settled_once, settled, side_of, World, Step, Event, stream_on, world_after}
+use Rattle.coap_model.specs.Prelude.{AreAccepted, size_on, kept_on, unwrap_or, Server}
+use Rattle.coap_model.proofs.world.SideLaws.{send_held, observers_after, observers_settled}
+use Rattle.coap_wire.proofs.StreamSteps.{unfinished_below}
+use Rattle.coap_conn.proofs.LinkLemmas.{announced_more}
+use Rattle.coap_conn.proofs.WaitingLaws.{wait, one_small, limit_within, queued_waits, kept_small_by}
+use Rattle.coap_conn.proofs.SmallLemmas.{first_csm_bytes_small, release_bytes_small}
+use Rattle.coap_conn.proofs.HeldLaws.{due_nothing, due_fewer, held_few}
+use Rattle.coap_conn.proofs.HistoryLaws.{reaction_fits, sent_fits, stopped_fits, new_fits, released_fits}
+use Rattle.coap_model.proofs.world.WalkLaws.{there_or_not, there_where, settled_keeps, observers_kept, release_fits, room_in, sent, without_first, Hears, Replies, Between, once_between, after_between, faulted_between, written_between, ended_between, released_between, announced_between}
+use Rattle.coap_model.proofs.world.AcrossLaws.{KeepsAll, keeping_composes, kept_history, HoldsOf, step_across, opened_there}
+use Rattle.coap_model.proofs.world.GoingOn.{GoesOn, all_go_on, call_goes_on, side_is, Keeps, kept_after}
+use Rattle.coap_conn.proofs.ReactionLaws.{abort_one, react_so}
+use Rattle.coap_model.proofs.world.ReachedLaws.{accepted_is, IsReached}
+use Rattle.coap_model.proofs.world.StepLaws.{rest_unfinished, size_grows}
+use Rattle.coap_model.proofs.world.EntryLemmas.{all_append}
+use Rattle.coap_model.proofs.OptionLemmas.{same_there}
+use Rattle.coap_wire.proofs.NumberLaws.{none_or_some}
+use Rattle.coap_conn.specs.Calls as call
+use Rattle.coap_wire.specs.Codes as code
+use Rattle.coap_conn.specs.declared.reason.Reason.TheVariants as reason
+use Rattle.coap_model.specs.world.World as world
+
+-- ---- observers
+
+token_fewer : (token : List ℕ) (os : List Observer) → length (without_token token os) ≤ length os
+unfolding without_token
+token_fewer token os = let other : Observer → Bool = λ o. not (same_bytes o.token token) in omega (arith, length-filter other os, count_by-le-length other os)
+
+becomes_fewer : (due : Observer → Bool) (after : List Observer) (os : List Observer) → length after ≤ 1 → length (first_becomes due after os) ≤ length os
+unfolding first_becomes
+becomes_fewer due after [] one = omega arith
+becomes_fewer due after (o ∷ os) one =
+    cond_both (due o) (after ++ os) (o ∷ first_becomes due after os) (λ ps. length ps ≤ length (o ∷ os))
+    (λ e. omega (arith, one, length-append after os)) (λ e. omega (arith, becomes_fewer due after os one))
+
+left_one : (store : StoreValue) (now : ℕ) (o : Observer) (stays : Bool) → length (left_of store now o stays) ≤ 1
+left_one store now o true = omega arith
+left_one store now o false = omega arith
+
+few_keeps : (limits : LimitValues) → Keeps limits (λ s. length s.observers ≤ limits.observers)
+few_keeps limits =
+    let Few : List Observer → Type 0 = λ os. length os ≤ limits.observers in
+    let kept = observers_kept Few (omega arith) in
+    record {
+      first = omega arith;
+      -- an entry is made where there is a place for it
+      handled = λ store now s m is few. observers_after Few store now s m (omega arith) few (omega (arith, few, token_fewer m.token s.observers)) (λ asked place. (
+          let same : (after s.history (call.Handle m)).limits.observers ≡ limits.observers =
+          ap (λ (l : LimitValues). l.observers) ((call_goes_on s.history (call.Handle m) tt).limits ∙ is.same_limits) in
+          omega (arith, place, same, length-append (without_token m.token s.observers) (entry_for store now m ∷ []))));
+      faulted = kept.faulted;
+      written = kept.written;
+      ended = kept.ended;
+      released = kept.released;
+      announced = kept.announced;
+      told = λ store now s few. observers_settled Few store now s (omega arith) few
+          (λ o stays due on. omega (arith, few, becomes_fewer (is_due store now) (left_of store now o stays) s.observers (left_one store now o stays)));
+    }
+
+-- no more observers than the limits allow
+pub observers_within : (c : ConfigValues) (es : List Event) (id : ℕ) (s : Side) → side_of id (world_after c es).sides ≡ Some s → length s.observers ≤ c.limits.observers
+observers_within c = kept_after c (λ t. length t.observers ≤ c.limits.observers) (few_keeps c.limits)
+
+-- ---- what is held
+
+abbrev HoldsFew : History → Type 0
+HoldsFew h = length h.held ≤ h.limits.pending
+
+-- what is sent adds nothing to it
+sent_few : (h : History) (m less : Message) → HoldsFew h → HoldsFew (sent h m less)
+sent_few h m less few = omega (arith, few, send_held (standing_now h) m less (fit (limit_now h) m less))
+
+-- what is due is taken out
+taken_few : (h : History) (now : ℕ) → HoldsFew h → HoldsFew (without_first h now)
+taken_few h now few = there_or_not (first_due now h.held) (λ due. HoldsFew (without_first h now))
+    (λ none. omega (arith, few, ap (λ (es : List HeldValue). length es) (due_nothing now h.held none).1)) (λ e is. omega (arith, few, due_fewer now h.held e is))
+
+-- an answer is held where there is room, and a stop gives up what is held
+all_hold_few : KeepsAll (λ h k. HoldsFew h → HoldsFew k)
+all_hold_few = record {
+  composes = keeping_composes HoldsFew;
+  hears = λ h m takes room few. held_few (standing_now h) m few;
+  replies = λ h token observe r does room. (let m = response_with_observe token observe r in sent_few h m (bare_response m));
+  holds = λ h token moment opened may few. omega (arith, ltb-true (length h.held) h.limits.pending may, length-append h.held (Answer token moment ∷ []));
+  lets_go = taken_few;
+  pongs = λ h now token due room few. sent_few (without_first h now) (pong_with true token) (pong_with false token) (taken_few h now few);
+  rejects = λ h fault takes room few. omega arith;
+  ends = λ h cut takes few. omega arith;
+  releases = λ h opened none few. omega arith;
+  announces = λ h size opened room fit few. few;
+  writes = λ h n within few. few;
+}
+
+-- no more is held than the limits allow
+pub held_within : (c : ConfigValues) (es : List Event) (id : ℕ) (s : Side) → side_of id (world_after c es).sides ≡ Some s → length s.history.held ≤ c.limits.pending
+held_within c es id s there =
+    let few : HoldsFew s.history = kept_history c HoldsFew (omega arith) all_hold_few es id s there in
+    omega (arith, few, ap (λ (l : LimitValues). l.pending) (side_is c es id s there).same_limits)
+
+-- ---- the bytes that wait
+
+sent_one : (s : Standing) (m less : Message) (r : Reply) → length (send_as s m less r).queued ≤ 1
+sent_one s m less Whole = omega arith
+sent_one s m less other = omega arith
+
+-- a message queues one at most
+message_one : (s : Standing) (m : Message) → length (react s m).effect.queued ≤ 1
+message_one s m = react_so s m (λ e. length e.queued ≤ 1) (record {
+  stays = omega arith;
+  stands = λ now outstanding stands. omega arith;
+  stops = λ why farewell plain one may. one;
+  queues = λ n no. omega arith;
+  keeps = λ ping custody some. omega arith;
+})
+
+-- no more bytes wait than the queue holds
+record Waits (h : History) : Type 0 where
+  is : IsHistory h
+  few : wait h ≤ h.limits.queue
+
+waits_by : (h k : History) → GoesOn h k → (Waits h → wait k ≤ h.limits.queue) → Waits h → Waits k
+waits_by h k goes less w = record { is = goes.history w.is; few = omega (arith, less w, ap (λ (l : LimitValues). l.queue) goes.limits) }
+
+-- where there is room, a message that fits is queued
+added_waits : (h k : History) (ms : List Message) → GoesOn h k → wait k ≡ wait (record h { queued = h.queued ++ ms }) → room_in h ≡ true → length ms ≤ 1 → AllFit (limit_now h) ms → Waits h → Waits k
+added_waits h k ms goes same room one each = waits_by h k goes (λ w.
+    omega (arith, same, w.few, queued_waits h ms w.is, one_small (limit_now h) ms one each, limit_within h, leb-true h.limits.max_sent (free_in (link_of h)) room))
+
+all_wait : KeepsAll (λ h k. Waits h → Waits k)
+all_wait = record {
+  composes = keeping_composes Waits;
+  hears = λ h m takes room. added_waits h _ _ (all_go_on.hears h m takes room) refl room (message_one (standing_now h) m) (reaction_fits h m);
+  replies = λ h token observe r does room.
+      (let m = response_with_observe token observe r in
+      added_waits h _ _ (all_go_on.replies h token observe r does room) refl room (sent_one (standing_now h) m (bare_response m) _) (sent_fits h m (bare_response m)));
+  holds = λ h token moment opened may. waits_by h _ (all_go_on.holds h token moment opened may) (λ w. w.few);
+  lets_go = λ h now. waits_by h _ (all_go_on.lets_go h now) (λ w. w.few);
+  pongs = λ h now token due room.
+      (let k = without_first h now in
+      let m = pong_with true token in
+      let less = pong_with false token in
+      added_waits h _ _ (all_go_on.pongs h now token due room) refl room (sent_one (standing_now k) m less _) (sent_fits k m less));
+  rejects = λ h fault takes room.
+      added_waits h _ _ (all_go_on.rejects h fault takes room) refl room (abort_one (limit_now h) _) (stopped_fits h (reject_reason fault));
+  ends = λ h cut takes. waits_by h _ (all_go_on.ends h cut takes) (λ w. omega (arith, w.few, queued_waits h [] w.is));
+  releases = λ h opened none.
+      waits_by h _ (all_go_on.releases h opened none) (λ w. omega (arith, w.few, queued_waits h (release ∷ []) w.is, release_bytes_small, (release_fits (link_of h) none).0));
+  announces = λ h size opened room fit.
+      added_waits h _ _ (all_go_on.announces h size opened room fit) refl room (omega arith) (leb-true (length (spelling (own_csm size))) (limit_now h) fit, tt);
+  writes = λ h n within.
+      waits_by h _ (all_go_on.writes h n within) (λ w. omega (arith, w.few, length-drop h.written (bytes_of h.queued), length-drop (h.written + n) (bytes_of h.queued)));
+}
+
+pub waiting_within : (c : ConfigValues) (es : List Event) (id : ℕ) (s : Side) → AreInRange c.limits → side_of id (world_after c es).sides ≡ Some s → length (waiting_on s) ≤ c.limits.queue
+waiting_within c es id s ranges there =
+    let new : length (waiting_on (new_side c.limits)) ≤ c.limits.queue = omega (arith, first_csm_bytes_small c.limits.max_message, ranges.sent_low, ranges.queue_low) in
+    let waits : Waits s.history = kept_history c Waits (record { is = omega arith; few = new }) all_wait es id s there in
+    omega (arith, waits.few, ap (λ (l : LimitValues). l.queue) (side_is c es id s there).same_limits)
+
+-- ---- the bytes that are kept of an unfinished frame
+
+-- fewer than the greatest message taken has
+pub kept_within : (c : ConfigValues) (es : List Event) (id : ℕ) (s : Side) → AreInRange c.limits → AreAccepted c es → side_of id (world_after c es).sides ≡ Some s → length (kept_on s (stream_on c.limits.max_message id es).rest) < s.history.own_max
+kept_within c es id s ranges accepted there =
+    let M : ℕ = c.limits.max_message in
+    let N : ℕ = size_on M id es in
+    let is : IsReached c es = accepted_is c es accepted in
+    let low : 1152 ≤ N = omega (arith, ranges.message_low, size_grows M id es) in
+    let rest : List ℕ = (stream_on M id es).rest in
+    let few : takes_messages s.history.phase ≡ true → length rest < N =
+    λ takes. unfinished_below N rest (omega (arith, low)) (rest_unfinished M id es (is.goes_on id s there takes)) in
+    omega (arith, is.sizes id s there, kept_small_by N rest (takes_messages s.history.phase) (omega (arith, low)) few)
+
+-- ---- a message that announces a size queues nothing
+
+-- it is Capabilities and Settings whose options may all be there
+announces : (m : Message) (n : ℕ) → announcement m ≡ Some n → (m.code ≡ code.csm) × (bad_csm_option m ≡ None)
+announces m n e =
+    let is = there_where (m.code == code.csm) (csm_size m) n e in
+    let no_bad = there_or_not (bad_csm_option m) (λ bad. size_unless bad m ≡ Some n → bad_csm_option m ≡ None) (λ none said. none) (λ number bad said. absurd cc) in
+    (eqb-true m.code code.csm is.0, no_bad is.1)
+
+announcing_quiet : (s : Standing) (m : Message) (n : ℕ) → announcement m ≡ Some n → (react s m).effect.queued ≡ []
+unfolding react live_reaction
+announcing_quiet s m n e =
+    let is = announces m n e in
+    elim (stop_of s.phase) as (λ over. (reaction_unless s m over).effect.queued ≡ []) [ None ↦ rw (is.0, is.1) refl | Some why ↦ refl ]
+
+-- ---- what is queued
+
+-- more is queued, and it fits the greatest message that may be sent afterwards
+pub record GrowsFitting (h k : History) : Type 0 where
+  pub more : List Message
+  pub queued : k.queued ≡ h.queued ++ more
+  pub fit : AllFit (limit_now k) more
+
+-- the same, and as great a message may be sent as before
+pub record GrowsEvenly (h k : History) : Type 0 where
+  pub grows : GrowsFitting h k
+  pub same : limit_now k ≡ limit_now h
+
+-- nothing was queued
+same_evenly : (h k : History) → k.queued ≡ h.queued → limit_now k ≡ limit_now h → GrowsEvenly h k
+same_evenly h k queued limits = record { grows = record { more = []; queued = queued ∙ sym (append-nil h.queued); fit = tt }; same = limits }
+
+evenly_self : (h : History) → GrowsEvenly h h
+evenly_self h = same_evenly h h refl refl
+
+grows_fitting_then : (h k g : History) → GrowsFitting h k → GrowsEvenly k g → GrowsFitting h g
+grows_fitting_then h k g p q = record {
+  more = p.more ++ q.grows.more;
+  queued = cc (append_assoc h.queued p.more q.grows.more);
+  fit = all_append _ p.more q.grows.more (rw q.same p.fit) q.grows.fit;
+}
+
+evenly_then : (h k g : History) → GrowsEvenly h k → GrowsEvenly k g → GrowsEvenly h g
+evenly_then h k g p q = record { grows = grows_fitting_then h k g p.grows q; same = q.same ∙ p.same }
+
+effect_evenly : (h : History) (e : Effect) → AllFit (limit_now h) e.queued → GrowsEvenly h (with_effect h e)
+effect_evenly h e fit = record { grows = record { more = e.queued; queued = refl; fit = fit }; same = refl }
+
+reply_evenly : Replies GrowsEvenly
+reply_evenly h token observe r does room =
+    let m : Message = response_with_observe token observe r in effect_evenly h (send (standing_now h) m (bare_response m)) (sent_fits h m (bare_response m))
+
+-- a message: where it announces another size, it queues nothing
+message_grows : Hears GrowsFitting
+message_grows h m takes room =
+    let more : List Message = (react (standing_now h) m).effect.queued in record {
+      more = more;
+      queued = refl;
+      fit = rw (announced_more h.handled m) (there_or_not (announcement m) (λ said. AllFit (size_limit h.limits.max_sent (unwrap_or said (announced h.handled))) more)
+          (λ none. reaction_fits h m) (λ n is. rw (announcing_quiet (standing_now h) m n is) tt));
+    }
+
+-- ---- a step
+
+once_evenly : (store : StoreValue) (now : ℕ) (s : Side) → Between GrowsEvenly s (settled_once store now s)
+once_evenly =
+    once_between GrowsEvenly GrowsEvenly evenly_self evenly_then reply_evenly (λ h now. same_evenly h _ refl refl)
+    (λ h now token due room. effect_evenly h _ (sent_fits (without_first h now) (pong_with true token) (pong_with false token)))
+
+grows_of : (w : World) (st : Step) (id : ℕ) → HoldsOf (Between GrowsFitting) w st id
+grows_of w st id = let same : (h : History) → GrowsFitting h h = λ h. (evenly_self h).grows in record {
+  same = λ s. same s.history;
+  handled = λ m is s.
+      after_between GrowsFitting GrowsEvenly same grows_fitting_then message_grows evenly_self reply_evenly
+      (λ h token moment opened may. same_evenly h _ refl refl) w.store w.now s m;
+  faulted = λ fault is s. faulted_between GrowsFitting same (λ h r takes room. (effect_evenly h _ (stopped_fits h (reject_reason r))).grows) s fault;
+  written = written_between GrowsFitting same (λ h n within. (same_evenly h _ refl refl).grows);
+  ended = ended_between GrowsFitting same (λ h cut takes. (effect_evenly h (stop (standing_now h) (end_reason cut) []) tt).grows);
+  released = released_between GrowsFitting same (λ h opened none.
+      (effect_evenly h (stop (standing_now h) reason.ReleasedHere (release ∷ [])) (released_fits h (release_fits (link_of h) none).1)).grows);
+  announced = λ size is s. announced_between GrowsFitting same
+      (λ h n opened room fit. record { more = own_csm n ∷ []; queued = refl; fit = (leb-true (length (spelling (own_csm n))) (limit_now h) fit, tt) }) s size;
+  told = λ store now s t is. grows_fitting_then s.history t.history _ is (once_evenly store now t);
+}
+
+-- each step only adds to what a connection has queued, and what it adds fits
+pub step_fits : (limits : LimitValues) (w : World) (st : Step) (id : ℕ) (s t : Side) → side_of id w.sides ≡ Some s → side_of id (world.step limits w st).sides ≡ Some t
+    → (more : List Message) × (t.history.queued ≡ s.history.queued ++ more) × AllFit (limit_now t.history) more
+step_fits limits w st id s t there then =
+    let grows : Between GrowsFitting s t = elim (step_across (Between GrowsFitting) limits w st id (grows_of w st id) t then) [
+      | inl old ↦ subst (λ (u : Side). Between GrowsFitting u t) (same_there old.0 s (sym old.1 ∙ there)) old.2
+      | inr new ↦ absurd (none_or_some s (sym new.0 ∙ there))
+    ] in
+    (grows.more, grows.queued, grows.fit)
+
+-- all that a connection has queued fits, where the step opened it
+pub opening_fits : (limits : LimitValues) (w : World) (id : ℕ) (t : Side) → AreInRange limits → side_of id w.sides ≡ None → side_of id (world.step limits w (world.Opened id)).sides ≡ Some t → AllFit (limit_now t.history) t.history.queued
+opening_fits limits w id t ranges none then =
+    let new : History = (new_side limits).history in
+    let is : settled w.store w.now (new_side limits) ≡ t = same_there _ t (sym (opened_there limits w id none) ∙ then) in
+    let evenly : GrowsEvenly new t.history = subst (λ (u : Side). GrowsEvenly new u.history) is
+    (settled_keeps (λ u. GrowsEvenly new u.history) w.store w.now (λ u grown. evenly_then new u.history _ grown (once_evenly w.store w.now u))
+    (new_side limits) (evenly_self new)) in
+    rw evenly.grows.queued (all_append _ new.queued evenly.grows.more (rw evenly.same (new_fits Server limits 0 ranges)) evenly.grows.fit)

@@ -1,0 +1,147 @@
+-- Rows of calls, and what each of them tells, as the tests of a server have them: the form in which values of the definitions
+-- of specs/world are worked out.
+use Rattle.coap_model.specs.Prelude.{◌≡◌, ℕ, zero, suc, List, [], ◌∷◌, ◌++◌, length, map, take, drop}
+use Rattle.coap_model.specs.Prelude.{Option, Some, None, digits}
+use Rattle.coap_model.specs.Prelude.{kind_of, is_recognised, known_behind}
+use Rattle.coap_model.specs.Prelude.{first_critical_behind}
+use Rattle.coap_model.specs.Prelude.{announced, due_index, first_due, without_due, react}
+use Rattle.coap_model.specs.Prelude.{live_reaction, Phase, Path, is_path, found_in, put_at, removed_at, encoded_byte}
+use Rattle.coap_model.specs.Prelude.{path_bytes, entry_bytes, listing, place_of, key_for, state_at, has_option}
+use Rattle.coap_model.specs.Prelude.{value_of, number_of, match_holds, is_seconds, get_answer, store_answer}
+use Rattle.coap_model.specs.Prelude.{method_answer, resource_answer, answer_at, answer_of, prompt_answer}
+use Rattle.coap_model.specs.Prelude.{notification_at, put_refusal, ConfigValues, is_due, without_token}
+use Rattle.coap_model.specs.Prelude.{first_becomes, Side, waiting_on, side_after, change_after, side_faulted}
+use Rattle.coap_model.specs.Prelude.{side_written, side_ended, side_released, settled_once, settled_within, settled}
+use Rattle.coap_model.specs.Prelude.{side_announced, side_of, acted, step, after_steps, Event, taken_on, size_on}
+use Rattle.coap_model.specs.Prelude.{sizes_on, stream_on, steps_by, steps_behind, steps_of, world_after, takes}
+use Rattle.coap_frame.proofs.Computed.{bytes_computed}
+use Rattle.coap_store.specs.Requests.{values_of}
+use Rattle.coap_model.specs.world.Events as event
+
+-- ---- rows
+
+-- A call. `In` offers a piece until nothing more of it is taken, `Drain` writes all that waits, `Look` is no call at all. One
+-- that a server refuses is played as an event too, since that changes nothing.
+pub data Call : Type 0 where
+  Open : (id : ℕ) → Call
+  In : (id : ℕ) (piece : List ℕ) → Call
+  Drain : (id : ℕ) → Call
+  Put : (path : Path) (format : Option ℕ) (bytes : List ℕ) → Call
+  Remove : (path : Path) → Call
+  Tick : (now : ℕ) → Call
+  End : (id : ℕ) → Call
+  Release : (id : ℕ) → Call
+  Announce : (id size : ℕ) → Call
+  Drop : (id : ℕ) → Call
+  Look : (id : ℕ) → Call
+
+-- What is told: how many bytes of a piece were taken, the bytes that were drained, the version of the last representation
+-- stored, how a connection stands, or that it is not there. A connection stands with so many bytes that are left of its stream
+-- (an unfinished frame, or a fault), so many that wait, so many answers and Pongs that are held, and so many observers.
+pub data Told : Type 0 where
+  Done : Told
+  Taken : (bytes : ℕ) → Told
+  Out : (bytes : List ℕ) → Told
+  Version : (version : ℕ) → Told
+  Stands : (phase : Phase) (left waiting held observers : ℕ) → Told
+  Absent : Told
+
+pub record Row : Type 0 where
+  pub call : Call
+  pub wanted : Told
+
+infixr 70 ◌=>◌
+abbrev pub ◌=>◌ : Call → Told → Row
+call => wanted = record { call = call; wanted = wanted }
+
+-- ---- the events of a call behind others
+
+abbrev taking : (List Event → List ℕ → List Event) → List Event → ℕ → List ℕ → ℕ → List Event
+taking go events id piece zero = []
+taking go events id piece (suc n) =
+    event.Took id (take (suc n) piece) ∷ go (events ++ event.Took id (take (suc n) piece) ∷ []) (drop (suc n) piece)
+
+-- Each turn takes a byte at least, so no more turns are needed than there are bytes.
+abbrev offered_within : ℕ → ConfigValues → ℕ → List Event → List ℕ → List Event
+offered_within zero c id events piece = []
+offered_within (suc turns) c id events piece =
+    taking (offered_within turns c id) events id piece (takes c events id piece)
+
+abbrev side_after_events : ConfigValues → List Event → ℕ → Option Side
+side_after_events c events id = side_of id (world_after c events).sides
+
+abbrev waiting_at : Option Side → List ℕ
+waiting_at None = []
+waiting_at (Some s) = waiting_on s
+
+abbrev waiting_after : ConfigValues → List Event → ℕ → List ℕ
+waiting_after c events id = waiting_at (side_after_events c events id)
+
+abbrev events_by : ConfigValues → List Event → Call → List Event
+events_by c events (Open id) = event.Opened id ∷ []
+events_by c events (In id piece) = offered_within (length piece) c id events piece
+events_by c events (Drain id) = event.Wrote id (length (waiting_after c events id)) ∷ []
+events_by c events (Put path format bytes) = event.Stored path format bytes ∷ []
+events_by c events (Remove path) = event.Removed path ∷ []
+events_by c events (Tick now) = event.Ticked now ∷ []
+events_by c events (End id) = event.Ended id ∷ []
+events_by c events (Release id) = event.Released id ∷ []
+events_by c events (Announce id size) = event.Announced id size ∷ []
+events_by c events (Drop id) = event.Dropped id ∷ []
+events_by c events (Look id) = []
+
+-- ---- what a call tells, where it made these events behind others
+
+abbrev look_at : ℕ → Option Side → Told
+look_at left None = Absent
+look_at left (Some s) = Stands s.history.phase left (length (waiting_on s)) (length s.history.held) (length s.observers)
+
+abbrev told_of_call : ConfigValues → List Event → List Event → Call → Told
+told_of_call c events new (Open id) = Done
+told_of_call c events new (In id piece) = Taken (length (taken_on id new))
+told_of_call c events new (Drain id) = Out (waiting_after c events id)
+told_of_call c events new (Put path format bytes) = Version (world_after c (events ++ new)).store.versions
+told_of_call c events new (Remove path) = Done
+told_of_call c events new (Tick now) = Done
+told_of_call c events new (End id) = Done
+told_of_call c events new (Release id) = Done
+told_of_call c events new (Announce id size) = Done
+told_of_call c events new (Drop id) = Done
+told_of_call c events new (Look id) = look_at (length (stream_on c.limits.max_message id events).rest) (side_after_events c events id)
+
+abbrev told_behind : ConfigValues → List Event → List Call → List Told
+told_behind c events [] = []
+told_behind c events (call ∷ calls) =
+    told_of_call c events (events_by c events call) call ∷ told_behind c (events ++ events_by c events call) calls
+
+-- ---- what is computed with, besides bytes: to unfold one of these is to unfold all that its line names
+
+-- what a request is answered
+answers_computed : Unit {0}
+unfolding prompt_answer answer_of answer_at resource_answer method_answer get_answer store_answer kind_of is_recognised known_behind first_critical_behind values_of has_option value_of number_of match_holds is_seconds is_path place_of key_for state_at found_in put_at removed_at listing entry_bytes path_bytes encoded_byte digits notification_at put_refusal
+answers_computed = tt
+
+-- what happens on a connection, and to a server
+worlds_computed : Unit {0}
+unfolding announced react live_reaction due_index first_due without_due is_due without_token first_becomes side_after change_after side_faulted side_written side_ended side_released side_announced settled_once settled_within settled side_of acted step after_steps taken_on size_on sizes_on steps_by steps_behind steps_of world_after takes
+worlds_computed = tt
+
+-- ---- what rows say
+
+-- what calls tell, one after the other; where this is unfolded, all that it rests on is
+unfoldable pub told : ConfigValues → List Call → List Told
+unfolding bytes_computed answers_computed worlds_computed
+told c calls = told_behind c [] calls
+
+abbrev events_behind : ConfigValues → List Event → List Call → List Event
+events_behind c events [] = []
+events_behind c events (call ∷ calls) = events_by c events call ++ events_behind c (events ++ events_by c events call) calls
+
+-- the events that calls make
+unfoldable pub events_of : ConfigValues → List Call → List Event
+unfolding told
+events_of c calls = events_behind c [] calls
+
+-- each call of the rows tells what the row says
+abbrev pub Plays : ConfigValues → List Row → Type 0
+Plays c rows = told c (map (λ r. r.call) rows) ≡ map (λ r. r.wanted) rows

@@ -1,0 +1,270 @@
+-- A connection of the world: known facts of it, its observers after a message, and how it settles.
+use Rattle.std.proofs.Common.{◌≡◌, ℕ, ◌+◌, ◌<◌, ◌≤◌, Bool, true, false, cond, List, [], length, Option, Some, None, refl, sym, ap, ◌∙◌, arith, ◌&&◌, nat_lt, not, zero, suc, ◌∷◌, ◌++◌, subst, ◌⊎◌, inl, inr, find, min}
+use Rattle.coap_model.specs.Prelude.{AllByRecursion, filter_map, reduce, Message, takes_messages}
+use Rattle.coap_model.specs.Prelude.{answers, is_open, fit, bare_response, HeldValue}
+use Rattle.coap_model.specs.Prelude.{first_due, without_due, come, answer_index, pong_index, else_index, held_at}
+use Rattle.coap_model.specs.Prelude.{due_index, HoldsNothingDue, History, IsHistory, limit_now, standing_now}
+use Rattle.coap_model.specs.Prelude.{after, standing_due}
+use Rattle.coap_model.specs.Prelude.{StoreValue, path_of, answer_of, prompt_answer}
+use Rattle.coap_model.specs.Prelude.{Change, changed, response_with_observe}
+use Rattle.coap_model.specs.Prelude.{Side, handles, has_room, side_with, with_history, side_answered}
+use Rattle.coap_model.specs.Prelude.{moment_after, held_for, side_replied, asks_answer, side_handled, side_after}
+use Rattle.coap_model.specs.Prelude.{next_due}
+use Rattle.coap_model.specs.Prelude.{notified, next_held, held_message, after_sent, settled_so, settled_once}
+use Rattle.coap_model.specs.Prelude.{settled_within, settled, HearsAll}
+use Rattle.coap_model.specs.Prelude.{Observer, without_token, asks_entry, has_place, entry_for}
+use Rattle.coap_model.specs.Prelude.{is_whole, with_entry, is_due, goes_on, notification, notification_message}
+use Rattle.coap_model.specs.Prelude.{left_of, first_becomes}
+use Rattle.coap_model.specs.Prelude.{same_bytes, state_of, Watch}
+use Rattle.std.proofs.lemmas.Bool.{and_parts, cond_both, ltb-true}
+use Rattle.coap_conn.proofs.HeldLaws.{due_fewer, due_nothing}
+use Rattle.coap_model.specs.Prelude.{Reply, Whole, Standing, send_as, due_effect, pong_with}
+use Rattle.coap_model.proofs.world.KnownLaws.{entry_watchable, IsKnown, IsVersioned, still_known, told_known, told_now, not_due, left_watchable}
+use Rattle.coap_model.proofs.world.EntryLemmas.{asks_to_enter, all_to, all_append, all_filter, all_become, found_all, none_due, count_due, count_within, count_less}
+use Rattle.coap_model.proofs.world.EntryLemmas.{none_found}
+use Rattle.coap_model.proofs.world.GoingOn.{as_before, further, GoesOn, all_go_on, written_goes_on}
+use Rattle.coap_model.proofs.world.WalkLaws.{there_or_not, there_where, kept_open_has, once_between, HoldsOfCalls, observers_kept, settled_keeps, written_between, ended_between, released_between, announced_between}
+use Rattle.coap_model.proofs.world.AcrossLaws.{faulted_all, after_all}
+use Rattle.coap_conn.specs.Held as held
+use Rattle.coap_conn.specs.Calls as call
+use Rattle.coap_store.specs.declared.plan.Watch.TheVariants as watch
+
+-- each observer was told a state of its path
+abbrev pub AreKnown : StoreValue → List Observer → Type 0
+AreKnown store observers = AllByRecursion (IsKnown store) observers
+
+-- what is known of a connection
+pub record IsKnownSide (store : StoreValue) (s : Side) : Type 0 where
+  pub is_history : IsHistory s.history
+  pub told : AreKnown store s.observers
+
+-- ---- what is seen
+
+pub handles_parts : (s : Side) → handles s ≡ true → (takes_messages s.history.phase ≡ true) × (has_room s ≡ true)
+handles_parts s e = and_parts (takes_messages s.history.phase) (has_room s) e
+
+-- a request whose answer is held, and one that is answered at once
+pub replied_cases : (store : StoreValue) (now : ℕ) (h : History) (others : List Observer) (m : Message) (hold : Option ℕ) (P : Side → Type 0)
+    → ((seconds : ℕ) → held_for h hold ≡ Some seconds → P (side_with (after h (call.Hold m.token (moment_after now seconds))) others))
+    → (held_for h hold ≡ None → P (side_answered store now h others m (prompt_answer store now m)))
+    → P (side_replied store now h others m (held_for h hold))
+replied_cases store now h others m hold P held prompt =
+    there_or_not (held_for h hold) (λ found. P (side_replied store now h others m found)) prompt held
+
+-- ---- one turn of settling
+
+-- what is held and due goes first, and else an observer is told
+pub settled_cases : (store : StoreValue) (now : ℕ) (s : Side) (P : Side → Type 0)
+    → ((e : HeldValue) → next_held now s ≡ Some e → P (with_history s (after_sent s.history now e)))
+    → (next_held now s ≡ None → P (notified store now s (next_due store now s)))
+    → P (settled_once store now s)
+unfolding settled_once
+settled_cases store now s P sends tells = there_or_not (next_held now s) (λ found. P (settled_so store now s found)) tells sends
+
+pub held_room : (now : ℕ) (s : Side) (e : HeldValue) → next_held now s ≡ Some e → (has_room s ≡ true) × (first_due now s.history.held ≡ Some e)
+held_room now s e is = there_where (has_room s) (first_due now s.history.held) e is
+
+-- a message that is sent leaves no more
+pub send_held : (s : Standing) (m less : Message) (r : Reply) → length (send_as s m less r).held ≤ length s.held
+send_held s m less Whole = omega arith
+send_held s m less other = omega arith
+
+-- what was due first is held no more
+pub due_held : (s : Standing) (e : Option HeldValue) → length (due_effect s e).held ≤ length s.held
+due_held s None = omega arith
+due_held s (Some (held.Answer token moment)) = omega arith
+due_held s (Some (held.Pong token)) = send_held s (pong_with true token) (pong_with false token) (fit s.limit (pong_with true token) (pong_with false token))
+
+reply_leaves : (h : History) (m : Message) → length (after h (call.Reply m)).held ≤ length h.held
+reply_leaves h m =
+    cond_both (answers h.phase) _ h (λ (k : History). length k.held ≤ length h.held)
+    (λ does. send_held (standing_now h) m (bare_response m) (fit (limit_now h) m (bare_response m))) (λ none. omega arith)
+
+sent_leaves : (h : History) (now : ℕ) (e : HeldValue) → length (after_sent h now e).held ≤ length (without_due now h.held)
+sent_leaves h now (held.Answer token moment) =
+    omega (arith, reply_leaves (after h (call.Due now)) (held_message token), due_held (standing_due now (standing_now h)) (first_due now h.held))
+sent_leaves h now (held.Pong token) = due_held (standing_due now (standing_now h)) (first_due now h.held)
+
+-- ---- what is known stays known
+
+-- whatever changes in the store
+pub still_known_side : (store : StoreValue) (change : Change) (s : Side) → IsVersioned store → IsKnownSide store s → IsKnownSide (changed store change) s
+still_known_side store change s is known = record {
+  is_history = known.is_history;
+  told = all_to (IsKnown store) (IsKnown (changed store change)) (λ o. still_known store change o is) s.observers known.told;
+}
+
+-- what happens but messages leaves what is known
+pub calls_known : (store : StoreValue) → HoldsOfCalls (λ s t. IsKnownSide store s → IsKnownSide store t)
+calls_known store = let told = observers_kept (AreKnown store) tt in record {
+  faulted = λ s fault known. record { is_history = (faulted_all GoesOn all_go_on s fault).history known.is_history; told = told.faulted s fault known.told };
+  written = λ s n known. record { is_history = (written_between GoesOn as_before written_goes_on s n).history known.is_history; told = told.written s n known.told };
+  ended = λ s cut known. record { is_history = (ended_between GoesOn as_before all_go_on.ends s cut).history known.is_history; told = told.ended s cut known.told };
+  released = λ s known. record { is_history = (released_between GoesOn as_before all_go_on.releases s).history known.is_history; told = told.released s known.told };
+  announced = λ s size known.
+      record { is_history = (announced_between GoesOn as_before all_go_on.announces s size).history known.is_history; told = told.announced s size known.told };
+}
+
+-- What holds of the observers, of those without the token of a message, and of these with its entry where there is a place for it, holds
+-- of the observers after the message.
+pub observers_after : (P : List Observer → Type 0) (store : StoreValue) (now : ℕ) (s : Side) (m : Message) → P [] → P s.observers → P (without_token m.token s.observers)
+    → ((prompt_answer store now m).watch ≡ watch.Add → length (without_token m.token s.observers) < (after s.history (call.Handle m)).limits.observers → P (without_token m.token s.observers ++ entry_for store now m ∷ []))
+    → P (side_after store now s m).observers
+unfolding side_after
+observers_after P store now s m none same others entered =
+    let h : History = after s.history (call.Handle m) in
+    let os : List Observer = without_token m.token s.observers in
+    let asked : Watch = (prompt_answer store now m).watch in
+    let observes : Bool = has_place h.limits.observers os asked in
+    let response : Message = response_with_observe m.token observes (prompt_answer store now m).response in
+    let enters : Bool = observes && is_whole (fit (limit_now h) response (bare_response response)) in
+    let HasThem : Side → Type 0 = λ t. P t.observers in
+    let with_it : P (with_entry enters os (entry_for store now m)) =
+    elim enters as (λ so. enters ≡ so → P (with_entry so os (entry_for store now m))) [
+      | true ↦ λ so. (let place = and_parts (asks_entry asked) (nat_lt (length os) h.limits.observers) (and_parts observes _ so).0 in
+          entered (asks_to_enter asked place.0) (ltb-true (length os) h.limits.observers place.1))
+      | false ↦ λ so. others
+    ] refl in
+    cond_both (handles s) (side_handled store now s m) s HasThem (λ does. cond_both (asks_answer s m) _ (with_history s h) HasThem
+    (λ asks. replied_cases store now h os m (answer_of store now m).hold HasThem
+    (λ seconds held. kept_open_has P none (after h (call.Hold m.token (moment_after now seconds))) os others)
+    (λ prompt. kept_open_has P none (after h (call.Reply response)) _ with_it))
+    (λ other. kept_open_has P none h s.observers same)) (λ idle. same)
+
+-- a message leaves what is known, before it changes the store
+pub after_known : (store : StoreValue) (now : ℕ) → now ≤ 18446744073709551615 → IsVersioned store → (s : Side) (m : Message) → IsKnownSide store s → IsKnownSide store (side_after store now s m)
+unfolding without_token
+after_known store now small is s m known =
+    let others : AreKnown store (without_token m.token s.observers) = all_filter (IsKnown store) (λ o. not (same_bytes o.token m.token)) s.observers known.told in
+    record {
+      is_history = (after_all GoesOn all_go_on store now s m).history known.is_history;
+      told = observers_after (AreKnown store) store now s m tt known.told others
+          (λ asked place. all_append (IsKnown store) _ _ others (told_known store now m.token (path_of m) small is (entry_watchable store now m asked), tt));
+    }
+
+-- ---- How a connection settles: its value does the same, what is known of it stays known, and no change is lost.
+
+-- nothing is left to settle: nothing that is held is due and no observer is, or there is no room
+abbrev pub IsAtRest : StoreValue → ℕ → Side → Type 0
+IsAtRest store now s = (next_held now s ≡ None) × (next_due store now s ≡ None)
+
+-- ---- one turn
+
+pub next_due_found : (store : StoreValue) (now : ℕ) (s : Side) (o : Observer) → next_due store now s ≡ Some o → find (is_due store now) s.observers ≡ Some o
+next_due_found store now s o e = (there_where (has_room s) (find (is_due store now) s.observers) o e).1
+
+-- What holds of the observers, and of what becomes of them where the first that is due is told, holds of the observers after a turn.
+pub observers_settled : (P : List Observer → Type 0) (store : StoreValue) (now : ℕ) (s : Side) → P [] → P s.observers
+    → ((o : Observer) (stays : Bool) → next_due store now s ≡ Some o → (stays ≡ true → goes_on (notification store now o) ≡ true) → P (first_becomes (is_due store now) (left_of store now o stays) s.observers))
+    → P (settled_once store now s).observers
+observers_settled P store now s none same told =
+    settled_cases store now s (λ t. P t.observers) (λ e is. kept_open_has P none (after_sent s.history now e) s.observers same) (λ rests.
+    there_or_not (next_due store now s) (λ o. P (notified store now s o).observers) (λ none_due. same) (λ o is. (
+    let m = notification_message o.token (notification store now o) in
+    let stays = goes_on (notification store now o) && is_whole (fit (limit_now s.history) m (bare_response m)) in
+    kept_open_has P none (after s.history (call.Reply m)) _ (told o stays is (λ e. (and_parts (goes_on (notification store now o)) _ e).0)))))
+
+-- ---- what is known
+
+module _ (store : StoreValue) (now : ℕ) (small : now ≤ 18446744073709551615) (is : IsVersioned store) where
+  left_all : (o : Observer) (stays : Bool) → IsKnown store o → (stays ≡ true → goes_on (notification store now o) ≡ true) → AreKnown store (left_of store now o stays)
+  left_all o true known on = (told_known store now o.token o.path small is (left_watchable store now o known (on refl)), tt)
+  left_all o false known on = tt
+
+  -- the first that is due is among the observers
+  pub next_known : (s : Side) → IsKnownSide store s → (o : Observer) → next_due store now s ≡ Some o → IsKnown store o
+  next_known s known o e = found_all (IsKnown store) (is_due store now) s.observers o known.told (next_due_found store now s o e)
+
+  pub once_known : (s : Side) → IsKnownSide store s → IsKnownSide store (settled_once store now s)
+  once_known s known = record {
+    is_history = (once_between GoesOn GoesOn as_before further all_go_on.replies all_go_on.lets_go all_go_on.pongs store now s).history known.is_history;
+    told = observers_settled (AreKnown store) store now s tt known.told (λ o stays due on.
+        all_become (IsKnown store) (is_due store now) (left_of store now o stays) s.observers known.told (left_all o stays (next_known s known o due) on));
+  }
+
+  pub settled_known : (s : Side) → IsKnownSide store s → IsKnownSide store (settled store now s)
+  settled_known = settled_keeps (IsKnownSide store) store now once_known
+
+-- ---- nothing is left that is due
+
+count_if : (due : Observer → Bool) (b : Bool) (os : List Observer) → count_due due (cond b os []) ≤ count_due due os
+unfolding count_due
+count_if due b os = cond_both b os [] (λ ps. count_due due ps ≤ count_due due os) (λ e. omega arith) (λ e. omega arith)
+
+-- what is left of a notified observer is not due
+left_quiet : (store : StoreValue) (now : ℕ) (o : Observer) (stays : Bool) → count_due (is_due store now) (left_of store now o stays) ≡ 0
+unfolding count_due
+left_quiet store now o true = rw (not_due store now (record o { told = state_of store now o.path }) refl) refl
+left_quiet store now o false = refl
+
+-- turns change nothing where nothing is left to settle
+pub at_rest : (turns : ℕ) (store : StoreValue) (now : ℕ) (s : Side) → IsAtRest store now s → settled_within turns store now s ≡ s
+unfolding settled_within settled_once
+at_rest zero store now s rests = refl
+at_rest (suc turns) store now s rests = rw (rests.0, rests.1) (at_rest turns store now s rests)
+
+-- how much a connection holds and how many observers are due on it, together
+abbrev pub left_on : StoreValue → ℕ → Side → ℕ
+left_on store now s = length s.history.held + count_due (is_due store now) s.observers
+
+-- a turn sends nothing, or leaves less
+pub once_less : (store : StoreValue) (now : ℕ) (s : Side) → IsAtRest store now s ⊎ (left_on store now (settled_once store now s) + 1 ≤ left_on store now s)
+unfolding settled_once
+once_less store now s =
+    let Less : Side → Type 0 = λ t. IsAtRest store now s ⊎ (left_on store now t + 1 ≤ left_on store now s) in
+    let due : Observer → Bool = is_due store now in
+    there_or_not (next_held now s) (λ found. Less (settled_so store now s found))
+    (λ held. there_or_not (next_due store now s) (λ found. Less (notified store now s found)) (λ is. inl (held, is)) (λ o is. (
+    let m = notification_message o.token (notification store now o) in
+    let stays = goes_on (notification store now o) && is_whole (fit (limit_now s.history) m (bare_response m)) in
+    let left : List Observer = left_of store now o stays in
+    let less = count_less due s.observers o left (left_quiet store now o stays) (next_due_found store now s o is) in
+    inr (omega (arith, reply_leaves s.history m, count_if due (is_open (after s.history (call.Reply m)).phase) (first_becomes due left s.observers), less)))))
+    (λ e is. (let fewer = due_fewer now s.history.held e (held_room now s e is).1 in
+    inr (omega (arith, count_if due (is_open (after_sent s.history now e).phase) s.observers, sent_leaves s.history now e, fewer))))
+
+rests_by : (turns : ℕ) (store : StoreValue) (now : ℕ) (s : Side) → left_on store now s ≤ turns → IsAtRest store now (settled_within turns store now s)
+unfolding settled_within
+rests_by zero store now s few = elim (once_less store now s) [ inl rests ↦ rests | inr less ↦ absurd (omega (arith, few, less)) ]
+rests_by (suc turns) store now s few =
+    elim (once_less store now s) [
+      | inl rests ↦ subst (IsAtRest store now) (sym (at_rest (suc turns) store now s rests)) rests
+      | inr less ↦ rests_by turns store now (settled_once store now s) (omega (arith, few, less))
+    ]
+
+-- each turn leaves less that is held, or fewer that are due, so that nothing is left to settle in the end
+pub settled_rests : (store : StoreValue) (now : ℕ) (s : Side) → IsAtRest store now (settled store now s)
+unfolding settled
+settled_rests store now s = rests_by (length s.history.held + length s.observers) store now s (omega (arith, count_within (is_due store now) s.observers))
+
+-- No change is lost: where there is room, each observer was told the state that its path has now, and what was due was sent.
+pub hears_at_rest : (store : StoreValue) (now : ℕ) (s : Side) → IsAtRest store now s → HearsAll store now s
+hears_at_rest store now s rests = record {
+  told = λ room. all_to (λ o. is_due store now o ≡ false) (λ o. o.told ≡ state_of store now o.path) (told_now store now) s.observers
+      (none_due (is_due store now) s.observers (rw room at rests.1));
+  sent = λ room. (due_nothing now s.history.held (rw room at rests.0)).0;
+}
+
+-- what holds nothing that is due has nothing to send
+none_come_listed : (now : ℕ) (held : List HeldValue) → AllByRecursion (λ e. come now e ≡ None) held → filter_map (come now) held ≡ []
+none_come_listed now [] none = refl
+none_come_listed now (e ∷ held) none = rw none.0 (none_come_listed now held none.1)
+
+pub nothing_due_first : (now : ℕ) (held : List HeldValue) → HoldsNothingDue now held → first_due now held ≡ None
+unfolding first_due due_index
+nothing_due_first now held none =
+    ap (λ moments. held_at held (else_index (answer_index (reduce min moments) held) (pong_index held))) (none_come_listed now held none.0) ∙ ap (held_at held) none.1
+
+pub hears_sent : (store : StoreValue) (now : ℕ) (s : Side) → HearsAll store now s → next_held now s ≡ None
+hears_sent store now s hears =
+    cond_both (has_room s) (first_due now s.history.held) None (λ found. found ≡ None) (λ room. nothing_due_first now s.history.held (hears.sent room)) (λ room. refl)
+
+-- a connection on which no change is lost has nothing to settle
+pub side_at_rest_stays : (store : StoreValue) (now : ℕ) (s : Side) → HearsAll store now s → settled store now s ≡ s
+unfolding settled
+side_at_rest_stays store now s hears =
+    let quiet = all_to (λ o. o.told ≡ state_of store now o.path) (λ o. is_due store now o ≡ false) (not_due store now) s.observers in
+    let rests : next_due store now s ≡ None =
+    cond_both (has_room s) (find (is_due store now) s.observers) None (λ due. due ≡ None)
+    (λ room. none_found (is_due store now) s.observers (quiet (hears.told room))) (λ full. refl) in
+    at_rest (length s.history.held + length s.observers) store now s (hears_sent store now s hears, rests)

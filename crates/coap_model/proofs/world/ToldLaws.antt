@@ -1,0 +1,264 @@
+-- After any events the last response with an observer's token tells it the state that it was told last, where no request that is
+-- answered late had that token.
+use Rattle.std.proofs.Common.{◌≡◌, ◌≢◌, ℕ, Bool, true, false, List, [], ◌∷◌, ◌++◌, length, Option, Some, None, refl, sym, ap, subst, ◌∙◌, filter, find, not, nat_lt, ◌&&◌, if◌then◌else◌, arith}
+use Rattle.coap_model.specs.Prelude.{AllByRecursion, Message, LimitValues, is_open, fit, bare_response, HeldValue}
+use Rattle.coap_model.specs.Prelude.{Answer, Pong, first_due, History, limit_now, after, same_bytes, StoreValue}
+use Rattle.coap_model.specs.Prelude.{state_of, prompt_answer, response_with_observe, ConfigValues, Observer, is_due}
+use Rattle.coap_model.specs.Prelude.{without_token, has_place, asks_entry, entry_for, is_whole, with_entry, goes_on}
+use Rattle.coap_model.specs.Prelude.{notification, notification_message, left_of, first_becomes, Side, handles}
+use Rattle.coap_model.specs.Prelude.{side_with, with_history, side_answered, side_handled, side_after, next_due}
+use Rattle.coap_model.specs.Prelude.{notified, held_message, after_sent, side_of, Event, world_after, responds}
+use Rattle.coap_model.specs.Prelude.{is_response, TellsState, asked_late, WasToldLast, HaveOwnTokens, last_response}
+use Rattle.coap_model.specs.Prelude.{StandFor}
+use Rattle.std.proofs.lemmas.Bool.{cond_both, and_parts, and_left}
+use Rattle.std.proofs.lemmas.List.Folds.{list_any-append}
+use lib.Pointwise.{bytes_decides}
+use Rattle.coap_conn.specs.Calls as call
+use Rattle.coap_conn.proofs.HeldLaws.{due_answer}
+use Rattle.coap_store.specs.Answer as answer
+use Rattle.coap_model.proofs.world.EntryLemmas.{asks_to_enter, all_to, all_append, all_filter, all_become, found_all}
+use Rattle.coap_model.proofs.world.SideLaws.{settled_cases, held_room, next_due_found}
+use Rattle.coap_model.proofs.world.WalkLaws.{ended_between, Between, faulted_between, written_between, released_between, announced_between, holding, observers_kept}
+use Rattle.coap_model.proofs.world.GoingOn.{kept_after, IsSide, Keeps}
+use Rattle.coap_model.proofs.world.ToldMessages.{last_stays, queues_none, message_queues, reject_queues, end_queues, release_queues, due_queues, reply_queues, whole_last, announcing_queues, Queues, written_queues, last_of_longer}
+use Rattle.coap_conn.proofs.ReactionLaws.{IsNoResponse, IsPlain}
+use Rattle.coap_model.proofs.world.CustodyLaws.{Stands, stand_asked, stands_keeps, handled_cases}
+use Rattle.coap_model.proofs.world.KnownLaws.{tells_responds, entry_tells, notification_tells_observer}
+
+-- ---- what is told stays told
+
+-- an observer was told last what it says, where no request that is answered late had its token
+abbrev pub ToldOn : History → Observer → Type 0
+ToldOn h o = asked_late o.token h.handled ≡ false → WasToldLast h.queued o
+
+-- each was, and no two have one token
+pub record AreTold (h : History) (os : List Observer) : Type 0 where
+  pub own : HaveOwnTokens os
+  pub told : AllByRecursion (ToldOn h) os
+
+abbrev AllTold : Side → Type 0
+AllTold s = AreTold s.history s.observers
+
+-- a message that tells it a state is queued
+told_by_last : (o : Observer) (queued : List Message) (m : Message) → TellsState o o.told m → WasToldLast (queued ++ m ∷ []) o
+told_by_last o queued m tells = (m, grind (arith, last_of_longer o.token queued m, tells_responds o o.told m tells), tells)
+
+-- what is queued leaves it, where none of that is a response with its token
+queued_told : (P : Message → Type 0) (h k : History) (o : Observer) → Queues P h k → (asked_late o.token h.handled ≡ false → (m : Message) → P m → responds o.token m ≡ false) → ToldOn h o → ToldOn k o
+queued_told P h k o queues other told none =
+    let before : asked_late o.token h.handled ≡ false = grind (arith, queues.handled, list_any-append) in
+    let was : WasToldLast h.queued o = told before in
+    let stays = last_stays o.token h.queued queues.more (all_to P (λ m. responds o.token m ≡ false) (other before) queues.more queues.such) in
+    (was.0, ap (last_response o.token) queues.same ∙ stays ∙ was.1, was.2)
+
+-- messages that are no responses leave it
+signalled_told : (P : Message → Type 0) → ((m : Message) → P m → IsNoResponse m) → (h k : History) (os : List Observer) → Queues P h k → AreTold h os → AreTold k os
+signalled_told P other h k os queues are = record {
+  own = are.own;
+  told = all_to (ToldOn h) (ToldOn k) (λ o. queued_told P h k o queues (λ none m is. and_left (is_response m) _ (other m is))) os are.told;
+}
+
+-- responses with another token leave it
+abbrev HasToken : List ℕ → Message → Type 0
+HasToken token m = m.token ≡ token
+
+other_told : (token : List ℕ) (h k : History) (o : Observer) → Queues (HasToken token) h k → token ≢ o.token → ToldOn h o → ToldOn k o
+other_told token h k o queues apart = queued_told (HasToken token) h k o queues (λ none m e. grind (arith, (bytes_decides m.token o.token).0))
+
+-- so do those with a token that a request had that is answered late
+late_told : (token : List ℕ) (h k : History) (os : List Observer) → Queues (HasToken token) h k → asked_late token h.handled ≡ true → AreTold h os → AreTold k os
+late_told token h k os queues asked are = record {
+  own = are.own;
+  told = all_to (ToldOn h) (ToldOn k) (λ o. queued_told (HasToken token) h k o queues (λ none m e. grind (arith, (bytes_decides m.token o.token).0))) os are.told;
+}
+
+-- ---- lists of observers
+
+abbrev pub HaveOtherTokens : List ℕ → List Observer → Type 0
+HaveOtherTokens token os = AllByRecursion (λ o. token ≢ o.token) os
+
+others_told : (token : List ℕ) (h k : History) (os : List Observer) → Queues (HasToken token) h k → HaveOtherTokens token os → AllByRecursion (ToldOn h) os → AllByRecursion (ToldOn k) os
+others_told token h k [] queues others told = tt
+others_told token h k (o ∷ os) queues others told = (other_told token h k o queues others.0 told.0, others_told token h k os queues others.1 told.1)
+
+own_filter : (test : Observer → Bool) (os : List Observer) → HaveOwnTokens os → HaveOwnTokens (filter test os)
+own_filter test [] own = tt
+own_filter test (o ∷ os) own = cond_both (test o) _ _ HaveOwnTokens (λ e. (all_filter _ test os own.0, own_filter test os own.1)) (λ e. own_filter test os own.1)
+
+own_last : (os : List Observer) (e : Observer) → HaveOtherTokens e.token os → HaveOwnTokens os → HaveOwnTokens (os ++ e ∷ [])
+own_last [] e others own = (tt, tt)
+own_last (o ∷ os) e others own =
+    (all_append (λ other. o.token ≢ other.token) os (e ∷ []) own.0 ((λ same. others.0 (sym same)), tt), own_last os e others.1 own.1)
+
+-- those that stay have another token
+filter_others : (token : List ℕ) (os : List Observer) → HaveOtherTokens token (filter (λ o. not (same_bytes o.token token)) os)
+filter_others token [] = tt
+filter_others token (o ∷ os) =
+    cond_both (not (same_bytes o.token token)) _ _ (HaveOtherTokens token)
+    (λ kept. ((λ same. grind (arith, (bytes_decides o.token token).1)), filter_others token os)) (λ gone. filter_others token os)
+
+without_told : (token : List ℕ) (h : History) (os : List Observer) → AreTold h os → AreTold h (without_token token os)
+unfolding without_token
+without_told token h os are = record { own = own_filter _ os are.own; told = all_filter (ToldOn h) _ os are.told }
+
+-- ---- answers
+
+-- where the connection is open they stay, else they go
+kept_told : (h : History) (os : List Observer) → (is_open h.phase ≡ true → AreTold h os) → AllTold (side_with h os)
+kept_told h os go = cond_both (is_open h.phase) os [] (AreTold h) go (λ e. record { own = tt; told = tt })
+
+-- the entry of a request goes last, where this was told
+entered_told : (h : History) (os : List Observer) (entry : Observer) (enters : Bool) → HaveOtherTokens entry.token os → AreTold h os → (enters ≡ true → WasToldLast h.queued entry) → AreTold h (with_entry enters os entry)
+entered_told h os entry true others are new =
+    record { own = own_last os entry others are.own; told = all_append (ToldOn h) os (entry ∷ []) are.told ((λ none. new refl), tt) }
+entered_told h os entry false others are new = are
+
+-- it was told by the answer
+told_with_answer : (store : StoreValue) (now : ℕ) (h : History) (os : List Observer) (m : Message) → HaveOtherTokens m.token os → AreTold h os → AllTold (side_answered store now h os m (prompt_answer store now m))
+told_with_answer store now h os m others are =
+    let a : answer.Answer = prompt_answer store now m in
+    let observes : Bool = has_place h.limits.observers os a.watch in
+    let response : Message = response_with_observe m.token observes a.response in
+    let whole : Bool = is_whole (fit (limit_now h) response (bare_response response)) in
+    let entry : Observer = entry_for store now m in
+    let k : History = after h (call.Reply response) in
+    let tells : observes ≡ true → TellsState entry entry.told response = λ has.
+    subst (λ (b : Bool). TellsState entry entry.told (response_with_observe m.token b a.response)) (sym has)
+    (entry_tells store now m (asks_to_enter a.watch (and_parts (asks_entry a.watch) (nat_lt (length os) h.limits.observers) has).0)) in
+    kept_told k (with_entry (observes && whole) os entry)
+    (λ opened. entered_told k os entry (observes && whole) others (record { own = are.own; told = others_told m.token h k os (reply_queues h response) others are.told })
+    (λ e. (let both = and_parts observes whole e in
+    subst (λ queued. WasToldLast queued entry) (sym (whole_last h response both.1 opened)) (told_by_last entry h.queued response (tells both.0)))))
+
+-- ---- messages
+
+-- nothing is queued that is a response
+signalled_side : (s : Side) (h : History) → Queues IsNoResponse s.history h → AllTold s → AllTold (with_history s h)
+signalled_side s h queues are = kept_told h s.observers (λ opened. signalled_told IsNoResponse (λ m is. is) s.history h s.observers queues are)
+
+handled_told : (limits : LimitValues) (store : StoreValue) (now : ℕ) (s : Side) (m : Message) → IsSide limits s → AllTold s → AllTold (side_handled store now s m)
+unfolding without_token
+handled_told limits store now s m is are =
+    let h : History = after s.history (call.Handle m) in
+    let queues : Queues IsNoResponse s.history h = message_queues s.history m is.is_server in
+    let others : List Observer = without_token m.token s.observers in
+    let still : AreTold h others = signalled_told IsNoResponse (λ m is. is) s.history h others queues (without_told m.token s.history s.observers are) in
+    handled_cases store now s m AllTold (λ other. signalled_side s h queues are)
+    (λ asks moment asked. kept_told (holding h _) others (λ opened. record { own = still.own; told = still.told }))
+    (λ asks. told_with_answer store now h others m (filter_others m.token s.observers) still)
+
+-- ---- notifications
+
+-- what becomes of the first that is due has its token
+module _ (store : StoreValue) (now : ℕ) (h k : History) (o : Observer) (queues : Queues (HasToken o.token) h k) (stays : Bool) (new : AllByRecursion (ToldOn k) (left_of store now o stays)) (due : Observer → Bool) where
+  own_left : (os : List Observer) → HaveOtherTokens o.token os → HaveOwnTokens os → HaveOwnTokens (left_of store now o stays ++ os)
+  own_left os others own = elim stays as (λ b. HaveOwnTokens (left_of store now o b ++ os)) [ true ↦ (others, own) | false ↦ own ]
+
+  left_apart : (token : List ℕ) → token ≢ o.token → HaveOtherTokens token (left_of store now o stays)
+  left_apart token apart = elim stays as (λ b. HaveOtherTokens token (left_of store now o b)) [ true ↦ (apart, tt) | false ↦ tt ]
+
+  told_become : (os : List Observer) → find due os ≡ Some o → AreTold h os → AreTold k (first_becomes due (left_of store now o stays) os)
+  unfolding first_becomes
+  told_become [] e are = absurd cc
+  told_become (p ∷ os) e are =
+      let left : List Observer = left_of store now o stays in
+      elim (due p) as (λ b. (if b then Some p else find due os) ≡ Some o → AreTold k (if b then left ++ os else p ∷ first_becomes due left os)) [
+        | true ↦ λ is. (
+            let same : p ≡ o = cc in
+            let others : HaveOtherTokens o.token os = subst (λ q. HaveOtherTokens q.token os) same are.own.0 in
+            record { own = own_left os others are.own.1; told = all_append (ToldOn k) left os new (others_told o.token h k os queues others are.told.1) }
+            )
+        | false ↦ λ is. (
+            let apart : p.token ≢ o.token = found_all (λ q. p.token ≢ q.token) due os o are.own.0 is in
+            let later : AreTold k (first_becomes due left os) = told_become os is (record { own = are.own.1; told = are.told.1 }) in
+            record {
+              own = (all_become (λ q. p.token ≢ q.token) due left os are.own.0 (left_apart p.token apart), later.own);
+              told = (other_told o.token h k p queues (λ same. apart (sym same)) are.told.0, later.told);
+            }
+            )
+      ] e
+
+-- the observer that stays was told by its notification
+left_told : (store : StoreValue) (now : ℕ) (h : History) (o : Observer) (stays : Bool) → (stays ≡ true → goes_on (notification store now o) ≡ true)
+    → (stays ≡ true → is_whole (fit (limit_now h) (notification_message o.token (notification store now o)) (bare_response (notification_message o.token (notification store now o)))) ≡ true)
+    → is_open (after h (call.Reply (notification_message o.token (notification store now o)))).phase ≡ true
+    → AllByRecursion (ToldOn (after h (call.Reply (notification_message o.token (notification store now o))))) (left_of store now o stays)
+left_told store now h o true on whole opened =
+    let m : Message = notification_message o.token (notification store now o) in
+    let left : Observer = record o { told = state_of store now o.path } in (
+      (λ none. subst (λ queued. WasToldLast queued left) (sym (whole_last h m (whole refl) opened))
+          (told_by_last left h.queued m (notification_tells_observer store now o (on refl)))),
+      tt,
+    )
+left_told store now h o false on whole opened = tt
+
+notified_told : (store : StoreValue) (now : ℕ) (s : Side) (found : Option Observer) → ((o : Observer) → found ≡ Some o → find (is_due store now) s.observers ≡ Some o) → AllTold s → AllTold (notified store now s found)
+notified_told store now s None there are = are
+notified_told store now s (Some o) there are =
+    let m : Message = notification_message o.token (notification store now o) in
+    let on : Bool = goes_on (notification store now o) in
+    let whole : Bool = is_whole (fit (limit_now s.history) m (bare_response m)) in
+    let h : History = after s.history (call.Reply m) in
+    kept_told h (first_becomes (is_due store now) (left_of store now o (on && whole)) s.observers)
+    (λ opened. told_become store now s.history h o (reply_queues s.history m) (on && whole)
+    (left_told store now s.history o (on && whole) (λ e. (and_parts on whole e).0) (λ e. (and_parts on whole e).1) opened)
+    (is_due store now) s.observers (there o refl) are)
+
+-- ---- what was held
+
+-- the token of an answer that is held is one of a request that is answered late
+sent_told : (s : Side) (now : ℕ) (e : HeldValue) → first_due now s.history.held ≡ Some e → Stands s.history → AllTold s → AllTold (with_history s (after_sent s.history now e))
+sent_told s now (Answer token moment) found stand are =
+    let h : History = after s.history (call.Due now) in
+    let k : History = after h (call.Reply (held_message token)) in
+    let first = due_answer now s.history.held token moment found in
+    kept_told k s.observers
+    (λ opened. late_told token h k s.observers (reply_queues h (held_message token))
+    (stand_asked s.history.handled first.before (Answer token moment) first.after (subst (StandFor s.history.handled) first.there stand))
+    (signalled_told IsNoResponse (λ m is. is) s.history h s.observers (due_queues s.history now) are))
+sent_told s now (Pong token) found stand are = signalled_side s (after s.history (call.Due now)) (due_queues s.history now) are
+
+-- ---- what each connection keeps
+
+abbrev IsToldSide : Side → Type 0
+IsToldSide s = Stands s.history × AllTold s
+
+-- where what is queued is plain, and the observers stay or go
+plain_told : (s t : Side) → Stands t.history → Between (Queues IsPlain) s t → ((P : List Observer → Type 0) → P [] → P s.observers → P t.observers) → IsToldSide s → IsToldSide t
+plain_told s t stand queues kept of =
+    (stand, kept (AreTold t.history) (record { own = tt; told = tt }) (signalled_told IsPlain (λ m is. is.0) s.history t.history s.observers queues of.1))
+
+told_side_keeps : (limits : LimitValues) → Keeps limits IsToldSide
+unfolding side_after
+told_side_keeps limits =
+    let stands : Keeps limits (λ s. Stands s.history) = stands_keeps limits in
+    let R : History → History → Type 0 = Queues IsPlain in
+    let same : (h : History) → R h h = queues_none IsPlain in
+    record {
+      first = (stands.first, record { own = tt; told = tt });
+      handled = λ store now s m is of. (
+        stands.handled store now s m is of.0,
+        cond_both (handles s) (side_handled store now s m) s AllTold (λ does. handled_told limits store now s m is of.1) (λ off. of.1),
+      );
+      faulted = λ s fault of. plain_told s _ (stands.faulted s fault of.0) (faulted_between R same reject_queues s fault) (λ P none. (observers_kept P none).faulted s fault) of;
+      written = λ s n of. plain_told s _ (stands.written s n of.0) (written_between R same (λ h k within. written_queues IsPlain h k) s n)
+          (λ P none. (observers_kept P none).written s n) of;
+      ended = λ s cut of. plain_told s _ (stands.ended s cut of.0) (ended_between R same end_queues s cut) (λ P none. (observers_kept P none).ended s cut) of;
+      released = λ s of. plain_told s _ (stands.released s of.0) (released_between R same release_queues s) (λ P none. (observers_kept P none).released s) of;
+      announced = λ s size of. plain_told s _ (stands.announced s size of.0) (announced_between R same (λ h n opened room fit. announcing_queues h n) s size)
+          (λ P none. (observers_kept P none).announced s size) of;
+      told = λ store now s of. (
+        stands.told store now s of.0,
+        settled_cases store now s AllTold (λ e is. sent_told s now e (held_room now s e is).1 of.0 of.1)
+            (λ is. notified_told store now s (next_due store now s) (next_due_found store now s) of.1),
+      );
+    }
+
+are_told : (c : ConfigValues) (es : List Event) (id : ℕ) (s : Side) → side_of id (world_after c es).sides ≡ Some s → AreTold s.history s.observers
+are_told c es id s there = (kept_after c IsToldSide (told_side_keeps c.limits) es id s there).1
+
+pub observers_told_last : (c : ConfigValues) (es : List Event) (id : ℕ) (s : Side) → side_of id (world_after c es).sides ≡ Some s → AllByRecursion (λ o. asked_late o.token s.history.handled ≡ false → WasToldLast s.history.queued o) s.observers
+observers_told_last c es id s there = (are_told c es id s there).told
+
+pub observers_have_own_tokens : (c : ConfigValues) (es : List Event) (id : ℕ) (s : Side) → side_of id (world_after c es).sides ≡ Some s → HaveOwnTokens s.observers
+observers_have_own_tokens c es id s there = (are_told c es id s there).own

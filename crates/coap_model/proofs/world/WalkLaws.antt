@@ -1,0 +1,258 @@
+-- What happens to a connection, call by call. A relation between histories that composes holds across all that a call of a server
+-- does to a connection, and across settling, where each part of it keeps the relation. One that a part does not keep leaves out the
+-- calls which have that part.
+use Rattle.std.proofs.Common.{◌≡◌, ℕ, ◌≤◌, Bool, true, false, cond, List, [], ◌∷◌, ◌++◌, length, Option, Some, None, refl, sym, ap, subst, zero, suc, ◌+◌, ◌&&◌, nat_le, is_none, arith}
+use Rattle.std.proofs.lemmas.Bool.{cond_both, and_parts, leb-true}
+use Rattle.std.proofs.lemmas.Bool.Decides.{nat_tests}
+use Rattle.std.proofs.lemmas.List.{append-nil}
+use Rattle.coap_model.specs.Prelude.{Message, StreamFault, LARGEST_MESSAGE, Reject, ReleasedHere, takes_messages}
+use Rattle.coap_model.specs.Prelude.{answers, is_open, fits, bare_response, VerdictValue, is_request, HeldValue}
+use Rattle.coap_model.specs.Prelude.{Answer, Pong, first_due, without_due, stop, abort, send, react, pong_with}
+use Rattle.coap_model.specs.Prelude.{due_effect, reject_of, reject_reason, release_refusal, History, standing_now}
+use Rattle.coap_model.specs.Prelude.{limit_now, with_effect, after, may_hold, link_of, standing_due, end_reason}
+use Rattle.coap_model.specs.Prelude.{release, may_announce, LinkValue, own_csm, free_in, limit_in, StoreValue}
+use Rattle.coap_model.specs.Prelude.{Response, held_response, answer_of, prompt_answer, response_with_observe}
+use Rattle.coap_model.specs.Prelude.{Observer, without_token, has_place, goes_on, notification, Side, waiting_on}
+use Rattle.coap_model.specs.Prelude.{has_room, handles, kept_open, with_history, moment_after, held_for}
+use Rattle.coap_model.specs.Prelude.{side_replied, asks_answer, side_handled, side_after, side_faulted, side_written}
+use Rattle.coap_model.specs.Prelude.{side_ended, side_released, may_raise, side_announced, next_due, notified}
+use Rattle.coap_model.specs.Prelude.{held_message, after_sent, settled_so, settled_once, settled_within, settled}
+use Rattle.coap_conn.specs.Verdicts as verdict
+use Rattle.coap_conn.specs.Calls as call
+use Rattle.coap_conn.proofs.RequestLemmas.{react_asks}
+
+-- ---- the parts
+
+-- there is room for the greatest message sent
+abbrev pub room_in : History → Bool
+room_in h = nat_le h.limits.max_sent (free_in (link_of h))
+
+-- a message was handled
+abbrev pub heard : History → Message → History
+heard h m = record (with_effect h (react (standing_now h) m).effect) { handled = h.handled ++ m ∷ [] }
+
+-- a message was sent as it fits, or less of it
+abbrev pub sent : History → Message → Message → History
+sent h m less = with_effect h (send (standing_now h) m less)
+
+-- what is held is this
+abbrev pub holding : History → List HeldValue → History
+holding h held = record h { held = held }
+
+-- what is due first is held no more
+abbrev pub without_first : History → ℕ → History
+without_first h now = holding h (without_due now h.held)
+
+-- a size was announced
+abbrev pub announcing : History → ℕ → History
+announcing h size = record h { queued = h.queued ++ own_csm size ∷ []; own_max = size }
+
+-- a relation keeps a part
+abbrev pub Hears : (History → History → Type 0) → Type 0
+Hears R = (h : History) (m : Message) → takes_messages h.phase ≡ true → room_in h ≡ true → R h (heard h m)
+
+abbrev pub Replies : (History → History → Type 0) → Type 0
+Replies R = (h : History) (token : List ℕ) (observe : Bool) (r : Response) → answers h.phase ≡ true → room_in h ≡ true → R h (sent h (response_with_observe token observe r) (bare_response (response_with_observe token observe r)))
+
+abbrev pub Holds : (History → History → Type 0) → Type 0
+Holds R = (h : History) (token : List ℕ) (moment : ℕ) → is_open h.phase ≡ true → may_hold h ≡ true → R h (holding h (h.held ++ Answer token moment ∷ []))
+
+abbrev pub LetsGo : (History → History → Type 0) → Type 0
+LetsGo R = (h : History) (now : ℕ) → R h (without_first h now)
+
+abbrev pub Pongs : (History → History → Type 0) → Type 0
+Pongs R = (h : History) (now : ℕ) (token : List ℕ) → first_due now h.held ≡ Some (Pong token) → room_in h ≡ true → R h (sent (without_first h now) (pong_with true token) (pong_with false token))
+
+abbrev pub Rejects : (History → History → Type 0) → Type 0
+Rejects R = (h : History) (fault : Reject) → takes_messages h.phase ≡ true → room_in h ≡ true → R h (with_effect h (abort (standing_now h) (reject_reason fault)))
+
+abbrev pub Ends : (History → History → Type 0) → Type 0
+Ends R = (h : History) (cut : Bool) → takes_messages h.phase ≡ true → R h (with_effect h (stop (standing_now h) (end_reason cut) []))
+
+abbrev pub Releases : (History → History → Type 0) → Type 0
+Releases R = (h : History) → is_open h.phase ≡ true → is_none (release_refusal (link_of h)) ≡ true → R h (with_effect h (stop (standing_now h) ReleasedHere (release ∷ [])))
+
+abbrev pub Writes : (History → History → Type 0) → Type 0
+Writes R = (h : History) (n : ℕ) → n ≤ length (link_of h).waiting → R h (after h (call.Written n))
+
+abbrev pub Announces : (History → History → Type 0) → Type 0
+Announces R = (h : History) (size : ℕ) → is_open h.phase ≡ true → room_in h ≡ true → fits (limit_now h) (own_csm size) ≡ true → R h (announcing h size)
+
+-- a relation that composes
+pub record Composes (R : History → History → Type 0) : Type 0 where
+  pub same : (h : History) → R h h
+  pub then : (h k g : History) → R h k → R k g → R h g
+
+-- the same of connections
+abbrev pub Between : (History → History → Type 0) → Side → Side → Type 0
+Between R s t = R s.history t.history
+
+-- ---- cases
+
+-- what may be there, with what is known of it
+pub there_or_not : {A : Type 0} (o : Option A) (P : Option A → Type 0) → (o ≡ None → P None) → ((x : A) → o ≡ Some x → P (Some x)) → P o
+there_or_not None P none some = none refl
+there_or_not (Some x) P none some = some x refl
+
+-- what is there only where a test says so
+pub there_where : {A : Type 0} (b : Bool) (o : Option A) (x : A) → cond b o None ≡ Some x → (b ≡ true) × (o ≡ Some x)
+there_where true o x e = (refl, e)
+there_where false o x e = absurd cc
+
+-- ---- room
+
+pub said_request : (v : VerdictValue) → is_request v ≡ true → v ≡ verdict.Request
+said_request verdict.Request e = refl
+said_request other e = absurd cc
+
+-- a request queues nothing, so there is as much room behind it
+asked_room : (h : History) (m : Message) → is_request (react (standing_now h) m).verdict ≡ true → room_in h ≡ true → room_in (after h (call.Handle m)) ≡ true
+asked_room h m asks room =
+    let none = (react_asks (standing_now h) m (said_request (react (standing_now h) m).verdict asks)).nothing in
+    cond_both (takes_messages h.phase) (heard h m) h (λ (k : History). room_in k ≡ true) (λ takes. rw (none, append-nil) room) (λ over. room)
+
+-- the effect of what was found to be due first
+pub due_is : (h : History) (now : ℕ) (found : Option HeldValue) → first_due now h.held ≡ found → after h (call.Due now) ≡ with_effect h (due_effect (standing_due now (standing_now h)) found)
+due_is h now found is = ap (λ (o : Option HeldValue). with_effect h (due_effect (standing_due now (standing_now h)) o)) is
+
+-- what is due first is not held any more, where it is no Pong
+answer_goes : (h : History) (now : ℕ) (token : List ℕ) (moment : ℕ) → first_due now h.held ≡ Some (Answer token moment) → after h (call.Due now) ≡ without_first h now
+answer_goes h now token moment is = cc (due_is h now (Some (Answer token moment)) is, append-nil h.queued)
+
+-- ---- settling
+
+-- what each turn keeps, settling keeps
+module _ (P : Side → Type 0) (store : StoreValue) (now : ℕ) (keeps : (s : Side) → P s → P (settled_once store now s)) where
+  within_keeps : (turns : ℕ) (s : Side) → P s → P (settled_within turns store now s)
+  unfolding settled_within
+  within_keeps zero s is = is
+  within_keeps (suc turns) s is = within_keeps turns (settled_once store now s) (keeps s is)
+
+  pub settled_keeps : (s : Side) → P s → P (settled store now s)
+  unfolding settled
+  settled_keeps s = within_keeps (length s.history.held + length s.observers) s
+
+pub if_between : (R : History → History → Type 0) (does : Bool) (h k : History) → R h h → (does ≡ true → R h k) → R h (cond does k h)
+if_between R does h k same goes = cond_both does k h (R h) goes (λ none. same)
+
+-- What is due may do more than all else: a relation that holds behind it goes on by another one.
+module _ (R E : History → History → Type 0) (same : (h : History) → R h h) (then : (h k g : History) → R h k → E k g → R h g) (replies : Replies E) (lets_go : LetsGo R) (pongs : Pongs R) where
+  reply_between : (h k : History) (token : List ℕ) (observe : Bool) (r : Response) → R h k → room_in k ≡ true → R h (after k (call.Reply (response_with_observe token observe r)))
+  reply_between h k token observe r before room =
+      cond_both (answers k.phase) _ k (R h) (λ does. then h k _ before (replies k token observe r does room)) (λ none. before)
+
+  sent_between : (h : History) (now : ℕ) (e : HeldValue) → first_due now h.held ≡ Some e → room_in h ≡ true → R h (after_sent h now e)
+  sent_between h now (Answer token moment) is room =
+      subst (λ (g : History). R h (after g (call.Reply (held_message token)))) (sym (answer_goes h now token moment is))
+      (reply_between h (without_first h now) token false held_response (lets_go h now) room)
+  sent_between h now (Pong token) is room = rw (due_is h now (Some (Pong token)) is) (pongs h now token is room)
+
+  module _ (store : StoreValue) (now : ℕ) (s : Side) where
+    notified_between : (found : Option Observer) → has_room s ≡ true → R s.history (notified store now s found).history
+    notified_between None room = same s.history
+    notified_between (Some o) room = reply_between s.history s.history o.token (goes_on (notification store now o)) (notification store now o) (same s.history) room
+
+    told_between : R s.history (notified store now s (next_due store now s)).history
+    told_between = cond_both (has_room s) _ None (λ o. R s.history (notified store now s o).history) (notified_between _) (λ none. same s.history)
+
+    pub once_between : R s.history (settled_once store now s).history
+    unfolding settled_once
+    once_between =
+        let So : Option HeldValue → Type 0 = λ found. R s.history (settled_so store now s found).history in
+        cond_both (has_room s) (first_due now s.history.held) None So
+        (λ room. there_or_not (first_due now s.history.held) So (λ none. told_between) (λ e is. sent_between s.history now e is room)) (λ none. told_between)
+
+pub settled_between : (R : History → History → Type 0) → Composes R → Replies R → LetsGo R → Pongs R → (store : StoreValue) (now : ℕ) (s : Side) → R s.history (settled store now s).history
+settled_between R composes replies lets_go pongs store now s =
+    settled_keeps (Between R s) store now
+    (λ t is. composes.then s.history t.history _ is (once_between R R composes.same composes.then replies lets_go pongs store now t)) s (composes.same s.history)
+
+-- ---- a message
+
+-- A message may do more than its answer: a relation that holds behind it goes on by another one.
+module _ (R E : History → History → Type 0) (same : (h : History) → R h h) (then : (h k g : History) → R h k → E k g → R h g) (hears : Hears R) (stays : (h : History) → E h h) (replies : Replies E) (holds : Holds E) where
+  replied_between : (store : StoreValue) (now : ℕ) (h : History) (others : List Observer) (m : Message) (hold : Option ℕ) → room_in h ≡ true → E h (side_replied store now h others m hold).history
+  replied_between store now h others m None room =
+      let a = prompt_answer store now m in
+      if_between E (answers h.phase) h _ (stays h) (λ does. replies h m.token (has_place h.limits.observers others a.watch) a.response does room)
+  replied_between store now h others m (Some seconds) room =
+      if_between E (is_open h.phase && may_hold h) h _ (stays h)
+      (λ does. (let both = and_parts (is_open h.phase) (may_hold h) does in holds h m.token (moment_after now seconds) both.0 both.1))
+
+  pub after_between : (store : StoreValue) (now : ℕ) (s : Side) (m : Message) → R s.history (side_after store now s m).history
+  unfolding side_after
+  after_between store now s m =
+      let h : History = after s.history (call.Handle m) in
+      cond_both (handles s) (side_handled store now s m) s (Between R s) (λ does. (
+      let room = (and_parts (takes_messages s.history.phase) (has_room s) does).1 in
+      let message : R s.history h = if_between R (takes_messages s.history.phase) s.history _ (same s.history) (λ takes. hears s.history m takes room) in
+      cond_both (asks_answer s m) _ (with_history s h) (Between R s)
+      (λ asks. then s.history h _ message
+      (replied_between store now h (without_token m.token s.observers) m (held_for h (answer_of store now m).hold) (asked_room s.history m asks room)))
+      (λ other. message))) (λ none. same s.history)
+
+-- ---- all else
+
+-- a connection that may be released has room for Release, and may be sent it
+pub release_fits : (v : LinkValue) → is_none (release_refusal v) ≡ true → (2 ≤ free_in v) × (2 ≤ limit_in v)
+release_fits v none = (grind (arith, nat_tests), grind (arith, nat_tests))
+
+module _ (R : History → History → Type 0) (same : (h : History) → R h h) where
+  pub faulted_between : Rejects R → (s : Side) (fault : StreamFault) → R s.history (side_faulted s fault).history
+  unfolding side_faulted
+  faulted_between rejects s fault =
+      cond_both (handles s) _ s (Between R s)
+      (λ does. if_between R (takes_messages s.history.phase) s.history _ (same s.history) (λ takes. rejects s.history (reject_of fault) takes (and_parts (takes_messages s.history.phase) (has_room s) does).1))
+      (λ none. same s.history)
+
+  pub written_between : Writes R → (s : Side) (n : ℕ) → R s.history (side_written s n).history
+  unfolding side_written
+  written_between writes s n =
+      cond_both (nat_le n (length (waiting_on s))) _ s (Between R s) (λ does. writes s.history n (leb-true n (length (waiting_on s)) does)) (λ none. same s.history)
+
+  pub ended_between : Ends R → (s : Side) (cut : Bool) → R s.history (side_ended s cut).history
+  unfolding side_ended
+  ended_between ends s cut = if_between R (takes_messages s.history.phase) s.history _ (same s.history) (λ takes. ends s.history cut takes)
+
+  pub released_between : Releases R → (s : Side) → R s.history (side_released s).history
+  unfolding side_released
+  released_between releases s =
+      cond_both (is_none (release_refusal (link_of s.history))) _ s (Between R s)
+      (λ does. if_between R (is_open s.history.phase) s.history _ (same s.history) (λ opened. releases s.history opened does)) (λ none. same s.history)
+
+  pub announced_between : Announces R → (s : Side) (size : ℕ) → R s.history (side_announced s size).history
+  unfolding side_announced
+  announced_between announces s size =
+      let h : History = s.history in
+      let may : Bool = may_announce (link_of h) size in
+      cond_both (may_raise s size) _ s (Between R s) (λ does. if_between R may h (announcing h size) (same h) (λ so. (
+      let both = and_parts (is_open h.phase) (fits (limit_now h) (own_csm size)) so in
+      let room = (and_parts (has_room s) may (and_parts (nat_le h.own_max size && nat_le size LARGEST_MESSAGE) (has_room s && may) does).1).0 in
+      announces h size both.0 room both.1))) (λ none. same h)
+
+-- ---- observers
+
+-- it holds of a connection and of what becomes of it by all that may happen to it but messages
+pub record HoldsOfCalls (R : Side → Side → Type 0) : Type 0 where
+  pub faulted : (s : Side) (fault : StreamFault) → R s (side_faulted s fault)
+  pub written : (s : Side) (n : ℕ) → R s (side_written s n)
+  pub ended : (s : Side) (cut : Bool) → R s (side_ended s cut)
+  pub released : (s : Side) → R s (side_released s)
+  pub announced : (s : Side) (size : ℕ) → R s (side_announced s size)
+
+-- what holds of observers, and of none, holds where the connection may not be open any more
+pub kept_open_has : (P : List Observer → Type 0) → P [] → (h : History) (os : List Observer) → P os → P (kept_open h os)
+kept_open_has P none h os is = cond_both (is_open h.phase) os [] P (λ e. is) (λ e. none)
+
+pub observers_kept : (P : List Observer → Type 0) → P [] → HoldsOfCalls (λ s t. P s.observers → P t.observers)
+unfolding side_faulted side_written side_ended side_released side_announced
+observers_kept P none =
+    let kept_where : (does : Bool) (s : Side) (h : History) → P s.observers → P (cond does (with_history s h) s).observers =
+    λ does s h is. cond_both does (with_history s h) s (λ t. P t.observers) (λ e. kept_open_has P none h s.observers is) (λ e. is) in
+    record {
+      faulted = λ s fault. kept_where (handles s) s _;
+      written = λ s n is. cond_both (nat_le n (length (waiting_on s))) _ s (λ t. P t.observers) (λ e. is) (λ e. is);
+      ended = λ s cut. kept_open_has P none (after s.history (call.End cut)) s.observers;
+      released = λ s. kept_where (is_none (release_refusal (link_of s.history))) s _;
+      announced = λ s size. kept_where (may_raise s size) s _;
+    }

@@ -1,0 +1,43 @@
+-- Configurations, and why they are refused.
+use Rattle.std.specs.Prelude.{ℕ, ◌≤◌, Option, Some, None, nat_le, if◌then◌else◌}
+use Rattle.coap_conn.specs.Limits.{LimitValues, is_within}
+use Rattle.coap_model.specs.declared.config.ConfigFault.{ConfigFault}
+use Rattle.coap_model.specs.declared.config.ConfigFault.TheVariants as config
+use Rattle.coap_wire.specs.declared.sizes.TheConstants.{LARGEST_MESSAGE}
+
+-- where a server's counts begin: the moment, the version of the last representation, the last connection's number
+pub record StartValues : Type 0 where
+  pub moment : ℕ
+  pub versions : ℕ
+  pub ids : ℕ
+
+pub record ConfigValues : Type 0 where
+  pub limits : LimitValues
+  pub connections : ℕ
+  pub dynamic_max : ℕ
+  pub rep_max : ℕ
+  pub turns : ℕ
+  pub starts : StartValues
+
+abbrev pub config_of : (limits : LimitValues) (connections dynamic_max rep_max turns : ℕ) (starts : StartValues) → ConfigValues
+config_of limits connections dynamic_max rep_max turns starts =
+    record { limits = limits; connections = connections; dynamic_max = dynamic_max; rep_max = rep_max; turns = turns; starts = starts }
+
+pub record IsConfigInRange (c : ConfigValues) : Type 0 where
+  pub connections_low : 1 ≤ c.connections
+  pub connections_high : c.connections ≤ 256
+  pub dynamic_high : c.dynamic_max ≤ 1000
+  pub rep_high : c.rep_max ≤ LARGEST_MESSAGE
+  pub turns_low : 1 ≤ c.turns
+  pub turns_high : c.turns ≤ 1000000000000
+
+-- the first value out of its range
+abbrev pub config_refusal : ConfigValues → Option ConfigFault
+config_refusal c =
+    if is_within 1 c.connections 256
+    then (if nat_le c.dynamic_max 1000
+    then (if nat_le c.rep_max LARGEST_MESSAGE
+    then (if is_within 1 c.turns 1000000000000 then None else Some config.Turns)
+    else Some config.Representation)
+    else Some config.Dynamic)
+    else Some config.Connections

@@ -1,0 +1,118 @@
+-- What the contracts and the proofs of the crate name, passed on from one place. Declares nothing.
+
+-- ---- std and the kit's crates
+pub use Rattle.std.specs.Fmt.{decimal}
+unfoldable pub use Rattle.std.specs.Fmt.{digits}
+pub use Rattle.std.specs.List.{AllByRecursion, list_any, filter_map, reduce, remove}
+pub use Rattle.std.specs.Option.{option_eq}
+pub use Rattle.std.specs.Prelude.{List, None, Option, Some, [], drop, length, map, not, suc, take, unwrap_or, zero, ℕ}
+pub use Rattle.std.specs.Prelude.{◌++◌, ◌∷◌, ◌≡◌}
+-- ---- coap_wire
+pub use Rattle.coap_wire.specs.Beginning.{Unfinished, fault_bytes}
+unfoldable pub use Rattle.coap_wire.specs.Beginning.{beginning}
+pub use Rattle.coap_wire.specs.Codes.{class_of}
+pub use Rattle.coap_wire.specs.Frames.{always, sizes_first}
+pub use Rattle.coap_wire.specs.Message.{Message, CoapOption}
+unfoldable pub use Rattle.coap_wire.specs.Reading.{message_of}
+unfoldable pub use Rattle.coap_wire.specs.Recognition.{first_critical_behind, is_recognised, kind_of, known_behind}
+pub use Rattle.coap_wire.specs.Refusal.{RefusedBy}
+unfoldable pub use Rattle.coap_wire.specs.Spelling.{spelling}
+pub use Rattle.coap_wire.specs.Stream.{StreamFault, Format, OfFrame, Stream, behind, frame_then, gone_on, split_on}
+unfoldable pub use Rattle.coap_wire.specs.Stream.{sized_split, split}
+pub use Rattle.coap_wire.specs.declared.fault.FormatFault.{FormatFault}
+pub use Rattle.coap_wire.specs.declared.fault.FrameFault.{FrameFault}
+-- ---- coap_frame
+pub use Rattle.coap_frame.specs.Framing.{AFault, AFrame, Finding, Framing, framing_at, without_last}
+unfoldable pub use Rattle.coap_frame.specs.Framing.{framing}
+pub use Rattle.coap_wire.specs.declared.sizes.TheConstants.{LARGEST_MESSAGE}
+-- ---- coap_conn
+pub use Rattle.coap_conn.specs.Announced.{announcement, bad_csm_option, csm_size, size_limit, size_unless}
+unfoldable pub use Rattle.coap_conn.specs.Announced.{announced}
+pub use Rattle.coap_conn.specs.Calls.{standing_due, end_reason, Call, doing, may_announce, release}
+pub use Rattle.coap_conn.specs.Fit.{AllFit, bare_response, fit, bare_code, fits}
+pub use Rattle.coap_conn.specs.Held.{HeldValue, Answer, Pong, HoldsNothingDue, answer_index, come, else_index}
+pub use Rattle.coap_conn.specs.Held.{held_at, pong_index}
+unfoldable pub use Rattle.coap_conn.specs.Held.{first_due, without_due, due_index}
+pub use Rattle.coap_conn.specs.History.{limit_now, standing_now, after, History, IsHistory, link_of, may_hold}
+pub use Rattle.coap_conn.specs.History.{new_history, with_effect}
+pub use Rattle.coap_conn.specs.Limits.{LimitValues, AreInRange}
+pub use Rattle.coap_conn.specs.LinkValue.{limit_in, LinkValue, bytes_of, free_in, own_csm}
+pub use Rattle.coap_conn.specs.Phases.{is_open, answers, takes_messages, stop_of}
+pub use Rattle.coap_conn.specs.Reaction.{send, pong_with, is_custody_pong, Effect, Reaction, Standing, abort}
+pub use Rattle.coap_conn.specs.Reaction.{asks_custody, due_effect, reaction_unless, send_as, stay, stop, is_asking}
+pub use Rattle.coap_conn.specs.Reaction.{is_response}
+unfoldable pub use Rattle.coap_conn.specs.Reaction.{live_reaction, react}
+pub use Rattle.coap_conn.specs.Reasons.{message_reason}
+pub use Rattle.coap_conn.specs.Rejects.{reject_of, reject_reason}
+pub use Rattle.coap_conn.specs.Release.{release_refusal}
+pub use Rattle.coap_conn.specs.Verdicts.{VerdictValue, is_request}
+pub use Rattle.coap_conn.specs.declared.phase.Phase.{Phase}
+pub use Rattle.coap_conn.specs.declared.phase.Reject.{Reject}
+pub use Rattle.coap_conn.specs.declared.phase.Reply.{Reply}
+pub use Rattle.coap_conn.specs.declared.phase.Reply.TheVariants.{Bare, Stopped, Whole}
+pub use Rattle.coap_conn.specs.declared.phase.Role.TheVariants.{Server}
+pub use Rattle.coap_conn.specs.declared.reason.Reason.{Reason}
+pub use Rattle.coap_conn.specs.declared.reason.Reason.TheVariants.{PeerTooSmall, ReleasedHere}
+-- ---- coap_store
+pub use Rattle.coap_store.specs.Answer.{changed, Change, Delete, Nothing, Put, Response, content, deletion, etag_at}
+pub use Rattle.coap_store.specs.Answer.{finally, held_response, is_among, only, read_answer, removes_watch}
+pub use Rattle.coap_store.specs.Answer.{stored_under, unheld_by, valid}
+unfoldable pub use Rattle.coap_store.specs.Answer.{answer_of, answer_at, get_answer, method_answer, prompt_answer}
+unfoldable pub use Rattle.coap_store.specs.Answer.{resource_answer, store_answer}
+pub use Rattle.coap_store.specs.Invariant.{AreDistinct}
+unfoldable pub use Rattle.coap_store.specs.Listing.{encoded_byte, entry_bytes, listing, path_bytes}
+pub use Rattle.coap_store.specs.Messages.{response_with_observe, each_at}
+unfoldable pub use Rattle.coap_store.specs.Notifications.{notification_at}
+pub use Rattle.coap_store.specs.Paths.{Path, same_bytes}
+unfoldable pub use Rattle.coap_store.specs.Paths.{is_path}
+unfoldable pub use Rattle.coap_store.specs.Refusals.{put_refusal, remove_refusal}
+pub use Rattle.coap_store.specs.Requests.{path_of}
+unfoldable pub use Rattle.coap_store.specs.Requests.{has_option, is_seconds, match_holds, number_of, value_of}
+pub use Rattle.coap_store.specs.State.{Target, built, is_dynamic, is_observable, state_of, target_of, text_plain}
+unfoldable pub use Rattle.coap_store.specs.State.{key_for, place_of, state_at}
+pub use Rattle.coap_store.specs.Store.{StoreValue, Representation, put_in, removed_in}
+unfoldable pub use Rattle.coap_store.specs.Store.{found_in, put_at, removed_at}
+pub use Rattle.coap_store.specs.declared.place.Place.TheVariants.{Dynamic, Time}
+pub use Rattle.coap_store.specs.declared.plan.Watch.{Watch}
+-- ---- coap_model
+pub use Rattle.coap_model.specs.Configs.{config_of, config_refusal, ConfigValues}
+-- ---- coap_model, streams
+pub use Rattle.coap_model.specs.streams.Output.{only_id, stream_of, stdio_output, Outcome, more_of, outcome_on}
+pub use Rattle.coap_model.specs.streams.Output.{side_for, steps_for, waiting_of, written_once}
+unfoldable pub use Rattle.coap_model.specs.streams.Output.{flushed, flushed_after, outcome, world_for, written_times}
+-- ---- coap_model, views
+pub use Rattle.coap_model.specs.views.ConfigViews.{start_values}
+-- ---- coap_model, world
+pub use Rattle.coap_model.specs.world.Answered.{FollowsAnswers, HasResponse}
+unfoldable pub use Rattle.coap_model.specs.world.Answered.{HaveOwnAnswers}
+pub use Rattle.coap_model.specs.world.Custody.{QueuesCustody, IsFirstHeld, KeepsHeld, KeepsHeldOver, AddsAsked}
+pub use Rattle.coap_model.specs.world.Custody.{asks_held}
+unfoldable pub use Rattle.coap_model.specs.world.Custody.{StandFor}
+pub use Rattle.coap_model.specs.world.Events.{Event, Ticked, Stored, Removed, Opened, Ended, Took, stream_on}
+pub use Rattle.coap_model.specs.world.Events.{AreAccepted, Wrote, Released, Announced, Dropped, IfSide, OnSide}
+pub use Rattle.coap_model.specs.world.Events.{beyond, new_fault, size_by, spelled_on, taken_in, takes_of}
+unfoldable pub use Rattle.coap_model.specs.world.Events.{size_on, steps_of, world_after, takes, AreAcceptedBehind}
+unfoldable pub use Rattle.coap_model.specs.world.Events.{IsAccepted, sizes_on, steps_behind, steps_by, taken_on}
+pub use Rattle.coap_model.specs.world.Heard.{heard_step, hears}
+unfoldable pub use Rattle.coap_model.specs.world.Heard.{steps_heard, heard_steps}
+pub use Rattle.coap_model.specs.world.Observers.{asks_entry, is_whole, Observer, entry_for, format_of, goes_on}
+pub use Rattle.coap_model.specs.world.Observers.{has_place, left_of, notification, notification_message, same_state}
+pub use Rattle.coap_model.specs.world.Observers.{with_entry}
+unfoldable pub use Rattle.coap_model.specs.world.Observers.{first_becomes, is_due, without_token}
+pub use Rattle.coap_model.specs.world.Sides.{Side, waiting_on, HearsAll, handles, asks_answer, held_for, moment_after}
+pub use Rattle.coap_model.specs.world.Sides.{held_message, next_held, is_cut, after_sent, has_room, kept_open}
+pub use Rattle.coap_model.specs.world.Sides.{may_raise, new_side, next_due, notified, settled_so, side_answered}
+pub use Rattle.coap_model.specs.world.Sides.{side_handled, side_replied, side_with, with_history, kept_on}
+unfoldable pub use Rattle.coap_model.specs.world.Sides.{side_after, side_faulted, side_written, side_ended}
+unfoldable pub use Rattle.coap_model.specs.world.Sides.{side_released, side_announced, settled_once, change_after}
+unfoldable pub use Rattle.coap_model.specs.world.Sides.{settled, settled_within}
+pub use Rattle.coap_model.specs.world.Told.{WasToldLast, HaveOwnTokens, asked_late, TellsState, etag_of_state}
+pub use Rattle.coap_model.specs.world.Told.{responds}
+unfoldable pub use Rattle.coap_model.specs.world.Told.{last_response}
+pub use Rattle.coap_model.specs.world.View.{after_view, AreSeen, change_on, change_steps}
+unfoldable pub use Rattle.coap_model.specs.world.View.{view_of, concerns, view_step}
+pub use Rattle.coap_model.specs.world.ViewEvents.{first_number, change_events}
+unfoldable pub use Rattle.coap_model.specs.world.ViewEvents.{view_events, changes_of, view_behind, view_event}
+pub use Rattle.coap_model.specs.world.World.{World, Step, new_world, Faulted, Handled, Place, Written, all_settled}
+pub use Rattle.coap_model.specs.world.World.{on_side, settled_place, stored_after, ticks}
+unfoldable pub use Rattle.coap_model.specs.world.World.{side_of, step, after_steps, acted}

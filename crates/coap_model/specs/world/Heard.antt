@@ -1,0 +1,45 @@
+-- Steps as connections hear them: behind a stop the end of input says nothing of a cut message. So events that
+-- differ only in bytes which nobody handles make the same steps.
+use Rattle.std.specs.Prelude.{ℕ, Bool, false, ◌&&◌, List, [], ◌∷◌, Option, Some, None}
+use Rattle.coap_conn.specs.Limits.{LimitValues}
+use Rattle.coap_conn.specs.Phases.{takes_messages}
+use Rattle.coap_model.specs.Configs.{ConfigValues}
+use Rattle.coap_model.specs.world.Sides.{Side, kept_on}
+use Rattle.coap_model.specs.world.World.{World, Step, Opened, Handled, Faulted, Written, Ticked, Stored, Removed, Ended, Released, Announced, Dropped, new_world, side_of, step}
+use Rattle.coap_model.specs.world.Events.{Event, stream_on, steps_of, world_after}
+
+-- a connection is there, and takes messages
+abbrev pub hears : Option Side → Bool
+hears None = false
+hears (Some s) = takes_messages s.history.phase
+
+-- a step in a world: the end of input tells of a cut message where messages are taken
+abbrev pub heard_step : World → Step → Step
+heard_step w (Opened id) = Opened id
+heard_step w (Handled id m) = Handled id m
+heard_step w (Faulted id fault) = Faulted id fault
+heard_step w (Written id n) = Written id n
+heard_step w (Ticked now) = Ticked now
+heard_step w (Stored path format bytes) = Stored path format bytes
+heard_step w (Removed path) = Removed path
+heard_step w (Ended id cut) = Ended id (hears (side_of id w.sides) && cut)
+heard_step w (Released id) = Released id
+heard_step w (Announced id size) = Announced id size
+heard_step w (Dropped id) = Dropped id
+
+-- each step in turn, in the world before it
+unfoldable pub heard_steps : LimitValues → World → List Step → List Step
+heard_steps limits w [] = []
+heard_steps limits w (s ∷ ss) = heard_step w s ∷ heard_steps limits (step limits w s) ss
+
+-- the steps of events, as they are heard
+unfoldable pub steps_heard : ConfigValues → List Event → List Step
+steps_heard c events = heard_steps c.limits (new_world c) (steps_of c.limits.max_message events)
+
+-- the bytes kept of an unfinished message on a connection: none where it is not there, or takes no message any more
+abbrev pub kept_of : List ℕ → Option Side → List ℕ
+kept_of rest None = []
+kept_of rest (Some s) = kept_on s rest
+
+abbrev pub kept_at : ConfigValues → List Event → ℕ → List ℕ
+kept_at c events id = kept_of (stream_on c.limits.max_message id events).rest (side_of id (world_after c events).sides)

@@ -1,0 +1,73 @@
+-- What one connection sees of the steps of a server: its own steps, the moments, and the changes of the store, with nothing of
+-- who made them (connections as in RFC 8323 sections 3.3, 3.4, 5 and 7).
+use Rattle.std.specs.Prelude.{◌≡◌, ℕ, Bool, true, List, [], ◌∷◌, ◌++◌, Option, Some, None, ◌==◌, if◌then◌else◌}
+use Rattle.std.specs.List.{AllByRecursion}
+use Rattle.coap_wire.specs.Message.{Message}
+use Rattle.coap_conn.specs.Limits.{LimitValues}
+use Rattle.coap_store.specs.Answer.{Change, Nothing, Put, Delete}
+use Rattle.coap_model.specs.Configs.{ConfigValues}
+use Rattle.coap_model.specs.world.Sides.{Side, change_after}
+use Rattle.coap_model.specs.world.World.{World, new_world, side_of, Step, Opened, Handled, Faulted, Written, Ticked, Stored, Removed, Ended, Released, Announced, Dropped, step, after_steps}
+
+-- ---- what a message changes
+
+-- a change as the step that the server's own program would make of it
+abbrev pub change_steps : Change → List Step
+change_steps Nothing = []
+change_steps (Put path format bytes) = Stored path format bytes ∷ []
+change_steps (Delete path) = Removed path ∷ []
+
+abbrev pub change_on : World → Message → Option Side → Change
+change_on w m None = Nothing
+change_on w m (Some s) = change_after w.store w.now s m
+
+-- what a message on a connection changes in the store
+abbrev pub change_made : World → ℕ → Message → Change
+change_made w id m = change_on w m (side_of id w.sides)
+
+-- of the steps of a connection only a message changes the store
+abbrev pub change_by : World → Step → Change
+change_by w (Opened id) = Nothing
+change_by w (Handled id m) = change_made w id m
+change_by w (Faulted id fault) = Nothing
+change_by w (Written id n) = Nothing
+change_by w (Ticked now) = Nothing
+change_by w (Stored path format bytes) = Nothing
+change_by w (Removed path) = Nothing
+change_by w (Ended id cut) = Nothing
+change_by w (Released id) = Nothing
+change_by w (Announced id size) = Nothing
+change_by w (Dropped id) = Nothing
+
+-- ---- what a connection sees
+
+-- a step is of the connection itself, or of none
+unfoldable pub concerns : ℕ → Step → Bool
+concerns id (Opened other) = other == id
+concerns id (Handled other m) = other == id
+concerns id (Faulted other fault) = other == id
+concerns id (Written other n) = other == id
+concerns id (Ticked now) = true
+concerns id (Stored path format bytes) = true
+concerns id (Removed path) = true
+concerns id (Ended other cut) = other == id
+concerns id (Released other) = other == id
+concerns id (Announced other size) = other == id
+concerns id (Dropped other) = other == id
+
+-- such a step is seen as it is, and of another connection's step only the change that it makes in the store
+unfoldable pub view_step : ℕ → World → Step → List Step
+view_step id w s = if concerns id s then s ∷ [] else change_steps (change_by w s)
+
+-- each step in turn, looked at in the world before it
+unfoldable pub view_of : LimitValues → ℕ → World → List Step → List Step
+view_of limits id w [] = []
+view_of limits id w (s ∷ ss) = view_step id w s ++ view_of limits id (step limits w s) ss
+
+-- the world after what a connection sees of steps
+abbrev pub after_view : ConfigValues → ℕ → List Step → World
+after_view c id ss = after_steps c.limits (new_world c) (view_of c.limits id (new_world c) ss)
+
+-- each of these steps is one that the connection sees
+abbrev pub AreSeen : ℕ → List Step → Type 0
+AreSeen id ss = AllByRecursion (λ s. concerns id s ≡ true) ss

@@ -1,0 +1,51 @@
+-- What one connection sees of the events of a server: its own, the moments, and the changes of the store, whoever made them. It is
+-- opened first among them, so it may have another number there.
+use Rattle.std.specs.Prelude.{ℕ, ◌+◌, List, [], ◌∷◌, ◌++◌, ◌==◌, if◌then◌else◌}
+use Rattle.coap_conn.specs.Limits.{LimitValues}
+use Rattle.coap_store.specs.Answer.{Change, Nothing, Put, Delete}
+use Rattle.coap_model.specs.Configs.{ConfigValues}
+use Rattle.coap_model.specs.world.World.{World, Step, step}
+use Rattle.coap_model.specs.world.Events.{Event, Opened, Took, Wrote, Ticked, Stored, Removed, Ended, Released, Announced, Dropped, steps_by, world_after}
+use Rattle.coap_model.specs.world.View.{change_by}
+
+-- the number of the connection that is opened first
+abbrev pub first_number : ConfigValues → ℕ
+first_number c = c.starts.ids + 1
+
+-- a change as the event that the server's own program would make of it
+abbrev pub change_events : Change → List Event
+change_events Nothing = []
+change_events (Put path format bytes) = Stored path format bytes ∷ []
+change_events (Delete path) = Removed path ∷ []
+
+-- what steps change in the store, each looked at in the world before it
+unfoldable pub changes_of : LimitValues → World → List Step → List Event
+changes_of limits w [] = []
+changes_of limits w (s ∷ ss) = change_events (change_by w s) ++ changes_of limits (step limits w s) ss
+
+-- of an event of a connection: the same with the number that the connection has in the view, if it is the one that looks on
+abbrev pub if_own : ℕ → ℕ → Event → List Event
+if_own id other e = if other == id then e ∷ [] else []
+
+-- what is seen of an event behind others
+unfoldable pub view_event : ConfigValues → ℕ → List Event → Event → List Event
+view_event c id earlier (Opened other) = if_own id other (Opened (first_number c))
+view_event c id earlier (Took other bytes) =
+    if other == id then Took (first_number c) bytes ∷ []
+    else changes_of c.limits (world_after c earlier) (steps_by c.limits.max_message earlier (Took other bytes))
+view_event c id earlier (Wrote other n) = if_own id other (Wrote (first_number c) n)
+view_event c id earlier (Ticked now) = Ticked now ∷ []
+view_event c id earlier (Stored path format bytes) = Stored path format bytes ∷ []
+view_event c id earlier (Removed path) = Removed path ∷ []
+view_event c id earlier (Ended other) = if_own id other (Ended (first_number c))
+view_event c id earlier (Released other) = if_own id other (Released (first_number c))
+view_event c id earlier (Announced other size) = if_own id other (Announced (first_number c) size)
+view_event c id earlier (Dropped other) = if_own id other (Dropped (first_number c))
+
+unfoldable pub view_behind : ConfigValues → ℕ → List Event → List Event → List Event
+view_behind c id earlier [] = []
+view_behind c id earlier (e ∷ es) = view_event c id earlier e ++ view_behind c id (earlier ++ e ∷ []) es
+
+-- what is seen of events
+unfoldable pub view_events : ConfigValues → ℕ → List Event → List Event
+view_events c id events = view_behind c id [] events

@@ -1,0 +1,100 @@
+-- A server with all its connections, as it is after a list of steps.
+use Rattle.std.specs.Prelude.{ℕ, Bool, not, ◌&&◌, List, [], ◌∷◌, ◌++◌, map, filter, Option, Some, None, is_none, nat_le, ◌==◌, if◌then◌else◌}
+use Rattle.coap_wire.specs.Message.{Message}
+use Rattle.coap_wire.specs.Stream.{StreamFault}
+use Rattle.coap_conn.specs.Limits.{LimitValues}
+use Rattle.coap_store.specs.Paths.{Path}
+use Rattle.coap_store.specs.Store.{StoreValue, put_in, removed_in}
+use Rattle.coap_store.specs.Refusals.{put_refusal}
+use Rattle.coap_model.specs.Configs.{ConfigValues}
+use Rattle.coap_model.specs.world.Sides.{Side, new_side, side_after, store_after, side_faulted, side_written, side_ended, side_released, side_announced, settled}
+
+-- a connection and its number
+pub record Place : Type 0 where
+  pub id : ℕ
+  pub side : Side
+
+-- the connections in order of their numbers, the number given last, the resources, and the moment in seconds
+pub record World : Type 0 where
+  pub sides : List Place
+  pub ids : ℕ
+  pub store : StoreValue
+  pub now : ℕ
+
+-- at first there is no connection, and nothing is stored
+abbrev pub new_world : ConfigValues → World
+new_world c = record {
+  sides = [];
+  ids = c.starts.ids;
+  store = record { dynamic_max = c.dynamic_max; rep_max = c.rep_max; resources = []; versions = c.starts.versions };
+  now = c.starts.moment;
+}
+
+-- ---- connections
+
+unfoldable pub side_of : ℕ → List Place → Option Side
+side_of id [] = None
+side_of id (p ∷ ps) = if p.id == id then Some p.side else side_of id ps
+
+abbrev pub changed_at : ℕ → (Side → Side) → Place → Place
+changed_at id f p = if p.id == id then record p { side = f p.side } else p
+
+-- something happens to a connection
+abbrev pub on_side : ℕ → (Side → Side) → World → World
+on_side id f w = record w { sides = map (changed_at id f) w.sides }
+
+abbrev pub stored_after : World → Message → Option Side → StoreValue
+stored_after w m None = w.store
+stored_after w m (Some s) = store_after w.store w.now s m
+
+-- ---- steps
+
+-- what happens to a server, with nothing of what bytes spell or of where they are cut
+pub data Step : Type 0 where
+  Opened : (id : ℕ) → Step
+  Handled : (id : ℕ) (m : Message) → Step
+  Faulted : (id : ℕ) (fault : StreamFault) → Step
+  Written : (id n : ℕ) → Step
+  Ticked : (now : ℕ) → Step
+  Stored : (path : Path) (format : Option ℕ) (bytes : List ℕ) → Step
+  Removed : (path : Path) → Step
+  Ended : (id : ℕ) (cut : Bool) → Step
+  Released : (id : ℕ) → Step
+  Announced : (id size : ℕ) → Step
+  Dropped : (id : ℕ) → Step
+
+-- the moment does not go back, and is a number of 64 bits
+abbrev pub ticks : ℕ → ℕ → Bool
+ticks now new = nat_le now new && nat_le new 18446744073709551615
+
+-- a step before anything settles
+unfoldable pub acted : LimitValues → World → Step → World
+acted limits w (Opened id) =
+    if is_none (side_of id w.sides) then record w { sides = w.sides ++ record { id = id; side = new_side limits } ∷ []; ids = id } else w
+acted limits w (Handled id m) =
+    record (on_side id (λ s. side_after w.store w.now s m) w) { store = stored_after w m (side_of id w.sides) }
+acted limits w (Faulted id fault) = on_side id (λ s. side_faulted s fault) w
+acted limits w (Written id n) = on_side id (λ s. side_written s n) w
+acted limits w (Ticked now) = if ticks w.now now then record w { now = now } else w
+acted limits w (Stored path format bytes) =
+    if is_none (put_refusal w.store path bytes) then record w { store = put_in w.store path format bytes } else w
+acted limits w (Removed path) = record w { store = removed_in w.store path }
+acted limits w (Ended id cut) = on_side id (λ s. side_ended s cut) w
+acted limits w (Released id) = on_side id side_released w
+acted limits w (Announced id size) = on_side id (λ s. side_announced s size) w
+acted limits w (Dropped id) = record w { sides = filter (λ p. not (p.id == id)) w.sides }
+
+-- then every connection settles
+abbrev pub settled_place : StoreValue → ℕ → Place → Place
+settled_place store now p = record p { side = settled store now p.side }
+
+abbrev pub all_settled : World → World
+all_settled w = record w { sides = map (settled_place w.store w.now) w.sides }
+
+unfoldable pub step : LimitValues → World → Step → World
+step limits w s = all_settled (acted limits w s)
+
+-- the world after steps
+unfoldable pub after_steps : LimitValues → World → List Step → World
+after_steps limits w [] = w
+after_steps limits w (s ∷ ss) = after_steps limits (step limits w s) ss

@@ -1,0 +1,25 @@
+//! What a CoAP server is, as a function of its events alone.
+//!
+//! - `Config` is the configuration of a server: the limits of its connections, and the values at which its counts begin
+//!   (`Starts`).
+//! - `answers.rt` has the results and the errors of a server's calls, such as `Taken`, `Status` and `OpenFault`.
+//! - `laws` has theorems on events: the effect of events on each connection, on the store and on the time. Each is the
+//!   contract of a function that does nothing.
+//!
+//! The definitions are in `specs/world`. They compute the world after a list of events: the messages that each
+//! connection handled and queued, its observers, the store and the time. `specs/streams/Output.antt` computes what a
+//! server with one connection writes.
+//!
+//! This crate contains no server and no session. `coap_serve` has `Server`, and its contracts say that a call leaves
+//! the server that the events so far determine here. Continue with `specs/world/World.antt` and docs/WORLD.md.
+#![tactic(auto)]
+
+mod answers;
+mod config;
+pub mod laws;
+
+pub use answers::{
+    AnnounceFault, Backwards, ConnId, Handled, NoSuch, OpenFault, ReleaseFault, Status, TakeFault,
+    Taken, WrittenFault,
+};
+pub use config::{Config, ConfigFault, Starts};

@@ -1,0 +1,4 @@
+pub mod WordLemmas
+pub mod ScriptLemmas
+pub mod LineLemmas
+mod Worked

@@ -1,0 +1,14 @@
+use Rattle.std.proofs.Common.{◌≡◌, ◌+◌, ◌≤◌, length, map}
+use Rattle.coap_script.specs.Prelude.{parts, newline, script_of, said_behind, said_by_parts, event_value}
+use Rattle.coap_script.proofs.scripts.script.Given as goal
+
+-- what the text says is the events so far, and then what is said by what is left of it
+abbrev pub invariant-loop-line : goal.invariant-loop-line
+invariant-loop-line l =
+    record {
+      said : script_of l.text ≡ said_behind l.lines (map event_value l.events.items) (said_by_parts (parts newline l.left));
+      counted : l.lines + length l.left ≤ length l.text;
+    }
+
+abbrev pub decreases-loop-line : goal.decreases-loop-line
+decreases-loop-line l = length l.left

@@ -1,0 +1,29 @@
+-- What the contracts and the proofs of the crate name, passed on from one place. Declares nothing.
+
+-- ---- std and the kit's crates
+pub use Rattle.arrayvec.specs.ArrayVec.{array_vec_len}
+unfoldable pub use Rattle.hex.specs.Hex.{decode_pairs}
+unfoldable pub use Rattle.percent_encoding.specs.Percent.{percent_decode}
+pub use Rattle.std.specs.Cow.{cow_slice_items}
+pub use Rattle.std.specs.List.{list_all, onto_first}
+pub use Rattle.std.specs.Result.{result_ok}
+-- ---- coap_store
+pub use Rattle.coap_store.specs.PathViews.{segment_list}
+pub use Rattle.coap_store.specs.Paths.{Path}
+unfoldable pub use Rattle.coap_store.specs.Paths.{is_path}
+unfoldable pub use Rattle.coap_store.specs.State.{key_for}
+-- ---- coap_text
+pub use Rattle.coap_text.specs.Words.{is_hyphen, parts}
+unfoldable pub use Rattle.coap_text.specs.Words.{decimal_value, hex_value}
+-- ---- coap_script
+pub use Rattle.coap_script.specs.script.EventViews.{event_value, IsScript, fault_number, TakesLine}
+pub use Rattle.coap_script.specs.script.Events.{EventValue}
+unfoldable pub use Rattle.coap_script.specs.script.Events.{drain_event, event_alone, event_of, event_with_one}
+unfoldable pub use Rattle.coap_script.specs.script.Events.{event_with_two, in_event, number_event, put_event}
+unfoldable pub use Rattle.coap_script.specs.script.Events.{remove_event}
+pub use Rattle.coap_script.specs.script.Lines.{phase_text}
+pub use Rattle.coap_script.specs.script.Script.{script_of, said_on, said_behind, said_by_line}
+unfoldable pub use Rattle.coap_script.specs.script.Script.{event_in, events_in, said_by_parts, says_nothing}
+pub use Rattle.coap_script.specs.script.Words.{newline, slash, words_of}
+unfoldable pub use Rattle.coap_script.specs.script.Words.{format_value, path_value}
+unfoldable pub use Rattle.coap_script.specs.script.Words.{payload_value, segments_of}

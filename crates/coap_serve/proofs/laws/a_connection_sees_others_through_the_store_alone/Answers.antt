@@ -1,9 +1,0 @@
-use Rattle.coap_serve.proofs.world.ViewLaws.{view_seen, one_side_of_a_view, one_store_of_a_view, one_moment_of_a_view, one_side_of_one_view}
-use Rattle.coap_serve.proofs.laws.a_connection_sees_others_through_the_store_alone.Goals as goal
-use Rattle.coap_serve.specs.Prelude.{world_after}
-use Rattle.coap_serve.proofs.world.ViewEventLaws.{same_in_view, same_store_in_view, same_now_in_view, view_accepted}
-
-pub returns : goal.returns
-unfolding world_after
-returns c =
-    search (view_seen, one_side_of_a_view, one_store_of_a_view, one_moment_of_a_view, same_in_view, same_store_in_view, same_now_in_view, view_accepted, one_side_of_one_view)

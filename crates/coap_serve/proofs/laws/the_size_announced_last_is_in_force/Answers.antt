@@ -1,5 +1,0 @@
-use Rattle.coap_serve.proofs.world.ReachedLaws.{accepted_is}
-use Rattle.coap_serve.proofs.laws.the_size_announced_last_is_in_force.Goals as goal
-
-pub returns : goal.returns
-returns c k events id s accepted there = (accepted_is k events accepted).sizes id s there

@@ -1,5 +1,0 @@
-use Rattle.coap_serve.proofs.scripting.ScriptLemmas.{script_goes_on}
-use Rattle.coap_serve.proofs.scripts.laws.scripts_go_on_behind_whole_lines.Goals as goal
-
-pub returns : goal.returns
-returns c = script_goes_on
