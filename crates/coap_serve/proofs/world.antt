@@ -1,7 +1,4 @@
 mod WorkedRefusals
-pub mod KnownShown
-pub mod EntryShown
-pub mod SideShown
 pub mod SameServers
 pub mod ShowLaws
 pub mod CallLaws

@@ -134,15 +134,15 @@ pub use Rattle.coap_model.specs.world.World.{settled_place, stored_after, ticks}
 unfoldable pub use Rattle.coap_model.specs.world.World.{side_of, step, after_steps, acted}
 -- ---- coap_serve
 -- ---- coap_serve, declared
-pub use Rattle.coap_serve.specs.declared.cause.Cause.{Cause}
+pub use Rattle.coap_server_session.specs.declared.cause.Cause.{Cause}
 pub use Rattle.coap_serve.specs.declared.door.agenda.Agenda.{Agenda}
 pub use Rattle.coap_serve.specs.declared.door.peer.Course.{Course}
 pub use Rattle.coap_serve.specs.declared.door.peer.Course.TheVariants.{Over}
 pub use Rattle.coap_serve.specs.declared.door.peer.Peer.{Peer}
 pub use Rattle.coap_serve.specs.declared.door.wants.Wants.{Wants}
-pub use Rattle.coap_serve.specs.declared.host.Host.{Host}
-pub use Rattle.coap_serve.specs.declared.observers.Stale.{Stale}
-pub use Rattle.coap_serve.specs.declared.chains.Chains.{Chains}
+pub use Rattle.coap_server_session.specs.declared.host.Host.{Host}
+pub use Rattle.coap_server_session.specs.declared.observers.Stale.{Stale}
+pub use Rattle.coap_server_session.specs.declared.chains.Chains.{Chains}
 pub use Rattle.coap_serve.specs.declared.replay.Drained.{Drained}
 pub use Rattle.coap_serve.specs.declared.replay.Line.{Line}
 pub use Rattle.coap_serve.specs.declared.serve.IoFault.{IoFault}
@@ -151,7 +151,7 @@ pub use Rattle.coap_serve.specs.declared.serve.Report.{Report}
 pub use Rattle.coap_serve.specs.declared.serve.Turn.{Turn}
 pub use Rattle.coap_serve.specs.declared.server.Outlook.{Outlook}
 pub use Rattle.coap_serve.specs.declared.server.Stamp.{Stamp}
-pub use Rattle.coap_serve.specs.declared.session.Session.TheInside.{Inside}
+pub use Rattle.coap_server_session.specs.declared.session.Session.TheInside.{Inside}
 -- ---- coap_serve, script
 pub use Rattle.coap_serve.specs.script.Cuts.{DifferInCuts, AreInTime, other_lines, IsInTime}
 unfoldable pub use Rattle.coap_serve.specs.script.Cuts.{lines_of, in_before, joined}
@@ -183,15 +183,15 @@ pub use Rattle.coap_serve.specs.streams.Turns.{wants_in, ComesToNothing, can_go_
 pub use Rattle.coap_serve.specs.streams.Turns.{IsTakenAndWritten, least_with, left_behind, IsOffered, CanAnyGoOn}
 pub use Rattle.coap_serve.specs.streams.Turns.{concerns_earlier, wait_for}
 -- ---- coap_serve, values
-pub use Rattle.coap_serve.specs.values.Causes.{change_hash, ObservesNone, hash_behind, path_hash}
-pub use Rattle.coap_serve.specs.values.Causes.{IsUntouched, has_come, may_touch, observes_hash, segments_hash, is_concerned}
-pub use Rattle.coap_serve.specs.values.Causes.{ConcernsNone, mark_anew, marks_after, IsMarkedBut}
-unfoldable pub use Rattle.coap_serve.specs.values.Causes.{marks_anew}
-pub use Rattle.coap_serve.specs.values.Dues.{tells_time, sooner}
-pub use Rattle.coap_serve.specs.values.Dues.{due_on, IsBefore, next_told}
-pub use Rattle.coap_serve.specs.values.Entries.{IsFirstStale, IsFirstMarked, link_replied, entries_replied, entries_notified}
-pub use Rattle.coap_serve.specs.values.Entries.{settled_held, framer_on, is_observed, is_sent, response_on}
-unfoldable pub use Rattle.coap_serve.specs.values.Entries.{first_index}
+pub use Rattle.coap_server_session.specs.values.Causes.{change_hash, ObservesNone, hash_behind, path_hash}
+pub use Rattle.coap_server_session.specs.values.Causes.{IsUntouched, has_come, may_touch, observes_hash, segments_hash, is_concerned}
+pub use Rattle.coap_server_session.specs.values.Causes.{ConcernsNone, mark_anew, marks_after, IsMarkedBut}
+unfoldable pub use Rattle.coap_server_session.specs.values.Causes.{marks_anew}
+pub use Rattle.coap_server_session.specs.values.Dues.{tells_time, sooner}
+pub use Rattle.coap_server_session.specs.values.Dues.{due_on, IsBefore, next_told}
+pub use Rattle.coap_server_session.specs.values.Entries.{IsFirstStale, IsFirstMarked, link_replied, entries_replied, entries_notified}
+pub use Rattle.coap_server_session.specs.values.Entries.{settled_held, framer_on, is_observed, is_sent, response_on}
+unfoldable pub use Rattle.coap_server_session.specs.values.Entries.{first_index}
 pub use Rattle.coap_serve.specs.values.Fed.{Fed, IsPartlyFed, ShowsMore, ShowsPartlyFed, fed, fed_more, fed_once}
 pub use Rattle.coap_serve.specs.values.Fed.{took, unfed, where_there}
 unfoldable pub use Rattle.coap_serve.specs.values.Fed.{fed_turns, took_turns}
@@ -205,7 +205,7 @@ pub use Rattle.coap_serve.specs.values.ServerAnswers.{released_refusal_on, handl
 pub use Rattle.coap_serve.specs.values.ServerAnswers.{handled_on}
 pub use Rattle.coap_serve.specs.values.ServerAnswers.{session_status, written_refusal_on}
 unfoldable pub use Rattle.coap_serve.specs.values.ServerAnswers.{handled_by}
-pub use Rattle.coap_serve.specs.values.SessionAnswers.{IsAnnounced, announced_refusal_on, session_refusal}
+pub use Rattle.coap_server_session.specs.values.SessionAnswers.{IsAnnounced, announced_refusal_on, session_refusal}
 pub use Rattle.coap_serve.specs.values.ServerCauses.{AreSettledUntouched, AreOthersSettled, AreUntouched}
 pub use Rattle.coap_serve.specs.values.ServerCauses.{AreMarkedBut, AreMarkedAfter}
 pub use Rattle.coap_serve.specs.values.ServerDues.{same_stamp, stamp_of, WaitsForWhatIsDue, outlook_of}
@@ -217,30 +217,30 @@ pub use Rattle.coap_serve.specs.values.Servers.{server_announced, settled_entry,
 pub use Rattle.coap_serve.specs.values.Servers.{server_taken_on, server_taken_so, session_becomes, unmarked_entry}
 pub use Rattle.coap_serve.specs.values.Servers.{unmarked, AreAllMarked}
 unfoldable pub use Rattle.coap_serve.specs.values.Servers.{session_of, count_taken, server_taken, changed_at}
-pub use Rattle.coap_serve.specs.values.Responses.{path_size}
-pub use Rattle.coap_serve.specs.values.Sessions.{ObserverValue, answer_on, hold_on, held_in, host_changed, link_sent}
-pub use Rattle.coap_serve.specs.values.Sessions.{new_entry, notification_on, mark_at, present_mark, untold_by, SessionValue}
-pub use Rattle.coap_serve.specs.values.Sessions.{session_written, session_ended, session_released, session_announced}
-pub use Rattle.coap_serve.specs.values.Sessions.{change_by, observers_on, session_with, new_session}
-pub use Rattle.coap_serve.specs.values.Sessions.{session_takes, session_notified, IsSettled, RefusesPiece}
-pub use Rattle.coap_serve.specs.values.Sessions.{ObserversValue, Taking, asks_this, entry_left, frame_on, is_marked}
-pub use Rattle.coap_serve.specs.values.Sessions.{mark_of, session_max, session_raises, session_ready}
-pub use Rattle.coap_serve.specs.values.Sessions.{session_rejected, session_replied, session_settled_so, state_on}
-pub use Rattle.coap_serve.specs.values.Sessions.{taking_found, taking_read, MarkedSession, AreMarked, IsMarked}
-pub use Rattle.coap_serve.specs.values.Sessions.{empty_host, marks_on, observers_left}
-unfoldable pub use Rattle.coap_serve.specs.values.Sessions.{changed_mark}
-unfoldable pub use Rattle.coap_serve.specs.values.Sessions.{without_entry, is_stale, session_settled, session_handled}
-unfoldable pub use Rattle.coap_serve.specs.values.Sessions.{next_held_in, next_stale, session_settled_once, taking}
-unfoldable pub use Rattle.coap_serve.specs.values.Sessions.{session_settled_within}
+pub use Rattle.coap_server_session.specs.values.Responses.{path_size}
+pub use Rattle.coap_server_session.specs.values.Sessions.{ObserverValue, answer_on, hold_on, held_in, host_changed, link_sent}
+pub use Rattle.coap_server_session.specs.values.Sessions.{new_entry, notification_on, mark_at, present_mark, untold_by, SessionValue}
+pub use Rattle.coap_server_session.specs.values.Sessions.{session_written, session_ended, session_released, session_announced}
+pub use Rattle.coap_server_session.specs.values.Sessions.{change_by, observers_on, session_with, new_session}
+pub use Rattle.coap_server_session.specs.values.Sessions.{session_takes, session_notified, IsSettled, RefusesPiece}
+pub use Rattle.coap_server_session.specs.values.Sessions.{ObserversValue, Taking, asks_this, entry_left, frame_on, is_marked}
+pub use Rattle.coap_server_session.specs.values.Sessions.{mark_of, session_max, session_raises, session_ready}
+pub use Rattle.coap_server_session.specs.values.Sessions.{session_rejected, session_replied, session_settled_so, state_on}
+pub use Rattle.coap_server_session.specs.values.Sessions.{taking_found, taking_read, MarkedSession, AreMarked, IsMarked}
+pub use Rattle.coap_server_session.specs.values.Sessions.{empty_host, marks_on, observers_left}
+unfoldable pub use Rattle.coap_server_session.specs.values.Sessions.{changed_mark}
+unfoldable pub use Rattle.coap_server_session.specs.values.Sessions.{without_entry, is_stale, session_settled, session_handled}
+unfoldable pub use Rattle.coap_server_session.specs.values.Sessions.{next_held_in, next_stale, session_settled_once, taking}
+unfoldable pub use Rattle.coap_server_session.specs.values.Sessions.{session_settled_within}
 -- ---- coap_serve, views
 pub use Rattle.coap_serve.specs.views.LineViews.{line_bytes, IsRun, IsDrainable}
-pub use Rattle.coap_serve.specs.views.ChainViews.{Linked, linked, concerns_path, last_in, previous_in, next_index}
-pub use Rattle.coap_serve.specs.views.ChainViews.{IsLastBefore, AreChainedTo}
-pub use Rattle.coap_serve.specs.views.FlagViews.{flag_of, AreFlagged, AreClear, AreBlocks}
-pub use Rattle.coap_serve.specs.views.ObserverViews.{observer_value, mark_in, IsTagged}
+pub use Rattle.coap_server_session.specs.views.ChainViews.{Linked, linked, concerns_path, last_in, previous_in, next_index}
+pub use Rattle.coap_server_session.specs.views.ChainViews.{IsLastBefore, AreChainedTo}
+pub use Rattle.coap_server_session.specs.views.FlagViews.{flag_of, AreFlagged, AreClear, AreBlocks}
+pub use Rattle.coap_server_session.specs.views.ObserverViews.{observer_value, mark_in, IsTagged}
 pub use Rattle.coap_serve.specs.views.ServerViews.{IsServer, server_value}
-pub use Rattle.coap_serve.specs.views.SessionShows.{observer_shown, session_shown}
-pub use Rattle.coap_serve.specs.views.SessionViews.{IsSession, session_value}
+pub use Rattle.coap_server_session.specs.views.SessionShows.{observer_shown, session_shown}
+pub use Rattle.coap_server_session.specs.views.SessionViews.{IsSession, session_value}
 -- ---- coap_serve, world
 pub use Rattle.coap_serve.specs.world.Shows.{Shows, ShowsRefused, place_shown, server_shown}
 unfoldable pub use Rattle.coap_serve.specs.world.Shows.{server_of}

@@ -1,12 +1,6 @@
-pub mod Sessions
-pub mod Entries
 pub mod Servers
 pub mod ServerAnswers
 pub mod Flushes
-pub mod Dues
-pub mod Causes
-pub mod Responses
 pub mod Fed
-pub mod SessionAnswers
 pub mod ServerDues
 pub mod ServerCauses

@@ -1,22 +1,12 @@
 //! A CoAP server over reliable transports (RFC 8323).
 #![tactic(auto)]
 
-mod answering;
-mod cause;
-mod chains;
 mod door;
-mod flags;
-mod host;
 pub mod laws;
-mod observer;
-mod observers;
 mod output;
-mod path_hash;
 mod replay;
-mod response;
 mod serve;
 mod server;
-mod session;
 
 pub use coap_conn::{LimitFault, Limits, Phase, Reason};
 pub use coap_io::{

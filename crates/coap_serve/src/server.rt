@@ -8,10 +8,9 @@ mod changes;
 mod connections;
 mod sessions;
 
-use crate::host::Host;
-use crate::session::Session;
 use coap_conn::Reason;
 use coap_model::Config;
+use coap_server_session::{Host, Session};
 use indexmap::IndexMap;
 use std::alloc::{AllocError, Global};
 use std::marker::Model;

@@ -9,15 +9,15 @@ use Rattle.coap_serve.specs.Prelude.{MarkedSession, IsMarked, ConcernsNone, IsMa
 use Rattle.coap_serve.specs.Prelude.{AreAllMarked, AreMarkedAfter}
 use Rattle.std.proofs.lemmas.Bool.{ltb-true, ltb-false}
 use Rattle.coap_model.proofs.world.EntryLemmas.{all_to}
-use Rattle.coap_serve.specs.declared.cause.Cause.TheVariants as cause
-use Rattle.coap_serve.proofs.values.SettleLemmas.{settled_is_settled, settled_stays}
+use Rattle.coap_server_session.specs.declared.cause.Cause.TheVariants as cause
+use Rattle.coap_server_session.proofs.values.SettleLemmas.{settled_is_settled, settled_stays}
 use Rattle.coap_model.proofs.OptionLemmas.{there_at, same_there}
 use Rattle.coap_serve.proofs.values.ServerLemmas.{Entries, MarkedEntries, all_written, one_of_all, written_at_index, settled_up_to, none_settled}
 use Rattle.coap_serve.proofs.values.ServerLemmas.{unmarked_at, same_written, one_more_settled, set_unmarked, as_many_settled, all_settled}
 use Rattle.std.proofs.lemmas.List.{length-map}
 use Rattle.std.proofs.lemmas.Map.Entries.{length-values_of}
-use Rattle.coap_serve.proofs.values.DueLemmas.{at_moment, stays_settled}
-use Rattle.coap_serve.proofs.values.CauseLemmas.{but_changed, but_later, but_none, marked_untouched, settled_elsewhere}
+use Rattle.coap_server_session.proofs.values.DueLemmas.{at_moment, stays_settled}
+use Rattle.coap_server_session.proofs.values.CauseLemmas.{but_changed, but_later, but_none, marked_untouched, settled_elsewhere}
 
 -- ---- the marks that a change sets anew
 

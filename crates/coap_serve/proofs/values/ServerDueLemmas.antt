@@ -4,7 +4,7 @@ use Rattle.coap_serve.specs.Prelude.{AllByRecursion, IsStore, Host, ServerValue,
 use Rattle.coap_serve.specs.Prelude.{WaitsForWhatIsDue}
 use Rattle.std.proofs.lemmas.Bool.{cases_lt}
 use Rattle.coap_serve.proofs.values.ServerLemmas.{all_settled_stay, Entries}
-use Rattle.coap_serve.proofs.values.DueLemmas.{at_moment, stays_settled}
+use Rattle.coap_server_session.proofs.values.DueLemmas.{at_moment, stays_settled}
 
 stay_settled : (host : Host) (later : ℕ) (es : Entries) → IsStore host.store → AreSettled host es → host.now < later → later < 2 ^ 64 → AllByRecursion (λ e. IsBefore later (due_on host.now e.1)) es → AreSettled (at_moment host later) es
 stay_settled host later [] store settled more fits before = tt

@@ -12,7 +12,7 @@ use Rattle.std.proofs.lemmas.List.Sums.{length-filter, count_by-le-length}
 use Rattle.std.proofs.lemmas.Map.Entries.{length-keys_of, length-values_of}
 use Rattle.std.proofs.lemmas.Map.Made.{keys_of-map_values}
 use Rattle.std.proofs.lemmas.Option.{cond_some}
-use Rattle.coap_serve.proofs.values.SettleLemmas.{none_held, settled_quiet, settled_is_settled, settled_stays}
+use Rattle.coap_server_session.proofs.values.SettleLemmas.{none_held, settled_quiet, settled_is_settled, settled_stays}
 use Rattle.coap_model.proofs.OptionLemmas.{there_is_none, there_at}
 use Rattle.coap_model.proofs.world.EntryLemmas.{all_to, all_append, all_filter, all_map}
 

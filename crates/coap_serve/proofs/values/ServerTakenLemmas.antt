@@ -7,7 +7,7 @@ use Rattle.coap_serve.specs.Prelude.{AreSettled, server_taken_on, server_taken, 
 use Rattle.coap_serve.specs.Prelude.{handled_by, RefusesPieceOn, IsServer}
 use Rattle.std.proofs.lemmas.Bool.{cond_both}
 use Rattle.coap_serve.proofs.values.ServerLemmas.{Entries, one_of_all, written_at_index, changed_one, changed_written, settling, one_settles, all_settled_stay, all_still, taken_server_with, lies_where_taken}
-use Rattle.coap_serve.proofs.values.TakenLemmas.{host_stays, refused_changes_nothing, refused_stays_settled, taking_settles_held}
+use Rattle.coap_server_session.proofs.values.TakenLemmas.{host_stays, refused_changes_nothing, refused_stays_settled, taking_settles_held}
 
 -- ---- the server
 

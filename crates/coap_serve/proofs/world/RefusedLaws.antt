@@ -13,7 +13,7 @@ use Rattle.std.proofs.lemmas.Result.{IfErr-weaker}
 use Rattle.std.proofs.Math.Seq.{drop-cons}
 use Rattle.coap_frame.proofs.FrontLaws.{added_front}
 use Rattle.coap_model.proofs.world.TookLaws.{Adds, adds_nothing, piece_adds_message, front_within, but_last_unfinished}
-use Rattle.coap_serve.proofs.world.SideShown.{change_shown}
+use Rattle.coap_server_session.proofs.world.SideShown.{change_shown}
 use Rattle.coap_serve.proofs.world.ShowLaws.{session_there, host_shown, sessions_shown, takes_shown, refused_on, refused_unfinished, refused_message, refused_front}
 use Rattle.coap_model.proofs.world.StepLaws.{stream_more}
 use Rattle.coap_model.proofs.OptionLemmas.{none_made}

@@ -32,8 +32,8 @@ use Rattle.coap_model.proofs.world.PlaceLaws.{AreDistinct, of_number, of_each, p
 use Rattle.coap_model.proofs.world.EntryLemmas.{all_to, maps_alike, mapped_filter}
 use Rattle.coap_model.proofs.world.ReachedLaws.{IsReached, handling_goes_on, accepted_is, takes_there, piece_accepted, events_distinct, opens}
 use Rattle.coap_model.proofs.world.SideLaws.{IsKnownSide, handles_parts}
-use Rattle.coap_serve.proofs.world.SideShown.{host_of, faulted_shown, handled_shown, change_shown, written_shown}
-use Rattle.coap_serve.proofs.world.SideShown.{ended_side_shown, released_shown, announced_shown, settled_shown}
+use Rattle.coap_server_session.proofs.world.SideShown.{host_of, faulted_shown, handled_shown, change_shown, written_shown}
+use Rattle.coap_server_session.proofs.world.SideShown.{ended_side_shown, released_shown, announced_shown, settled_shown}
 use Rattle.coap_model.proofs.world.HearingLaws.{world_stays, IsKnownPlace, IsKnownWorld, acted_known, world_known, world_hears}
 use Rattle.coap_model.proofs.OptionLemmas.{one_made}
 use Rattle.coap_conn.proofs.LinkLemmas.{new_shown}

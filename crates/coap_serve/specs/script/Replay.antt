@@ -8,7 +8,7 @@ use Rattle.coap_store.specs.declared.fault.StoreFault.TheVariants as storing
 use Rattle.coap_script.specs.script.Events.{EventValue, Open, In, Drain, Tick, Put, Remove, End, Release, Drop, Status}
 use Rattle.coap_script.specs.script.Lines.{open_line, in_line, out_line, tick_line, put_line, remove_line, word_line, status_line, fault_line}
 use Rattle.coap_serve.specs.values.Fed.{Fed, fed}
-use Rattle.coap_serve.specs.values.Sessions.{SessionValue}
+use Rattle.coap_server_session.specs.values.Sessions.{SessionValue}
 use Rattle.coap_serve.specs.values.Servers.{ServerValue, session_of, server_opened, server_written, server_ticked, server_put, server_removed, server_ended, server_released, server_dropped}
 use Rattle.coap_serve.specs.values.ServerAnswers.{open_refusal, released_refusal}
 use Rattle.coap_model.specs.declared.answers.OpenFault.{OpenFault}

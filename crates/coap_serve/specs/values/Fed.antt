@@ -1,7 +1,7 @@
 -- The takes of all bytes that a connection is handed, one after the other, and where memory is refused within them (our definition).
 use Rattle.std.specs.Prelude.{◌≡◌, ℕ, zero, suc, ◌+◌, Bool, true, false, not, ◌&&◌, List, [], ◌∷◌, ◌++◌, length, take, drop}
 use Rattle.std.specs.Prelude.{Option, Some, None, nat_lt, ◌==◌, if◌then◌else◌}
-use Rattle.coap_serve.specs.values.Sessions.{SessionValue}
+use Rattle.coap_server_session.specs.values.Sessions.{SessionValue}
 use Rattle.coap_serve.specs.values.Servers.{ServerValue, session_of, server_taken, count_taken}
 use Rattle.coap_serve.specs.values.ServerAnswers.{IsNotTaken}
 use Rattle.coap_model.specs.world.Events.{Event, Took}

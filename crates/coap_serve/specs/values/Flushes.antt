@@ -1,8 +1,8 @@
 -- What a flush does to a server as the code holds it: all that waits on a connection is written, until nothing waits.
 use Rattle.std.specs.Prelude.{◌≡◌, ◌≤◌, ◌⊎◌, ℕ, zero, suc, ◌+◌, Bool, true, false, List, [], ◌++◌, length, Option, Some, None}
-use Rattle.coap_serve.specs.values.Sessions.{SessionValue, session_written, session_settled}
+use Rattle.coap_server_session.specs.values.Sessions.{SessionValue, session_written, session_settled}
 use Rattle.coap_serve.specs.values.Servers.{ServerValue, session_of, changed_at, server_written}
-use Rattle.coap_serve.specs.declared.host.Host.{Host}
+use Rattle.coap_server_session.specs.declared.host.Host.{Host}
 
 -- the server after some turns, and what they wrote
 pub record Flush : Type 0 where

@@ -2,11 +2,11 @@
 use Rattle.std.specs.Prelude.{◌≡◌, ◌≤◌, ◌<◌, slice_get, ℕ, List, Option, Some, None}
 use Rattle.std.specs.List.{AllByRecursion}
 use Rattle.std.specs.Map.{values_of}
-use Rattle.coap_serve.specs.declared.host.Host.{Host}
-use Rattle.coap_serve.specs.declared.cause.Cause.{Cause}
-use Rattle.coap_serve.specs.declared.cause.Cause.TheVariants as cause
-use Rattle.coap_serve.specs.values.Sessions.{SessionValue, MarkedSession, IsSettled}
-use Rattle.coap_serve.specs.values.Causes.{IsUntouched, ConcernsNone, IsMarkedBut}
+use Rattle.coap_server_session.specs.declared.host.Host.{Host}
+use Rattle.coap_server_session.specs.declared.cause.Cause.{Cause}
+use Rattle.coap_server_session.specs.declared.cause.Cause.TheVariants as cause
+use Rattle.coap_server_session.specs.values.Sessions.{SessionValue, MarkedSession, IsSettled}
+use Rattle.coap_server_session.specs.values.Causes.{IsUntouched, ConcernsNone, IsMarkedBut}
 use Rattle.coap_serve.specs.values.Servers.{changed_at, AreAllMarked}
 
 -- every connection that it does not touch is settled

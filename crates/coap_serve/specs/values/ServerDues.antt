@@ -3,11 +3,11 @@ use Rattle.std.specs.Prelude.{◌≡◌, ◌&&◌, ℕ, Bool, length, Option, na
 use Rattle.std.specs.List.{AllByRecursion}
 use Rattle.coap_conn.specs.Phases.{is_over}
 use Rattle.coap_conn.specs.LinkValue.{is_finished}
-use Rattle.coap_serve.specs.declared.host.Host.{Host}
+use Rattle.coap_server_session.specs.declared.host.Host.{Host}
 use Rattle.coap_serve.specs.declared.server.Stamp.{Stamp}
 use Rattle.coap_serve.specs.declared.server.Outlook.{Outlook}
-use Rattle.coap_serve.specs.values.Sessions.{SessionValue, session_takes}
-use Rattle.coap_serve.specs.values.Dues.{IsBefore, due_on}
+use Rattle.coap_server_session.specs.values.Sessions.{SessionValue, session_takes}
+use Rattle.coap_server_session.specs.values.Dues.{IsBefore, due_on}
 use Rattle.coap_serve.specs.values.Servers.{ServerValue, session_of, server_ticked}
 
 -- Only the moment changes as it moves on to one before each that is due: on every connection what waits, what is held and who observes are

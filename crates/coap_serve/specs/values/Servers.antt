@@ -5,8 +5,8 @@ use Rattle.std.specs.Map.{keys_of, values_of}
 use Rattle.coap_store.specs.Paths.{Path}
 use Rattle.coap_store.specs.Store.{put_in, removed_in}
 use Rattle.coap_model.specs.Configs.{ConfigValues}
-use Rattle.coap_serve.specs.declared.host.Host.{Host}
-use Rattle.coap_serve.specs.values.Sessions.{empty_host, SessionValue, MarkedSession, IsMarked, Taking, new_session, taking, host_changed, session_written, session_ended, session_released, session_announced, session_settled, IsSettled}
+use Rattle.coap_server_session.specs.declared.host.Host.{Host}
+use Rattle.coap_server_session.specs.values.Sessions.{empty_host, SessionValue, MarkedSession, IsMarked, Taking, new_session, taking, host_changed, session_written, session_ended, session_released, session_announced, session_settled, IsSettled}
 
 -- the configuration, the resources and the moment, the number given last, and the connections in order of their numbers
 pub record ServerValue : Type 0 where

@@ -5,7 +5,7 @@ use Rattle.coap_script.specs.script.Events.{EventValue}
 use Rattle.coap_script.specs.script.Lines.{out_line}
 use Rattle.coap_serve.specs.script.Replay.{event_ran, drained}
 use Rattle.coap_serve.specs.script.Replayed.{IsUnrun}
-use Rattle.coap_serve.specs.values.Sessions.{SessionValue}
+use Rattle.coap_server_session.specs.values.Sessions.{SessionValue}
 use Rattle.coap_serve.specs.values.Servers.{ServerValue}
 use Rattle.coap_serve.specs.declared.replay.Line.{Line}
 use Rattle.coap_serve.specs.declared.replay.Line.TheVariants.{Short, Long}

@@ -1,9 +1,9 @@
 -- Which world a server shows: the server as the code holds it, computed from the events alone.
 use Rattle.std.specs.Prelude.{◌≡◌, ℕ, ◌≤◌, List, [], map, ◌∷◌, ◌++◌, take}
 use Rattle.coap_model.specs.Configs.{ConfigValues}
-use Rattle.coap_serve.specs.values.Sessions.{SessionValue}
+use Rattle.coap_server_session.specs.values.Sessions.{SessionValue}
 use Rattle.coap_serve.specs.values.Servers.{ServerValue}
-use Rattle.coap_serve.specs.views.SessionShows.{session_shown}
+use Rattle.coap_server_session.specs.views.SessionShows.{session_shown}
 use Rattle.coap_model.specs.world.World.{Place, World}
 use Rattle.coap_model.specs.world.Events.{Event, Took, stream_on, world_after, AreAccepted}
 use Rattle.coap_model.specs.declared.answers.TakeFault.{TakeFault}

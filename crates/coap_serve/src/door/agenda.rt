@@ -5,8 +5,8 @@ ghost use Rattle.coap_serve.specs.Prelude.{AllByRecursion, end_of, agenda_past, 
 
 use super::peer::Peers;
 use crate::server::Stamp;
-use crate::session::sooner;
 use coap_io::{Ready, Wait};
+use coap_server_session::sooner;
 
 /// What the connections that were looked at in a turn leave to be done.
 #[derive(Clone, Copy, PartialEq, Eq)]

@@ -2,9 +2,8 @@
 
 use super::sessions::{next_touched, settle_touched};
 use super::{Server, Stamp};
-use crate::cause::Cause;
-use crate::path_hash::hash_of;
 use coap_model::Backwards;
+use coap_server_session::{Cause, hash_of};
 use coap_store::{PathKey, StoreFault};
 
 impl Server {

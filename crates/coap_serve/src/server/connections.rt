@@ -2,8 +2,8 @@
 
 use super::sessions::{announce_at, end_at, find, release_at};
 use super::{Outlook, Server};
-use crate::session::Session;
 use coap_model::{AnnounceFault, ConnId, NoSuch, OpenFault, ReleaseFault, Status};
+use coap_server_session::Session;
 
 impl Server {
     ghost use Rattle.std.specs.Prelude.{◌≡◌, ◌+◌, ◌++◌, ◌∷◌, List, [], is_ok, is_none, IfOk, OnOk, OnErr};

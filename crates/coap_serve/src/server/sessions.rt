@@ -4,11 +4,10 @@ ghost use Rattle.std.specs.Prelude.{◌≡◌, ◌<◌, ◌≤◌, ◌+◌, ◌^
 ghost use Rattle.coap_serve.specs.Prelude.{values, values_of, SessionValue, IsMarked, unmarked, AreAllMarked, AreMarkedBut, AreMarkedAfter, RefusedBy, AddsBytes, WritesPart, IsFlushedAt, session_written, session_ended, session_released, session_announced, session_settled, LiesAt, session_of, changed_at, settled_entry, AreSettled, AreSettledUntouched, AreUntouched, AreOthersSettled, settled_held, released_refusal_on, IsAnnounced, handled_so};
 
 use super::Sessions;
-use crate::cause::Cause;
-use crate::host::Host;
 use coap_conn::Reason;
 use coap_io::{Outlet, WriteFailed, write_parts};
 use coap_model::{AnnounceFault, ConnId, Handled, ReleaseFault};
+use coap_server_session::{Cause, Host};
 
 /// The index of a connection.
 pub(super) fn find(sessions: &Sessions, id: ConnId) -> Option<usize>

@@ -2,7 +2,7 @@ use Rattle.std.proofs.Common.{Ok, ap, ◌∙◌}
 use Rattle.indexmap.proofs.SetLemmas.{map-remove}
 use Rattle.coap_serve.specs.Prelude.{IsMarked, unmarked, unmarked_entry}
 use Rattle.coap_serve.proofs.values.ServerLemmas.{dropped_server, dropped_value, is_there_at}
-use Rattle.coap_serve.proofs.values.TagLemmas.{all_remove}
+use Rattle.coap_server_session.proofs.values.TagLemmas.{all_remove}
 use Rattle.coap_serve.proofs.world.CallLaws.{drop_shows}
 use Rattle.coap_serve.proofs.server.Server.drop_conn.Goals as goal
 

@@ -4,7 +4,7 @@ use Rattle.coap_serve.specs.Prelude.{stop_of, is_there, session_takes, taking as
 use Rattle.coap_serve.specs.Prelude.{IsMarked, IsServer, AreOthersSettled, LiesAt}
 use Rattle.coap_serve.specs.Prelude.{unmarked_entry, server_value, settled_entry, settled_held, changed_at}
 use Rattle.coap_serve.proofs.values.ServerLemmas.{Entries, length-written, one_of_all, set_unmarked, unmarked_at, within_unmarked, all_written, own_written}
-use Rattle.coap_serve.proofs.values.CauseLemmas.{hash_where_changed}
+use Rattle.coap_server_session.proofs.values.CauseLemmas.{hash_where_changed}
 use Rattle.coap_serve.proofs.values.ServerCauseLemmas.{others_settled, marked_after_take}
 use Rattle.coap_serve.proofs.values.ServerTakenLemmas.{count_is, taken_value, taken_server, taken_lies, taken_handled, refuses_on, refused_value, refused_server}
 use Rattle.coap_serve.proofs.world.CallLaws.{take_takes, take_shows, refused_take_shows}

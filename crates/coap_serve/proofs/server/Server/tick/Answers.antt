@@ -1,9 +1,9 @@
 use Rattle.std.proofs.Common.{◌≡◌, ℕ, Option, IfNone, Ok, refl, sym, ap, subst, ◌∙◌, arith, rules, length, map}
 use Rattle.coap_serve.specs.Prelude.{ServerValue, server_ticked, server_value, settled_entry, unmarked, AreAllMarked}
 use Rattle.coap_serve.specs.Prelude.{AreUntouched}
-use Rattle.coap_serve.specs.declared.cause.Cause.TheVariants as cause
+use Rattle.coap_server_session.specs.declared.cause.Cause.TheVariants as cause
 use Rattle.coap_model.proofs.OptionLemmas.{there_is_none}
-use Rattle.coap_serve.proofs.values.DueLemmas.{at_moment}
+use Rattle.coap_server_session.proofs.values.DueLemmas.{at_moment}
 use Rattle.coap_serve.proofs.values.ServerLemmas.{Entries, settled_server, same_moment}
 use Rattle.coap_serve.proofs.values.ServerCauseLemmas.{untouched_by_moment, all_but_later, none_touched}
 use Rattle.coap_serve.proofs.world.CallLaws.{tick_shows}

@@ -1,9 +1,9 @@
 use Rattle.std.proofs.Common.{IfSome, Option, refl, sym, ap, subst, ◌∙◌, map}
 use Rattle.coap_serve.specs.Prelude.{MarkedSession, IsMarked, IsMarkedBut, AreSettledUntouched, settled_entry}
 use Rattle.coap_serve.specs.Prelude.{settled_held}
-use Rattle.coap_serve.specs.declared.cause.Cause.TheVariants as cause
+use Rattle.coap_server_session.specs.declared.cause.Cause.TheVariants as cause
 use Rattle.coap_serve.proofs.values.ServerLemmas.{written_unmarked, set_unmarked, unmarked_at, all_written}
-use Rattle.coap_serve.proofs.values.CauseLemmas.{but_none}
+use Rattle.coap_server_session.proofs.values.CauseLemmas.{but_none}
 use Rattle.coap_serve.proofs.values.ServerCauseLemmas.{others_untouched, all_settle}
 use Rattle.coap_serve.proofs.server.sessions.settle_after.Goals as goal
 

@@ -1,8 +1,0 @@
-use Rattle.std.proofs.Common.{◌≡◌}
-use Rattle.std.specs.Vec.{vec_capacity}
-use Rattle.coap_serve.proofs.values.ChainLemmas.{IsChaining}
-use Rattle.coap_serve.proofs.chains.chains_of.Given as goal
-
--- those before this one are chained
-abbrev pub invariant-loop-index : goal.invariant-loop-index
-invariant-loop-index l = IsChaining l.index l.chains l.fn.observers.items l.observers.items × (vec_capacity l.observers ≡ vec_capacity l.fn.observers)

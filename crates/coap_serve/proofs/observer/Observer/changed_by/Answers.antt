@@ -1,8 +1,0 @@
-use Rattle.std.proofs.Common.{ap, ◌∙◌, Option, ℕ}
-use Rattle.coap_serve.specs.Prelude.{untold_by, observer_value}
-use Rattle.coap_serve.proofs.values.MarkLemmas.{untold_is_changed}
-use Rattle.coap_serve.proofs.observer.Observer.changed_by.Goals as goal
-
-pub returns : goal.returns
-returns c =
-    c.untold_by.ensures ∙ ap (λ (m : Option ℕ). untold_by m c.args.self.now.mark) c.present_by.ensures ∙ untold_is_changed c.args.host.now (observer_value c.args.self.now)

@@ -1,6 +1,0 @@
-use Rattle.std.proofs.Common.{sym, ◌∙◌}
-use Rattle.coap_serve.proofs.values.MarkLemmas.{built_in_mark}
-use Rattle.coap_serve.proofs.observer.Observer.present.Goals as goal
-
-pub returns-then-self : goal.returns-then-self
-returns-then-self c = sym (built_in_mark c.args.host.now c.args.self.now.path (sym c.requires.built_in ∙ c.if-self.true))

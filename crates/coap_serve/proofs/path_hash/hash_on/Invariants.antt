@@ -1,7 +1,0 @@
-use Rattle.std.proofs.Common.{◌≡◌, drop}
-use Rattle.coap_serve.specs.Prelude.{hash_behind}
-use Rattle.coap_serve.proofs.path_hash.hash_on.Given as goal
-
--- the bytes that are left lead to the hash of all
-abbrev pub invariant-loop-byte : goal.invariant-loop-byte
-invariant-loop-byte l = hash_behind l.so_far (drop l.byte-index l.bytes) ≡ hash_behind l.fn.hash l.bytes

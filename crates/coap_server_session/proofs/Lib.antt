@@ -1,0 +1,2 @@
+pub mod values
+pub mod world

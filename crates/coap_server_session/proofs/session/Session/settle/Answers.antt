@@ -1,0 +1,14 @@
+use Rattle.std.proofs.Common.{◌≡◌, ◌+◌, ℕ, sym, ap, subst, length, arith}
+use Rattle.coap_server_session.specs.Prelude.{IsSettled, session_settled, session_settled_within}
+use Rattle.coap_server_session.proofs.values.SettleLemmas.{settled_is_settled}
+use Rattle.coap_server_session.proofs.session.Session.settle.Goals as goal
+
+-- nothing is held, and nobody observes
+pub returns-else-more-gt0 : goal.returns-else-more-gt0
+unfolding session_settled session_settled_within
+returns-else-more-gt0 c =
+    let host = c.args.host.now in
+    let v = c.args.self.now.session in
+    let none : length v.link.held + length v.observers ≡ 0 = omega (arith, c.more.ensures, c.if-more-gt0.false) in
+    let after = sym (ap (λ (n : ℕ). session_settled_within n host v) none) in
+    record { after = after; settled = subst (IsSettled host) (sym after) (settled_is_settled host v); marked = c.requires }

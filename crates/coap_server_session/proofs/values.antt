@@ -1,0 +1,12 @@
+pub mod ResponseLemmas
+pub mod SettleLemmas
+pub mod EntryLemmas
+pub mod MarkLemmas
+pub mod TagLemmas
+pub mod AnsweringLemmas
+pub mod SessionLemmas
+pub mod TakenLemmas
+pub mod DueLemmas
+pub mod CauseLemmas
+pub mod FlagLemmas
+pub mod ChainLemmas

@@ -1,0 +1,116 @@
+-- What is not due yet: on a connection that is settled, nothing is due before the moment that is due.
+use Rattle.std.proofs.Common.{◌≡◌, ℕ, ◌+◌, ◌<◌, ◌≤◌, ◌^◌, true, false, List, [], ◌∷◌, Option, Some, None, min, refl, sym, ap, subst, ◌∙◌, arith, find, fold, if◌then◌else◌}
+use Rattle.coap_server_session.specs.Prelude.{AllByRecursion, list_any, filter_map, reduce, HeldValue, Answer, Pong, come}
+use Rattle.coap_server_session.specs.Prelude.{to_come, next_moment, first_due, Path, Representation, StoreValue, place_of}
+use Rattle.coap_server_session.specs.Prelude.{key_for, stored_at, state_at, is_dynamic, Root, Time, Async, Listing, Dynamic}
+use Rattle.coap_server_session.specs.Prelude.{IsStore, Host, ObserverValue, SessionValue, is_marked, is_stale, IsSettled}
+use Rattle.coap_server_session.specs.Prelude.{mark_of, state_on, changed_mark, sooner, tells_time, next_told, due_on}
+use Rattle.coap_server_session.specs.Prelude.{IsBefore}
+use Rattle.std.proofs.lemmas.Bool.{not-false, false_from_ne_true, or_parts, ne_eqb}
+use Rattle.coap_conn.proofs.HeldLaws.{due_nothing, cons_parts}
+use Rattle.coap_store.specs.declared.place.Place.{Place}
+use Rattle.coap_store.proofs.StoreLemmas.{found_kept}
+use Rattle.coap_server_session.proofs.values.SettleLemmas.{settled_still}
+use Rattle.coap_model.proofs.world.EntryLemmas.{none_due}
+use Rattle.coap_model.proofs.world.SideLaws.{nothing_due_first}
+
+abbrev pub at_moment : Host → ℕ → Host
+at_moment host later = record host { now = later }
+
+-- ---- the lesser of two moments
+
+before_both : (later : ℕ) (a b : Option ℕ) → IsBefore later (sooner a b) → IsBefore later a × IsBefore later b
+before_both later None b h = (tt, h)
+before_both later (Some a) None h = (h, tt)
+before_both later (Some a) (Some b) h = (omega (arith, h), omega (arith, h))
+
+-- what comes before the least comes before each
+before_fold : (later a : ℕ) (xs : List ℕ) → later < fold min a xs → (later < a) × AllByRecursion (λ x. later < x) xs
+before_fold later a [] h = (h, tt)
+before_fold later a (x ∷ xs) h = let r = before_fold later (min a x) xs h in (omega (arith, r.0), (omega (arith, r.0), r.1))
+
+before_each : (later : ℕ) (xs : List ℕ) → IsBefore later (reduce min xs) → AllByRecursion (λ x. later < x) xs
+before_each later [] h = tt
+before_each later (x ∷ xs) h = before_fold later x xs h
+
+-- ---- what is held
+
+-- an answer that has not come has not come later either, where that is before its moment
+not_come : (now later : ℕ) (e : HeldValue) → come now e ≡ None → ((m : ℕ) → to_come now e ≡ Some m → later < m) → come later e ≡ None
+not_come now later (Pong token) none after = refl
+not_come now later (Answer token moment) none after = grind (arith, after moment)
+
+none_come_later : (now later : ℕ) (held : List HeldValue) → AllByRecursion (λ e. come now e ≡ None) held → AllByRecursion (λ x. later < x) (filter_map (to_come now) held) → AllByRecursion (λ e. come later e ≡ None) held
+none_come_later now later [] none after = tt
+none_come_later now later (e ∷ held) none after =
+    let parts = cons_parts (λ x. later < x) (to_come now e) (filter_map (to_come now) held) after in
+    (not_come now later e none.0 parts.0, none_come_later now later held none.1 parts.1)
+
+not_due_later : (now later : ℕ) (held : List HeldValue) → first_due now held ≡ None → IsBefore later (next_moment now held) → first_due later held ≡ None
+not_due_later now later held none before =
+    let nothing = (due_nothing now held none).0 in
+    nothing_due_first later held (none_come_later now later held nothing.0 (before_each later (filter_map (to_come now) held) before), nothing.1)
+
+-- ---- what is observed
+
+stored_numbered : (s : StoreValue) (key : Option Path) (r : Representation) → IsStore s → stored_at s key ≡ Some r → 1 ≤ r.version
+stored_numbered s None r store e = absurd cc
+stored_numbered s (Some path) r store e = (found_kept s path r store e).numbered
+
+-- what is not built in is stored
+state_is_stored : (s : StoreValue) (now : ℕ) (key : Option Path) (p : Place) → is_dynamic p ≡ true → state_at s now key p ≡ stored_at s key
+unfolding state_at
+state_is_stored s now key Root is = absurd cc
+state_is_stored s now key Time is = absurd cc
+state_is_stored s now key Async is = absurd cc
+state_is_stored s now key Listing is = absurd cc
+state_is_stored s now key Dynamic is = refl
+
+marked_so : (now later mark : ℕ) (o : Option Representation) → ((r : Representation) → o ≡ Some r → 1 ≤ r.version) → is_marked now mark o ≡ is_marked later mark o
+marked_so now later mark None numbered = refl
+marked_so now later mark (Some r) numbered = let some = numbered r refl in rw (ne_eqb r.version 0 (λ e. omega (arith, e, some))) refl
+
+stale_so : (host : Host) (later : ℕ) (o : ObserverValue) → IsStore host.store → tells_time o ≡ false → is_stale host o ≡ is_stale (at_moment host later) o
+unfolding is_stale
+stale_so host later o store stored =
+    let key : Option Path = key_for o.path in
+    let there = λ (now : ℕ). state_is_stored host.store now key (place_of o.path) (not-false (is_dynamic (place_of o.path)) stored) in
+    cc (there host.now, there later, marked_so host.now later o.mark (stored_at host.store key) (λ r. stored_numbered host.store key r store))
+
+-- what is stored keeps its mark, and so does whoever observes it
+mark_so : (now later : ℕ) (o : Option Representation) → ((r : Representation) → o ≡ Some r → 1 ≤ r.version) → mark_of now o ≡ mark_of later o
+mark_so now later None numbered = refl
+mark_so now later (Some r) numbered = let some = numbered r refl in rw (ne_eqb r.version 0 (λ e. omega (arith, e, some))) refl
+
+pub mark_later : (host : Host) (later : ℕ) (o : ObserverValue) → IsStore host.store → tells_time o ≡ false → changed_mark host o ≡ changed_mark (at_moment host later) o
+unfolding changed_mark
+mark_later host later o store stored =
+    let key : Option Path = key_for o.path in
+    let there = λ (now : ℕ). state_is_stored host.store now key (place_of o.path) (not-false (is_dynamic (place_of o.path)) stored) in
+    let same : mark_of host.now (state_on host o.path) ≡ mark_of later (state_on (at_moment host later) o.path) =
+    ap (mark_of host.now) (there host.now) ∙ mark_so host.now later (stored_at host.store key) (λ r. stored_numbered host.store key r store) ∙ ap (mark_of later) (sym (there later)) in
+    ap (λ b. if b then Some (mark_of host.now (state_on host o.path)) else None) (stale_so host later o store stored)
+    ∙ ap (λ (m : ℕ). if is_stale (at_moment host later) o then Some m else None) same
+
+none_stale : (host : Host) (later : ℕ) (os : List ObserverValue) → IsStore host.store → list_any tells_time os ≡ false → AllByRecursion (λ o. is_stale host o ≡ false) os → find (is_stale (at_moment host later)) os ≡ None
+none_stale host later [] store stored none = refl
+none_stale host later (o ∷ os) store stored none =
+    let parts = or_parts (tells_time o) (list_any tells_time os) stored in
+    rw (sym (stale_so host later o store parts.0) ∙ none.0) (none_stale host later os store parts.1 none.1)
+
+-- where somebody observes the moment, no later one comes before the next one
+none_tells_time_before : (now later : ℕ) (observers : List ObserverValue) → now < later → later < 2 ^ 64 → IsBefore later (next_told now observers) → list_any tells_time observers ≡ false
+none_tells_time_before now later observers more fits before =
+    false_from_ne_true (list_any tells_time observers) (λ is.
+    let next : next_told now observers ≡ Some (now + 1) = rw (is, ne_eqb now 18446744073709551615 (λ e. omega (arith, e, more, fits))) refl in
+    let soon : later < now + 1 = subst (IsBefore later) next before in
+    omega (arith, more, soon))
+
+-- ---- a connection
+
+pub stays_settled : (host : Host) (later : ℕ) (v : SessionValue) → IsStore host.store → IsSettled host v → host.now < later → later < 2 ^ 64 → IsBefore later (due_on host.now v) → IsSettled (at_moment host later) v
+stays_settled host later v store settled more fits before =
+    let parts = before_both later (next_moment host.now v.link.held) (next_told host.now v.observers) before in
+    let stored = none_tells_time_before host.now later v.observers more fits parts.1 in
+    settled_still host (at_moment host later) v (λ none. not_due_later host.now later v.link.held none parts.0)
+    (λ fresh. none_stale host later v.observers store stored (none_due (is_stale host) v.observers fresh)) settled

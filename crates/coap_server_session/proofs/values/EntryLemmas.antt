@@ -1,0 +1,78 @@
+-- Entries by their index, and what becomes of the first one that is stale.
+use Rattle.std.proofs.Common.{◌≡◌, ℕ, zero, suc, ◌<◌, ◌≤◌, Bool, true, false, List, [], ◌∷◌, length, map, get_or, Some, None, refl, ap, subst, ◌∙◌, arith, find, filter, not, option_map, slice_get, slice_set, if◌then◌else◌}
+use Rattle.coap_server_session.specs.Prelude.{AllByRecursion, AllWithin, remove, same_bytes}
+use Rattle.coap_server_session.specs.Prelude.{first_becomes}
+use Rattle.coap_server_session.specs.Prelude.{without_entry, first_index, observer_value}
+use Rattle.std.proofs.lemmas.List.Elements.{recursion_from_All}
+use Rattle.std.proofs.lemmas.Option.{slice_get_read, slice_get-map}
+use Rattle.coap_server_session.specs.declared.observer.Observer.{Observer}
+use Rattle.coap_model.proofs.OptionLemmas.{none_made, one_made}
+use Rattle.coap_model.proofs.world.EntryLemmas.{all_map}
+
+-- ---- the first index
+
+-- what the code does at the first index is what becomes of the first one
+pub record IsFirst {O : Type 0} (due : O → Bool) (os : List O) (i : ℕ) : Type 0 where
+  pub within : i < length os
+  pub found : find due os ≡ slice_get os i
+  pub becomes : (o : O) → slice_set os i o ≡ first_becomes due (o ∷ []) os
+  pub goes : remove os i ≡ first_becomes due [] os
+
+pub is_first : {O : Type 0} (due : O → Bool) (os : List O) (i : ℕ) → first_index due os ≡ Some i → IsFirst due os i
+unfolding first_index first_becomes
+is_first due [] i e = absurd cc
+is_first due (o ∷ os) i e =
+    elim (due o) as (λ b. due o ≡ b → (if b then Some 0 else option_map (λ k. suc k) (first_index due os)) ≡ Some i → IsFirst due (o ∷ os) i) [
+      | true ↦ λ here first. (
+          let zero_is : 0 ≡ i = cc in
+          subst (IsFirst due (o ∷ os)) zero_is (record { within = omega arith; found = rw here; becomes = λ p. rw here; goes = rw here }))
+      | false ↦ λ other first. (
+          let behind = one_made (λ k. suc k) (first_index due os) i first in
+          let is = is_first due os behind.0 behind.1 in
+          subst (IsFirst due (o ∷ os)) behind.2 (record { within = omega (arith, is.within); found = cc; becomes = λ p. cc (is.becomes p); goes = cc }))
+    ] refl e
+
+pub none_at_index : {O : Type 0} (due : O → Bool) (os : List O) → first_index due os ≡ None → find due os ≡ None
+unfolding first_index
+none_at_index due [] e = refl
+none_at_index due (o ∷ os) e =
+    elim (due o) as (λ b. (if b then Some 0 else option_map (λ k. suc k) (first_index due os)) ≡ None → (if b then Some o else find due os) ≡ None) [
+      | true ↦ λ none. absurd cc
+      | false ↦ λ none. none_at_index due os (none_made (λ k. suc k) (first_index due os) none)
+    ] e
+
+pub none_in : {O : Type 0} (due : O → Bool) (os : List O) → AllByRecursion (λ o. due o ≡ false) os → find due os ≡ None
+none_in due [] none = refl
+none_in due (o ∷ os) none = rw none.0 (none_in due os none.1)
+
+-- ---- a loop that looks for it, in what is seen of elements
+
+-- what holds of each element up to the end holds of each that is seen
+pub all_seen : {X O : Type 0} (P : O → Type 0) (seen : X → O) (xs : List X) (end : ℕ) → AllWithin (λ x. P (seen x)) xs 0 end → length xs ≤ end → AllByRecursion P (map seen xs)
+all_seen P seen xs end before all =
+    all_map (λ x. P (seen x)) P seen (λ x is. is) xs (recursion_from_All (λ x. P (seen x)) xs (λ k d below. before k d (omega arith) (omega arith)))
+
+pub none_at_all : {O : Type 0} (due : O → Bool) (os : List O) → AllByRecursion (λ o. due o ≡ false) os → first_index due os ≡ None
+unfolding first_index
+none_at_all due [] none = refl
+none_at_all due (o ∷ os) none = cc (none.0, none_at_all due os none.1)
+
+pub first_at : {X O : Type 0} (due : O → Bool) (seen : X → O) (xs : List X) (i : ℕ) (x : X) → i < length xs → x ≡ get_or xs i x → due (seen x) ≡ true → AllWithin (λ y. due (seen y) ≡ false) xs 0 i → first_index due (map seen xs) ≡ Some i
+unfolding first_index
+first_at due seen [] i x within read is none = absurd (omega arith)
+first_at due seen (y ∷ xs) zero x within read is none = cc
+first_at due seen (y ∷ xs) (suc i) x within read is none =
+    cc (none 0 y (omega arith) (omega arith), first_at due seen xs i x (omega arith) read is (λ k d low below. none (suc k) d (omega arith) (omega arith)))
+
+-- the entry that is read is the one that is seen
+pub read_at : (xs : List Observer) (i : ℕ) (x : Observer) → i < length xs → x ≡ get_or xs i x → slice_get (map observer_value xs) i ≡ Some (observer_value x)
+read_at xs i x within read = slice_get-map observer_value xs i ∙ ap (option_map observer_value) (slice_get_read xs (length xs) i x refl within read)
+
+-- ---- a filter of what is seen
+
+pub others_seen : (token : List ℕ) (os : List Observer) → map observer_value (filter (λ o. not (same_bytes o.token.items token)) os) ≡ without_entry token (map observer_value os)
+unfolding without_entry
+others_seen token [] = refl
+others_seen token (o ∷ os) =
+    let rest = others_seen token os in
+    elim (not (same_bytes o.token.items token)) as (λ b. map observer_value (if b then o ∷ filter (λ p. not (same_bytes p.token.items token)) os else filter (λ p. not (same_bytes p.token.items token)) os) ≡ (if b then observer_value o ∷ without_entry token (map observer_value os) else without_entry token (map observer_value os))) [ true ↦ cc | false ↦ rest ]

@@ -1,0 +1,36 @@
+-- The options of a response, one after the other.
+use Rattle.std.proofs.Common.{◌≡◌, ℕ, Bool, List, [], ◌∷◌, ◌++◌, ap, ◌∙◌, append_assoc}
+use Rattle.coap_server_session.specs.Prelude.{CoapOption, Message, last_number, with_option, Path, Response, option_at}
+use Rattle.coap_server_session.specs.Prelude.{empty_at, number_at, each_at, response_with_observe}
+use Rattle.coap_wire.specs.OptionNumbers as numbers
+use Rattle.coap_wire.proofs.OptionLists.{last_number-push}
+
+-- the option added last has its number
+pub last_added : (m new : Message) (number : ℕ) (value : List ℕ) → new ≡ with_option m number value → last_number 0 new.options ≡ number
+last_added m new number value is = ap (λ (k : Message). last_number 0 k.options) is ∙ last_number-push 0 m.options (record { number = number; value = value })
+
+-- a message with more options behind its own
+abbrev pub with_options : Message → List CoapOption → Message
+with_options m more = record m { options = m.options ++ more }
+
+-- a segment of a path was added, and the others are left
+pub segment_added : (start old new : Message) (path before left : Path) (segment : List ℕ) → before ≡ segment ∷ left → new ≡ with_option old numbers.location_path segment
+    → with_options old (each_at numbers.location_path before) ≡ with_options start (each_at numbers.location_path path) → with_options new (each_at numbers.location_path left) ≡ with_options start (each_at numbers.location_path path)
+segment_added start old new path before left segment first is so_far =
+    cc (append_assoc old.options (record { number = numbers.location_path; value = segment } ∷ []) (each_at numbers.location_path left))
+
+-- ---- the whole response
+
+-- a message to which the options of a response were added, one after the other, and its payload
+pub record IsBuilt (token : List ℕ) (observes : Bool) (r : Response) (tagged observed located formatted aged sized whole : Message) : Type 0 where
+  pub etag : tagged ≡ with_options (record { code = r.code; token = token; options = []; payload = [] }) (option_at numbers.etag r.etag)
+  pub observe : observed ≡ with_options tagged (empty_at numbers.observe observes)
+  pub location : located ≡ with_options observed (each_at numbers.location_path r.location)
+  pub format : formatted ≡ with_options located (number_at numbers.content_format r.format)
+  pub max_age : aged ≡ with_options formatted (number_at numbers.max_age r.max_age)
+  pub size1 : sized ≡ with_options aged (number_at numbers.size1 r.size1)
+  pub payload : whole ≡ record sized { payload = r.payload }
+
+pub is_response : (token : List ℕ) (observes : Bool) (r : Response) (tagged observed located formatted aged sized whole : Message) → IsBuilt token observes r tagged observed located formatted aged sized whole → whole ≡ response_with_observe token observes r
+is_response token observes r tagged observed located formatted aged sized whole built =
+    rw (built.payload, built.size1, built.max_age, built.format, built.location, built.observe, built.etag) (simp append_assoc)

@@ -1,0 +1,187 @@
+-- What holds of a session as the code holds it, and what its calls do.
+use Rattle.std.proofs.Common.{◌≡◌, ℕ, ◌-◌, ◌≤◌, Bool, true, false, List, [], ◌++◌, length, take, Option, Some, None, Result, Ok, Err, refl, sym, ap, subst, ◌∙◌, arith, inl, inr, ◌⊎◌, ◌||◌, slice_get, nat_le, is_some, OnOk, IsTrue, if◌then◌else◌}
+use Rattle.std.proofs.lemmas.Bool.{le-leb, leb-true, cond_both, false≢true, false_from_ne_true}
+use Rattle.std.proofs.lemmas.List.{length-take, length-take-le, take-take}
+use Rattle.coap_server_session.specs.Prelude.{Message, message_of, FramerValue, IsFramer, Framing, AFrame, framing}
+use Rattle.coap_server_session.specs.Prelude.{framing_of, framer_after, without_last, taken_of, unread_after, raise_refusal}
+use Rattle.coap_server_session.specs.Prelude.{with_size, Verdict, LimitValues, AreInRange, verdict_value, HeldValue, Answer}
+use Rattle.coap_server_session.specs.Prelude.{Pong, first_due, fits, LinkValue, IsReady, free_in, limit_in, own_csm}
+use Rattle.coap_server_session.specs.Prelude.{link_after, is_open, takes_messages, answers, is_request, IsPut, Host, Inside}
+use Rattle.coap_server_session.specs.Prelude.{ObserverValue, ObserversValue, SessionValue, is_stale, session_ready}
+use Rattle.coap_server_session.specs.Prelude.{session_takes, sizes_of, frame_on, session_with, without_entry}
+use Rattle.coap_server_session.specs.Prelude.{hold_on, held_in, session_replied, asks_this, session_handled, change_by}
+use Rattle.coap_server_session.specs.Prelude.{Taking, taking_read, taking, RefusesPiece, notification_on, session_notified}
+use Rattle.coap_server_session.specs.Prelude.{next_held_in, next_stale, link_sent, session_settled_once, first_index}
+use Rattle.coap_server_session.specs.Prelude.{link_replied, entries_replied, entries_notified, framer_on, IsSession}
+use Rattle.coap_server_session.specs.Prelude.{session_value, observers_left}
+use Rattle.coap_frame.proofs.RaiseLemmas.{raise_allowed, raised_is_framer}
+use Rattle.coap_frame.proofs.FramingLemmas.{empty_framer, framing_is_framer}
+use Rattle.coap_frame.proofs.FrontLaws.{frame_first}
+use Rattle.coap_wire.proofs.StreamSteps.{whole_itself}
+use Rattle.coap_frame.proofs.GivenLaws.{taken_within, frame_taken, takes_a_byte, unread_one_less, unread_nothing}
+use Rattle.coap_conn.specs.declared.phase.Verdict.TheVariants as told
+use Rattle.coap_conn.specs.Calls as call
+use Rattle.coap_conn.proofs.LinkLemmas.{stays_so}
+use Rattle.coap_server_session.proofs.values.EntryLemmas.{is_first}
+use Rattle.coap_server_session.proofs.values.SettleLemmas.{found_ready}
+use Rattle.coap_model.proofs.OptionLemmas.{there_is, there_at}
+
+-- ---- what a stop gives up
+
+-- a session whose fields were changed, and which then gave up what a stop gives up
+pub given_up : (s : Inside) (l : LinkValue) (f g : FramerValue) (o p : ObserversValue) → IsSession s → sizes_of l ≡ sizes_of s.link → f.max ≡ s.framer.max → IsFramer f → o.room ≡ s.observers.room → g ≡ framer_on l f → p ≡ observers_left l o
+    → IsSession (record { framer = g; link = l; observers = p })
+given_up s l f g o p is sizes max framer room g_is p_is =
+    let emptied = empty_framer f.max [] f.copied framer.low framer.high framer.countable refl in
+    let kept =
+    cond_both (takes_messages l.phase) f (record f { kept = []; spent = [] }) (λ k. IsFramer k × (k.max ≡ f.max)) (λ _. (framer, refl)) (λ _. (emptied, refl)) in
+    let limits : l.limits ≡ s.link.limits = ap (λ (both : LimitValues × ℕ). both.0) sizes in
+    rw (g_is, p_is) (record {
+      ranges = subst AreInRange (sym limits) is.ranges;
+      greatest = kept.1 ∙ max ∙ is.greatest ∙ ap (λ (both : LimitValues × ℕ). both.1) (sym sizes);
+      framer = kept.0;
+      room = room ∙ is.room ∙ ap (λ (k : LimitValues). k.observers) (sym limits);
+      open_only = elim (is_open l.phase) as (λ b. (b ≡ true) ⊎ ((if b then o.entries else []) ≡ [])) [ true ↦ inl refl | false ↦ inr refl ];
+    })
+
+-- a session that takes messages of another size from then on
+pub announced_session : (s : Inside) (size : ℕ) (f : FramerValue) (l : LinkValue) → IsSession s → is_open s.link.phase ≡ true → fits (limit_in s.link) (own_csm size) ≡ true → raise_refusal s.framer.max size ≡ None
+    → f ≡ with_size s.framer size → l ≡ link_after s.link (call.Announce size) → IsSession (record { framer = f; link = l; observers = s.observers })
+announced_session s size f l is opened fit allowed f_is l_is =
+    let larger = raise_allowed s.framer.max size allowed in
+    rw (l_is, opened, fit, f_is) (record { ranges = is.ranges; greatest = refl; framer = raised_is_framer s.framer size is.framer larger.0 larger.1; room = is.room; open_only = is.open_only })
+
+-- ---- a message
+
+-- a request was answered or its answer is held, by the parts of either
+replied_as : (host : Host) (l : LinkValue) (others : List ObserverValue) (m : Message) (hold : Option ℕ) → session_with [] (link_replied host l l.limits.observers others m hold) (entries_replied host l l.limits.observers others m hold) ≡ session_replied host l others m hold
+replied_as host l others m None = refl
+replied_as host l others m (Some seconds) = refl
+
+pub on_request : {T E : Type 0} (r : Result T E) (host : Host) (v : SessionValue) (m : Message) (l after : LinkValue) (o p : ObserversValue) → asks_this v.link m ≡ true → l ≡ link_after v.link (call.Handle m) → o.room ≡ v.link.limits.observers → o.entries ≡ v.observers
+    → OnOk r (after ≡ link_replied host l o.room (without_entry m.token o.entries) m (held_in l (hold_on host m))) → OnOk r (p.entries ≡ entries_replied host l o.room (without_entry m.token o.entries) m (held_in l (hold_on host m)))
+    → OnOk r ((frame : List ℕ) → session_with [] after p.entries ≡ session_handled host (record v { frame = frame }) m)
+unfolding session_handled
+on_request (Ok x) host v m l after o p asks is room entries link_is p_is = λ frame.
+    let first : LinkValue = link_after v.link (call.Handle m) in
+    let rooms : o.room ≡ first.limits.observers =
+    room ∙ ap (λ (both : LimitValues × ℕ). both.0.observers) (sym (stays_so sizes_of (takes_messages v.link.phase) v.link _ refl)) in
+    cc (replied_as host first (without_entry m.token v.observers) m (held_in first (hold_on host m)))
+on_request (Err e) host v m l after o p asks is room entries link_is p_is = tt
+
+-- what is no request
+pub no_request_told : (what : Verdict) → (what ≡ told.Request → ⊥) → is_request (verdict_value what) ≡ false
+no_request_told told.Request other = absurd (other refl)
+no_request_told what other = refl
+
+pub message_handled : (host : Host) (v : SessionValue) (m : Message) (l : LinkValue) → asks_this v.link m ≡ false → l ≡ link_after v.link (call.Handle m) → session_with [] l v.observers ≡ session_handled host v m
+unfolding session_handled
+message_handled host v m l other is = cc
+
+-- ---- a piece
+
+-- a piece in which a frame was found
+module _ (s : Inside) (is : IsSession s) (piece frame : List ℕ) (found : (framing_of s.framer piece).finding ≡ AFrame frame) where
+  abbrev frame_count : ℕ
+  frame_count = (framing_of s.framer piece).taken
+
+  pub frame_takes_some : 1 ≤ frame_count
+  frame_takes_some =
+      let whole = frame_first s.framer.max s.framer.kept piece frame found in
+      let bytes = frame_taken s.framer.max s.framer.kept piece frame is.framer.unfinished found in
+      let some =
+      takes_a_byte s.framer.max s.framer.kept (take frame_count piece) frame is.framer.unfinished
+      (whole_itself s.framer.max (s.framer.kept ++ piece) frame whole.0 whole.1) bytes in
+      omega (arith, some, length-take frame_count piece)
+
+  pub put_refused : (host : Host) (m : Message) → session_takes (session_value s) ≡ true → message_of frame ≡ Ok m → IsPut (change_by host s.link m) → RefusesPiece host (session_value s) piece (frame_count - 1)
+  unfolding taking
+  put_refused host m takes read put =
+      let v : SessionValue = session_value s in
+      let f : Framing = framing_of s.framer piece in
+      let whole : taking host v piece ≡ taking_read host v f.taken (Ok m) = cc (takes, is.greatest, found, read) in
+      record { takes = takes; last = omega (arith, ap (λ (t : Taking). t.count) whole, frame_takes_some); stores = rw whole put }
+
+  pub kept_but_last : (host : Host) → session_takes (session_value s) ≡ true → record (session_value s) { frame = (unread_after s.framer piece).kept } ≡ (taking host (session_value s) (take (frame_count - 1) piece)).session
+  unfolding framing taking
+  kept_but_last host takes =
+      let but_last : List ℕ = without_last (taken_of s.framer piece) in
+      let within : frame_count ≤ length piece = taken_within s.framer.max s.framer.kept piece is.framer.unfinished in
+      let cut : but_last ≡ take (frame_count - 1) piece =
+      ap (λ (n : ℕ). take (n - 1) (take frame_count piece)) (length-take-le frame_count piece within) ∙ take-take (frame_count - 1) frame_count piece (omega arith) in
+      let kept = ap (λ (f : FramerValue). f.kept) (unread_one_less s.framer piece frame is.framer found) in
+      cc (takes, is.greatest, cut, kept, unread_nothing s.framer piece frame is.framer found)
+
+-- a session that took a piece, and then gave up what a stop gives up
+pub taken_session : (s : Inside) (piece : List ℕ) (l : LinkValue) (g : FramerValue) (o p : ObserversValue) → IsSession s → sizes_of l ≡ sizes_of s.link → o.room ≡ s.observers.room → g ≡ framer_on l (framer_after s.framer piece) → p ≡ observers_left l o → IsSession (record { framer = g; link = l; observers = p })
+taken_session s piece l g o p is sizes room = given_up s l (framer_after s.framer piece) g o p is sizes refl (framing_is_framer s.framer piece is.framer) room
+
+-- a session whose framer alone was changed
+pub reframed : (s : Inside) (f : FramerValue) (l : LinkValue) (o : ObserversValue) → IsSession s → f.max ≡ s.framer.max → IsFramer f → l ≡ s.link → o ≡ s.observers → IsSession (record { framer = f; link = l; observers = o })
+reframed s f l o is max framer link_is o_is =
+    rw (link_is, o_is) (record { ranges = is.ranges; greatest = max ∙ is.greatest; framer = framer; room = is.room; open_only = is.open_only })
+
+-- ---- settling
+
+-- what the code finds is whether there is room
+pub ready_is : (l : LinkValue) (b : Bool) → (IsTrue b → IsReady l) × (IsReady l → IsTrue b) → nat_le l.limits.max_sent (free_in l) ≡ b
+ready_is l true same = le-leb l.limits.max_sent (free_in l) (same.0 refl)
+ready_is l false same = false_from_ne_true (nat_le l.limits.max_sent (free_in l)) (λ fits. false≢true (same.1 (leb-true l.limits.max_sent (free_in l) fits)))
+
+-- what is seen of a session that gave up what a stop gives up
+given_up_seen : (s : Inside) (l : LinkValue) (g : FramerValue) (o p : ObserversValue) → g ≡ framer_on l s.framer → p ≡ observers_left l o → record { frame = g.kept; link = l; observers = p.entries } ≡ session_with s.framer.kept l o.entries
+given_up_seen s l g o p g_is p_is =
+    let kept : (framer_on l s.framer).kept ≡ frame_on l s.framer.kept =
+    elim (takes_messages l.phase) as (λ b. (if b then s.framer else record s.framer { kept = []; spent = [] }).kept ≡ (if b then s.framer.kept else [])) [ true ↦ refl | false ↦ refl ] in
+    cc
+
+-- a session in which the first stale observer, at this index, was session_is_notified
+module _ (host : Host) (s : Inside) (index : ℕ) (l : LinkValue) (o : ObserversValue) (ready : session_ready (session_value s) ≡ true) (first : first_index (is_stale host) s.observers.entries ≡ Some index)
+    (link : (e : ObserverValue) → slice_get s.observers.entries index ≡ Some e → l ≡ link_after s.link (call.Reply (notification_on host e)))
+    (entries : (e : ObserverValue) → slice_get s.observers.entries index ≡ Some e → o.entries ≡ entries_notified host s.link s.observers.entries e) where
+  abbrev session_is_notified : (e : ObserverValue) × (slice_get s.observers.entries index ≡ Some e)
+  session_is_notified = there_at s.observers.entries index (is_first (is_stale host) s.observers.entries index first).within
+
+  next_is : next_stale host (session_value s) ≡ Some session_is_notified.0
+  next_is = (found_ready host (session_value s) ready).1 ∙ (is_first (is_stale host) s.observers.entries index first).found ∙ session_is_notified.1
+
+  pub next_found : true ≡ is_some (next_stale host (session_value s))
+  next_found = cc next_is
+
+  pub notified_session : (g : FramerValue) (p : ObserversValue) → o.room ≡ s.observers.room → IsSession s → g ≡ framer_on l s.framer → p ≡ observers_left l o → IsSession (record { framer = g; link = l; observers = p })
+  notified_session g p room was =
+      let sizes = ap sizes_of (link session_is_notified.0 session_is_notified.1) ∙ stays_so sizes_of (answers s.link.phase) s.link _ refl in
+      given_up s l s.framer g o p was sizes refl was.framer room
+
+  pub notified_once : (g : FramerValue) (p : ObserversValue) → g ≡ framer_on l s.framer → p ≡ observers_left l o
+      → record { frame = g.kept; link = l; observers = p.entries } ≡ session_notified host (session_value s) (next_stale host (session_value s))
+  notified_once g p g_is p_is =
+      given_up_seen s l g o p g_is p_is
+      ∙ ap (session_with s.framer.kept l) (entries session_is_notified.0 session_is_notified.1)
+      ∙ ap (λ (k : LinkValue). session_with s.framer.kept k (entries_notified host s.link s.observers.entries session_is_notified.0)) (link session_is_notified.0 session_is_notified.1)
+      ∙ ap (session_notified host (session_value s)) (sym next_is)
+
+-- ---- what is held
+
+sent_sizes : (l : LinkValue) (now : ℕ) (e : HeldValue) → sizes_of (link_sent l now e) ≡ sizes_of l
+sent_sizes l now (Answer token moment) = let due : LinkValue = link_after l (call.Due now) in stays_so sizes_of (answers due.phase) due _ refl
+sent_sizes l now (Pong token) = refl
+
+-- a session in which what was held and due first was sent
+module _ (host : Host) (s : Inside) (l : LinkValue) (ready : session_ready (session_value s) ≡ true) (some : is_some (first_due host.now s.link.held) ≡ true)
+    (link : (e : HeldValue) → first_due host.now s.link.held ≡ Some e → l ≡ link_sent s.link host.now e) where
+  abbrev due : (e : HeldValue) × (first_due host.now s.link.held ≡ Some e)
+  due = there_is (first_due host.now s.link.held) some
+
+  held_is : next_held_in host.now (session_value s) ≡ Some due.0
+  held_is = (found_ready host (session_value s) ready).0 ∙ due.1
+
+  pub held_found : true ≡ (is_some (next_held_in host.now (session_value s)) || is_some (next_stale host (session_value s)))
+  held_found = cc held_is
+
+  pub sent_session : (g : FramerValue) (p : ObserversValue) → IsSession s → g ≡ framer_on l s.framer → p ≡ observers_left l s.observers → IsSession (record { framer = g; link = l; observers = p })
+  sent_session g p was = given_up s l s.framer g s.observers p was (ap sizes_of (link due.0 due.1) ∙ sent_sizes s.link host.now due.0) refl was.framer refl
+
+  pub sent_once : (g : FramerValue) (p : ObserversValue) → g ≡ framer_on l s.framer → p ≡ observers_left l s.observers → record { frame = g.kept; link = l; observers = p.entries } ≡ session_settled_once host (session_value s)
+  unfolding session_settled_once
+  sent_once g p g_is p_is = given_up_seen s l g s.observers p g_is p_is ∙ cc (link due.0 due.1, held_is)

@@ -1,0 +1,140 @@
+-- A piece that changes no resource leaves nothing to settle on its connection but what is held.
+use Rattle.std.proofs.Common.{◌≡◌, ℕ, ◌+◌, ◌-◌, Bool, true, false, ◌&&◌, List, [], ◌++◌, length, take, Option, Some, None, refl, sym, ap, subst, ◌∙◌, arith, not, nat_lt, ◌==◌, Result, Ok, Err}
+use Rattle.coap_server_session.specs.Prelude.{AllByRecursion, Message, Beginning, Unfinished, Faulty, beginning}
+use Rattle.coap_server_session.specs.Prelude.{FormatFault, message_of, Framing, Finding, AFrame, AFault, framing_at}
+use Rattle.coap_server_session.specs.Prelude.{framing, without_last, is_open, takes_messages, OfFrame, reject_of, fit}
+use Rattle.coap_server_session.specs.Prelude.{bare_response, LinkValue, limit_in, link_after, response_with_observe}
+use Rattle.coap_server_session.specs.Prelude.{same_bytes, Change, changes, IsPut, Host, moment_after, asks_entry, has_place}
+use Rattle.coap_server_session.specs.Prelude.{with_entry, is_whole, ObserverValue, SessionValue, Taking, is_stale}
+use Rattle.coap_server_session.specs.Prelude.{session_ready, session_takes, session_max, without_entry, new_entry}
+use Rattle.coap_server_session.specs.Prelude.{session_with, answer_on, hold_on, held_in, session_replied, asks_this}
+use Rattle.coap_server_session.specs.Prelude.{session_handled, taking_read, taking_found, taking, host_changed}
+use Rattle.coap_server_session.specs.Prelude.{next_held_in, next_stale, session_settled, IsSettled, RefusesPiece}
+use Rattle.coap_server_session.specs.Prelude.{settled_held}
+use Rattle.std.proofs.lemmas.Bool.{eqb-true, and_parts, cond_both}
+use Rattle.std.proofs.lemmas.List.{length-append, take-append-le}
+use Rattle.std.proofs.Math.Seq.{take-append-add}
+use Rattle.coap_wire.specs.Beginning.{Whole}
+use Rattle.coap_wire.proofs.StreamSteps.{whole_parts, whole_itself}
+use Rattle.coap_frame.proofs.FramingLemmas.{front_unfinished}
+use Rattle.coap_frame.specs.Framing.{Nothing}
+use Rattle.coap_conn.specs.declared.phase.Reject.TheVariants as reject
+use Rattle.coap_conn.specs.Calls as call
+use Rattle.coap_store.specs.Answer.{Answer}
+use Rattle.coap_store.specs.Answer as answer
+use Rattle.coap_server_session.proofs.values.AnsweringLemmas.{nothing_changed, may_watch}
+use Rattle.coap_server_session.proofs.values.EntryLemmas.{none_in}
+use Rattle.coap_model.proofs.world.EntryLemmas.{all_if, all_filter, all_entered, none_due}
+use Rattle.coap_server_session.proofs.values.SettleLemmas.{none_held, settled_quiet, settled_stays, marked_now, found_ready}
+
+-- ---- no observer is stale
+
+abbrev NoneStale : Host → List ObserverValue → Type 0
+NoneStale host os = AllByRecursion (λ o. is_stale host o ≡ false) os
+
+-- where no observer is stale, a connection settles where it holds something
+settled_held_none : (host : Host) (v : SessionValue) → NoneStale host v.observers → settled_held host v ≡ session_settled host v
+settled_held_none host v none =
+    cond_both (length v.link.held == 0) v (session_settled host v) (λ w. w ≡ session_settled host v)
+    (λ nothing. sym (settled_stays host v (settled_quiet host v (none_held host.now v.link.held (omega (arith, eqb-true (length v.link.held) 0 nothing))) (none_in (is_stale host) v.observers none))))
+    (λ _. refl)
+
+-- ---- a message is handled
+
+-- an entry of a request is told a state that is there
+replied_none : (host : Host) (l : LinkValue) (others : List ObserverValue) (m : Message) (hold : Option ℕ) → NoneStale host others → NoneStale host (session_replied host l others m hold).observers
+replied_none host l others m None none =
+    let fresh : ObserverValue → Type 0 = λ o. is_stale host o ≡ false in
+    let a : Answer = answer_on host m in
+    let observes : Bool = has_place l.limits.observers others a.watch in
+    let response : Message = response_with_observe m.token observes a.response in
+    let enters : Bool = observes && is_whole (fit (limit_in l) response (bare_response response)) in
+    let told : enters ≡ true → is_stale host (new_entry host m) ≡ false = λ e.
+    let asks = (and_parts observes (is_whole (fit (limit_in l) response (bare_response response))) e).0 in
+    let may = may_watch host m (and_parts (asks_entry a.watch) (nat_lt (length others) l.limits.observers) asks).0 in
+    marked_now host (new_entry host m) may.representation may.there in
+    all_if fresh (is_open (link_after l (call.Reply response)).phase) (with_entry enters others (new_entry host m)) (all_entered fresh enters others (new_entry host m) none told)
+replied_none host l others m (Some seconds) none =
+    all_if (λ o. is_stale host o ≡ false) (is_open (link_after l (call.Hold m.token (moment_after host.now seconds))).phase) others none
+
+-- ---- the front of a piece
+
+read_none : (host : Host) (v : SessionValue) (count : ℕ) (r : Result Message FormatFault) → NoneStale host v.observers → NoneStale host (taking_read host v count r).session.observers
+unfolding session_handled without_entry
+read_none host v count (Ok m) none =
+    let l : LinkValue = link_after v.link (call.Handle m) in
+    let hold : Option ℕ = held_in l (hold_on host m) in
+    let fresh : ObserverValue → Type 0 = λ o. is_stale host o ≡ false in
+    cond_both (asks_this v.link m) (session_replied host l (without_entry m.token v.observers) m hold) (session_with [] l v.observers) (λ w. NoneStale host w.observers)
+    (λ _. replied_none host l (without_entry m.token v.observers) m hold (all_filter fresh (λ o. not (same_bytes o.token m.token)) v.observers none))
+    (λ _. all_if fresh (is_open l.phase) v.observers none)
+read_none host v count (Err e) none = all_if (λ o. is_stale host o ≡ false) (is_open (link_after v.link (call.Reject reject.Format)).phase) v.observers none
+
+found_none : (host : Host) (v : SessionValue) (f : Framing) (what : Finding) → NoneStale host v.observers → NoneStale host (taking_found host v f what).session.observers
+found_none host v f Nothing none = none
+found_none host v f (AFrame frame) none = read_none host v f.taken (message_of frame) none
+found_none host v f (AFault fault) none =
+    all_if (λ o. is_stale host o ≡ false) (is_open (link_after v.link (call.Reject (reject_of (OfFrame fault)))).phase) v.observers none
+
+-- a connection that was settled settles where it holds something, while the host stays as it was
+pub taking_settles_held : (host : Host) (v : SessionValue) (piece : List ℕ) → IsSettled host v → settled_held host (taking host v piece).session ≡ session_settled host (taking host v piece).session
+unfolding taking
+taking_settles_held host v piece settled =
+    let f : Framing = framing (session_max v) v.frame piece in
+    let nothing : Taking = record { count = 0; handled = false; session = v; change = answer.Nothing } in
+    cond_both (session_takes v) (taking_found host v f f.finding) nothing (λ t. settled_held host t.session ≡ session_settled host t.session)
+    (λ takes.
+    let ready = (and_parts (takes_messages v.link.phase) (session_ready v) takes).1 in
+    settled_held_none host _ (found_none host v f f.finding (none_due (is_stale host) v.observers (sym ((found_ready host v ready).1) ∙ settled.1))))
+    (λ _. cond_both (length v.link.held == 0) v (session_settled host v) (λ w. w ≡ session_settled host v) (λ _. sym (settled_stays host v settled)) (λ _. refl))
+
+-- ---- memory was refused
+
+-- a front that lacks a byte of a frame is unfinished
+before_whole : (M : ℕ) (kept piece frame rest : List ℕ) (count : ℕ) → beginning M (kept ++ piece) ≡ Whole frame rest → length piece - length rest ≡ count + 1 → beginning M (kept ++ take count piece) ≡ Unfinished
+before_whole M kept piece frame rest count whole taken =
+    let parts = whole_parts M (kept ++ piece) frame rest whole in
+    let size : length frame - 1 ≡ length kept + count = omega (arith, taken, ap length parts.bytes, length-append kept piece, length-append frame rest) in
+    let front : kept ++ take count piece ≡ without_last frame =
+    sym (take-append-add kept piece count) ∙ ap (take (length kept + count)) parts.bytes ∙ ap (λ (n : ℕ). take n (frame ++ rest)) (sym size)
+    ∙ take-append-le (length frame - 1) frame rest (omega arith) in
+    rw front (front_unfinished M frame (whole_itself M (kept ++ piece) frame rest whole))
+
+-- what a whole frame took
+abbrev taking_begun : Host → SessionValue → List ℕ → Beginning → Taking
+taking_begun host v piece b = taking_found host v (framing_at v.frame piece b) (framing_at v.frame piece b).finding
+
+put_is_whole : (host : Host) (v : SessionValue) (piece : List ℕ) (b : Beginning) (count : ℕ) → (taking_begun host v piece b).count ≡ count + 1 → IsPut (taking_begun host v piece b).change
+    → (frame : List ℕ) × (rest : List ℕ) × (b ≡ Whole frame rest) × (length piece - length rest ≡ count + 1)
+put_is_whole host v piece Unfinished count last puts = absurd puts
+put_is_whole host v piece (Faulty fault) count last puts = absurd puts
+put_is_whole host v piece (Whole frame rest) count last puts = (frame, rest, refl, sym (counted (message_of frame)) ∙ last)
+  where
+    counted : (r : Result Message FormatFault) → (taking_read host v (length piece - length rest) r).count ≡ length piece - length rest
+    counted (Ok m) = refl
+    counted (Err e) = refl
+
+taking_where_takes : (host : Host) (v : SessionValue) (piece : List ℕ) → session_takes v ≡ true → taking host v piece ≡ taking_begun host v piece (beginning (session_max v) (v.frame ++ piece))
+unfolding taking framing
+taking_where_takes host v piece takes = rw takes refl
+
+-- without its last byte, the message is not handled: its bytes are kept
+module _ (host : Host) (v : SessionValue) (piece : List ℕ) (count : ℕ) (refuses : RefusesPiece host v piece count) where
+  front_taken : taking host v (take count piece) ≡ taking_begun host v (take count piece) Unfinished
+  front_taken =
+      let M : ℕ = session_max v in
+      let all = taking_where_takes host v piece refuses.takes in
+      let whole = put_is_whole host v piece (beginning M (v.frame ++ piece)) count (sym (ap (λ (t : Taking). t.count) all) ∙ refuses.last) (subst (λ (t : Taking). IsPut t.change) all refuses.stores) in
+      taking_where_takes host v (take count piece) refuses.takes ∙ ap (taking_begun host v (take count piece)) (before_whole M v.frame piece whole.0 whole.1 count whole.2 whole.3)
+
+  pub refused_changes_nothing : (taking host v (take count piece)).change ≡ answer.Nothing
+  refused_changes_nothing = ap (λ (t : Taking). t.change) front_taken
+
+  pub refused_stays_settled : IsSettled host v → IsSettled host (taking host v (take count piece)).session
+  unfolding next_held_in next_stale
+  refused_stays_settled settled = subst (λ (t : Taking). IsSettled host t.session) (sym front_taken) settled
+
+-- ---- the host
+
+pub host_stays : (host : Host) (c : Change) → changes c ≡ false → host_changed host c ≡ host
+host_stays host c quiet = ap (host_changed host) (nothing_changed c quiet)

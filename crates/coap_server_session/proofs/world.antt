@@ -1,0 +1,3 @@
+pub mod KnownShown
+pub mod EntryShown
+pub mod SideShown

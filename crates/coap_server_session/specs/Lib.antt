@@ -1,0 +1,3 @@
+pub mod values
+pub mod views
+pub mod Prelude

@@ -1,0 +1,116 @@
+-- What the contracts and the proofs of the crate name, passed on from one place. Declares nothing.
+
+-- ---- std and the kit's crates
+pub use Rattle.std.specs.Borrow.{sem, follows_so}
+pub use Rattle.std.specs.Cmp.{both_ways}
+pub use Rattle.std.specs.Fmt.{decimal}
+pub use Rattle.std.specs.List.{AllByRecursion, list_any, AllWithin, filter_map}
+pub use Rattle.std.specs.List.{reduce, remove}
+pub use Rattle.std.specs.Prelude.{filter, find}
+pub use Rattle.std.specs.Prelude.{map, not}
+pub use Rattle.std.specs.Str.Parse.{digits_value}
+pub use mathlib.Core.Option.{none}
+-- ---- coap_wire
+pub use Rattle.coap_wire.specs.Beginning.{Beginning, Faulty, Unfinished}
+unfoldable pub use Rattle.coap_wire.specs.Beginning.{beginning}
+pub use Rattle.coap_wire.specs.Message.{Message, last_number, CoapOption}
+unfoldable pub use Rattle.coap_wire.specs.Reading.{message_of}
+pub use Rattle.coap_wire.specs.Refusal.{RefusedBy}
+pub use Rattle.coap_wire.specs.Stream.{StreamFault, OfFrame}
+pub use Rattle.coap_wire.specs.Views.{with_option}
+pub use Rattle.coap_wire.specs.CompactViews.{encoded_size}
+pub use Rattle.coap_wire.specs.declared.fault.FormatFault.{FormatFault}
+pub use Rattle.coap_wire.specs.declared.sizes.TheConstants.{LARGEST_MESSAGE, MAX_EXTENDED_LENGTH}
+-- ---- coap_frame
+pub use Rattle.coap_frame.specs.FramedViews.{finding_read}
+pub use Rattle.coap_frame.specs.Framing.{AFault, AFrame, Finding, FramerValue, Framing, IsFramer, framer_after}
+pub use Rattle.coap_frame.specs.Framing.{framing_at, framing_of, without_last}
+unfoldable pub use Rattle.coap_frame.specs.Framing.{framing}
+pub use Rattle.coap_frame.specs.Given.{taken_of, unread_after}
+pub use Rattle.coap_frame.specs.Raising.{raise_refusal, with_size}
+-- ---- coap_conn
+pub use Rattle.coap_conn.specs.Calls.{link_after, standing_due, end_reason, Call}
+pub use Rattle.coap_conn.specs.Fit.{bare_response, fit, fits}
+pub use Rattle.coap_conn.specs.Held.{HeldValue, Answer, Pong, come, next_moment, to_come}
+unfoldable pub use Rattle.coap_conn.specs.Held.{first_due, without_due}
+pub use Rattle.coap_conn.specs.History.{limit_now, after, History, IsHistory, link_of}
+pub use Rattle.coap_conn.specs.Limits.{LimitValues, AreInRange}
+pub use Rattle.coap_conn.specs.LinkValue.{IsReady, can_hold, limit_in, is_finished, LinkValue, free_in, link_with}
+pub use Rattle.coap_conn.specs.LinkValue.{own_csm, standing_in, sizes_of}
+pub use Rattle.coap_conn.specs.LinkViews.{verdict_value}
+pub use Rattle.coap_conn.specs.Phases.{IsAnswering, is_open, answers, takes_messages, IsLive}
+pub use Rattle.coap_conn.specs.Reaction.{send, stop}
+pub use Rattle.coap_conn.specs.Rejects.{reject_of}
+pub use Rattle.coap_conn.specs.Release.{release_refusal}
+pub use Rattle.coap_conn.specs.Verdicts.{is_request}
+pub use Rattle.coap_conn.specs.declared.phase.Reply.{Reply}
+pub use Rattle.coap_conn.specs.declared.phase.Verdict.{Verdict}
+-- ---- coap_store
+pub use Rattle.coap_store.specs.Answer.{changed, unheld, Change, Delete, Nothing, Put, Response, says}
+unfoldable pub use Rattle.coap_store.specs.Answer.{answer_of, prompt_answer}
+pub use Rattle.coap_store.specs.Changes.{IsPut, TakesChange, changes}
+pub use Rattle.coap_store.specs.Invariant.{IsStore}
+pub use Rattle.coap_store.specs.Messages.{response_message, response_with_observe, option_at, empty_at, number_at}
+pub use Rattle.coap_store.specs.Messages.{each_at}
+pub use Rattle.coap_store.specs.Notifications.{notification_of}
+pub use Rattle.coap_store.specs.Paths.{Path, same_bytes, written_length}
+unfoldable pub use Rattle.coap_store.specs.Paths.{is_path}
+pub use Rattle.coap_store.specs.PlanViews.{change_value, path_or_root}
+pub use Rattle.coap_store.specs.Requests.{path_of}
+pub use Rattle.coap_store.specs.State.{is_dynamic, state_of, stored_at}
+unfoldable pub use Rattle.coap_store.specs.State.{key_for, place_of, state_at}
+pub use Rattle.coap_store.specs.Store.{StoreValue, Representation}
+unfoldable pub use Rattle.coap_store.specs.Store.{found_in}
+pub use Rattle.coap_store.specs.Watching.{MayWatch}
+pub use Rattle.coap_store.specs.declared.place.Place.TheVariants.{Async, Dynamic, Listing, Root, Time}
+-- ---- coap_model
+pub use Rattle.coap_model.specs.world.Observers.{asks_entry, is_whole, Observer, entry_for, format_of, goes_on}
+pub use Rattle.coap_model.specs.world.Observers.{has_place, left_of, notification, notification_message, same_state}
+pub use Rattle.coap_model.specs.world.Observers.{with_entry, mark_told}
+unfoldable pub use Rattle.coap_model.specs.world.Observers.{first_becomes, is_due, without_token}
+pub use Rattle.coap_model.specs.world.Sides.{Side, waiting_on, handles, asks_answer, held_for, moment_after}
+pub use Rattle.coap_model.specs.world.Sides.{held_message, next_held, is_cut, after_sent, has_room, may_raise}
+pub use Rattle.coap_model.specs.world.Sides.{next_due, notified, settled_so, side_replied, side_with}
+pub use Rattle.coap_model.specs.world.Sides.{with_history, kept_on}
+unfoldable pub use Rattle.coap_model.specs.world.Sides.{side_after, side_faulted, side_written, side_ended}
+unfoldable pub use Rattle.coap_model.specs.world.Sides.{side_released, side_announced, settled_once, change_after}
+unfoldable pub use Rattle.coap_model.specs.world.Sides.{settled, settled_within}
+-- ---- coap_serve, declared
+pub use Rattle.coap_server_session.specs.declared.cause.Cause.{Cause}
+pub use Rattle.coap_server_session.specs.declared.host.Host.{Host}
+pub use Rattle.coap_server_session.specs.declared.observers.Stale.{Stale}
+pub use Rattle.coap_server_session.specs.declared.chains.Chains.{Chains}
+pub use Rattle.coap_server_session.specs.declared.session.Session.TheInside.{Inside}
+-- ---- coap_serve, values
+pub use Rattle.coap_server_session.specs.values.Causes.{change_hash, ObservesNone, hash_behind, path_hash}
+pub use Rattle.coap_server_session.specs.values.Causes.{IsUntouched, has_come, may_touch, observes_hash, segments_hash, is_concerned}
+pub use Rattle.coap_server_session.specs.values.Causes.{ConcernsNone, marks_after, IsMarkedBut}
+unfoldable pub use Rattle.coap_server_session.specs.values.Causes.{marks_anew}
+pub use Rattle.coap_server_session.specs.values.Dues.{tells_time, sooner}
+pub use Rattle.coap_server_session.specs.values.Dues.{due_on, IsBefore, next_told}
+pub use Rattle.coap_server_session.specs.values.Entries.{IsFirstStale, IsFirstMarked, link_replied, entries_replied, entries_notified}
+pub use Rattle.coap_server_session.specs.values.Entries.{settled_held, framer_on, is_observed, is_sent, response_on}
+unfoldable pub use Rattle.coap_server_session.specs.values.Entries.{first_index}
+pub use Rattle.coap_server_session.specs.values.SessionAnswers.{IsAnnounced}
+pub use Rattle.coap_server_session.specs.values.Responses.{path_size}
+pub use Rattle.coap_server_session.specs.values.Sessions.{ObserverValue, answer_on, hold_on, held_in, host_changed, link_sent}
+pub use Rattle.coap_server_session.specs.values.Sessions.{new_entry, notification_on, mark_at, present_mark, untold_by, SessionValue}
+pub use Rattle.coap_server_session.specs.values.Sessions.{session_written, session_ended, session_released, session_announced}
+pub use Rattle.coap_server_session.specs.values.Sessions.{change_by, observers_on, session_with, new_session}
+pub use Rattle.coap_server_session.specs.values.Sessions.{session_takes, session_notified, IsSettled, RefusesPiece}
+pub use Rattle.coap_server_session.specs.values.Sessions.{ObserversValue, Taking, asks_this, entry_left, frame_on, is_marked}
+pub use Rattle.coap_server_session.specs.values.Sessions.{mark_of, session_max, session_ready}
+pub use Rattle.coap_server_session.specs.values.Sessions.{session_rejected, session_replied, session_settled_so, state_on}
+pub use Rattle.coap_server_session.specs.values.Sessions.{taking_found, taking_read, MarkedSession, AreMarked, IsMarked}
+pub use Rattle.coap_server_session.specs.values.Sessions.{empty_host, observers_left}
+unfoldable pub use Rattle.coap_server_session.specs.values.Sessions.{changed_mark}
+unfoldable pub use Rattle.coap_server_session.specs.values.Sessions.{without_entry, is_stale, session_settled, session_handled}
+unfoldable pub use Rattle.coap_server_session.specs.values.Sessions.{next_held_in, next_stale, session_settled_once, taking}
+unfoldable pub use Rattle.coap_server_session.specs.values.Sessions.{session_settled_within}
+-- ---- coap_serve, views
+pub use Rattle.coap_server_session.specs.views.ChainViews.{Linked, linked, concerns_path, last_in, previous_in, next_index}
+pub use Rattle.coap_server_session.specs.views.ChainViews.{IsLastBefore, AreChainedTo}
+pub use Rattle.coap_server_session.specs.views.FlagViews.{flag_of, AreFlagged, AreClear, AreBlocks}
+pub use Rattle.coap_server_session.specs.views.ObserverViews.{observer_value, mark_in, IsTagged}
+pub use Rattle.coap_server_session.specs.views.SessionShows.{observer_shown, session_shown}
+pub use Rattle.coap_server_session.specs.views.SessionViews.{IsSession, session_value}

@@ -1,0 +1,5 @@
+pub mod FlagViews
+pub mod ChainViews
+pub mod ObserverViews
+pub mod SessionViews
+pub mod SessionShows

@@ -1,0 +1,38 @@
+-- How the code's observers are seen in contracts.
+use Rattle.std.specs.Prelude.{◌≡◌, ◌≤◌, Option, ℕ, length, map}
+use Rattle.std.specs.List.{AllByRecursion}
+use Rattle.std.specs.Vec.{vec_capacity}
+use Rattle.coap_server_session.specs.values.Sessions.{ObserverValue, ObserversValue}
+use Rattle.coap_server_session.specs.values.Dues.{tells_time}
+use Rattle.coap_server_session.specs.values.Causes.{path_hash}
+use Rattle.coap_server_session.specs.declared.observer.Observer.{Observer}
+use Rattle.coap_server_session.specs.declared.observers.Observers.TheInside.{Inside}
+use Rattle.coap_server_session.specs.views.ChainViews.{linked, AreChainedTo}
+use Rattle.coap_server_session.specs.views.FlagViews.{AreFlagged}
+
+abbrev pub observer_value : Observer → ObserverValue
+observer_value o = record { token = o.token.items; path = o.path; format = o.format; mark = o.mark }
+
+abbrev pub mark_in : Observer → Option ℕ
+mark_in o = o.changed
+
+abbrev pub observers_value : Inside → ObserversValue
+observers_value o = record { room = o.room; entries = map observer_value o.entries.items; marks = map mark_in o.entries.items }
+
+-- an observer keeps the hash of its path, and whether that is built in
+pub record IsTagged (o : Observer) : Type 0 where
+  pub hash : o.hash ≡ path_hash o.path
+  pub built_in : o.built_in ≡ tells_time (observer_value o)
+
+-- no more are there than there is room for, and that was reserved; a change finds those that it concerns, and a flag tells who is
+-- marked as changed
+pub record AreObservers (o : Inside) : Type 0 where
+  pub few : length o.entries.items ≤ o.room
+  pub reserved : o.room ≤ vec_capacity o.entries
+  pub least : o.room ≤ 256
+  pub tagged : AllByRecursion IsTagged o.entries.items
+  pub chained : AreChainedTo (length o.entries.items) o.chains (map linked o.entries.items)
+  pub flagged : AreFlagged o.marked (map mark_in o.entries.items)
+
+abbrev pub are_observers : Inside → Type 0
+are_observers o = AreObservers o

@@ -1,0 +1,250 @@
+//! Answers requests and notifies observers.
+
+ghost use Rattle.std.specs.Prelude.{◌≡◌, ◌<◌, ◌≤◌, ◌++◌, ◌∷◌, [], ℕ, Option, map, true, Some, None, is_some, length, slice_get, if◌then◌else◌, IfOk, OnOk, OnErr};
+ghost use Rattle.coap_server_session.specs.Prelude.{IsAnswering, AreMarked, IsTagged, marks_after, is_open, HeldValue, first_due, IsReady, can_hold, link_after, changed, unheld, response_message, change_value, path_of, IsPut, TakesChange, change_hash, MayWatch, asks_entry as asks, is_whole as is_sent_whole, ObserverValue, answer_on, hold_on, held_in, host_changed, link_sent, new_entry, notification_on, without_entry, IsFirstStale, link_replied, entries_replied, entries_notified, observer_value};
+ghost use Rattle.coap_server_session.specs.Prelude.{LARGEST_MESSAGE};
+ghost use Rattle.coap_conn.specs.Calls as call;
+
+use crate::cause::Cause;
+use crate::host::{Host, mark_at};
+use crate::observer::Observer;
+use crate::observers::{Observers, Stale};
+use crate::path_hash::hash_of;
+use crate::response::respond;
+use coap_conn::{Due, Link, Reply};
+use coap_store::{Change, Plan, State, Store, Watch, held_response, request_path};
+use coap_wire::{Code, MessageRef, TokenRef};
+use std::alloc::AllocError;
+
+/// Answers a request, or holds its answer, and answers the hash of the path where that put or deleted a resource, if it
+/// did. What it changes is changed before it is answered. The entry with its token goes, and where it asks to be
+/// entered as an observer and there is room, it is, if its response is sent whole (RFC 7641 section 4.1).
+///
+/// # Errors
+///
+/// Where memory is refused for the representation that it stores. All is then as before.
+// Apart from `handle`, since a function clears all its locals: a message that is no request needs none of these.
+#[inline(never)]
+pub(crate) fn answer(
+    link: &mut Link,
+    observers: &mut Observers,
+    host: &mut Host,
+    request: &MessageRef,
+) -> Result<Option<u8>, AllocError>
+    requires ready { IsReady link.old }
+    requires open { is_open link.old.phase ≡ true }
+    requires marked { AreMarked host.old observers.old.entries observers.old.marks }
+    ensures changed { IfOk result (λ changed. changed ≡ change_hash (answer_on host.old request.now).change) }
+    ensures link { OnOk result (link.new ≡ link_replied host.old link.old observers.old.room
+        (without_entry request.now.token observers.old.entries) request.now
+        (held_in link.old (hold_on host.old request.now))) }
+    ensures entries { OnOk result (observers.new.entries ≡ entries_replied host.old link.old observers.old.room
+        (without_entry request.now.token observers.old.entries) request.now
+        (held_in link.old (hold_on host.old request.now))) }
+    ensures room { OnOk result (observers.new.room ≡ observers.old.room) }
+    ensures marked { OnOk result (AreMarked host.new observers.new.entries observers.new.marks) }
+    ensures host { OnOk result (host.new ≡ host_changed host.old (answer_on host.old request.now).change) }
+    ensures put { OnErr result (IsPut (answer_on host.old request.now).change) }
+    ensures unchanged { OnErr result (host.new ≡ host.old) }
+    ensures silent { OnErr result (link.new ≡ link.old) }
+    ensures kept { OnErr result (observers.new ≡ observers.old) }
+{
+    let plan = host.store.answer(request, host.now);
+    if let Some(seconds) = plan.hold() {
+        let moment = host.now.saturating_add(u64::from(seconds));
+        answer_late(link, observers, request, plan, moment);
+        return Ok(None);
+    }
+    if plan.changes() {
+        let plan = plan.without_payload();
+        let changed = change(&mut host.store, &plan)?;
+        observers.forget(request.token());
+        mark_changed(observers, changed, host);
+        respond(link, request.token(), &plan, false);
+        return Ok(changed);
+    }
+    observers.forget(request.token());
+    let observes = asks_entry(plan.watch()) && !observers.is_full();
+    let reply = respond(link, request.token(), &plan, observes);
+    if observes && is_whole(reply) {
+        enter(observers, host, request);
+    }
+    Ok(None)
+}
+
+/// Makes the change of an answer that this store gave, and answers the hash of the path where it is. (Apart from
+/// `answer`, since a function clears all its locals.)
+///
+/// # Errors
+///
+/// Where memory is refused for the representation that is stored. The store is then as before.
+#[inline(never)]
+fn change(store: &mut Store, plan: &Plan) -> Result<Option<u8>, AllocError>
+    requires { TakesChange store.old plan.now.change }
+    ensures ok { OnOk result (store.new ≡ changed store.old plan.now.change) }
+    ensures hash { IfOk result (λ hash. hash ≡ change_hash plan.now.change) }
+    ensures put { OnErr result (IsPut plan.now.change) }
+    ensures err { OnErr result (store.new ≡ store.old) }
+{
+    let change = plan.change();
+    let hash = hash_of_change(&change);
+    store.apply(change)?;
+    Ok(hash)
+}
+
+/// Marks the observers of the path with this hash where something was put or deleted, if it was, as changed.
+fn mark_changed(observers: &mut Observers, changed: Option<u8>, host: &Host)
+    ensures { observers.new ≡ record observers.old {
+      marks = marks_after changed host.entry.now observers.old.entries observers.old.marks;
+    } }
+{
+    if let Some(hash) = changed {
+        if observers.may_observe(hash) {
+            observers.mark(Cause::Path(hash), host);
+        }
+    }
+}
+
+/// The hash of the path where a change is, if it is one.
+fn hash_of_change(change: &Change) -> Option<u8>
+    ensures { result ≡ change_hash (change_value change.now) }
+{
+    match change {
+        Change::Nothing => None,
+        Change::Put { path, .. } => Some(hash_of(path)),
+        Change::Delete(path) => Some(hash_of(path)),
+    }
+}
+
+/// Holds the answer to a request until a moment, or refuses it for now where no more can be held. The observer with its
+/// token goes.
+fn answer_late(
+    link: &mut Link,
+    observers: &mut Observers,
+    request: &MessageRef,
+    plan: Plan,
+    moment: u64,
+)
+    requires ready { IsReady link.old }
+    requires open { is_open link.old.phase ≡ true }
+    requires short { length plan.response.payload ≤ LARGEST_MESSAGE }
+    ensures link { link.new
+        ≡ (if can_hold link.old then link_after link.old (call.Hold request.now.token moment) else link_after link.old
+        (call.Reply (response_message request.now.token (unheld plan.entry).response))) }
+    ensures entries { observers.new.entries ≡ without_entry request.now.token observers.old.entries }
+    ensures marks { (mark : ObserverValue → Option ℕ) → observers.old.marks ≡ map mark observers.old.entries →
+        observers.new.marks ≡ map mark observers.new.entries }
+    ensures room { observers.new.room ≡ observers.old.room }
+{
+    observers.forget(request.token());
+    if link.hold(request.token().to_token(), moment).is_err() {
+        respond(link, request.token(), &plan.unheld(), false);
+    }
+}
+
+/// Sends what is held and due first at a moment, where anything is, and answers whether anything was.
+pub(crate) fn send_due(link: &mut Link, now: u64) -> bool
+    requires { IsReady link.old }
+    ensures sent { (e : HeldValue) → first_due now link.old.held ≡ Some e → link.new ≡ link_sent link.old now e }
+    ensures silent { first_due now link.old.held ≡ None → link.new ≡ link.old }
+    ensures found { result ≡ is_some (first_due now link.old.held) }
+{
+    match link.due(now) {
+        Due::Nothing => false,
+        Due::Pong => true,
+        Due::Answer(token) => {
+            respond(link, &TokenRef::of(&token), &held_response(), false);
+            true
+        }
+    }
+}
+
+/// Whether a request asks that an observer is entered.
+fn asks_entry(watch: Watch) -> bool
+    ensures { result ≡ asks watch }
+{
+    match watch {
+        Watch::Nothing => false,
+        Watch::Add => true,
+        Watch::Drop => false,
+    }
+}
+
+/// Whether a message was sent as it is.
+fn is_whole(reply: Reply) -> bool
+    ensures { result ≡ is_sent_whole reply }
+{
+    match reply {
+        Reply::Whole => true,
+        Reply::Bare => false,
+        Reply::Stopped => false,
+    }
+}
+
+/// Enters a request as an observer, for which there is room. (Apart from `answer`, since a function clears all its
+/// locals.)
+fn enter(observers: &mut Observers, host: &Host, request: &MessageRef)
+    requires room { length observers.old.entries < observers.old.room }
+    requires watched { MayWatch host.now.store host.now.now (path_of request.now) (answer_on host.now request.now) }
+    ensures value { observers.new ≡ record observers.old {
+      entries = observers.old.entries ++ new_entry host.entry.now request.now ∷ [];
+      marks = observers.old.marks ++ None ∷ [];
+    } }
+    ensures marked { AreMarked host.entry.now observers.old.entries observers.old.marks →
+        AreMarked host.entry.now observers.new.entries observers.new.marks }
+{
+    observers.enter(entry_for(host, request));
+}
+
+/// The entry of a request whose path is there: it is told the state of the path.
+fn entry_for(host: &Host, request: &MessageRef) -> Observer
+    requires { MayWatch host.now.store host.now.now (path_of request.now) (answer_on host.now request.now) }
+    ensures entry { observer_value result ≡ new_entry host.entry.now request.now }
+    ensures tagged { IsTagged result }
+    ensures unmarked { result.changed ≡ None }
+{
+    let Some(path) = request_path(request) else {
+        unreachable!()
+    };
+    let State::Present(there) = host.store.state(&path, host.now) else {
+        unreachable!()
+    };
+    Observer {
+        token: request.token().to_token(),
+        format: there.format(),
+        mark: mark_at(host.now, &there),
+        hash: hash_of(&path),
+        built_in: !path.place().is_dynamic(),
+        changed: None,
+        previous: None,
+        previous_built_in: None,
+        path,
+    }
+}
+
+/// Notifies the first observer that is stale, which is this one (RFC 7641 section 4.2): it is told the state now and
+/// stays where that goes to it whole, and goes otherwise.
+pub(crate) fn notify(link: &mut Link, observers: &mut Observers, host: &Host, stale: Stale)
+    requires ready { IsReady link.old }
+    requires answering { IsAnswering link.old.phase }
+    requires first { IsFirstStale host.now observers.old.entries stale }
+    requires marked { AreMarked host.now observers.old.entries observers.old.marks }
+    ensures link { (o : ObserverValue) → slice_get observers.old.entries stale.index ≡ Some o →
+        link.new ≡ link_after link.old (call.Reply (notification_on host.entry.now o)) }
+    ensures entries { (o : ObserverValue) → slice_get observers.old.entries stale.index ≡ Some o →
+        observers.new.entries ≡ entries_notified host.entry.now link.old observers.old.entries o }
+    ensures room { observers.new.room ≡ observers.old.room }
+    ensures marked { AreMarked host.entry.now observers.new.entries observers.new.marks }
+{
+    let observer = observers.get(stale.index);
+    let plan = host
+        .store
+        .notification(&observer.path, observer.format, host.now);
+    let goes_on = plan.code() == Code::CONTENT;
+    let reply = respond(link, &TokenRef::of(&observer.token), &plan, goes_on);
+    if goes_on && is_whole(reply) {
+        observers.tell(stale.index, stale.mark);
+    } else {
+        observers.remove(stale.index);
+    }
+}

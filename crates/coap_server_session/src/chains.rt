@@ -1,0 +1,76 @@
+//! The observers that a change concerns, found without a look at the others.
+
+ghost use Rattle.std.specs.Prelude.{◌≡◌, ◌≤◌, Some, None, true, false, map, length, vec_capacity, if◌then◌else◌};
+ghost use Rattle.coap_server_session.specs.Prelude.{AllByRecursion, Cause, IsTagged, AreChainedTo, last_in, previous_in, concerns_path, linked, observer_value, mark_in};
+
+use crate::cause::Cause;
+use crate::observer::Observer;
+
+/// The last observer that each change concerns, by its index. Each observer has the index of the one before it that the
+/// same change concerns.
+#[derive(Drop)]
+pub(crate) struct Chains {
+    /// By the hash of what changed.
+    hashed: [Option<u8>; 256],
+    /// The last one that observes something built in.
+    built_in: Option<u8>,
+}
+
+impl Chains {
+    /// Returns the chains of no observers.
+    pub(crate) fn new() -> Chains
+        ensures { (why : Cause) → last_in why result ≡ None }
+    {
+        Chains {
+            hashed: [None; 256],
+            built_in: None,
+        }
+    }
+
+    /// Returns the index of the last observer that a change concerns.
+    pub(crate) fn last(&self, cause: Cause) -> Option<u8>
+        ensures { result ≡ last_in cause self.now }
+    {
+        match cause {
+            Cause::Path(hash) => self.hashed[usize::from(hash)],
+            Cause::Moment(_) => self.built_in,
+        }
+    }
+
+    /// Makes the observer at an index the last one of its chains.
+    pub(crate) fn link(&mut self, observer: &mut Observer, index: u8)
+        requires tagged { IsTagged observer.old }
+        ensures value { observer_value observer.new ≡ observer_value observer.old }
+        ensures mark { observer.new.changed ≡ observer.old.changed }
+        ensures tagged { IsTagged observer.new }
+        ensures previous { (why : Cause) → concerns_path why observer.old.path ≡ true →
+            previous_in why (linked observer.new) ≡ last_in why self.old }
+        ensures last { (why : Cause) → last_in why self.new
+            ≡ (if concerns_path why observer.old.path then Some index else last_in why self.old) }
+    {
+        let last = &mut self.hashed[usize::from(observer.hash)];
+        observer.previous = *last;
+        *last = Some(index);
+        if observer.built_in {
+            observer.previous_built_in = self.built_in;
+            self.built_in = Some(index);
+        }
+    }
+}
+
+/// Puts observers into chains.
+pub(crate) fn chains_of(observers: &mut Vec<Observer>) -> Chains
+    requires few { length observers.old.items ≤ 256 }
+    requires tagged { AllByRecursion IsTagged observers.old.items }
+    ensures entries { map observer_value observers.new.items ≡ map observer_value observers.old.items }
+    ensures marks { map mark_in observers.new.items ≡ map mark_in observers.old.items }
+    ensures tagged { AllByRecursion IsTagged observers.new.items }
+    ensures capacity { vec_capacity observers.new ≡ vec_capacity observers.old }
+    ensures chained { AreChainedTo (length observers.new.items) result (map linked observers.new.items) }
+{
+    let mut chains = Chains::new();
+    for index in 0..observers.len() {
+        chains.link(&mut observers[index], index as u8);
+    }
+    chains
+}

@@ -1,0 +1,28 @@
+//! One connection of a CoAP server over reliable transports (RFC 8323): its frames, its link and its observers.
+//!
+//! - `Session` accepts chunks of input, handles one message at a time and queues everything that is due: delayed
+//!   responses, Pongs with Custody, and the notifications of its observers (RFC 7641).
+//! - `Host` is what all connections of a server share: the store of resources, and the time.
+//! - `Cause` names a change: of a path, by its hash (`hash_of`), or of the time. `Session::is_touched` tells if a change
+//!   may make something due on a connection.
+//!
+//! This crate holds one connection and performs no I/O. `coap_serve` holds all connections of a server and runs them
+//! over transports. The crate `coap_model` defines the events of a server and the state after them. Continue with
+//! `session.rt`.
+#![tactic(auto)]
+
+mod answering;
+mod cause;
+mod chains;
+mod flags;
+mod host;
+mod observer;
+mod observers;
+mod path_hash;
+mod response;
+mod session;
+
+pub use cause::Cause;
+pub use host::Host;
+pub use path_hash::hash_of;
+pub use session::{Session, Taking, sooner};

@@ -1,0 +1,291 @@
+//! The observers of a connection (RFC 7641).
+
+ghost use Rattle.std.specs.Prelude.{◌≡◌, ◌<◌, ◌≤◌, None, false, length, map, is_some, IfNone, IfSome, Option, ℕ, vec_capacity, ◌++◌, ◌∷◌, [], not, nat_lt, IfOk, Some, slice_get, slice_set, remove};
+ghost use Rattle.coap_server_session.specs.Prelude.{list_any, tells_time as observes_time, IsFirstMarked, AllByRecursion, AreChainedTo, AreFlagged, linked, IsTagged, mark_in, marks_anew, first_index, without_entry, observer_value, observes_hash, ObserverValue};
+
+use crate::cause::Cause;
+use crate::chains::{Chains, chains_of};
+use crate::flags::Flags;
+use crate::host::Host;
+use crate::observer::{Observer, untold_by};
+use coap_wire::TokenRef;
+use std::alloc::{AllocError, Global};
+use std::marker::Model;
+
+/// An observer that was told another state of its path than the one that is there.
+#[derive(Clone, Copy)]
+pub(crate) struct Stale {
+    /// Its index.
+    pub index: usize,
+    /// The mark of the state that is there.
+    pub mark: u64,
+}
+
+/// At most so many observers, in room that was reserved once, in the order in which they came. Contracts see an
+/// `ObserversValue`.
+#[derive(Drop)]
+pub(crate) struct Observers {
+    room: usize,
+    entries: Vec<Observer>,
+    /// The entries that a change concerns.
+    chains: Chains,
+    /// Which entries have a changed mark.
+    marked: Flags,
+}
+
+impl Model for Observers {
+    ghost use Rattle.coap_server_session.specs.values.Sessions.{ObserversValue};
+
+    ghost Value = { ObserversValue };
+
+    ghost use Rattle.coap_server_session.specs.views.ObserverViews.{observers_value, are_observers};
+
+    ghost view = { observers_value };
+
+    ghost invariant = { are_observers };
+}
+
+impl Observers {
+    /// No observer, and room for so many, at most 256.
+    ///
+    /// # Errors
+    ///
+    /// Where the room is refused.
+    pub(crate) fn new(alloc: Global, room: usize) -> Result<Observers, AllocError>
+        requires { room ≤ 256 }
+        ensures { IfOk result (λ o. o ≡ record { room = room; entries = []; marks = [] }) }
+    {
+        Ok(Observers {
+            room,
+            entries: Vec::with_capacity(alloc, room)?,
+            chains: Chains::new(),
+            marked: Flags::new(),
+        })
+    }
+
+    /// How many there are.
+    pub(crate) fn len(&self) -> usize
+        ensures count { result ≡ length self.now.entries }
+        ensures within { length self.now.entries ≤ self.now.room }
+    {
+        self.entries.len()
+    }
+
+    /// Whether there is no room for another one.
+    pub(crate) fn is_full(&self) -> bool
+        ensures { result ≡ not (nat_lt (length self.now.entries) self.now.room) }
+    {
+        self.entries.len() >= self.room
+    }
+
+    /// Whether one of them observes the moment.
+    pub(crate) fn tell_time(&self) -> bool
+        ensures { result ≡ list_any observes_time self.now.entries }
+    {
+        self.chains.last(Cause::Moment(0)).is_some()
+    }
+
+    /// Returns `true` if one of them observes a path with this hash.
+    pub(crate) fn may_observe(&self, hash: u8) -> bool
+        ensures { result ≡ list_any (observes_hash hash) self.now.entries }
+    {
+        self.chains.last(Cause::Path(hash)).is_some()
+    }
+
+    /// Sets the changed marks of the observers that a change of their path or of the moment concerns: those that were
+    /// told another state than the one now are marked.
+    pub(crate) fn mark(&mut self, cause: Cause, host: &Host)
+        ensures { self.new ≡ record self.old { marks = marks_anew cause host.entry.now self.old.entries self.old.marks } }
+    {
+        mark_chain(
+            &mut self.entries,
+            &mut self.marked,
+            &self.chains,
+            cause,
+            host,
+        );
+    }
+
+    /// Returns the first observer that is marked as changed.
+    pub(crate) fn first_changed(&mut self) -> Option<Stale>
+        ensures none { IfNone result (first_index is_some self.old.marks ≡ None) }
+        ensures some { IfSome result (λ found. IsFirstMarked self.old.marks found) }
+        ensures same { self.new ≡ self.old }
+    {
+        let index = self.marked.first()?;
+        let mark = self.entries[index].changed?;
+        Some(Stale { index, mark })
+    }
+
+    /// The one at an index.
+    pub(crate) fn get(&self, index: usize) -> &Observer
+        requires { index < length self.now.entries }
+        ensures { slice_get self.now.entries index ≡ Some (observer_value result.now) }
+    {
+        &self.entries[index]
+    }
+
+    /// The one at an index was told the state with this mark: its changed mark is cleared.
+    pub(crate) fn tell(&mut self, index: usize, mark: u64)
+        requires { index < length self.old.entries }
+        ensures { (o : ObserverValue) → slice_get self.old.entries index ≡ Some o → self.new ≡ record self.old {
+          entries = slice_set self.old.entries index (record o { mark = mark });
+          marks = slice_set self.old.marks index None;
+        } }
+    {
+        let observer = &mut self.entries[index];
+        observer.mark = mark;
+        observer.changed = None;
+        self.marked.put(index, false);
+    }
+
+    /// The one at an index goes.
+    pub(crate) fn remove(&mut self, index: usize)
+        requires { index < length self.old.entries }
+        ensures { self.new
+            ≡ record self.old { entries = remove self.old.entries index; marks = remove self.old.marks index } }
+    {
+        self.entries.remove(index);
+        find_anew(&mut self.entries, &mut self.chains, &mut self.marked);
+    }
+
+    /// The entry with this token goes. The others keep their changed marks.
+    #[tactic(auto, unfolding(crate::specs::values::Sessions::without_entry))]
+    pub(crate) fn forget(&mut self, token: &TokenRef)
+        ensures entries { self.new.entries ≡ without_entry token.now self.old.entries }
+        ensures marks { (mark : ObserverValue → Option ℕ) → self.old.marks ≡ map mark self.old.entries →
+            self.new.marks ≡ map mark self.new.entries }
+        ensures room { self.new.room ≡ self.old.room }
+    {
+        if self.entries.is_empty() {
+            return;
+        }
+        if keep_others(&mut self.entries, token) {
+            find_anew(&mut self.entries, &mut self.chains, &mut self.marked);
+        }
+    }
+
+    /// An entry that is not marked as changed goes last, for which there must be room.
+    pub(crate) fn enter(&mut self, mut observer: Observer)
+        requires room { length self.old.entries < self.old.room }
+        requires tagged { IsTagged observer }
+        requires unmarked { observer.changed ≡ None }
+        ensures { self.new ≡ record self.old {
+          entries = self.old.entries ++ observer_value observer ∷ [];
+          marks = self.old.marks ++ None ∷ [];
+        } }
+    {
+        self.chains.link(&mut observer, self.entries.len() as u8);
+        self.entries.push_reserved(observer);
+    }
+
+    /// All go.
+    pub(crate) fn clear(&mut self)
+        ensures { self.new ≡ record self.old { entries = []; marks = [] } }
+    {
+        if !self.entries.is_empty() {
+            self.entries.clear();
+            self.chains = Chains::new();
+            self.marked = Flags::new();
+        }
+    }
+}
+
+/// Sets the changed marks of the observers that what changed concerns, and their flags: the last one, and from each the one before it.
+fn mark_chain(
+    observers: &mut Vec<Observer>,
+    marked: &mut Flags,
+    chains: &Chains,
+    cause: Cause,
+    host: &Host,
+)
+    requires many { length observers.old.items ≤ 256 }
+    requires tagged { AllByRecursion IsTagged observers.old.items }
+    requires chained { AreChainedTo (length observers.old.items) chains.now (map linked observers.old.items) }
+    requires flagged { AreFlagged marked.old (map mark_in observers.old.items) }
+    ensures tagged { AllByRecursion IsTagged observers.new.items }
+    ensures entries { map observer_value observers.new.items ≡ map observer_value observers.old.items }
+    ensures linked { map linked observers.new.items ≡ map linked observers.old.items }
+    ensures marks { map mark_in observers.new.items ≡ marks_anew cause host.entry.now
+        (map observer_value observers.old.items) (map mark_in observers.old.items) }
+    ensures flagged { AreFlagged marked.new (map mark_in observers.new.items) }
+    ensures capacity { vec_capacity observers.new ≡ vec_capacity observers.old }
+{
+    let Some(last) = chains.last(cause) else {
+        return;
+    };
+    let last = usize::from(last);
+    let known = &observers[last];
+    let present = known.present(host);
+    let changed = untold_by(present, known.mark);
+    let mut at = known.previous(cause);
+    set_mark(observers, marked, last, changed);
+    while let Some(index) = at {
+        let observer = &observers[usize::from(index)];
+        let changed = observer.changed_by(&observers[last].path, present, host);
+        at = observer.previous(cause);
+        set_mark(observers, marked, usize::from(index), changed);
+    }
+}
+
+/// Sets the changed mark of the observer at an index, and its flag.
+fn set_mark(observers: &mut Vec<Observer>, marked: &mut Flags, index: usize, changed: Option<u64>)
+    requires many { length observers.old.items ≤ 256 }
+    requires within { index < length observers.old.items }
+    requires tagged { AllByRecursion IsTagged observers.old.items }
+    requires flagged { AreFlagged marked.old (map mark_in observers.old.items) }
+    ensures tagged { AllByRecursion IsTagged observers.new.items }
+    ensures entries { map observer_value observers.new.items ≡ map observer_value observers.old.items }
+    ensures linked { map linked observers.new.items ≡ map linked observers.old.items }
+    ensures marks { map mark_in observers.new.items ≡ slice_set (map mark_in observers.old.items) index changed }
+    ensures flagged { AreFlagged marked.new (map mark_in observers.new.items) }
+    ensures capacity { vec_capacity observers.new ≡ vec_capacity observers.old }
+{
+    observers[index].changed = changed;
+    marked.put(index, changed.is_some());
+}
+
+/// Makes the chains and the flags of observers anew. (Apart from its callers, since a function clears all its locals.)
+#[inline(never)]
+fn find_anew(observers: &mut Vec<Observer>, chains: &mut Chains, marked: &mut Flags)
+    requires few { length observers.old.items ≤ 256 }
+    requires tagged { AllByRecursion IsTagged observers.old.items }
+    ensures entries { map observer_value observers.new.items ≡ map observer_value observers.old.items }
+    ensures marks { map mark_in observers.new.items ≡ map mark_in observers.old.items }
+    ensures tagged { AllByRecursion IsTagged observers.new.items }
+    ensures capacity { vec_capacity observers.new ≡ vec_capacity observers.old }
+    ensures chained { AreChainedTo (length observers.new.items) chains.new (map linked observers.new.items) }
+    ensures flagged { AreFlagged marked.new (map mark_in observers.new.items) }
+{
+    *chains = chains_of(observers);
+    *marked = flags_of(observers);
+}
+
+/// Returns flags that tell which observers have a changed mark.
+fn flags_of(observers: &[Observer]) -> Flags
+    requires { length observers.now ≤ 256 }
+    ensures { AreFlagged result (map mark_in observers.now) }
+{
+    let mut flags = Flags::new();
+    for (index, observer) in observers.iter().enumerate() {
+        flags.put(index, observer.changed.is_some());
+    }
+    flags
+}
+
+/// All stay but those with this token, and whether there were any is answered.
+fn keep_others(observers: &mut Vec<Observer>, token: &TokenRef) -> bool
+    ensures others { map observer_value observers.new.items
+        ≡ without_entry token.now (map observer_value observers.old.items) }
+    ensures marks { (mark : ObserverValue → Option ℕ) → map mark_in observers.old.items
+        ≡ map mark (map observer_value observers.old.items) → map mark_in observers.new.items
+        ≡ map mark (map observer_value observers.new.items) }
+    ensures tagged { AllByRecursion IsTagged observers.old.items → AllByRecursion IsTagged observers.new.items }
+    ensures fewer { length observers.new.items ≤ length observers.old.items }
+    ensures capacity { vec_capacity observers.new ≡ vec_capacity observers.old }
+    ensures same { result ≡ false → observers.new.items ≡ observers.old.items }
+{
+    let before = observers.len();
+    observers.retain(|observer| !token.is(&observer.token));
+    observers.len() < before
+}

@@ -1,0 +1,161 @@
+//! Sends the answers to requests.
+
+ghost use Rattle.std.specs.Prelude.{◌≡◌, ◌≤◌, ◌<◌, ◌+◌, ◌++◌, true, [], length, option_map, IfSome};
+ghost use Rattle.coap_server_session.specs.Prelude.{last_number, encoded_size, path_size, with_option, IsAnswering, IsReady, limit_in, link_after, fit, bare_response, is_path, path_or_root, response_with_observe, option_at, empty_at, number_at, each_at};
+ghost use Rattle.coap_server_session.specs.Prelude.{LARGEST_MESSAGE, MAX_EXTENDED_LENGTH};
+ghost use Rattle.coap_wire.specs.OptionNumbers as numbers;
+ghost use Rattle.coap_conn.specs.Calls as call;
+
+use coap_conn::{Link, Reply};
+use coap_store::{Plan, UriPath};
+use coap_wire::option_numbers::{CONTENT_FORMAT, ETAG, LOCATION_PATH, MAX_AGE, OBSERVE, SIZE1};
+use coap_wire::{CompactBuilder, SHORT_OPTIONS, TokenRef};
+
+/// The most bytes that the options of a response with Location-Path take.
+const LOCATION_OPTIONS: usize = 368;
+
+/// Sends the response of a plan to the request with this token, as it fits the peer (RFC 7252 section 5.10), with
+/// Observe where it is a notification too (RFC 7641 section 4.2). Answers what was sent.
+pub(crate) fn respond(link: &mut Link, token: &TokenRef, plan: &Plan, observes: bool) -> Reply
+    requires ready { IsReady link.old }
+    requires answering { IsAnswering link.old.phase }
+    requires short { length plan.now.response.payload ≤ LARGEST_MESSAGE }
+    ensures reply { let response = response_with_observe token.now observes plan.now.response in result
+        ≡ fit (limit_in link.old) response (bare_response response) }
+    ensures after { link.new
+        ≡ link_after link.old (call.Reply (response_with_observe token.now observes plan.now.response)) }
+{
+    match plan.location() {
+        None => respond_from::<SHORT_OPTIONS>(link, token, plan, observes, None),
+        Some(path) => respond_from::<LOCATION_OPTIONS>(link, token, plan, observes, Some(path)),
+    }
+}
+
+/// As `respond`, with `N` bytes for the options, of which `path` is the Location-Path.
+fn respond_from<'a, const N: usize>(
+    link: &mut Link,
+    token: &TokenRef,
+    plan: &'a Plan,
+    observes: bool,
+    path: Option<UriPath<'a>>,
+) -> Reply
+    requires ready { IsReady link.old }
+    requires answering { IsAnswering link.old.phase }
+    requires short { length plan.now.response.payload ≤ LARGEST_MESSAGE }
+    requires path { IfSome path (λ path. is_path path ≡ true) }
+    requires told { path_or_root path ≡ plan.now.response.location }
+    requires room { path_size plan.now.response.location + 45 ≤ N }
+    requires few { N ≤ MAX_EXTENDED_LENGTH }
+    ensures reply { let response = response_with_observe token.now observes plan.now.response in result
+        ≡ fit (limit_in link.old) response (bare_response response) }
+    ensures after { link.new
+        ≡ link_after link.old (call.Reply (response_with_observe token.now observes plan.now.response)) }
+{
+    let mut response: CompactBuilder<N> = CompactBuilder::new(plan.code(), token.again());
+    add_etag(&mut response, plan.etag());
+    add_observe(&mut response, observes);
+    add_location(&mut response, path);
+    add_number(&mut response, CONTENT_FORMAT, wide(plan.format()));
+    add_number(&mut response, MAX_AGE, plan.max_age());
+    add_number(&mut response, SIZE1, plan.size1());
+    response.payload(plan.payload());
+    link.reply_compact(&response)
+}
+
+/// Returns the same number in 32 bits.
+fn wide(number: Option<u16>) -> Option<u32>
+    ensures { result ≡ number }
+{
+    number.map(u32::from)
+}
+
+/// Adds an option, for which there must be room.
+#[tactic(auto, using(crate::proofs::values::ResponseLemmas::last_added))]
+fn add<const N: usize>(response: &mut CompactBuilder<N>, number: u16, value: &[u8])
+    requires order { last_number 0 response.old.options ≤ number }
+    requires room { encoded_size response.old + 5 + length value.now ≤ N }
+    ensures added { response.new ≡ with_option response.old number value.now }
+    ensures order { last_number 0 response.new.options ≡ number }
+    ensures size { encoded_size response.new ≤ encoded_size response.old + 5 + length value.now }
+{
+    response.option(number, value);
+}
+
+/// Adds ETag first, if there is one (RFC 7252 section 5.10.6).
+fn add_etag<const N: usize>(response: &mut CompactBuilder<N>, etag: Option<&[u8]>)
+    requires first { response.old.options ≡ [] }
+    requires room { 13 ≤ N }
+    requires short { IfSome etag (λ etag. length etag.now ≤ 8) }
+    ensures added { response.new
+        ≡ record response.old {
+          options = response.old.options ++ option_at numbers.etag
+              (option_map (λ etag. etag.now) etag.entry);
+        } }
+    ensures order { last_number 0 response.new.options ≤ 4 }
+    ensures size { encoded_size response.new ≤ 13 }
+{
+    if let Some(etag) = etag {
+        add(response, ETAG, etag);
+    }
+}
+
+/// Adds an empty Observe, if the response is a notification (RFC 8323 section 7.1).
+fn add_observe<const N: usize>(response: &mut CompactBuilder<N>, observes: bool)
+    requires order { last_number 0 response.old.options ≤ 4 }
+    requires room { encoded_size response.old + 5 ≤ N }
+    ensures added { response.new
+        ≡ record response.old { options = response.old.options ++ empty_at numbers.observe observes } }
+    ensures order { last_number 0 response.new.options ≤ 6 }
+    ensures size { encoded_size response.new ≤ encoded_size response.old + 5 }
+{
+    if observes {
+        add(response, OBSERVE, &[]);
+    }
+}
+
+/// Adds the path of a resource that was created, if there is one (RFC 7252 section 5.10.7).
+fn add_location<const N: usize>(response: &mut CompactBuilder<N>, path: Option<UriPath>)
+    requires path { IfSome path (λ path. is_path path ≡ true) }
+    requires order { last_number 0 response.old.options ≤ 8 }
+    requires room { encoded_size response.old + path_size (path_or_root path) ≤ N }
+    ensures added { response.new
+        ≡ record response.old {
+          options = response.old.options ++ each_at numbers.location_path
+              (path_or_root path.entry);
+        } }
+    ensures order { last_number 0 response.new.options ≤ 8 }
+    ensures size { encoded_size response.new ≤ encoded_size response.old + path_size (path_or_root path.entry) }
+{
+    if let Some(path) = path {
+        add_path(response, path);
+    }
+}
+
+/// Adds an option of format uint, if there is a number (RFC 7252 section 3.2).
+#[tactic(auto, using(crate::proofs::values::ResponseLemmas::last_added))]
+fn add_number<const N: usize>(response: &mut CompactBuilder<N>, number: u16, value: Option<u32>)
+    requires order { last_number 0 response.old.options ≤ number }
+    requires room { encoded_size response.old + 9 ≤ N }
+    ensures added { response.new ≡ record response.old { options = response.old.options ++ number_at number value } }
+    ensures order { last_number 0 response.new.options ≤ number }
+    ensures size { encoded_size response.new ≤ encoded_size response.old + 9 }
+{
+    if let Some(value) = value {
+        response.uint_option(number, value);
+    }
+}
+
+/// Adds Location-Path, an option for each segment (RFC 7252 section 5.10.7).
+fn add_path<const N: usize>(response: &mut CompactBuilder<N>, path: UriPath)
+    requires path { is_path path ≡ true }
+    requires order { last_number 0 response.old.options ≤ 8 }
+    requires room { encoded_size response.old + path_size path ≤ N }
+    ensures added { response.new
+        ≡ record response.old { options = response.old.options ++ each_at numbers.location_path path.entry } }
+    ensures order { last_number 0 response.new.options ≤ 8 }
+    ensures size { encoded_size response.new ≤ encoded_size response.old + path_size path.entry }
+{
+    for segment in path {
+        add(response, LOCATION_PATH, segment);
+    }
+}

@@ -1,0 +1,344 @@
+//! A connection of a server.
+
+ghost use Rattle.std.specs.Prelude.{◌≡◌, ℕ, List, [], IfOk, OnOk, OnErr, false, None, ◌≤◌, ◌+◌, ◌++◌, ⊤, Some, length, take, IfErr};
+ghost use Rattle.coap_server_session.specs.Prelude.{IsLive, IsReady, IsPut, Host as HostValue, change_hash, change_by, host_changed, session_handled, session_with, sizes_of, framer_on, sem, follows_so, none, RefusedBy, AreInRange, is_finished, release_refusal, MarkedSession, IsMarked, AreMarked, observers_left, new_session, session_takes, taking, session_written, session_ended, session_released, session_announced, RefusesPiece, IsAnnounced};
+ghost use Rattle.coap_server_session.specs.contracts.session.Session.{the_row};
+
+mod due;
+mod settling;
+
+use crate::answering::answer;
+use crate::host::Host;
+use crate::observers::Observers;
+use coap_conn::{Limits, Link, Phase, Reject, Role, SendFault, Verdict};
+use coap_frame::Framer;
+use coap_model::AnnounceFault;
+use coap_wire::{LARGEST_MESSAGE, MessageRef, parse};
+pub use due::sooner;
+use std::alloc::{AllocError, Global};
+use std::marker::Model;
+
+/// What was taken of a piece.
+#[derive(Clone, Copy)]
+pub struct Taking {
+    /// How many bytes.
+    pub count: usize,
+    /// Whether a message was handled.
+    pub handled: bool,
+    /// The hash of the path where a resource was put or deleted, if one was.
+    pub changed: Option<u8>,
+}
+
+impl Taking {
+    /// So many bytes without a message.
+    fn without_message(count: usize) -> Taking
+        ensures { result ≡ record { count = count; handled = false; changed = None } }
+    {
+        Taking {
+            count,
+            handled: false,
+            changed: None,
+        }
+    }
+}
+
+/// A connection: its framer, its link, and its observers. Contracts see a `MarkedSession`.
+#[derive(Drop)]
+pub struct Session {
+    framer: Framer,
+    link: Link,
+    observers: Observers,
+}
+
+impl Model for Session {
+    ghost use Rattle.coap_server_session.specs.values.Sessions.{MarkedSession};
+
+    ghost Value = { MarkedSession };
+
+    ghost use Rattle.coap_server_session.specs.views.SessionViews.{marked_session, is_session};
+
+    ghost view = { marked_session };
+
+    ghost invariant = { is_session };
+}
+
+impl Session {
+    /// A new connection with these limits, on which our Capabilities and Settings wait. All its room is reserved here.
+    ///
+    /// # Errors
+    ///
+    /// Where the room is refused.
+    pub fn open(alloc: Global, limits: Limits) -> Result<Session, AllocError>
+        ensures value { IfOk result (λ s. s ≡ record { session = new_session limits; marks = [] }) }
+        ensures ranges { OnOk result (AreInRange limits) }
+    {
+        Ok(Session {
+            framer: Framer::new(alloc, limits.max_message())?,
+            link: Link::open(alloc, Role::Server, limits, 0)?,
+            observers: Observers::new(alloc, limits.observers())?,
+        })
+    }
+
+    /// Whether it takes bytes: there is room for the greatest message sent, and nothing has ended the connection.
+    pub fn takes(&self) -> bool
+        ensures { result ≡ session_takes self.now.session }
+    {
+        self.link.phase().stop().is_none() && self.link.ready()
+    }
+
+    /// Takes bytes of a piece up to the end of its first message, to the byte that stops the connection, or all of
+    /// them; none where there is no room for the greatest message sent or no message is taken any more.
+    ///
+    /// # Errors
+    ///
+    /// How many bytes were taken, where memory is refused for a representation that the message stores: all up to the
+    /// message's last. Nothing of the message was handled then.
+    #[tactic(auto, unfolding(crate::specs::values::Sessions::taking, coap_frame::specs::Framing::framing))]
+    pub fn take(&mut self, host: &mut Host, piece: &[u8]) -> Result<Taking, usize>
+        requires { IsMarked host.old self.old }
+        ensures count { IfOk result (λ t. t.count ≡ (taking host.old self.old.session piece.now).count) }
+        ensures within { IfOk result (λ t. t.count ≤ length piece.now) }
+        ensures handled { IfOk result (λ t. t.handled ≡ (taking host.old self.old.session piece.now).handled) }
+        ensures changed { IfOk result (λ t. t.changed
+            ≡ change_hash (taking host.old self.old.session piece.now).change) }
+        ensures after { OnOk result (self.new.session ≡ (taking host.old self.old.session piece.now).session) }
+        ensures host { OnOk result (host.new
+            ≡ host_changed host.old (taking host.old self.old.session piece.now).change) }
+        ensures refused { IfErr result (λ count. RefusesPiece host.old self.old.session piece.now count) }
+        ensures kept { IfErr result (λ count. self.new.session
+            ≡ (taking host.old self.old.session (take count piece.now)).session) }
+        ensures unchanged { OnErr result (host.new ≡ host.old) }
+        ensures marked { IsMarked host.new self.new }
+    {
+        if !self.takes() {
+            return Ok(Taking::without_message(0));
+        }
+        let framed = self.framer.next(piece);
+        let count = framed.taken;
+        match framed.what.frame() {
+            Ok(None) => Ok(Taking::without_message(count)),
+            Err(fault) => {
+                self.link.reject(Reject::from(fault));
+                give_up(&mut self.framer, &self.link, &mut self.observers);
+                Ok(Taking::without_message(count))
+            }
+            Ok(Some(frame)) => match parse(frame) {
+                Err(_) => {
+                    self.link.reject(Reject::Format);
+                    give_up(&mut self.framer, &self.link, &mut self.observers);
+                    Ok(Taking::without_message(count))
+                }
+                Ok(message) => match handle(&mut self.link, &mut self.observers, host, &message) {
+                    Ok(changed) => {
+                        give_up(&mut self.framer, &self.link, &mut self.observers);
+                        Ok(Taking {
+                            count,
+                            handled: true,
+                            changed,
+                        })
+                    }
+                    Err(_) => {
+                        self.framer.unread(&piece[..count]);
+                        Err(count - 1)
+                    }
+                },
+            },
+        }
+    }
+
+    /// All bytes that wait.
+    pub fn front<'a>(&'a mut self) -> &'a [u8]
+        ensures* unchanged { sem 𝓛 (follows_so the_row the_row self.entry.ghost_name none (λ _ _. ⊤)
+            (λ s. s ≡ self.old)) }
+        ensures front { result.now ≡ self.old.session.link.waiting }
+    {
+        self.link.front()
+    }
+
+    /// Returns the queued bytes in the two slices that they occupy.
+    pub fn parts(&self) -> (&[u8], &[u8])
+        ensures { result.0.now ++ result.1.now ≡ self.now.session.link.waiting }
+    {
+        self.link.parts()
+    }
+
+    /// The first so many bytes were written, and wait no more.
+    pub fn written(&mut self, count: usize)
+        requires { count ≤ length self.old.session.link.waiting }
+        ensures { self.new ≡ record self.old { session = session_written self.old.session count } }
+    {
+        self.link.written(count);
+    }
+
+    /// The input ended, within a frame where bytes of one are kept. Nothing changes where no message is taken any more.
+    pub fn end(&mut self)
+        ensures after { self.new.session ≡ session_ended self.old.session }
+        ensures marked { (host : HostValue) → IsMarked host self.old → IsMarked host self.new }
+    {
+        self.link.end(self.framer.kept() > 0);
+        give_up(&mut self.framer, &self.link, &mut self.observers);
+    }
+
+    /// Sends Release and stops (RFC 8323 section 5.5).
+    ///
+    /// # Errors
+    ///
+    /// As `Link::release`. Nothing has changed then.
+    pub fn release(&mut self) -> Result<(), SendFault>
+        ensures answer { RefusedBy result (release_refusal self.old.session.link) }
+        ensures after { OnOk result (self.new.session ≡ session_released self.old.session) }
+        ensures marked { OnOk result ((host : HostValue) → IsMarked host self.old → IsMarked host self.new) }
+        ensures err { OnErr result (self.new ≡ self.old) }
+    {
+        self.link.release()?;
+        give_up(&mut self.framer, &self.link, &mut self.observers);
+        Ok(())
+    }
+
+    /// Announces a size as the greatest message taken from now on, and keeps room for it (RFC 8323 section 5.3.1). What is
+    /// kept of a message stays.
+    ///
+    /// # Errors
+    ///
+    /// As `Server::announce` but `NoSuch`. Nothing has changed then.
+    pub fn announce(&mut self, size: u32) -> Result<(), AnnounceFault>
+        ensures answer { IsAnnounced size (Some self.old.session) result }
+        ensures after { OnOk result (self.new.session ≡ session_announced self.old.session size) }
+        ensures marked { OnOk result ((host : HostValue) → IsMarked host self.old → IsMarked host self.new) }
+        ensures err { OnErr result (self.new ≡ self.old) }
+    {
+        let Phase::Open = self.link.phase() else {
+            return Err(AnnounceFault::NotOpen);
+        };
+        if (size as usize) < self.link.own_max() {
+            return Err(AnnounceFault::Lower);
+        }
+        if size as usize > LARGEST_MESSAGE {
+            return Err(AnnounceFault::TooLarge);
+        }
+        if !self.link.ready() {
+            return Err(AnnounceFault::NoRoom);
+        }
+        if !self.link.takes_announcement(size) {
+            return Err(AnnounceFault::PeerTooSmall);
+        }
+        let Ok(()) = self.framer.raise(size as usize) else {
+            return Err(AnnounceFault::Memory);
+        };
+        self.link.announce(size);
+        Ok(())
+    }
+
+    /// How it stands.
+    pub fn phase(&self) -> Phase
+        ensures { result ≡ self.now.session.link.phase }
+    {
+        self.link.phase()
+    }
+
+    /// How many bytes of an unfinished frame are kept.
+    pub fn kept(&self) -> usize
+        ensures { result ≡ length self.now.session.frame }
+    {
+        self.framer.kept()
+    }
+
+    /// How many bytes wait.
+    pub fn waiting(&self) -> usize
+        ensures { result ≡ length self.now.session.link.waiting }
+    {
+        self.link.waiting()
+    }
+
+    /// How many answers and Pongs are held.
+    pub fn pending(&self) -> usize
+        ensures { result ≡ length self.now.session.link.held }
+    {
+        self.link.pending()
+    }
+
+    /// How many are held, and how many observers there are, together.
+    pub fn more(&self) -> usize
+        ensures { result ≡ length self.now.session.link.held + length self.now.session.observers }
+    {
+        self.link.pending() + self.observers.len()
+    }
+
+    /// How many observers there are.
+    pub fn observers(&self) -> usize
+        ensures { result ≡ length self.now.session.observers }
+    {
+        self.observers.len()
+    }
+
+    /// The greatest message that the peer takes.
+    pub fn peer_max(&self) -> u32
+        ensures { result ≡ self.now.session.link.peer_max }
+    {
+        self.link.peer_max()
+    }
+
+    /// Whether nothing more is to be written.
+    pub fn finished(&self) -> bool
+        ensures { result ≡ is_finished self.now.session.link }
+    {
+        self.link.finished()
+    }
+}
+
+/// Handles a message, and answers the hash of the path where a resource was put or deleted, if one was.
+///
+/// # Errors
+///
+/// Where memory is refused for the representation that the message stores. All is then as before.
+#[inline]
+fn handle(
+    link: &mut Link,
+    observers: &mut Observers,
+    host: &mut Host,
+    message: &MessageRef,
+) -> Result<Option<u8>, AllocError>
+    requires ready { IsReady link.old }
+    requires live { IsLive link.old.phase }
+    requires room { observers.old.room ≡ link.old.limits.observers }
+    requires marked { AreMarked host.old observers.old.entries observers.old.marks }
+    ensures after { OnOk result ((frame : List ℕ) → session_with [] link.new observers.new.entries ≡ session_handled
+        host.old (record { frame = frame; link = link.old; observers = observers.old.entries }) message.now) }
+    ensures room { OnOk result (observers.new.room ≡ observers.old.room) }
+    ensures marked { OnOk result (AreMarked host.new observers.new.entries observers.new.marks) }
+    ensures sizes { OnOk result (sizes_of link.new ≡ sizes_of link.old) }
+    ensures changed { IfOk result (λ changed. changed ≡ change_hash (change_by host.old link.old message.now)) }
+    ensures host { OnOk result (host.new ≡ host_changed host.old (change_by host.old link.old message.now)) }
+    ensures put { OnErr result (IsPut (change_by host.old link.old message.now)) }
+    ensures unchanged { OnErr result (host.new ≡ host.old) }
+    ensures silent { OnErr result (link.new ≡ link.old) }
+    ensures kept { OnErr result (observers.new ≡ observers.old) }
+{
+    match link.on(message) {
+        Verdict::Request => {
+            host.keep_moment();
+            answer(link, observers, host, message)
+        }
+        _ => Ok(None),
+    }
+}
+
+/// Gives up the observers where the connection is not open any more, and the bytes of a frame where no message is taken
+/// any more.
+fn give_up(framer: &mut Framer, link: &Link, observers: &mut Observers)
+    ensures framer { framer.new ≡ framer_on link.now framer.old }
+    ensures observers { observers.new ≡ observers_left link.now observers.old }
+{
+    match link.phase() {
+        Phase::Waiting => observers.clear(),
+        Phase::Open => {}
+        Phase::Releasing(_) => {
+            framer.clear();
+            observers.clear();
+        }
+        Phase::Stopped(_) => {
+            framer.clear();
+            observers.clear();
+        }
+    }
+}
