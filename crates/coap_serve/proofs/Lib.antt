@@ -1,4 +1,1 @@
 pub mod streams
-pub mod values
-pub mod world
-pub mod scripting

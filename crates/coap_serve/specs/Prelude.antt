@@ -143,26 +143,26 @@ pub use Rattle.coap_serve.specs.declared.door.wants.Wants.{Wants}
 pub use Rattle.coap_server_session.specs.declared.host.Host.{Host}
 pub use Rattle.coap_server_session.specs.declared.observers.Stale.{Stale}
 pub use Rattle.coap_server_session.specs.declared.chains.Chains.{Chains}
-pub use Rattle.coap_serve.specs.declared.replay.Drained.{Drained}
-pub use Rattle.coap_serve.specs.declared.replay.Line.{Line}
+pub use Rattle.coap_server_engine.specs.declared.replay.Drained.{Drained}
+pub use Rattle.coap_server_engine.specs.declared.replay.Line.{Line}
 pub use Rattle.coap_serve.specs.declared.serve.IoFault.{IoFault}
 pub use Rattle.coap_serve.specs.declared.serve.IoFault.TheVariants.{Memory, Read, Turns, Write}
 pub use Rattle.coap_serve.specs.declared.serve.Report.{Report}
 pub use Rattle.coap_serve.specs.declared.serve.Turn.{Turn}
-pub use Rattle.coap_serve.specs.declared.server.Outlook.{Outlook}
-pub use Rattle.coap_serve.specs.declared.server.Stamp.{Stamp}
+pub use Rattle.coap_server_engine.specs.declared.server.Outlook.{Outlook}
+pub use Rattle.coap_server_engine.specs.declared.server.Stamp.{Stamp}
 pub use Rattle.coap_server_session.specs.declared.session.Session.TheInside.{Inside}
 -- ---- coap_serve, script
-pub use Rattle.coap_serve.specs.script.Cuts.{DifferInCuts, AreInTime, other_lines, IsInTime}
-unfoldable pub use Rattle.coap_serve.specs.script.Cuts.{lines_of, in_before, joined}
-pub use Rattle.coap_serve.specs.script.Replay.{stop_number, drained, Ran, comes_to, drain_ran}
-pub use Rattle.coap_serve.specs.script.Replay.{in_ran, on_connection, open_number, release_number}
-pub use Rattle.coap_serve.specs.script.Replay.{status_ran, store_number, tick_refusal, unless_refused}
-unfoldable pub use Rattle.coap_serve.specs.script.Replay.{replayed, event_ran}
-pub use Rattle.coap_serve.specs.script.Replayed.{replay_number, IsReplayed, fails_write, IsCutAt, IsRefusedAt}
-pub use Rattle.coap_serve.specs.script.Replayed.{IsUnrun}
-pub use Rattle.coap_serve.specs.script.Shown.{ShowsRun, IsShownReplay, ShowsPart, IsPartlyMade, ShowsRefusedAt}
-unfoldable pub use Rattle.coap_serve.specs.script.Shown.{events_made, events_ran}
+pub use Rattle.coap_server_engine.specs.script.Cuts.{DifferInCuts, AreInTime, other_lines, IsInTime}
+unfoldable pub use Rattle.coap_server_engine.specs.script.Cuts.{lines_of, in_before, joined}
+pub use Rattle.coap_server_engine.specs.script.Replay.{stop_number, drained, Ran, comes_to, drain_ran}
+pub use Rattle.coap_server_engine.specs.script.Replay.{in_ran, on_connection, open_number, release_number}
+pub use Rattle.coap_server_engine.specs.script.Replay.{status_ran, store_number, tick_refusal, unless_refused}
+unfoldable pub use Rattle.coap_server_engine.specs.script.Replay.{replayed, event_ran}
+pub use Rattle.coap_server_engine.specs.script.Replayed.{replay_number, IsReplayed, fails_write, IsCutAt, IsRefusedAt}
+pub use Rattle.coap_server_engine.specs.script.Replayed.{IsUnrun}
+pub use Rattle.coap_server_engine.specs.script.Shown.{ShowsRun, IsShownReplay, ShowsPart, IsPartlyMade, ShowsRefusedAt}
+unfoldable pub use Rattle.coap_server_engine.specs.script.Shown.{events_made, events_ran}
 -- ---- coap_serve, streams
 pub use Rattle.coap_serve.specs.streams.DoorRun.{IsDoorRun, waited_behind, moved_to, EndsWith, HasTurnedSo, IsCutRun}
 pub use Rattle.coap_serve.specs.streams.DoorRun.{NoneYet, OneMore}
@@ -192,31 +192,31 @@ pub use Rattle.coap_server_session.specs.values.Dues.{due_on, IsBefore, next_tol
 pub use Rattle.coap_server_session.specs.values.Entries.{IsFirstStale, IsFirstMarked, link_replied, entries_replied, entries_notified}
 pub use Rattle.coap_server_session.specs.values.Entries.{settled_held, framer_on, is_observed, is_sent, response_on}
 unfoldable pub use Rattle.coap_server_session.specs.values.Entries.{first_index}
-pub use Rattle.coap_serve.specs.values.Fed.{Fed, IsPartlyFed, ShowsMore, ShowsPartlyFed, fed, fed_more, fed_once}
-pub use Rattle.coap_serve.specs.values.Fed.{took, unfed, where_there}
-unfoldable pub use Rattle.coap_serve.specs.values.Fed.{fed_turns, took_turns}
-pub use Rattle.coap_serve.specs.values.Flushes.{IsFlushed, IsPartFlushed, waiting_at, more_at, IsFlushedOnce}
-pub use Rattle.coap_serve.specs.values.Flushes.{IsFlushedAt, flush_once, more_in, waiting_in}
-unfoldable pub use Rattle.coap_serve.specs.values.Flushes.{flush_turns}
-pub use Rattle.coap_serve.specs.values.ServerAnswers.{stop_on, open_refusal, IsNotTaken, open_refusal_in}
-pub use Rattle.coap_serve.specs.values.ServerAnswers.{release_fault, can_take_on, written_refusal, front_of}
-pub use Rattle.coap_serve.specs.values.ServerAnswers.{OpenedOrMemory, released_refusal, status_of}
-pub use Rattle.coap_serve.specs.values.ServerAnswers.{released_refusal_on, handled_so, RefusesPieceOn}
-pub use Rattle.coap_serve.specs.values.ServerAnswers.{handled_on}
-pub use Rattle.coap_serve.specs.values.ServerAnswers.{session_status, written_refusal_on}
-unfoldable pub use Rattle.coap_serve.specs.values.ServerAnswers.{handled_by}
+pub use Rattle.coap_server_engine.specs.values.Fed.{Fed, IsPartlyFed, ShowsMore, ShowsPartlyFed, fed, fed_more, fed_once}
+pub use Rattle.coap_server_engine.specs.values.Fed.{took, unfed, where_there}
+unfoldable pub use Rattle.coap_server_engine.specs.values.Fed.{fed_turns, took_turns}
+pub use Rattle.coap_server_engine.specs.values.Flushes.{IsFlushed, IsPartFlushed, waiting_at, more_at, IsFlushedOnce}
+pub use Rattle.coap_server_engine.specs.values.Flushes.{IsFlushedAt, flush_once, more_in, waiting_in}
+unfoldable pub use Rattle.coap_server_engine.specs.values.Flushes.{flush_turns}
+pub use Rattle.coap_server_engine.specs.values.ServerAnswers.{stop_on, open_refusal, IsNotTaken, open_refusal_in}
+pub use Rattle.coap_server_engine.specs.values.ServerAnswers.{release_fault, can_take_on, written_refusal, front_of}
+pub use Rattle.coap_server_engine.specs.values.ServerAnswers.{OpenedOrMemory, released_refusal, status_of}
+pub use Rattle.coap_server_engine.specs.values.ServerAnswers.{released_refusal_on, handled_so, RefusesPieceOn}
+pub use Rattle.coap_server_engine.specs.values.ServerAnswers.{handled_on}
+pub use Rattle.coap_server_engine.specs.values.ServerAnswers.{session_status, written_refusal_on}
+unfoldable pub use Rattle.coap_server_engine.specs.values.ServerAnswers.{handled_by}
 pub use Rattle.coap_server_session.specs.values.SessionAnswers.{IsAnnounced, announced_refusal_on, session_refusal}
-pub use Rattle.coap_serve.specs.values.ServerCauses.{AreSettledUntouched, AreOthersSettled, AreUntouched}
-pub use Rattle.coap_serve.specs.values.ServerCauses.{AreMarkedBut, AreMarkedAfter}
-pub use Rattle.coap_serve.specs.values.ServerDues.{same_stamp, stamp_of, WaitsForWhatIsDue, outlook_of}
-pub use Rattle.coap_serve.specs.values.ServerDues.{session_outlook}
-pub use Rattle.coap_serve.specs.values.Servers.{new_server, server_put, server_removed, server_ticked, AreSettled}
-pub use Rattle.coap_serve.specs.values.Servers.{server_dropped, new_host, ServerValue, LiesAt, server_opened}
-pub use Rattle.coap_serve.specs.values.Servers.{is_there, server_written, server_ended, server_released}
-pub use Rattle.coap_serve.specs.values.Servers.{server_announced, settled_entry, count_on, on_session, server_settled}
-pub use Rattle.coap_serve.specs.values.Servers.{server_taken_on, server_taken_so, session_becomes, unmarked_entry}
-pub use Rattle.coap_serve.specs.values.Servers.{unmarked, AreAllMarked}
-unfoldable pub use Rattle.coap_serve.specs.values.Servers.{session_of, count_taken, server_taken, changed_at}
+pub use Rattle.coap_server_engine.specs.values.ServerCauses.{AreSettledUntouched, AreOthersSettled, AreUntouched}
+pub use Rattle.coap_server_engine.specs.values.ServerCauses.{AreMarkedBut, AreMarkedAfter}
+pub use Rattle.coap_server_engine.specs.values.ServerDues.{same_stamp, stamp_of, WaitsForWhatIsDue, outlook_of}
+pub use Rattle.coap_server_engine.specs.values.ServerDues.{session_outlook}
+pub use Rattle.coap_server_engine.specs.values.Servers.{new_server, server_put, server_removed, server_ticked, AreSettled}
+pub use Rattle.coap_server_engine.specs.values.Servers.{server_dropped, new_host, ServerValue, LiesAt, server_opened}
+pub use Rattle.coap_server_engine.specs.values.Servers.{is_there, server_written, server_ended, server_released}
+pub use Rattle.coap_server_engine.specs.values.Servers.{server_announced, settled_entry, count_on, on_session, server_settled}
+pub use Rattle.coap_server_engine.specs.values.Servers.{server_taken_on, server_taken_so, session_becomes, unmarked_entry}
+pub use Rattle.coap_server_engine.specs.values.Servers.{unmarked, AreAllMarked}
+unfoldable pub use Rattle.coap_server_engine.specs.values.Servers.{session_of, count_taken, server_taken, changed_at}
 pub use Rattle.coap_server_session.specs.values.Responses.{path_size}
 pub use Rattle.coap_server_session.specs.values.Sessions.{ObserverValue, answer_on, hold_on, held_in, host_changed, link_sent}
 pub use Rattle.coap_server_session.specs.values.Sessions.{new_entry, notification_on, mark_at, present_mark, untold_by, SessionValue}
@@ -233,14 +233,14 @@ unfoldable pub use Rattle.coap_server_session.specs.values.Sessions.{without_ent
 unfoldable pub use Rattle.coap_server_session.specs.values.Sessions.{next_held_in, next_stale, session_settled_once, taking}
 unfoldable pub use Rattle.coap_server_session.specs.values.Sessions.{session_settled_within}
 -- ---- coap_serve, views
-pub use Rattle.coap_serve.specs.views.LineViews.{line_bytes, IsRun, IsDrainable}
+pub use Rattle.coap_server_engine.specs.views.LineViews.{line_bytes, IsRun, IsDrainable}
 pub use Rattle.coap_server_session.specs.views.ChainViews.{Linked, linked, concerns_path, last_in, previous_in, next_index}
 pub use Rattle.coap_server_session.specs.views.ChainViews.{IsLastBefore, AreChainedTo}
 pub use Rattle.coap_server_session.specs.views.FlagViews.{flag_of, AreFlagged, AreClear, AreBlocks}
 pub use Rattle.coap_server_session.specs.views.ObserverViews.{observer_value, mark_in, IsTagged}
-pub use Rattle.coap_serve.specs.views.ServerViews.{IsServer, server_value}
+pub use Rattle.coap_server_engine.specs.views.ServerViews.{IsServer, server_value}
 pub use Rattle.coap_server_session.specs.views.SessionShows.{observer_shown, session_shown}
 pub use Rattle.coap_server_session.specs.views.SessionViews.{IsSession, session_value}
 -- ---- coap_serve, world
-pub use Rattle.coap_serve.specs.world.Shows.{Shows, ShowsRefused, place_shown, server_shown}
-unfoldable pub use Rattle.coap_serve.specs.world.Shows.{server_of}
+pub use Rattle.coap_server_engine.specs.world.Shows.{Shows, ShowsRefused, place_shown, server_shown}
+unfoldable pub use Rattle.coap_server_engine.specs.world.Shows.{server_of}

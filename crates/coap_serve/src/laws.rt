@@ -1,6 +1,5 @@
 //! What holds of every server, each as the contract of a function that does nothing.
 
-mod engine;
 mod runs;
 
 pub use coap_model::laws::{
@@ -8,7 +7,7 @@ pub use coap_model::laws::{
     custody_comes_last, limits_are_kept, observers_were_told_last,
     the_size_announced_last_is_in_force, what_is_held_is_sent, what_is_queued_fits,
 };
-pub use engine::{
+pub use coap_server_engine::laws::{
     cuts_do_not_matter, each_message_taken_is_handled_once, no_change_is_lost,
     only_what_is_stored_wants_memory, what_is_not_due_stays, where_a_script_cuts_does_not_matter,
 };

@@ -1,12 +1,21 @@
-//! A CoAP server over reliable transports (RFC 8323).
+//! A CoAP server over reliable transports (RFC 8323): its runs, and all public names of the crates of the server.
+//!
+//! - `serve_one` runs a server with one connection over one input and one output, such as standard input and output.
+//! - `serve_door` runs a server over the connections that a listener (`Door`) accepts. `Service` is the same, one turn a
+//!   call, for a program that embeds the server (docs/EMBEDDING.md).
+//! - `Server` is the server itself, which performs no I/O: each event is one call.
+//! - `Config`, `Limits` and `Starts` configure it. `script` and `Server::replay` run a text of events.
+//! - `laws` has the theorems over all servers.
+//!
+//! This crate opens no socket: `coap_sockets` implements `Door`, `Wire` and `Clock` over TCP. The server is in
+//! `coap_server_engine`, one connection of it in `coap_server_session`, and what it does, as a function of its events,
+//! in `coap_model`. Continue with `serve.rt` and then `door.rt`, or with `coap_server_engine/src/server.rt`.
 #![tactic(auto)]
 
 mod door;
 pub mod laws;
 mod output;
-mod replay;
 mod serve;
-mod server;
 
 pub use coap_conn::{LimitFault, Limits, Phase, Reason};
 pub use coap_io::{
@@ -18,9 +27,8 @@ pub use coap_model::{
     ReleaseFault, Starts, Status, TakeFault, Taken, WrittenFault,
 };
 pub use coap_script::{Event, ScriptFault, script, scripts_go_on_behind_whole_lines};
+pub use coap_server_engine::{ReplayFault, Server};
 pub use coap_store::{PathKey, StoreFault};
 pub use coap_text::{bytes_in, number_in};
 pub use door::{Service, serve_door};
-pub use replay::ReplayFault;
 pub use serve::{IoFault, Report, serve_one};
-pub use server::Server;

@@ -3,10 +3,10 @@
 ghost use Rattle.std.specs.Prelude.{◌≡◌, false, IfOk, OnOk, OnErr, is_err};
 ghost use Rattle.coap_serve.specs.Prelude.{AddsBytes, WritesPart, IsFlushed, IsPartFlushed, session_of, stop_on};
 
-use crate::server::Server;
 use coap_conn::Reason;
 use coap_io::{Outlet, WriteFailed};
 use coap_model::ConnId;
+use coap_server_engine::Server;
 
 /// Writes all that waits on a connection, until nothing waits: what is written makes room, and what there is room for
 /// then comes to wait. Answers why the connection takes no message any more.

@@ -5,10 +5,10 @@ ghost use Rattle.coap_serve.specs.Prelude.{AllByRecursion, end_reason, AreInRang
 ghost use Rattle.coap_serve.specs.streams.Standing.{IsServed};
 
 use crate::output::flush;
-use crate::server::Server;
 use coap_conn::Reason;
 use coap_io::{Outlet, Source};
 use coap_model::{Config, ConnId, Handled};
+use coap_server_engine::Server;
 use std::alloc::Global;
 use thiserror::Error;
 /// What a run over one input and one output did.

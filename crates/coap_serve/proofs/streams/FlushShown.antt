@@ -15,7 +15,7 @@ use Rattle.coap_model.proofs.world.StepLaws.{world_step, spelled_same}
 use Rattle.coap_model.proofs.world.HearingLaws.{world_hears}
 use Rattle.coap_model.proofs.streams.FlushLaws.{flushed_so, times_further, flush_leaves}
 use Rattle.coap_model.proofs.streams.OutputLaws.{world_for_written, outcome_there}
-use Rattle.coap_serve.proofs.world.ShowLaws.{side_there, shows_written, no_session}
+use Rattle.coap_server_engine.proofs.world.ShowLaws.{side_there, shows_written, no_session}
 use Rattle.coap_model.proofs.world.GoingOn.{GoesOn, as_before, written_goes_on, side_is}
 use Rattle.coap_model.proofs.world.GrowLaws.{front_written, same_front, none_waits_all_written, written_all, settled_grows}
 use Rattle.coap_model.proofs.world.WalkLaws.{written_between}

@@ -19,10 +19,10 @@ use Rattle.coap_serve.specs.streams.Turns.{wait_until}
 use Rattle.coap_serve.specs.Prelude.{KeepsNotes, WhilePassedOver, AtFirst, Served, IsNoted, AreNoted, true_end}
 use Rattle.coap_serve.specs.Prelude.{AllByRecursion, IsDistinct, keys_of, set_value_at, insert_entry, Peer, IoFault}
 use Rattle.coap_serve.specs.Prelude.{No}
-use Rattle.coap_serve.specs.values.Fed.{goes_on}
+use Rattle.coap_server_engine.specs.values.Fed.{goes_on}
 use Rattle.coap_serve.specs.streams.Notes.{Dropped, Opened, Ticked}
 use Rattle.coap_serve.proofs.streams.PassedLemmas.{passed_over}
-use Rattle.coap_serve.proofs.values.ServerLemmas.{Entries, is_other, all_are_settled, all_settled_stay}
+use Rattle.coap_server_engine.proofs.values.ServerLemmas.{Entries, is_other, all_are_settled, all_settled_stay}
 use Rattle.coap_store.proofs.StoreLemmas.{removed_few}
 use Rattle.coap_serve.specs.declared.door.peer.Course.TheVariants.{Open}
 use Rattle.coap_serve.proofs.streams.AgendaLemmas.{stamp_in, an_answer, can_with, sooner_never}

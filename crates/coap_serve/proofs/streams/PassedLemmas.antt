@@ -9,10 +9,10 @@ use Rattle.coap_serve.specs.Prelude.{AreSettled, session_of, server_taken, count
 use Rattle.coap_serve.specs.Prelude.{fed_turns, fed, fed_more, IsTakenAndWritten, ComesToNothing, is_heard}
 use Rattle.coap_serve.specs.Prelude.{waiting_once, server_wrote, is_over_in, left_behind, rest_left, wants_of}
 use Rattle.coap_serve.specs.Prelude.{can_go_on, session_outlook, outlook_of, Wants}
-use Rattle.coap_serve.specs.values.Fed.{goes_on}
-use Rattle.coap_serve.proofs.values.ServerLemmas.{changed_one, written_at_index, written_back, all_settled_stay}
+use Rattle.coap_server_engine.specs.values.Fed.{goes_on}
+use Rattle.coap_server_engine.proofs.values.ServerLemmas.{changed_one, written_at_index, written_back, all_settled_stay}
 use Rattle.coap_model.proofs.OptionLemmas.{there_is_none}
-use Rattle.coap_serve.proofs.world.ShowLaws.{taking_stopped}
+use Rattle.coap_server_engine.proofs.world.ShowLaws.{taking_stopped}
 
 -- ---- it takes nothing
 

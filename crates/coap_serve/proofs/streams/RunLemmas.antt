@@ -15,7 +15,7 @@ use Rattle.coap_model.specs.world.World as world
 use Rattle.coap_model.proofs.world.AcrossLaws.{ended_there}
 use Rattle.coap_model.proofs.world.EntryLemmas.{all_append}
 use Rattle.coap_model.proofs.world.BecameLaws.{HasStopped, settled_handles_none}
-use Rattle.coap_serve.proofs.world.ShowLaws.{side_there}
+use Rattle.coap_server_engine.proofs.world.ShowLaws.{side_there}
 use Rattle.coap_model.proofs.world.StepLaws.{world_first, world_step}
 use Rattle.coap_io.proofs.streams.DeviceLemmas.{bytes_none, bytes_then, given_none, given_then}
 use Rattle.coap_model.proofs.streams.OutputLaws.{world_for_written, world_for_none, takes_unless_stopped, outcome_at_first, opened_alone, nothing_yet}

@@ -3,8 +3,8 @@ use Rattle.std.proofs.Common.{◌≡◌, ℕ, zero, suc, ◌+◌, true, false, L
 use Rattle.coap_serve.specs.Prelude.{AllByRecursion, Fed, fed_turns, where_there, took_turns, took, ShowsMore}
 use Rattle.coap_serve.specs.Prelude.{ShowsPartlyFed, IsServing, HasServed, HasTurned, opening, ServerValue, session_of}
 use Rattle.coap_serve.specs.Prelude.{SessionValue, Event, Opened, Took, Wrote, Dropped}
-use Rattle.coap_serve.specs.values.Fed.{goes_on}
-use Rattle.coap_serve.proofs.scripting.ShownLemmas.{shows_same, shows_then}
+use Rattle.coap_server_engine.specs.values.Fed.{goes_on}
+use Rattle.coap_server_engine.proofs.scripting.ShownLemmas.{shows_same, shows_then}
 use Rattle.coap_model.proofs.world.EntryLemmas.{all_append, all_if}
 
 -- ---- events one after the other

@@ -17,13 +17,14 @@ use Rattle.coap_model.specs.world.Events.{front_of}
 use Rattle.coap_model.proofs.world.StepLaws.{world_same, world_step, rest_unfinished}
 use Rattle.coap_model.proofs.world.GoingOn.{side_is}
 use Rattle.coap_model.proofs.world.ReachedLaws.{IsReached, accepted_is, takes_there, handling_goes_on}
-use Rattle.coap_serve.proofs.world.RefusedLaws.{RefusesLast, refuses_last}
-use Rattle.coap_serve.proofs.world.ShowLaws.{side_there}
-use Rattle.coap_serve.proofs.world.HandledLaws.{messages_counted, one_step_at_most}
+use Rattle.coap_server_engine.proofs.world.RefusedLaws.{RefusesLast, refuses_last}
+use Rattle.coap_server_engine.proofs.world.ShowLaws.{side_there}
+use Rattle.coap_server_engine.proofs.world.HandledLaws.{messages_counted, one_step_at_most}
 use Rattle.coap_model.proofs.world.GrowLaws.{SideGrows, front_written, same_front, none_waits_all_written, took_grows}
 use Rattle.coap_model.proofs.streams.FlushLaws.{from_there_on, quiet_flush, flush_leaves}
 use Rattle.coap_model.proofs.streams.OutputLaws.{world_for_written, world_goes_on, outcome_there, takes_unless_stopped, spelled_more, steps_taken}
 use Rattle.coap_serve.proofs.streams.FlushShown.{LeadsTo, turns_stand, flush_stands}
+use Rattle.coap_server_engine.proofs.scripting.ShownLemmas.{config_stays}
 
 -- ---- more turns write more
 
@@ -88,10 +89,6 @@ pub record WasTaken (v after : ServerValue) (id : ℕ) (piece : List ℕ) (t : T
   pub takes_so : (events : List Event) → Shows v events → t.bytes ≡ takes v.config events id piece
   pub says : (events : List Event) → Shows v events → t.handled ≡ handled_in v.config events (Took id (take t.bytes piece)) id
   pub shows : (events : List Event) → Shows v events → Shows after (events ++ Took id (take t.bytes piece) ∷ [])
-
-pub config_stays : (v : ServerValue) (id : ℕ) (piece : List ℕ) → (server_taken v id piece).config ≡ v.config
-unfolding server_taken
-config_stays v id piece = elim (session_of id v.sessions) as (λ found. (server_taken_on v id piece found).config ≡ v.config) [ None ↦ refl | Some s ↦ refl ]
 
 module _ (v : ServerValue) (bytes : List ℕ) (goes : IsGoing v.config v (only_id v.config) bytes) where
   abbrev c : ConfigValues

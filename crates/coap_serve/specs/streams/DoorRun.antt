@@ -6,8 +6,8 @@ use Rattle.coap_serve.specs.declared.serve.IoFault.{IoFault}
 use Rattle.coap_serve.specs.declared.serve.IoFault.TheVariants.{Read, Write, Memory, Turns}
 use Rattle.coap_io.specs.declared.wire.Wait.{Wait}
 use Rattle.coap_io.specs.declared.wire.Wait.TheVariants.{No}
-use Rattle.coap_serve.specs.values.ServerAnswers.{open_refusal}
-use Rattle.coap_serve.specs.values.Servers.{ServerValue, new_server, server_ticked}
+use Rattle.coap_server_engine.specs.values.ServerAnswers.{open_refusal}
+use Rattle.coap_server_engine.specs.values.Servers.{ServerValue, new_server, server_ticked}
 use Rattle.coap_serve.specs.streams.Serving.{asked_by, IsTurnOf}
 use Rattle.coap_io.specs.streams.Telling.{DoorCall, Waited}
 use Rattle.coap_io.specs.streams.Wires.{WireTrace}

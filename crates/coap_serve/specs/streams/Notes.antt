@@ -1,13 +1,13 @@
 -- What was noted of connections, and how long that holds.
 use Rattle.std.specs.Prelude.{◌≡◌, ◌≢◌, ◌≤◌, ◌+◌, ℕ, Bool, List, Option}
 use Rattle.std.specs.List.{AllByRecursion}
-use Rattle.coap_serve.specs.values.Servers.{ServerValue, AreSettled, server_opened, server_ticked, server_dropped}
-use Rattle.coap_serve.specs.values.ServerDues.{stamp_of}
+use Rattle.coap_server_engine.specs.values.Servers.{ServerValue, AreSettled, server_opened, server_ticked, server_dropped}
+use Rattle.coap_server_engine.specs.values.ServerDues.{stamp_of}
 use Rattle.coap_serve.specs.streams.Turns.{IsServedOnce, wants_of, FarEnd}
 use Rattle.coap_io.specs.streams.Wires.{WireTrace}
 use Rattle.coap_serve.specs.declared.door.peer.Course.{Course}
 use Rattle.coap_serve.specs.declared.door.peer.Peer.{Peer}
-use Rattle.coap_serve.specs.declared.server.Stamp.{Stamp}
+use Rattle.coap_server_engine.specs.declared.server.Stamp.{Stamp}
 
 -- The other stamp is this one, or behind it: its moment is not before; where that is the same, no fewer versions were given; and where
 -- these are the same too, no more resources are stored.

@@ -6,10 +6,10 @@ use Rattle.coap_io.specs.streams.Telling.{DoorCall, Asked}
 use Rattle.coap_serve.specs.streams.Notes.{true_end}
 use Rattle.coap_serve.specs.streams.Turns.{IsServed, IsAtRest, IsInTurn, IsAgendaOf, IsWaitAfter, concerns_earlier, end_of}
 use Rattle.coap_io.specs.streams.Wires.{WireTrace}
-use Rattle.coap_serve.specs.values.Fed.{ShowsMore}
-use Rattle.coap_serve.specs.values.ServerDues.{stamp_of}
-use Rattle.coap_serve.specs.values.ServerAnswers.{open_refusal}
-use Rattle.coap_serve.specs.values.Servers.{ServerValue, server_opened, server_dropped}
+use Rattle.coap_server_engine.specs.values.Fed.{ShowsMore}
+use Rattle.coap_server_engine.specs.values.ServerDues.{stamp_of}
+use Rattle.coap_server_engine.specs.values.ServerAnswers.{open_refusal}
+use Rattle.coap_server_engine.specs.values.Servers.{ServerValue, server_opened, server_dropped}
 use Rattle.coap_model.specs.world.Events.{Event, Opened, Took, Wrote, Ticked, Stored, Removed, Ended, Released, Announced, Dropped}
 use Rattle.coap_serve.specs.declared.door.peer.Course.{Course}
 use Rattle.coap_serve.specs.declared.door.peer.Course.TheVariants.{Open, Over}

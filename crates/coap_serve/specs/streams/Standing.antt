@@ -6,10 +6,10 @@ use Rattle.coap_model.specs.Configs.{ConfigValues}
 use Rattle.coap_serve.specs.declared.serve.Turn.{Turn}
 use Rattle.coap_serve.specs.declared.serve.IoFault.{IoFault}
 use Rattle.coap_serve.specs.declared.serve.IoFault.TheVariants.{Read, Write, Memory, Turns}
-use Rattle.coap_serve.specs.values.Servers.{ServerValue}
+use Rattle.coap_server_engine.specs.values.Servers.{ServerValue}
 use Rattle.coap_model.specs.world.Sides.{is_cut}
 use Rattle.coap_model.specs.world.Events.{Event, spelled_on, world_after}
-use Rattle.coap_serve.specs.world.Shows.{Shows}
+use Rattle.coap_server_engine.specs.world.Shows.{Shows}
 use Rattle.coap_model.specs.streams.Output.{only_id, stream_of, world_for, outcome, stdio_output}
 use Rattle.coap_serve.specs.streams.StdioRun.{IsLastByte}
 

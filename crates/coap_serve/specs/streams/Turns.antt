@@ -2,12 +2,12 @@
 use Rattle.std.specs.Prelude.{◌≡◌, ◌≢◌, fold, ℕ, Bool, true, false, not, List, [], ◌∷◌, length, drop, Option, Some, None, nat_lt, ◌==◌, ◌&&◌, ◌||◌, if◌then◌else◌}
 use Rattle.std.specs.List.{AllByRecursion}
 use Rattle.coap_conn.specs.declared.reason.Reason.{Reason}
-use Rattle.coap_serve.specs.values.Servers.{ServerValue, session_of, server_ended, server_written}
-use Rattle.coap_serve.specs.values.ServerAnswers.{can_take_on, stop_on}
+use Rattle.coap_server_engine.specs.values.Servers.{ServerValue, session_of, server_ended, server_written}
+use Rattle.coap_server_engine.specs.values.ServerAnswers.{can_take_on, stop_on}
 use Rattle.coap_server_session.specs.values.Dues.{sooner}
-use Rattle.coap_serve.specs.values.Fed.{fed}
-use Rattle.coap_serve.specs.values.ServerDues.{outlook_of, stamp_of, same_stamp}
-use Rattle.coap_serve.specs.values.Flushes.{waiting_at}
+use Rattle.coap_server_engine.specs.values.Fed.{fed}
+use Rattle.coap_server_engine.specs.values.ServerDues.{outlook_of, stamp_of, same_stamp}
+use Rattle.coap_server_engine.specs.values.Flushes.{waiting_at}
 use Rattle.coap_io.specs.streams.Wires.{IsTold, WireTrace, IsReadOnce, IsWrittenOnce}
 use Rattle.coap_serve.specs.declared.door.peer.Course.{Course}
 use Rattle.coap_serve.specs.declared.door.peer.Course.TheVariants.{Open, Over}
@@ -16,8 +16,8 @@ use Rattle.coap_serve.specs.declared.door.peer.Peer.{Peer}
 use Rattle.coap_serve.specs.declared.door.agenda.Agenda.{Agenda}
 use Rattle.coap_io.specs.declared.wire.Wait.{Wait}
 use Rattle.coap_io.specs.declared.wire.Wait.TheVariants.{No, Until, Forever}
-use Rattle.coap_serve.specs.declared.server.Outlook.{Outlook}
-use Rattle.coap_serve.specs.declared.server.Stamp.{Stamp}
+use Rattle.coap_server_engine.specs.declared.server.Outlook.{Outlook}
+use Rattle.coap_server_engine.specs.declared.server.Stamp.{Stamp}
 use Rattle.coap_io.specs.declared.wire.Got.{Got}
 use Rattle.coap_io.specs.declared.wire.Got.TheVariants.{Bytes, Later, End, Failed}
 use Rattle.coap_io.specs.declared.rest.TheConstants.{READ_SIZE}

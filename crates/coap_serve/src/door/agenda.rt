@@ -4,8 +4,8 @@ ghost use Rattle.std.specs.Prelude.{◌≡◌, ◌≤◌, drop, length, map, sli
 ghost use Rattle.coap_serve.specs.Prelude.{AllByRecursion, end_of, agenda_past, IsAtRest, IsInTurn, concerns_earlier, agenda_with, wait_of};
 
 use super::peer::Peers;
-use crate::server::Stamp;
 use coap_io::{Ready, Wait};
+use coap_server_engine::Stamp;
 use coap_server_session::sooner;
 
 /// What the connections that were looked at in a turn leave to be done.

@@ -7,10 +7,10 @@ ghost use Rattle.coap_io.specs.declared.wire.Got.TheVariants.{Later, End};
 
 use super::wants::{Wants, wants_by};
 use crate::serve::IoFault;
-use crate::server::{Outlook, Server, Stamp};
 use coap_conn::first_part;
 use coap_io::{Got, Ready, Rest, Wire};
 use coap_model::ConnId;
+use coap_server_engine::{Outlook, Server, Stamp};
 use indexmap::IndexMap;
 
 /// The far end of a connection.

@@ -6,9 +6,9 @@ ghost use Rattle.coap_serve.specs.streams.Notes.{IsNoted};
 use super::peer::Peers;
 use super::turn::take_turn;
 use crate::serve::IoFault;
-use crate::server::Server;
 use coap_io::{Door, Ready, Wait, Wire};
 use coap_model::{Backwards, Config};
+use coap_server_engine::Server;
 use coap_store::{PathKey, StoreFault};
 use indexmap::IndexMap;
 use std::alloc::{AllocError, Global};
@@ -17,6 +17,7 @@ use std::alloc::{AllocError, Global};
 /// connection is true, unless a turn was refused memory.
 #[derive(Drop)]
 pub struct Service<W> {
+    alloc: Global,
     server: Server,
     peers: Peers<W>,
     is_spent: bool,
@@ -40,6 +41,7 @@ impl<W: Wire + Ready + Drop> Service<W> {
         ensures ready { IfOk result (λ s. s.is_spent ≡ false) }
     {
         Ok(Service {
+            alloc,
             server: Server::new(alloc, config)?,
             peers: IndexMap::with_capacity(alloc, config.connections())?,
             is_spent: false,
@@ -142,7 +144,7 @@ impl<W: Wire + Ready + Drop> Service<W> {
             return Err(IoFault::Memory);
         }
         self.is_spent = true;
-        let wait = take_turn(&mut self.server, &mut self.peers, door)?;
+        let wait = take_turn(self.alloc, &mut self.server, &mut self.peers, door)?;
         self.is_spent = false;
         Ok(wait)
     }

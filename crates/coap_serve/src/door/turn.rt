@@ -8,8 +8,9 @@ use super::agenda::{Agenda, Seen, concerns_others, pass_over};
 use super::peer::{Course, Peer, Peers, serve_peer};
 use super::wants::wants_on;
 use crate::serve::IoFault;
-use crate::server::Server;
 use coap_io::{Door, Ready, Rest, Wait, Wire};
+use coap_server_engine::Server;
+use std::alloc::Global;
 
 /// Makes one turn at a moment: opens one connection, if one more may be opened and the door hands out a wire, and
 /// serves each. Returns how long the door may wait then: `Wait::No` exactly if a connection was opened, a change
@@ -20,6 +21,7 @@ use coap_io::{Door, Ready, Rest, Wait, Wire};
 ///
 /// `Memory` where memory was refused.
 pub(super) fn take_turn<D: Door>(
+    alloc: Global,
     server: &mut Server,
     peers: &mut Peers<D::Wire>,
     door: &mut D,
@@ -37,7 +39,7 @@ pub(super) fn take_turn<D: Door>(
     ensures settled { OnOk result (AreSettled server.new.host server.new.sessions) }
     ensures fault { IfErr result IsMemory }
 {
-    let opens = accept(server, peers, door)?;
+    let opens = accept(alloc, server, peers, door)?;
     let agenda = serve_each(server, peers)?;
     Ok(agenda.with(opens, None).wait())
 }
@@ -49,6 +51,7 @@ pub(super) fn take_turn<D: Door>(
 /// `Memory` where memory was refused.
 #[tactic(auto, using(crate::proofs::streams::ServingLemmas::turned_as_before, crate::proofs::streams::ServingLemmas::turned_open))]
 fn accept<D: Door>(
+    alloc: Global,
     server: &mut Server,
     peers: &mut Peers<D::Wire>,
     door: &mut D,
@@ -72,7 +75,7 @@ fn accept<D: Door>(
     let Some(wire) = door.next() else {
         return Ok(false);
     };
-    let Ok(rest) = Rest::new(server.alloc()) else {
+    let Ok(rest) = Rest::new(alloc) else {
         return Err(IoFault::Memory);
     };
     let Ok(id) = server.open() else {

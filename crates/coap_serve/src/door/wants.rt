@@ -3,9 +3,9 @@
 ghost use Rattle.std.specs.Prelude.{◌≡◌};
 ghost use Rattle.coap_serve.specs.Prelude.{wants_in, wants_of};
 
-use crate::server::{Outlook, Server, Stamp};
 use coap_io::Rest;
 use coap_model::ConnId;
+use coap_server_engine::{Outlook, Server, Stamp};
 
 /// What a connection is to be served for, as it was left when it was served last.
 #[derive(Clone, Copy, PartialEq, Eq)]

@@ -1,6 +1,6 @@
 use Rattle.std.proofs.Common.{◌+◌, refl, arith}
 use Rattle.coap_io.proofs.streams.WriteLemmas.{on_any_fault}
-use Rattle.coap_serve.proofs.values.FlushLemmas.{flush_begins, flush_cut, turned, goes_on_so}
+use Rattle.coap_server_engine.proofs.values.FlushLemmas.{flush_begins, flush_cut, turned, goes_on_so}
 use Rattle.coap_serve.proofs.output.flush.Goals as goal
 
 pub returns-in_err-first-clause-part : goal.returns-in_err-first-clause-part

@@ -1,6 +1,6 @@
 use Rattle.std.proofs.Common.{◌≡◌, ◌+◌, false}
 use Rattle.coap_serve.specs.Prelude.{session_of, stop_on}
-use Rattle.coap_serve.proofs.values.FlushLemmas.{Flushed}
+use Rattle.coap_server_engine.proofs.values.FlushLemmas.{Flushed}
 use Rattle.coap_serve.proofs.output.flush.Given as goal
 
 abbrev pub invariant-loop : goal.invariant-loop

@@ -1,6 +1,0 @@
-use Rattle.std.proofs.Common.{Ok, arith, rules}
-use Rattle.coap_serve.proofs.world.CallLaws.{new_shows}
-use Rattle.coap_serve.proofs.server.Server.new.Goals as goal
-
-pub returns-clause-shows : goal.returns-clause-shows
-returns-clause-shows c = new_shows {F = Unit {0}} (Ok _) c.args.config (omega (arith, c.open.ensures.moment)) (search rules)

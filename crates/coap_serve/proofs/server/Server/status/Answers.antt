@@ -1,9 +1,0 @@
-use Rattle.coap_serve.proofs.values.ServerLemmas.{unmarked_looked_up}
-use Rattle.coap_serve.proofs.server.Server.status.Goals as goal
-
-pub returns-in_err-session : goal.returns-in_err-session
-returns-in_err-session c = rw (← c.self.view_is, c.from_residual.ensures, unmarked_looked_up, ← c.in_err-session.ensures.value)
-
-pub returns : goal.returns
-returns c =
-    rw (← c.self.view_is, unmarked_looked_up, ← c.in_ok-session.ensures.value, c.phase.ensures, c.kept.ensures, c.waiting.ensures, c.pending.ensures, c.observers.ensures, c.peer_max.ensures, c.finished.ensures)

@@ -1,6 +1,0 @@
-use Rattle.coap_serve.specs.Prelude.{AreUntouched}
-use Rattle.coap_serve.proofs.server.sessions.next_touched.Given as goal
-
--- none so far is touched
-abbrev pub invariant-loop-at : goal.invariant-loop-at
-invariant-loop-at l = AreUntouched l.cause l.now l.from l.at l.sessions.entries

@@ -1,0 +1,3 @@
+pub mod values
+pub mod world
+pub mod scripting

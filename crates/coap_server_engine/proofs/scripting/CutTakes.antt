@@ -1,0 +1,295 @@
+-- Where a connection's bytes are cut into `in`s does not matter: takes without a written byte between them stop at one place.
+use Rattle.std.proofs.Common.{◌≡◌, ◌⊎◌, ℕ, zero, suc, ◌+◌, ◌-◌, ◌<◌, ◌≤◌, Bool, true, false, cond, List, [], ◌∷◌, ◌++◌, length, take, drop, map, Option, Some, None, refl, sym, ap, ◌∙◌, append_assoc, arith, inl, inr, lt-ltb, add_assoc, add-zero, zero-add, ◌≢◌}
+use Rattle.std.proofs.lemmas.Bool.{ne_eqb}
+use Rattle.std.proofs.lemmas.List.{append-nil, length-append, length-drop, drop-append-le, drop-drop, take-append-le, length-take}
+use Rattle.std.proofs.Math.Seq.{drop-length, drop-append-add, take-append-add, take-length}
+use Rattle.coap_server_engine.specs.Prelude.{Stream, Beginning, Unfinished, Faulty, beginning, fault_bytes, framing_at}
+use Rattle.coap_server_engine.specs.Prelude.{framing, ConfigValues, Fed, unfed, fed_once, fed_turns, fed, SessionValue}
+use Rattle.coap_server_engine.specs.Prelude.{ServerValue, session_of, server_taken, count_taken, Side, handles, World}
+use Rattle.coap_server_engine.specs.Prelude.{side_of, Event, Took, stream_on, world_after, size_on, session_shown}
+use Rattle.coap_server_engine.specs.Prelude.{server_shown, server_of, Shows}
+use Rattle.coap_wire.specs.Beginning.{Whole}
+use Rattle.coap_wire.proofs.StreamSteps.{whole_more, faulty_more, fault_bytes_more}
+use Rattle.coap_frame.proofs.FrontLaws.{some_in_front}
+use Rattle.coap_frame.proofs.GivenLaws.{taken_within, nothing_taken, frame_taken, fault_taken}
+use Rattle.coap_server_engine.specs.values.Fed.{goes_on}
+use Rattle.coap_model.specs.world.Events.{front_of}
+use Rattle.coap_model.proofs.world.StepLaws.{world_same, size_then, rest_unfinished, spelled_same}
+use Rattle.coap_model.proofs.world.CutLaws.{cut_worlds, SpellAlike, stream_alike, spelled_twice}
+use Rattle.coap_model.proofs.world.TookLaws.{no_bytes_steps, Adds, adds_nothing}
+use Rattle.coap_model.proofs.world.ReachedLaws.{accepted_is, handling_goes_on, takes_there}
+use Rattle.coap_server_engine.proofs.world.ShowLaws.{session_there, side_there, takes_shown, shows_taken}
+use Rattle.coap_server_engine.proofs.scripting.ShownLemmas.{config_stays}
+use Rattle.coap_server_engine.proofs.scripting.ReplayLemmas.{all_turns_made}
+use Rattle.std.proofs.lemmas.Bool.Decides.{nat_tests}
+use Rattle.coap_server_engine.proofs.scripting.ShownLemmas.{IsStuck, absent_stuck, stuck_turns}
+
+-- ---- servers that show the same
+
+-- a server is what the events that it shows leave
+same_where_alike : (u v : ServerValue) (es fs : List Event) → u.config ≡ v.config → Shows u es → Shows v fs → SpellAlike v.config.limits.max_message es fs → world_after v.config es ≡ world_after v.config fs → u ≡ v
+unfolding server_of
+same_where_alike u v es fs config first second alike same =
+    let M : ℕ = v.config.limits.max_message in
+    let w : World = world_after v.config fs in
+    let streams : ◌≡◌ {A = ℕ → Stream} (λ id. stream_on M id es) (λ id. stream_on M id fs) = λ i id. stream_alike M id es fs alike i in
+    first.same ∙ ap (λ (c : ConfigValues). server_of c es) config ∙ ap (server_shown v.config es) same
+    ∙ ap (λ (s : ℕ → Stream). record (server_shown v.config es w) { sessions = map (λ p. (p.id, session_shown (s p.id).rest p.side)) w.sides }) streams
+    ∙ sym second.same
+
+-- ---- a take that takes nothing, or some bytes
+
+no_bytes_alike : (M : ℕ) (es : List Event) (id : ℕ) → SpellAlike M (es ++ Took id [] ∷ []) es
+no_bytes_alike M es id k = spelled_same M k es (Took id []) (grind arith) (λ N. refl)
+
+-- the size in force on a connection, and what is left of its bytes
+abbrev size_here : ServerValue → List Event → ℕ → ℕ
+size_here v es id = size_on v.config.limits.max_message id es
+
+abbrev rest_here : ServerValue → List Event → ℕ → List ℕ
+rest_here v es id = (stream_on v.config.limits.max_message id es).rest
+
+record Goes (v : ServerValue) (es : List Event) (id : ℕ) : Type 0 where
+  pub side : Side
+  pub there : side_of id (world_after v.config es).sides ≡ Some side
+  pub handling : handles side ≡ true
+  pub no_fault : (stream_on v.config.limits.max_message id es).fault ≡ None
+  pub unfinished : beginning (size_here v es id) (rest_here v es id) ≡ Unfinished
+  pub counts : (bytes : List ℕ) → count_taken v id bytes ≡ front_of (size_here v es id) (rest_here v es id) bytes
+
+module _ (v : ServerValue) (es : List Event) (id : ℕ) (shows : Shows v es) (t : Side) (there : side_of id (world_after v.config es).sides ≡ Some t) where
+  counts : (does : Bool) → handles t ≡ does → (bytes : List ℕ) → count_taken v id bytes ≡ cond does (front_of (size_here v es id) (rest_here v es id) bytes) 0
+  counts does is bytes = rw (takes_shown v es id bytes shows, takes_there v.config es id bytes t there, is)
+
+  stuck_or_handles : (does : Bool) → handles t ≡ does → IsStuck v id ⊎ Goes v es id
+  stuck_or_handles true does =
+      let no_fault = handling_goes_on v.config es id t (accepted_is v.config es shows.accepted) there does in
+      inr (record {
+        side = t;
+        there = there;
+        handling = does;
+        no_fault = no_fault;
+        unfinished = rest_unfinished v.config.limits.max_message id es no_fault;
+        counts = counts true does;
+      })
+  stuck_or_handles false stops = inl (record {
+    none = counts false stops;
+    stays = λ bytes.
+        same_where_alike (server_taken v id bytes) v (es ++ Took id [] ∷ []) es (config_stays v id bytes)
+        (rw (counts false stops bytes) at (shows_taken v es id bytes _ shows (side_there v es id t shows there)))
+        shows (no_bytes_alike v.config.limits.max_message es id) (world_same v.config es (Took id []) (no_bytes_steps v.config.limits.max_message id es));
+  })
+
+stuck_or_there : (v : ServerValue) (es : List Event) (id : ℕ) → Shows v es → (found : Option SessionValue) → session_of id v.sessions ≡ found → IsStuck v id ⊎ Goes v es id
+stuck_or_there v es id shows None at = inl (absent_stuck v id at)
+stuck_or_there v es id shows (Some s) at =
+    let found = session_there v es id s shows at in
+    stuck_or_handles v es id shows found.side found.there (handles found.side) refl
+
+-- ---- how many bytes of a longer piece are taken
+
+-- two fronts of pieces behind other bytes that are the same bytes
+same_lengths : (kept before xs ys : List ℕ) (n k : ℕ) → n ≤ length xs → k ≤ length ys → kept ++ take n xs ≡ before ++ take k ys → length kept + n ≡ length before + k
+same_lengths kept before xs ys n k few less same = grind (arith, length-append {A = ℕ}, length-take {A = ℕ})
+
+-- the bytes of what stands at the front of bytes
+abbrev bytes_in_front : List ℕ → Beginning → List ℕ
+bytes_in_front bytes Unfinished = bytes
+bytes_in_front bytes (Whole frame left) = frame
+bytes_in_front bytes (Faulty fault) = fault_bytes bytes
+
+module _ (M : ℕ) (kept piece : List ℕ) where
+  finding_at : (b : Beginning) → beginning M (kept ++ piece) ≡ b → (framing M kept piece).finding ≡ (framing_at kept piece b).finding
+  unfolding framing
+  finding_at b is = ap (λ (b : Beginning). (framing_at kept piece b).finding) is
+
+  all_at : beginning M kept ≡ Unfinished → beginning M (kept ++ piece) ≡ Unfinished → front_of M kept piece ≡ length piece
+  all_at unfinished is = nothing_taken M kept piece unfinished (finding_at Unfinished is)
+
+  -- they are taken
+  bytes_taken_are : beginning M kept ≡ Unfinished → (b : Beginning) → beginning M (kept ++ piece) ≡ b
+      → kept ++ take (front_of M kept piece) piece ≡ bytes_in_front (kept ++ piece) b
+  bytes_taken_are unfinished Unfinished is = rw (all_at unfinished is, take-length)
+  bytes_taken_are unfinished (Whole frame left) is = sym (frame_taken M kept piece frame unfinished (finding_at (Whole frame left) is))
+  bytes_taken_are unfinished (Faulty fault) is = (fault_taken M kept piece fault unfinished (finding_at (Faulty fault) is)).1
+
+module _ (M : ℕ) (kept xs zs : List ℕ) (unfinished : beginning M kept ≡ Unfinished) where
+  -- where something was found, what stands behind it makes no difference
+  same_front_taken : (b : Beginning) → b ≢ Unfinished → beginning M (kept ++ xs) ≡ b → front_of M kept (xs ++ zs) ≡ front_of M kept xs
+  same_front_taken b found is =
+      let within = taken_within M kept (xs ++ zs) unfinished in
+      omega (arith, same_lengths kept kept (xs ++ zs) xs _ _ within (taken_within M kept xs unfinished) (bytes_alike b found is))
+    where
+      bytes_alike : (b : Beginning) → b ≢ Unfinished → beginning M (kept ++ xs) ≡ b
+          → kept ++ take (front_of M kept (xs ++ zs)) (xs ++ zs) ≡ kept ++ take (front_of M kept xs) xs
+      bytes_alike Unfinished found is = absurd (found refl)
+      bytes_alike (Whole frame left) found is =
+          bytes_taken_are M kept (xs ++ zs) unfinished (Whole frame (left ++ zs)) (rw append_assoc at (whole_more M (kept ++ xs) zs frame left is))
+          ∙ sym (bytes_taken_are M kept xs unfinished (Whole frame left) is)
+      bytes_alike (Faulty fault) found is =
+          bytes_taken_are M kept (xs ++ zs) unfinished (Faulty fault) (rw append_assoc at (faulty_more M (kept ++ xs) zs fault is))
+          ∙ rw append_assoc at (fault_bytes_more M (kept ++ xs) zs fault is) ∙ sym (bytes_taken_are M kept xs unfinished (Faulty fault) is)
+
+  -- where nothing was found, what stands behind is looked at as it would be behind what is kept
+  later_front : beginning M (kept ++ xs) ≡ Unfinished → front_of M kept (xs ++ zs) ≡ length xs + front_of M (kept ++ xs) zs
+  later_front still =
+      let b = beginning M (kept ++ (xs ++ zs)) in
+      let whole = bytes_taken_are M kept (xs ++ zs) unfinished b refl in
+      let part = bytes_taken_are M (kept ++ xs) zs still b (rw append_assoc refl) in
+      let within = taken_within M kept (xs ++ zs) unfinished in
+      let same = same_lengths kept (kept ++ xs) (xs ++ zs) zs _ _ within (taken_within M (kept ++ xs) zs still) (cc (whole, part, append_assoc kept xs zs)) in
+      omega (arith, same, length-append kept xs)
+
+-- ---- takes one after the other
+
+-- so many bytes were taken before
+abbrev shifted : ℕ → Fed → Fed
+shifted n f = record f { count = n + f.count }
+
+once_shifted : (id : ℕ) (bytes : List ℕ) (n : ℕ) (f : Fed) → n ≤ length bytes → fed_once id bytes (shifted n f) ≡ shifted n (fed_once id (drop n bytes) f)
+once_shifted id bytes n f within = grind (arith, nat_tests, length-drop n bytes, drop-drop f.count n bytes)
+
+turns_shifted : (v : ServerValue) (id : ℕ) (bytes : List ℕ) (n turns : ℕ) → count_taken v id bytes ≡ n → 1 ≤ n → n ≤ length bytes
+    → fed_turns (suc turns) v id bytes ≡ shifted n (fed_turns turns (server_taken v id bytes) id (drop n bytes))
+unfolding fed_turns
+turns_shifted v id bytes n zero counted some within =
+    let less = lt-ltb 0 (length bytes) (omega (arith, some, within)) in
+    let goes = ne_eqb n 0 (λ none. omega (arith, none, some)) in
+    rw (less, counted, zero-add n, add-zero n, goes)
+turns_shifted v id bytes n (suc turns) counted some within =
+    rw (turns_shifted v id bytes n turns counted some within) (once_shifted id bytes n (fed_turns turns (server_taken v id bytes) id (drop n bytes)) within)
+
+-- each turn that goes on took a byte
+turn_takes : (id : ℕ) (bytes : List ℕ) (turns : ℕ) (f : Fed) → (goes_on bytes f ≡ true → turns ≤ f.count)
+    → goes_on bytes (fed_once id bytes f) ≡ true → suc turns ≤ (fed_once id bytes f).count
+turn_takes id bytes turns f few goes = grind (arith, nat_tests)
+
+turns_take : (v : ServerValue) (id : ℕ) (bytes : List ℕ) (turns : ℕ) → goes_on bytes (fed_turns turns v id bytes) ≡ true → turns ≤ (fed_turns turns v id bytes).count
+unfolding fed_turns
+turns_take v id bytes zero goes = omega arith
+turns_take v id bytes (suc turns) goes = turn_takes id bytes turns (fed_turns turns v id bytes) (turns_take v id bytes turns) goes
+
+is_over : (v : ServerValue) (id : ℕ) (bytes : List ℕ) → goes_on bytes (fed v id bytes) ≡ false
+is_over v id bytes = grind (arith, nat_tests, turns_take v id bytes (length bytes))
+
+-- the first take, and then those of the bytes that it left
+fed_by : (v : ServerValue) (id : ℕ) (bytes : List ℕ) (n : ℕ) → count_taken v id bytes ≡ n → 1 ≤ n → n ≤ length bytes → fed v id bytes ≡ shifted n (fed (server_taken v id bytes) id (drop n bytes))
+fed_by v id bytes n counted some within =
+    let all : length bytes ≡ suc (length bytes - 1) = omega (arith, some, within) in
+    let left : length (drop n bytes) ≤ length bytes - 1 = omega (arith, length-drop n bytes, some, within) in
+    let over = is_over (server_taken v id bytes) id (drop n bytes) in
+    let enough = all_turns_made (server_taken v id bytes) id (drop n bytes) (length (drop n bytes)) over (length bytes - 1) left in
+    cc (all, turns_shifted v id bytes n (length bytes - 1) counted some within, enough.0)
+
+-- ---- an `in` that is cut
+
+pub record IsFedInParts (v : ServerValue) (id : ℕ) (xs ys : List ℕ) : Type 0 where
+  pub server : (fed v id (xs ++ ys)).server ≡ (fed (fed v id xs).server id ys).server
+  pub count : (fed v id (xs ++ ys)).count ≡ (fed v id xs).count + (fed (fed v id xs).server id ys).count
+
+-- nothing is taken, whole or in parts
+stuck_parts : (v : ServerValue) (id : ℕ) (xs ys : List ℕ) → IsStuck v id → IsFedInParts v id xs ys
+stuck_parts v id xs ys stuck =
+    let whole = stuck_turns v id stuck (xs ++ ys) (length (xs ++ ys)) in
+    let first = stuck_turns v id stuck xs (length xs) in
+    let second = stuck_turns v id stuck ys (length ys) in
+    record { server = cc (whole.server, first.server, second.server); count = cc (whole.count, first.count, first.server, second.count) }
+
+-- one of the parts is none
+no_first_part : (v : ServerValue) (id : ℕ) (ys : List ℕ) → IsFedInParts v id [] ys
+unfolding fed_turns
+no_first_part v id ys = record { server = refl; count = omega arith }
+
+no_second_part : (v : ServerValue) (id : ℕ) (xs : List ℕ) → IsFedInParts v id xs []
+unfolding fed_turns
+no_second_part v id xs = record { server = rw append-nil; count = rw append-nil (omega arith) }
+
+module _ (v : ServerValue) (es : List Event) (id : ℕ) (xs ys : List ℕ) (shows : Shows v es) (goes : Goes v es id) where
+  abbrev whole_taken : ServerValue
+  whole_taken = server_taken v id (xs ++ ys)
+
+  abbrev part_taken : ServerValue
+  part_taken = server_taken v id xs
+
+  took_shows : (bytes : List ℕ) (n : ℕ) → count_taken v id bytes ≡ n → Shows (server_taken v id bytes) (es ++ Took id (take n bytes) ∷ [])
+  took_shows bytes n counted = rw counted at (shows_taken v es id bytes _ shows (side_there v es id goes.side shows goes.there))
+
+  -- something was found in the first part: the take is the same
+  found_parts : 0 < length xs → front_of (size_here v es id) (rest_here v es id) (xs ++ ys) ≡ front_of (size_here v es id) (rest_here v es id) xs
+      → ((w : ServerValue) (fs : List Event) (zs : List ℕ) → Shows w fs → length zs < length xs → IsFedInParts w id zs ys)
+      → IsFedInParts v id xs ys
+  found_parts some same again =
+      let n : ℕ = front_of (size_here v es id) (rest_here v es id) xs in
+      let takes_some : 1 ≤ n = some_in_front (size_here v es id) (rest_here v es id) xs goes.unfinished some in
+      let within : n ≤ length xs = taken_within (size_here v es id) (rest_here v es id) xs goes.unfinished in
+      let whole_count : count_taken v id (xs ++ ys) ≡ n = goes.counts (xs ++ ys) ∙ same in
+      let part_shows = took_shows xs n (goes.counts xs) in
+      let server_same : whole_taken ≡ part_taken =
+      same_where_alike whole_taken part_taken _ _ (config_stays v id (xs ++ ys) ∙ sym (config_stays v id xs))
+      (rw (take-append-le n xs ys within) at (took_shows (xs ++ ys) n whole_count)) part_shows (λ id. refl) refl in
+      let parts = again part_taken _ (drop n xs) part_shows (omega (arith, length-drop n xs, takes_some, some)) in
+      let whole : fed v id (xs ++ ys) ≡ shifted n (fed part_taken id (drop n xs ++ ys)) =
+      cc (fed_by v id (xs ++ ys) n whole_count takes_some (omega (arith, within, length-append xs ys)), server_same, drop-append-le n xs ys within) in
+      let first = fed_by v id xs n (goes.counts xs) takes_some within in
+      record { server = rw (whole, parts.server, first); count = rw (whole, parts.count, first, add_assoc n) }
+
+  -- nothing was found in the first part: all of it is taken, and the next take goes on behind it
+  later_parts : beginning (size_here v es id) (rest_here v es id ++ xs) ≡ Unfinished → 0 < length xs → 0 < length ys → IsFedInParts v id xs ys
+  later_parts still some more =
+      let M : ℕ = v.config.limits.max_message in
+      let now : List Event = es ++ Took id xs ∷ [] in
+      let n : ℕ = front_of (size_here v es id) (rest_here v es id ++ xs) ys in
+      let takes_some : 1 ≤ n = some_in_front (size_here v es id) (rest_here v es id ++ xs) ys still more in
+      let within : n ≤ length ys = taken_within (size_here v es id) (rest_here v es id ++ xs) ys still in
+      let part_count : count_taken v id xs ≡ length xs = goes.counts xs ∙ all_at (size_here v es id) (rest_here v es id) xs goes.unfinished still in
+      let part_shows : Shows part_taken now = rw take-length at (took_shows xs (length xs) part_count) in
+      let added : Adds M id es xs (record { messages = []; rest = rest_here v es id ++ xs; fault = None }) =
+      adds_nothing M id es xs goes.no_fault (finding_at (size_here v es id) (rest_here v es id) xs Unfinished still) in
+      let there : side_of id (world_after v.config now).sides ≡ Some goes.side = rw (world_same v.config es (Took id xs) added.steps) goes.there in
+      let takes_next = takes_there v.config now id ys goes.side there in
+      let next_count : count_taken part_taken id ys ≡ n =
+      rw (takes_shown part_taken now id ys part_shows, config_stays v id xs, takes_next, goes.handling, size_then M id es (Took id xs), added.stream) in
+      let whole_count = goes.counts (xs ++ ys) ∙ later_front (size_here v es id) (rest_here v es id) xs ys goes.unfinished still in
+      let next_taken : ServerValue = server_taken part_taken id ys in
+      let next_there : side_of id (world_after part_taken.config now).sides ≡ Some goes.side = rw (config_stays v id xs) there in
+      let next_session = side_there part_taken now id goes.side part_shows next_there in
+      let next_shows = rw next_count at (shows_taken part_taken now id ys _ part_shows next_session) in
+      let next_config : next_taken.config ≡ v.config = config_stays part_taken id ys ∙ config_stays v id xs in
+      let server_same : whole_taken ≡ next_taken =
+      same_where_alike whole_taken next_taken _ _ (config_stays v id (xs ++ ys) ∙ sym next_config)
+      (rw (take-append-add xs ys n) at (took_shows (xs ++ ys) (length xs + n) whole_count)) next_shows
+      (spelled_twice next_taken.config.limits.max_message es id xs (take n ys)) (rw append_assoc (cut_worlds next_taken.config es [] id xs (take n ys))) in
+      let whole : fed v id (xs ++ ys) ≡ shifted (length xs + n) (fed next_taken id (drop n ys)) =
+      let longer : length xs + n ≤ length (xs ++ ys) = omega (arith, within, length-append xs ys) in
+      cc (fed_by v id (xs ++ ys) (length xs + n) whole_count (omega (arith, some)) longer, server_same, drop-append-add xs ys n) in
+      let nothing : fed part_taken id [] ≡ unfed part_taken = unfold fed_turns in refl in
+      let first : fed v id xs ≡ shifted (length xs) (unfed part_taken) =
+      cc (fed_by v id xs (length xs) part_count (omega (arith, some)) (omega arith), drop-length xs, nothing) in
+      let second : fed (fed v id xs).server id ys ≡ shifted n (fed next_taken id (drop n ys)) =
+      rw first (fed_by part_taken id ys n next_count takes_some within) in
+      record { server = rw (whole, second); count = rw (whole, second, first, add-zero (length xs), add_assoc (length xs) n) }
+
+going_parts : (v : ServerValue) (es : List Event) (id : ℕ) (xs ys : List ℕ) → Shows v es → (goes : Goes v es id) → 0 < length xs
+    → ((w : ServerValue) (fs : List Event) (zs : List ℕ) → Shows w fs → length zs < length xs → IsFedInParts w id zs ys)
+    → (b : Beginning) → beginning (size_here v es id) (rest_here v es id ++ xs) ≡ b → IsFedInParts v id xs ys
+going_parts v es id xs [] shows goes some again b is = no_second_part v id xs
+going_parts v es id xs (y ∷ ys) shows goes some again Unfinished is = later_parts v es id xs (y ∷ ys) shows goes is some (omega arith)
+going_parts v es id xs (y ∷ ys) shows goes some again b is =
+    let same = same_front_taken (size_here v es id) (rest_here v es id) xs (y ∷ ys) goes.unfinished b (λ unfinished. cc) is in
+    found_parts v es id xs (y ∷ ys) shows goes some same again
+
+parts_within : (few : ℕ) (v : ServerValue) (es : List Event) (id : ℕ) (xs ys : List ℕ) → Shows v es → length xs ≤ few → IsFedInParts v id xs ys
+parts_within few v es id [] ys shows within = no_first_part v id ys
+parts_within zero v es id (x ∷ xs) ys shows within = absurd (omega (arith, within))
+parts_within (suc few) v es id (x ∷ xs) ys shows within =
+    elim (stuck_or_there v es id shows (session_of id v.sessions) refl) [
+      | inl stuck ↦ stuck_parts v id (x ∷ xs) ys stuck
+      | inr goes ↦
+          going_parts v es id (x ∷ xs) ys shows goes (omega arith)
+          (λ w fs zs then_shows fewer. parts_within few w fs id zs ys then_shows (omega (arith, fewer, within)))
+          (beginning (size_here v es id) (rest_here v es id ++ x ∷ xs)) refl
+    ]
+
+-- Bytes that are handed to a connection in two parts, one right behind the other, do what they do in one, and as many are taken.
+pub fed_in_parts : (v : ServerValue) (es : List Event) (id : ℕ) (xs ys : List ℕ) → Shows v es → IsFedInParts v id xs ys
+fed_in_parts v es id xs ys shows = parts_within (length xs) v es id xs ys shows (omega arith)

@@ -1,0 +1,279 @@
+-- What events come to, one by one and one after the other.
+use Rattle.std.proofs.Common.{[], ◌≡◌, ◌≢◌, ℕ, zero, suc, ◌+◌, ◌-◌, ◌<◌, ◌≤◌, true, false, ◌==◌, List, ◌∷◌, ◌++◌, length, get_or, take, drop, map, Option, Some, None, Result, Ok, Err, is_none, refl, sym, ap, ◌∙◌, append_assoc, arith, lt-ltb, add-suc, add-zero, add-one}
+use Rattle.std.proofs.lemmas.Bool.{le-ltb, ne_eqb}
+use Rattle.std.proofs.lemmas.List.{append-nil, take-append-drop, length-drop, length-take-le, length-map}
+use Rattle.std.proofs.Math.Seq.{take-suc, drop-cons}
+use Rattle.std.proofs.Math.ListN.{get_or-map}
+use Rattle.std.proofs.Math.Bool.{and-false}
+use Rattle.coap_server_engine.specs.Prelude.{IsErr, AllocError, Path, StoreValue, remove_refusal, NoSuch, EventValue}
+use Rattle.coap_server_engine.specs.Prelude.{event_value, Ran, fed_turns, fed, event_ran, replayed, IsPartlyFed, IsUnrun}
+use Rattle.coap_server_engine.specs.Prelude.{IsRefusedAt, IsCutAt, where_there, took_turns, took, events_ran, ShowsMore}
+use Rattle.coap_server_engine.specs.Prelude.{ShowsPart, ShowsPartlyFed, events_made, ShowsRefusedAt, AddsBytes, WritesPart, SessionValue}
+use Rattle.coap_server_engine.specs.Prelude.{Fed, ServerValue, server_taken, count_taken, is_there, session_of, IsNotTaken, IsRun}
+use Rattle.coap_server_engine.specs.Prelude.{IsDrainable, Took, Drained, Line, Shows}
+use Rattle.coap_script.specs.declared.event.Event.{Event}
+use Rattle.coap_server_engine.specs.script.Replay.{behind}
+use Rattle.coap_server_engine.specs.values.Fed.{goes_on}
+use Rattle.coap_io.proofs.streams.DeviceLemmas.{bytes_then}
+use Rattle.coap_server_engine.proofs.scripting.ShownLemmas.{shows_same, shows_then, shows_as, events_ran_on}
+use Rattle.coap_model.specs.world.Events as world
+use Rattle.coap_model.specs.declared.answers.TakeFault.TheVariants as taking
+
+-- ---- one event
+
+-- this server and this line are what an event comes to
+abbrev pub IsWhat : Ran → ServerValue → List ℕ → Type 0
+IsWhat r after line = (after ≡ r.server) × (line ≡ r.text)
+
+-- memory was refused for an event
+pub unrun : (v : ServerValue) (e : EventValue) (after : ServerValue) (r : Result Line AllocError) → IsErr r → IsUnrun v e after → IsRun v e after r
+unrun v e after (Ok line) is so = absurd cc
+unrun v e after (Err fault) is so = so
+
+-- ---- `remove`
+
+-- the only refusal
+pub no_such_path : (s : StoreValue) (path : Path) → is_none (remove_refusal s path) ≡ false → remove_refusal s path ≡ Some NoSuch
+unfolding remove_refusal
+no_such_path s path refused = grind arith
+
+-- ---- `drain`
+
+-- what waits is enough
+pub enough : (id : ℕ) (most : Option ℕ) (d : Drained) (o : Option SessionValue) → IsDrainable id most (Some d) o → (s : SessionValue) × (o ≡ Some s) × IsDrainable id most (Some d) (Some s)
+enough id most d None is = absurd is
+enough id most d (Some s) is = (s, refl, is)
+
+pub none_drainable : (id : ℕ) (most : Option ℕ) (o : Option SessionValue) → IsDrainable id most None o → is_there o ≡ false
+none_drainable id most None is = refl
+none_drainable id most (Some s) is = absurd is
+
+-- ---- takes
+
+-- some takes took bytes, and the server is now this one
+pub record Feeds (v : ServerValue) (id : ℕ) (bytes : List ℕ) (now : ServerValue) (taken : ℕ) : Type 0 where
+  pub turns : ℕ
+  pub few : turns ≤ taken
+  pub within : taken ≤ length bytes
+  pub so_far : fed_turns turns v id bytes ≡ record { server = now; count = taken; done = false }
+  pub shows : ShowsMore v now (took_turns turns v id bytes)
+
+-- so many turns leave what so many others leave, and make the same takes
+abbrev pub AreTurnsOf : ServerValue → ℕ → List ℕ → ℕ → ℕ → Type 0
+AreTurnsOf v id bytes m n = (fed_turns m v id bytes ≡ fed_turns n v id bytes) × (took_turns m v id bytes ≡ took_turns n v id bytes)
+
+-- once no take follows, more turns do nothing
+turns_stay : (v : ServerValue) (id : ℕ) (bytes : List ℕ) (n : ℕ) → goes_on bytes (fed_turns n v id bytes) ≡ false
+    → (k : ℕ) → AreTurnsOf v id bytes (n + k) n
+unfolding fed_turns took_turns
+turns_stay v id bytes n is zero = rw add-zero (refl, refl)
+turns_stay v id bytes n is (suc k) =
+    let before = turns_stay v id bytes n is k in
+    rw add-suc (rw (before.0, is) refl, rw (before.1, before.0, is) (append-nil (took_turns n v id bytes)))
+
+pub all_turns_made : (v : ServerValue) (id : ℕ) (bytes : List ℕ) (n : ℕ) → goes_on bytes (fed_turns n v id bytes) ≡ false → (m : ℕ) → n ≤ m → AreTurnsOf v id bytes m n
+all_turns_made v id bytes n is m few =
+    let same : n + (m - n) ≡ m = omega arith in
+    rw same at (turns_stay v id bytes n is (m - n))
+
+-- what is shown behind one more take
+abbrev pub ShowsTake : ServerValue → ℕ → List ℕ → ServerValue → Type 0
+ShowsTake now id left after = ShowsMore now after (where_there (session_of id now.sessions) (λ s. Took id (take (count_taken now id left) left)))
+
+module _ (v : ServerValue) (id : ℕ) (bytes : List ℕ) (now : ServerValue) (taken : ℕ) (feeds : Feeds v id bytes now taken) (left : taken < length bytes) where
+  turn_more_feeds : fed_turns (feeds.turns + 1) v id bytes ≡ record { server = server_taken now id (drop taken bytes); count = taken + count_taken now id (drop taken bytes); done = count_taken now id (drop taken bytes) == 0 }
+  unfolding fed_turns
+  turn_more_feeds = rw (add-one, feeds.so_far, lt-ltb taken (length bytes) left)
+
+  shows_more : (after : ServerValue) → ShowsTake now id (drop taken bytes) after → ShowsMore v after (took_turns (feeds.turns + 1) v id bytes)
+  unfolding took_turns
+  shows_more after more =
+      rw (add-one, feeds.so_far, lt-ltb taken (length bytes) left) (shows_then v now after (took_turns feeds.turns v id bytes) _ feeds.shows more)
+
+  -- a take took some bytes
+  pub feeds_more : (k : ℕ) (after : ServerValue) → k ≤ length (drop taken bytes) → k ≡ count_taken now id (drop taken bytes) → k ≢ 0 → after ≡ server_taken now id (drop taken bytes) → ShowsTake now id (drop taken bytes) after → Feeds v id bytes after (taken + k)
+  feeds_more k after within counted some is more = record {
+    turns = feeds.turns + 1;
+    few = omega (arith, feeds.few, some);
+    within = omega (arith, within, left, length-drop taken bytes);
+    so_far = cc (turn_more_feeds, ne_eqb k 0 some);
+    shows = shows_more after more;
+  }
+
+  -- a take took none
+  stops_there : (after : ServerValue) → count_taken now id (drop taken bytes) ≡ 0 → after ≡ server_taken now id (drop taken bytes)
+      → (fed v id bytes ≡ record { server = after; count = taken; done = true }) × (took v id bytes ≡ took_turns (feeds.turns + 1) v id bytes)
+  stops_there after none is =
+      let turn : fed_turns (feeds.turns + 1) v id bytes ≡ record { server = after; count = taken; done = true } = cc (turn_more_feeds, add-zero taken) in
+      let all = all_turns_made v id bytes (feeds.turns + 1) (rw (turn, and-false)) (length bytes) (omega (arith, feeds.few, left)) in
+      (all.0 ∙ turn, all.1)
+
+  pub fed_and_stopped : (after : ServerValue) → count_taken now id (drop taken bytes) ≡ 0 → after ≡ server_taken now id (drop taken bytes) → fed v id bytes ≡ record { server = after; count = taken; done = true }
+  fed_and_stopped after none is = (stops_there after none is).0
+
+  pub stopped_shows : (after : ServerValue) → count_taken now id (drop taken bytes) ≡ 0 → after ≡ server_taken now id (drop taken bytes) → ShowsTake now id (drop taken bytes) after → ShowsMore v after (took v id bytes)
+  stopped_shows after none is more = shows_as v after _ _ (sym (stops_there after none is).1) (shows_more after more)
+
+  -- memory was refused
+  pub short : (count : ℕ) (after : ServerValue) → IsNotTaken now id (drop taken bytes) (taking.Memory count) after → IsPartlyFed v id bytes after
+  short count after refused = record {
+    turns = feeds.turns;
+    count = count;
+    going = rw (feeds.so_far, lt-ltb taken (length bytes) left);
+    refused = rw feeds.so_far refused;
+  }
+
+  pub short_shows : (count : ℕ) (after : ServerValue) → IsNotTaken now id (drop taken bytes) (taking.Memory count) after → ShowsMore now after (Took id (take count (drop taken bytes)) ∷ []) → ShowsPartlyFed v id bytes after
+  unfolding short
+  short_shows count after refused more = record {
+    more = _;
+    part = record { fed = short count after refused; made = rw feeds.so_far };
+    shows = shows_then v now after (took_turns feeds.turns v id bytes) _ feeds.shows more;
+  }
+
+-- the bytes are used up
+module _ (v : ServerValue) (id : ℕ) (bytes : List ℕ) (now : ServerValue) (taken : ℕ) (feeds : Feeds v id bytes now taken) (none : length bytes ≤ taken) where
+  all_used : AreTurnsOf v id bytes (length bytes) feeds.turns
+  all_used = all_turns_made v id bytes feeds.turns (rw (feeds.so_far, le-ltb taken (length bytes) none)) (length bytes) (omega (arith, feeds.few, feeds.within))
+
+  pub used_up : fed v id bytes ≡ record { server = now; count = taken; done = false }
+  used_up = all_used.0 ∙ feeds.so_far
+
+  pub used_up_shows : ShowsMore v now (took v id bytes)
+  used_up_shows = shows_as v now _ _ (sym all_used.1) feeds.shows
+
+-- no connection has the number
+module _ (v : ServerValue) (id : ℕ) (none : session_of id v.sessions ≡ None) where
+  feeds_nothing : (bytes : List ℕ) → Feeds v id bytes v 0
+  unfolding fed_turns took_turns
+  feeds_nothing bytes = record { turns = 0; few = omega arith; within = omega arith; so_far = refl; shows = shows_same v v refl }
+
+  takes_nothing : (bytes : List ℕ) → count_taken v id bytes ≡ 0
+  unfolding count_taken
+  takes_nothing bytes = rw none refl
+
+  stays_as_it_is : (bytes : List ℕ) → v ≡ server_taken v id bytes
+  unfolding server_taken
+  stays_as_it_is bytes = rw none refl
+
+  pub fed_nothing : (bytes : List ℕ) → ((fed v id bytes).count ≡ 0) × ((fed v id bytes).server ≡ v) × ShowsMore v v (took v id bytes)
+  fed_nothing bytes = fed_cases (length bytes) refl
+    where
+      fed_cases : (n : ℕ) → length bytes ≡ n → ((fed v id bytes).count ≡ 0) × ((fed v id bytes).server ≡ v) × ShowsMore v v (took v id bytes)
+      fed_cases zero is =
+          let none_left : length bytes ≤ 0 = omega (arith, is) in
+          let all = used_up v id bytes v 0 (feeds_nothing bytes) none_left in
+          (ap (λ (f : Fed). f.count) all, ap (λ (f : Fed). f.server) all, used_up_shows v id bytes v 0 (feeds_nothing bytes) none_left)
+      fed_cases (suc n) is =
+          let left : 0 < length bytes = omega (arith, is) in
+          let rest = drop 0 bytes in
+          let all = fed_and_stopped v id bytes v 0 (feeds_nothing bytes) left v (takes_nothing rest) (stays_as_it_is rest) in (
+            ap (λ (f : Fed). f.count) all,
+            ap (λ (f : Fed). f.server) all,
+            stopped_shows v id bytes v 0 (feeds_nothing bytes) left v (takes_nothing rest) (stays_as_it_is rest) (rw none (shows_same v v refl)),
+          )
+
+-- ---- one event after the other
+
+-- events behind others are replayed on the server after these
+pub replayed_on : (v : ServerValue) (es fs : List EventValue) → replayed v (es ++ fs) ≡ behind (replayed v es).text (replayed (replayed v es).server fs)
+unfolding replayed
+replayed_on v [] fs = refl
+replayed_on v (e ∷ es) fs = rw (replayed_on (event_ran v e).server es fs, append_assoc)
+
+-- the first events were run, and their lines written
+pub record Replays (v : ServerValue) (all : List EventValue) (index : ℕ) (now : ServerValue) (x y : Option (List ℕ)) : Type 0 where
+  pub server_is : now ≡ (replayed v (take index all)).server
+  pub written : AddsBytes x y (replayed v (take index all)).text
+
+-- an event among others
+pub record StandsAt (all : List EventValue) (index : ℕ) (e : EventValue) : Type 0 where
+  pub within : index < length all
+  pub all_is : all ≡ take index all ++ e ∷ drop (index + 1) all
+  pub more : take (index + 1) all ≡ take index all ++ e ∷ []
+  pub counted : length (take index all) ≡ index
+
+pub stands : (events : List Event) (index : ℕ) (x : Event) → index < length events → x ≡ get_or events index x → StandsAt (map event_value events) index (event_value x)
+stands events index x lt is =
+    let all : List EventValue = map event_value events in
+    let within : index < length all = omega (arith, lt, length-map events event_value) in
+    let found : get_or all index (event_value x) ≡ event_value x = get_or-map event_value events index x ∙ ap event_value (sym is) in
+    let next = add-one index in
+    record {
+      within = within;
+      all_is = cc (take-append-drop index all, drop-cons all index (event_value x) within);
+      more = cc (take-suc all index (event_value x) within);
+      counted = length-take-le index all (omega (arith, within));
+    }
+
+module _ (v : ServerValue) (all : List EventValue) (index : ℕ) (now : ServerValue) (x y : Option (List ℕ)) (so_far : Replays v all index now x y) (e : EventValue) (stands : StandsAt all index e) where
+  -- memory was refused for the event
+  pub refused_at : (number : ℕ) (after : ServerValue) → number ≡ index + 1 → IsUnrun now e after → IsRefusedAt v all number after (AddsBytes x y)
+  refused_at number after counted unrun = record {
+    before = take index all;
+    event = e;
+    others = drop (index + 1) all;
+    all = stands.all_is;
+    counted = cc (counted, stands.counted);
+    written = so_far.written;
+    unrun = rw so_far.server_is at unrun;
+  }
+
+  -- the event was run, and its line not written whole
+  pub cut_at : (after : ServerValue) (line : List ℕ) (z : Option (List ℕ)) → IsWhat (event_ran now e) after line → WritesPart y z line → ShowsMore v after (events_ran v (take index all ++ e ∷ [])) → IsCutAt v all after (AddsBytes x z)
+  cut_at after line z ran wrote shows = record {
+    before = take index all;
+    event = e;
+    others = drop (index + 1) all;
+    all = stands.all_is;
+    ran = cc (ran.0, so_far.server_is);
+    part = wrote.0;
+    missing = wrote.1;
+    some = wrote.2;
+    cut = cc (ran.1, so_far.server_is, wrote.3);
+    written = bytes_then x y z (replayed v (take index all)).text wrote.0 so_far.written wrote.4;
+    shows = shows;
+  }
+
+  -- the event was run, and its line written
+  pub one_replayed : (after : ServerValue) (line : List ℕ) (z : Option (List ℕ)) → IsWhat (event_ran now e) after line → AddsBytes y z line → Replays v all (index + 1) after x z
+  unfolding replayed
+  one_replayed after line z ran wrote =
+      let next : replayed v (take (index + 1) all) ≡ behind (replayed v (take index all)).text (event_ran now e) =
+      rw (stands.more, replayed_on v (take index all) (e ∷ []), append-nil, so_far.server_is) in
+      record {
+        server_is = cc (ran.0, next);
+        written = rw (next, ← ran.1) (bytes_then x y z (replayed v (take index all)).text line so_far.written wrote);
+      }
+
+-- ---- Which world a server shows after the first events of a replay.
+
+-- after the first events the server shows theirs
+abbrev pub ShowsFirst : ServerValue → List EventValue → ℕ → ServerValue → Type 0
+ShowsFirst v all index now = ShowsMore v now (events_ran v (take index all))
+
+module _ (v : ServerValue) (all : List EventValue) (index : ℕ) (now : ServerValue) (x y : Option (List ℕ)) (so_far : Replays v all index now x y) (shown : ShowsFirst v all index now) (e : EventValue) (stands : StandsAt all index e) where
+  next_ran : events_ran v (take index all) ++ events_made now e ≡ events_ran v (take (index + 1) all)
+  unfolding events_ran
+  next_ran = rw (stands.more, events_ran_on v (take index all) (e ∷ []), append-nil, so_far.server_is)
+
+  -- the event was run
+  pub one_shown : (after : ServerValue) → ShowsMore now after (events_made now e) → ShowsFirst v all (index + 1) after
+  one_shown after more = shows_as v after _ _ next_ran (shows_then v now after (events_ran v (take index all)) (events_made now e) shown more)
+
+  -- it was run, and its line not written whole
+  pub cut_shown : (after : ServerValue) → ShowsMore now after (events_made now e) → ShowsMore v after (events_ran v (take index all ++ e ∷ []))
+  cut_shown after more = shows_as v after _ _ (ap (events_ran v) stands.more) (one_shown after more)
+
+  -- memory was refused for it
+  pub refused_shown : (before : List world.Event) → Shows v before → (number : ℕ) (after : ServerValue) → number ≡ index + 1 → ShowsPart now e after → ShowsRefusedAt before v all number after
+  refused_shown before shows number after counted refused = record {
+    ran = take index all;
+    event = e;
+    others = drop (index + 1) all;
+    all = stands.all_is;
+    counted = cc (counted, stands.counted);
+    more = refused.more;
+    part = rw so_far.server_is at refused.part;
+    shows = refused.shows (before ++ events_ran v (take index all)) (shown before shows);
+  }

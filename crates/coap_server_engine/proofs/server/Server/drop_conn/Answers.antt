@@ -1,0 +1,22 @@
+use Rattle.std.proofs.Common.{Ok, ap, ◌∙◌}
+use Rattle.indexmap.proofs.SetLemmas.{map-remove}
+use Rattle.coap_server_engine.specs.Prelude.{IsMarked, unmarked, unmarked_entry}
+use Rattle.coap_server_engine.proofs.values.ServerLemmas.{dropped_server, dropped_value, is_there_at}
+use Rattle.coap_server_session.proofs.values.TagLemmas.{all_remove}
+use Rattle.coap_server_engine.proofs.world.CallLaws.{drop_shows}
+use Rattle.coap_server_engine.proofs.server.Server.drop_conn.Goals as goal
+
+pub invariant_of-self : goal.invariant_of-self
+invariant_of-self c =
+    let es = c.self.inside.sessions.entries in
+    record {
+      server = dropped_server _ _ _ _ c.self.invariant.server c.in-Some.ensures.some (ap unmarked c.shift_remove_index.ensures.entries ∙ map-remove unmarked_entry es c.in-Some.at);
+      marked = rw c.shift_remove_index.ensures.entries (all_remove (λ e. IsMarked c.self.inside.host e.1) es c.in-Some.at c.self.invariant.marked);
+    }
+
+pub returns : goal.returns
+returns c =
+    let es = c.self.inside.sessions.entries in
+    let there = is_there_at c.args.id _ _ c.in-Some.ensures.some in
+    let ok = dropped_value _ _ _ _ c.self.invariant.server c.in-Some.ensures.some (ap unmarked c.shift_remove_index.ensures.entries ∙ map-remove unmarked_entry es c.in-Some.at) in
+    rw (← c.self.view_is) (assumption (there, ok, drop_shows {T = Unit {0}} {F = Unit {0}} (Ok tt) _ _ c.args.id there ok))

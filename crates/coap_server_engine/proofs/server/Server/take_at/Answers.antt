@@ -1,0 +1,116 @@
+use Rattle.std.proofs.Common.{refl, sym, ap, subst, ◌∙◌, is_some, if◌then◌else◌, map, arith, Ok, Err, rules, Result}
+use Rattle.std.proofs.lemmas.List.{length-map}
+use Rattle.coap_server_engine.specs.Prelude.{stop_of, is_there, session_takes, taking as session_taking, Taken, TakeFault}
+use Rattle.coap_server_engine.specs.Prelude.{IsMarked, IsServer, AreOthersSettled, LiesAt}
+use Rattle.coap_server_engine.specs.Prelude.{unmarked_entry, server_value, settled_entry, settled_held, changed_at}
+use Rattle.coap_server_engine.proofs.values.ServerLemmas.{Entries, length-written, one_of_all, set_unmarked, unmarked_at, within_unmarked, all_written, own_written}
+use Rattle.coap_server_session.proofs.values.CauseLemmas.{hash_where_changed}
+use Rattle.coap_server_engine.proofs.values.ServerCauseLemmas.{others_settled, marked_after_take}
+use Rattle.coap_server_engine.proofs.values.ServerTakenLemmas.{count_is, taken_value, taken_server, taken_lies, taken_handled, refuses_on, refused_value, refused_server}
+use Rattle.coap_server_engine.proofs.world.CallLaws.{take_takes, take_shows, refused_take_shows}
+use Rattle.coap_server_engine.proofs.world.HandledLaws.{take_says}
+use Rattle.coap_server_engine.proofs.world.RefusedLaws.{take_refused_for}
+use Rattle.coap_model.specs.declared.answers.TakeFault.TheVariants as taking
+use Rattle.coap_server_engine.proofs.values.TurnLemmas.{same_session}
+use Rattle.coap_server_engine.proofs.server.Server.take_at.Goals as goal
+
+pub take-requires : goal.take-requires
+take-requires c = one_of_all (IsMarked c.self.inside.host) c.args.at _ _ c.self.invariant.marked c.index_mut.ensures.value
+
+pub invariant_of-self : goal.invariant_of-self
+invariant_of-self c =
+    let lies = subst (λ v. LiesAt c.args._id c.args.at v.sessions) (sym c.self.view_is) c.requires in
+    let e = c.in-Err.ensures in
+    let es = c.self.inside.sessions.entries in
+    let at = c.args.at in
+    let new = c.take.new.self in
+    let v = server_value c.self.inside in
+    let server = refused_server v _ _ _ c.args.piece.now _ c.self.invariant.server lies (unmarked_at es at _ c.index_mut.ensures.value) e.refused c.take.new.host new.session e.kept e.unchanged in
+    record {
+      server = subst (λ (fs : Entries). IsServer (record v { host = c.take.new.host; sessions = fs })) (sym (set_unmarked es at new new.session refl)) server;
+      marked = rw e.unchanged (all_written (IsMarked c.self.inside.host) es at new c.self.invariant.marked (rw e.unchanged at c.take.ensures.marked));
+    }
+
+pub returns-in-Err : goal.returns-in-Err
+returns-in-Err c =
+    let lies = subst (λ v. LiesAt c.args._id c.args.at v.sessions) (sym c.self.view_is) c.requires in
+    let e = c.in-Err.ensures in
+    let id = c.args._id in
+    let piece = c.args.piece.now in
+    let es = c.self.inside.sessions.entries in
+    let at = c.args.at in
+    let new = c.take.new.self in
+    let here = unmarked_at es at _ c.index_mut.ensures.value in
+    let memory : Result Taken TakeFault = Err (taking.Memory c.in-Err.bytes) in
+    let refuses = refuses_on _ id _ _ piece _ c.self.invariant.server lies here e.refused in
+    let written = refused_value _ _ _ _ piece _ c.self.invariant.server lies here e.refused c.take.new.host new.session e.kept e.unchanged in
+    let value = ap (λ (fs : Entries). record (server_value c.self.inside) { host = c.take.new.host; sessions = fs }) (set_unmarked es at new new.session refl) ∙ written in
+    rw (← c.self.view_is)
+    (search (rules, refuses, value, refused_take_shows memory _ _ id piece (refuses, value), take_refused_for memory _ _ id piece (refuses, value)))
+
+pub settle_after-requires : goal.settle_after-requires
+settle_after-requires c =
+    let lies = subst (λ v. LiesAt c.args._id c.args.at v.sessions) (sym c.self.view_is) c.requires in
+    let e = c.in-Ok.ensures in
+    let es = c.self.inside.sessions.entries in
+    let at = c.args.at in
+    let new = c.take.new.self in
+    let host = c.self.inside.host in
+    let others = others_settled host _ at _ new.session c.in-Ok.taking.changed e.changed c.self.invariant.server.settled in
+    record {
+      within = omega (arith, length-written es at new, length-map es unmarked_entry, lies.within);
+      others = subst (AreOthersSettled c.in-Ok.taking.changed at c.take.new.host) (sym (set_unmarked es at new new.session refl)) (rw e.host others);
+      marked = rw e.host (marked_after_take host _ at es new c.in-Ok.taking.changed e.changed c.self.invariant.marked (rw e.host at c.take.ensures.marked));
+      own = own_written (IsMarked c.take.new.host) es at new c.take.ensures.marked;
+    }
+
+pub index-requires-in-Ok : goal.index-requires-in-Ok
+index-requires-in-Ok c =
+    let lies = subst (λ v. LiesAt c.args._id c.args.at v.sessions) (sym c.self.view_is) c.requires in
+    let e = c.in-Ok.ensures in
+    let es = c.self.inside.sessions.entries in
+    let at = c.args.at in
+    let new = c.take.new.self in
+    let settles : Entries → Entries = λ fs. if is_some c.in-Ok.taking.changed then map (settled_entry c.take.new.host) fs else changed_at at (settled_held c.take.new.host) fs in
+    let entries = c.settle_after.ensures.after ∙ ap settles (set_unmarked es at new new.session refl) in
+    let here = unmarked_at es at _ c.index_mut.ensures.value in
+    within_unmarked _ _ _ (taken_lies _ c.args._id _ _ c.args.piece.now c.self.invariant.server lies here _ _ _ _ e.after e.host (ap is_some e.changed ∙ hash_where_changed _) entries)
+
+pub invariant_of-self-in-Ok : goal.invariant_of-self-in-Ok
+invariant_of-self-in-Ok c =
+    let lies = subst (λ v. LiesAt c.args._id c.args.at v.sessions) (sym c.self.view_is) c.requires in
+    let e = c.in-Ok.ensures in
+    let es = c.self.inside.sessions.entries in
+    let at = c.args.at in
+    let new = c.take.new.self in
+    let settles : Entries → Entries = λ fs. if is_some c.in-Ok.taking.changed then map (settled_entry c.take.new.host) fs else changed_at at (settled_held c.take.new.host) fs in
+    let entries = c.settle_after.ensures.after ∙ ap settles (set_unmarked es at new new.session refl) in
+    let here = unmarked_at es at _ c.index_mut.ensures.value in
+    record {
+      server = taken_server _ c.args._id _ _ c.args.piece.now c.self.invariant.server lies here _ _ _ _ e.after e.host (ap is_some e.changed ∙ hash_where_changed _) entries;
+      marked = c.settle_after.ensures.marked;
+    }
+
+pub returns-in-Ok : goal.returns-in-Ok
+returns-in-Ok c =
+    let e = c.in-Ok.ensures in
+    let id = c.args._id in
+    let piece = c.args.piece.now in
+    let lies = subst (λ v. LiesAt c.args._id c.args.at v.sessions) (sym c.self.view_is) c.requires in
+    let es = c.self.inside.sessions.entries in
+    let at = c.args.at in
+    let new = c.take.new.self in
+    let settles : Entries → Entries = λ fs. if is_some c.in-Ok.taking.changed then map (settled_entry c.take.new.host) fs else changed_at at (settled_held c.take.new.host) fs in
+    let entries = c.settle_after.ensures.after ∙ ap settles (set_unmarked es at new new.session refl) in
+    let here = unmarked_at es at _ c.index_mut.ensures.value in
+    let taken : Result Taken TakeFault = Ok (record { bytes = c.in-Ok.taking.count; handled = c.what_was_handled.result }) in
+    let takes = c.takes-takes.ensures ∙ ap session_takes (same_session _ _ _ (unmarked_at es at _ c.index.ensures) here) in
+    let changed = ap is_some e.changed ∙ hash_where_changed (session_taking c.self.inside.host c.index_mut.result.now.session piece).change in
+    let count = e.count ∙ sym (count_is _ id _ _ piece c.self.invariant.server lies here) in
+    let ok = taken_value _ _ _ _ piece c.self.invariant.server lies here _ _ _ _ e.after e.host changed entries in
+    let handled = c.what_was_handled.ensures ∙ taken_handled _ _ _ _ piece c.self.invariant.server lies here _ _ _ _ e.after e.host changed entries _ _ _ _ takes e.handled
+    (unmarked_at c.settle_after.new.sessions.entries at c.index-in-Ok.result.now c.index-in-Ok.ensures) (c.stop-stop.ensures ∙ ap stop_of c.phase.ensures) in
+    let there = ap is_there (lies.found ∙ here) in
+    let still = taken_lies _ id _ _ piece c.self.invariant.server lies here _ _ _ _ e.after e.host changed entries in
+    rw (← c.self.view_is)
+    (search (rules, count, handled, there, ok, still, take_takes taken _ id piece count, take_says taken _ id piece count handled, take_shows taken _ _ id piece count there ok))

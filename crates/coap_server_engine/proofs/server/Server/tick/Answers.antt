@@ -1,0 +1,59 @@
+use Rattle.std.proofs.Common.{◌≡◌, ℕ, Option, IfNone, Ok, refl, sym, ap, subst, ◌∙◌, arith, rules, length, map}
+use Rattle.coap_server_engine.specs.Prelude.{ServerValue, server_ticked, server_value, settled_entry, unmarked, AreAllMarked}
+use Rattle.coap_server_engine.specs.Prelude.{AreUntouched}
+use Rattle.coap_server_session.specs.declared.cause.Cause.TheVariants as cause
+use Rattle.coap_model.proofs.OptionLemmas.{there_is_none}
+use Rattle.coap_server_session.proofs.values.DueLemmas.{at_moment}
+use Rattle.coap_server_engine.proofs.values.ServerLemmas.{Entries, settled_server, same_moment}
+use Rattle.coap_server_engine.proofs.values.ServerCauseLemmas.{untouched_by_moment, all_but_later, none_touched}
+use Rattle.coap_server_engine.proofs.world.CallLaws.{tick_shows}
+use Rattle.coap_server_engine.proofs.server.Server.tick.Goals.{Else-is_some}
+use Rattle.coap_server_engine.proofs.server.Server.tick.Goals as goal
+
+pub settle_touched-requires : goal.settle_touched-requires
+settle_touched-requires c =
+    let store = rw (← c.self.view_is) at c.stamp-before.ensures.store in
+    let before : c.stamp-before.result.moment ≡ c.self.inside.host.now = rw (c.stamp-before.ensures.stamp, ← c.self.view_is) in
+    rw (c.keep_moment.ensures, c.move_to.ensures) (record {
+      settled = rw before (untouched_by_moment c.self.inside.host c.args.now _ store (omega (arith, before)) c.ranges.now.fits c.self.invariant.server.settled);
+      marked = all_but_later c.self.inside.host c.args.now _ _ store c.self.invariant.marked;
+    })
+
+pub invariant_of-self : goal.invariant_of-self
+invariant_of-self c =
+    let was = c.self.invariant.server in
+    record { server = settled_server _ _ c.settle_touched.ensures.after was.numbered was.few; marked = c.settle_touched.ensures.marked }
+
+pub returns-then-is_some-clause-shows : goal.returns-then-is_some-clause-shows
+returns-then-is_some-clause-shows c = tick_shows {T = Unit {0}} {F = Unit {0}} (Ok tt) c.args.self.now _ c.args.now c.ranges.now.fits (search rules) (search rules)
+
+-- no connection is touched: all are settled as they are
+all_stay : (c : Else-is_some) → let es = c.self.inside.sessions.entries in (unmarked es ≡ map (settled_entry c.move_to.new.self) (unmarked es)) × AreAllMarked c.move_to.new.self es
+all_stay c =
+    let host = c.self.inside.host in
+    let es = c.self.inside.sessions.entries in
+    let why = cause.Moment c.stamp-before.result.moment in
+    let store = rw (← c.self.view_is) at c.stamp-before.ensures.store in
+    let before : c.stamp-before.result.moment ≡ host.now = rw (c.stamp-before.ensures.stamp, ← c.self.view_is) in
+    let none = there_is_none c.next_touched.result (sym c.is_some.ensures ∙ c.if-is_some.false) in
+    let calm = subst (λ (o : Option ℕ). IfNone o (AreUntouched why c.args.now 0 (length es) es)) none c.next_touched.ensures.none in
+    let settled = untouched_by_moment host c.args.now _ store (omega (arith, before)) c.ranges.now.fits c.self.invariant.server.settled in
+    rw c.move_to.ensures (none_touched why (at_moment host c.args.now) es (rw before settled) (all_but_later host c.args.now _ es store c.self.invariant.marked) calm)
+
+pub invariant_of-self-else-is_some : goal.invariant_of-self-else-is_some
+invariant_of-self-else-is_some c =
+    let was = c.self.invariant.server in
+    let all = all_stay c in
+    record { server = settled_server _ _ all.0 was.numbered was.few; marked = all.1 }
+
+pub returns-else-is_some : goal.returns-else-is_some
+returns-else-is_some c =
+    let moved : Entries → ServerValue = λ es. record (server_value c.self.inside) { host = c.move_to.new.self; sessions = es } in
+    let ok : moved (unmarked c.self.inside.sessions.entries) ≡ server_ticked c.args.self.now c.args.now = rw (← c.self.view_is) (ap moved (all_stay c).0 ∙ rw c.move_to.ensures refl) in
+    search (rules, ok, tick_shows {T = Unit {0}} {F = Unit {0}} (Ok tt) c.args.self.now _ c.args.now c.ranges.now.fits (search rules) ok)
+
+pub returns-then-now-before : goal.returns-then-now-before
+returns-then-now-before c =
+    let before : c.stamp-before.result.moment ≡ c.self.inside.host.now = rw (c.stamp-before.ensures.stamp, ← c.self.view_is) in
+    let ok : c.args.self.now ≡ server_ticked c.args.self.now c.args.now = rw (← c.self.view_is) (same_moment _ c.args.now c.self.invariant.server (omega (arith, before))) in
+    search (rules, ok, tick_shows {T = Unit {0}} {F = Unit {0}} (Ok tt) c.args.self.now _ c.args.now c.ranges.now.fits (search rules) ok)

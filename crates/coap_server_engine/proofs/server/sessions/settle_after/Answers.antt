@@ -1,0 +1,46 @@
+use Rattle.std.proofs.Common.{IfSome, Option, refl, sym, ap, subst, ◌∙◌, map}
+use Rattle.coap_server_engine.specs.Prelude.{MarkedSession, IsMarked, IsMarkedBut, AreSettledUntouched, settled_entry}
+use Rattle.coap_server_engine.specs.Prelude.{settled_held}
+use Rattle.coap_server_session.specs.declared.cause.Cause.TheVariants as cause
+use Rattle.coap_server_engine.proofs.values.ServerLemmas.{written_unmarked, set_unmarked, unmarked_at, all_written}
+use Rattle.coap_server_session.proofs.values.CauseLemmas.{but_none}
+use Rattle.coap_server_engine.proofs.values.ServerCauseLemmas.{others_untouched, all_settle}
+use Rattle.coap_server_engine.proofs.server.sessions.settle_after.Goals as goal
+
+pub settle_held-requires : goal.settle_held-requires
+settle_held-requires c = subst (λ (o : Option MarkedSession). IfSome o (IsMarked c.args.host.now)) c.index_mut.ensures.value c.requires.own
+
+pub returns-in-None : goal.returns-in-None
+returns-in-None c =
+    let host = c.args.host.now in
+    let es = c.args.sessions.now.entries in
+    let e = c.settle_held.ensures in
+    rw c.in-None.is (record {
+      after = written_unmarked (settled_held host) es c.args.at _ _ c.index_mut.ensures.value e.after;
+      marked = all_written (IsMarked host) es c.args.at _ (rw c.in-None.is at c.requires.marked) e.marked;
+    })
+
+pub settle-requires : goal.settle-requires
+settle-requires c = subst (λ (o : Option MarkedSession). IfSome o (IsMarked c.args.host.now)) c.index_mut-in-Some.ensures.value c.requires.own
+
+pub settle_touched-requires : goal.settle_touched-requires
+settle_touched-requires c =
+    let host = c.args.host.now in
+    let es = c.args.sessions.now.entries in
+    let why = cause.Path c.in-Some.hash in
+    let now = c.settle.new.self in
+    let e = c.settle.ensures in
+    let others = others_untouched host c.args.at c.in-Some.hash _ _ _ (unmarked_at es c.args.at _ c.index_mut-in-Some.ensures.value) e.after (rw c.in-Some.is at c.requires.others) in
+    record {
+      settled = subst (AreSettledUntouched why host) (sym (set_unmarked es c.args.at now now.session refl)) others;
+      marked = all_written (IsMarkedBut why host) es c.args.at now (rw c.in-Some.is at c.requires.marked) (but_none why host now e.marked);
+    }
+
+pub returns-in-Some : goal.returns-in-Some
+returns-in-Some c =
+    let host = c.args.host.now in
+    let es = c.args.sessions.now.entries in
+    let now = c.settle.new.self in
+    let e = c.settle_touched.ensures in
+    let all = all_settle host c.args.at c.in-Some.hash _ _ _ (unmarked_at es c.args.at _ c.index_mut-in-Some.ensures.value) c.settle.ensures.after in
+    rw c.in-Some.is (record { after = e.after ∙ ap (map (settled_entry host)) (set_unmarked es c.args.at now now.session refl) ∙ all; marked = e.marked })

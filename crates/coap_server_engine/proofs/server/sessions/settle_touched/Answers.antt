@@ -1,0 +1,39 @@
+use Rattle.std.proofs.Common.{refl, arith, length}
+use Rattle.coap_server_engine.specs.Prelude.{unmarked}
+use Rattle.coap_server_engine.proofs.values.ServerLemmas.{none_settled, length-written}
+use Rattle.coap_server_engine.proofs.values.ServerCauseLemmas.{AreUpTo, next_but, passed, one_more, none_left}
+use Rattle.coap_server_engine.proofs.server.sessions.settle_touched.Goals.{After-index_mut}
+use Rattle.coap_server_engine.proofs.server.sessions.settle_touched.Goals as goal
+
+pub loop-at-init : goal.loop-at-init
+loop-at-init c = (omega arith, (none_settled c.args.host.now (unmarked c.args.sessions.now.entries), c.requires.marked))
+
+-- those before the one that is found are settled
+up_to_found : (c : After-index_mut) → AreUpTo c.in-Some.at c.args.cause c.args.host.now c.args.sessions.now.entries c.loop-at.sessions.entries
+up_to_found c =
+    let e = c.in-Some.ensures in
+    passed c.loop-at.from c.in-Some.at c.args.cause c.args.host.now c.args.sessions.now.entries c.loop-at.sessions.entries e.from (omega (arith, e.within)) c.loop-at.invariant.1 c.requires.settled e.some
+
+pub mark_and_settle-requires : goal.mark_and_settle-requires
+mark_and_settle-requires c = next_but c.in-Some.at c.args.cause c.args.host.now c.loop-at.sessions.entries _ (up_to_found c).1 c.index_mut.ensures.value
+
+pub loop-at-preserved : goal.loop-at-preserved
+loop-at-preserved c =
+    let es = c.loop-at.sessions.entries in
+    let after = c.mark_and_settle.new.self in
+    let e = c.mark_and_settle.ensures in (
+      omega (arith, c.in-Some.ensures.within, length-written es c.in-Some.at after),
+      one_more c.in-Some.at c.args.cause c.args.host.now c.args.sessions.now.entries es _ after (up_to_found (goal.at.loop-at-preserved c).After-index_mut) c.index_mut.ensures.value e.after e.marked,
+    )
+
+pub loop-at-smaller : goal.loop-at-smaller
+loop-at-smaller c =
+    let es = c.loop-at.sessions.entries in
+    omega (arith, c.in-Some.ensures.within, c.in-Some.ensures.from, length-written es c.in-Some.at c.mark_and_settle.new.self)
+
+pub returns : goal.returns
+returns c =
+    let es = c.loop-at.sessions.entries in
+    let up = passed c.loop-at.from (length es) c.args.cause c.args.host.now c.args.sessions.now.entries es c.loop-at.invariant.0 (omega arith) c.loop-at.invariant.1 c.requires.settled c.in_default.ensures.none in
+    let all = none_left (length es) c.args.cause c.args.host.now c.args.sessions.now.entries es refl up in
+    record { after = all.0; marked = all.1 }

@@ -1,0 +1,10 @@
+use Rattle.std.proofs.Common.{◌≤◌, ◌-◌, length}
+use Rattle.coap_server_engine.proofs.values.ServerCauseLemmas.{AreUpTo}
+use Rattle.coap_server_engine.proofs.server.sessions.settle_touched.Given as goal
+
+-- those before this one are settled, and their marks are as they are to be
+abbrev pub invariant-loop-at : goal.invariant-loop-at
+invariant-loop-at l = (l.from ≤ length l.sessions.entries) × AreUpTo l.from l.cause l.host l.fn.sessions.entries l.sessions.entries
+
+abbrev pub decreases-loop-at : goal.decreases-loop-at
+decreases-loop-at l = length l.sessions.entries - l.from

@@ -1,0 +1,368 @@
+-- The connections of a server, found by their numbers and changed where they lie.
+use Rattle.std.proofs.Common.{◌≡◌, ℕ, zero, suc, ◌+◌, ◌<◌, ◌≤◌, Bool, true, false, cond, List, [], ◌∷◌, ◌++◌, length, Option, Some, None, is_some, refl, sym, ap, subst, ◌∙◌, arith, map, filter, remove, IfNone, IfSome, OnOk, OnErr, Result, Ok, Err, not, nat_eq, option_map, nat_lt, slice_get, ◌==◌, if◌then◌else◌}
+use Rattle.coap_server_engine.specs.Prelude.{AllByRecursion, IsDistinct, position_or_len, position, lookup, keys_of}
+use Rattle.coap_server_engine.specs.Prelude.{values_of, nat_eq_equiv, set_value_at, insert_entry, Host, SessionValue}
+use Rattle.coap_server_engine.specs.Prelude.{new_session, session_settled, IsSettled, ServerValue, LiesAt, session_of}
+use Rattle.coap_server_engine.specs.Prelude.{is_there, changed_at, session_becomes, on_session, settled_entry}
+use Rattle.coap_server_engine.specs.Prelude.{server_settled, server_ticked, server_opened, server_dropped, AreSettled}
+use Rattle.coap_server_engine.specs.Prelude.{IsServer, open_refusal, MarkedSession, unmarked, unmarked_entry}
+use Rattle.std.proofs.lemmas.Bool.{eqb-true, ne_eqb, cond_both}
+use Rattle.std.proofs.lemmas.List.{length-map, length_push}
+use Rattle.std.proofs.lemmas.List.Sums.{length-filter, count_by-le-length}
+use Rattle.std.proofs.lemmas.Map.Entries.{length-keys_of, length-values_of}
+use Rattle.std.proofs.lemmas.Map.Made.{keys_of-map_values}
+use Rattle.std.proofs.lemmas.Option.{cond_some}
+use Rattle.coap_server_session.proofs.values.SettleLemmas.{none_held, settled_quiet, settled_is_settled, settled_stays}
+use Rattle.coap_model.proofs.OptionLemmas.{there_is_none, there_at}
+use Rattle.coap_model.proofs.world.EntryLemmas.{all_to, all_append, all_filter, all_map}
+
+abbrev pub Entries : Type 0
+Entries = List (ℕ × SessionValue)
+
+abbrev pub MarkedEntries : Type 0
+MarkedEntries = List (ℕ × MarkedSession)
+
+-- ---- found
+
+-- what is so of all connections is so of the one at an index
+pub one_of_all : {S : Type 0} (P : S → Type 0) (i : ℕ) (es : List (ℕ × S)) (s : S) → AllByRecursion (λ e. P e.1) es → slice_get (values_of es) i ≡ Some s → P s
+one_of_all P i [] s all at = absurd cc
+one_of_all P zero (e ∷ es) s all at = subst P (let is : e.1 ≡ s = cc in is) all.0
+one_of_all P (suc i) (e ∷ es) s all at = one_of_all P i es s all.1 at
+
+-- what the map finds is the connection with the number
+pub session_looked_up : (id : ℕ) (es : Entries) → session_of id es ≡ lookup (nat_eq id) es
+unfolding session_of
+session_looked_up id [] = refl
+session_looked_up id (e ∷ es) = rw (nat_eq_equiv.symm e.0 id, session_looked_up id es) refl
+
+-- ---- without the marks
+
+pub unmarked_looked_up : (id : ℕ) (es : MarkedEntries) → session_of id (unmarked es) ≡ option_map (λ (s : MarkedSession). s.session) (lookup (nat_eq id) es)
+unfolding session_of
+unmarked_looked_up id [] = refl
+unmarked_looked_up id (e ∷ es) =
+    rw (nat_eq_equiv.symm e.0 id, unmarked_looked_up id es)
+    (elim (nat_eq id e.0) as (λ b. cond b (Some e.1.session) (option_map (λ (s : MarkedSession). s.session) (lookup (nat_eq id) es)) ≡ option_map (λ (s : MarkedSession). s.session) (cond b (Some e.1) (lookup (nat_eq id) es))) [ true ↦ refl | false ↦ refl ])
+
+keys_unmarked : (es : MarkedEntries) → keys_of (unmarked es) ≡ keys_of es
+keys_unmarked [] = refl
+keys_unmarked (e ∷ es) = cc (keys_unmarked es)
+
+value_unmarked : (es : MarkedEntries) (i : ℕ) → slice_get (values_of (unmarked es)) i ≡ option_map (λ (s : MarkedSession). s.session) (slice_get (values_of es) i)
+value_unmarked [] i = refl
+value_unmarked (e ∷ es) zero = refl
+value_unmarked (e ∷ es) (suc i) = value_unmarked es i
+
+pub unmarked_at : (es : MarkedEntries) (i : ℕ) (s : MarkedSession) → slice_get (values_of es) i ≡ Some s → slice_get (values_of (unmarked es)) i ≡ Some s.session
+unmarked_at es i s at = value_unmarked es i ∙ ap (option_map (λ (s : MarkedSession). s.session)) at
+
+unmarked_written : (es : MarkedEntries) (i : ℕ) (s : MarkedSession) → unmarked (set_value_at es i s) ≡ set_value_at (unmarked es) i s.session
+unmarked_written [] i s = refl
+unmarked_written (e ∷ es) zero s = refl
+unmarked_written (e ∷ es) (suc i) s = ap (λ (rest : Entries). unmarked_entry e ∷ rest) (unmarked_written es i s)
+
+pub set_unmarked : (es : MarkedEntries) (i : ℕ) (s : MarkedSession) (v : SessionValue) → s.session ≡ v → unmarked (set_value_at es i s) ≡ set_value_at (unmarked es) i v
+set_unmarked es i s v is = unmarked_written es i s ∙ ap (set_value_at (unmarked es) i) is
+
+-- what is so of all is so of all still where it is so of the one that is written
+pub all_written : (P : MarkedSession → Type 0) (es : MarkedEntries) (i : ℕ) (s : MarkedSession) → AllByRecursion (λ e. P e.1) es → P s → AllByRecursion (λ e. P e.1) (set_value_at es i s)
+all_written P [] i s all one = tt
+all_written P (e ∷ es) zero s all one = (one, all.1)
+all_written P (e ∷ es) (suc i) s all one = (all.0, all_written P es i s all.1 one)
+
+pub own_written : (P : MarkedSession → Type 0) (es : MarkedEntries) (i : ℕ) (s : MarkedSession) → P s → IfSome (slice_get (values_of (set_value_at es i s)) i) P
+own_written P [] i s one = tt
+own_written P (e ∷ es) zero s one = one
+own_written P (e ∷ es) (suc i) s one = own_written P es i s one
+
+pub within_unmarked : (id i : ℕ) (es : MarkedEntries) → LiesAt id i (unmarked es) → i < length es
+within_unmarked id i es lies = omega (arith, lies.within, length-map es unmarked_entry)
+
+pub inserted_unmarked : (es : MarkedEntries) (id : ℕ) (s : MarkedSession) → unmarked (insert_entry nat_eq es id s) ≡ insert_entry nat_eq (unmarked es) id s.session
+inserted_unmarked [] id s = refl
+inserted_unmarked (e ∷ es) id s =
+    elim (nat_eq id e.0) as (λ b. unmarked (cond b ((e.0, s) ∷ es) (e ∷ insert_entry nat_eq es id s)) ≡ cond b ((e.0, s.session) ∷ unmarked es) (unmarked_entry e ∷ insert_entry nat_eq (unmarked es) id s.session)) [
+      | true ↦ refl
+      | false ↦ ap (λ (rest : Entries). unmarked_entry e ∷ rest) (inserted_unmarked es id s)
+    ]
+
+pub all_inserted : (P : MarkedSession → Type 0) (es : MarkedEntries) (id : ℕ) (s : MarkedSession) → AllByRecursion (λ e. P e.1) es → P s → AllByRecursion (λ e. P e.1) (insert_entry nat_eq es id s)
+all_inserted P [] id s all one = (one, tt)
+all_inserted P (e ∷ es) id s all one =
+    elim (nat_eq id e.0) as (λ b. AllByRecursion (λ e. P e.1) (cond b ((e.0, s) ∷ es) (e ∷ insert_entry nat_eq es id s))) [ true ↦ (one, all.1) | false ↦ (all.0, all_inserted P es id s all.1 one) ]
+
+pub still_unmarked : {T E : Type 0} (r : Result T E) (es fs : MarkedEntries) → OnErr r (es ≡ fs) → OnErr r (unmarked es ≡ unmarked fs)
+still_unmarked (Ok x) es fs same = tt
+still_unmarked (Err e) es fs same = ap unmarked same
+
+-- what the map found, where it found none and where it found one
+pub none_where_none : (id : ℕ) (es : MarkedEntries) (r : Option ℕ) → is_some r ≡ is_some (lookup (nat_eq id) es) → IfNone r (session_of id (unmarked es) ≡ None)
+none_where_none id es None found = unmarked_looked_up id es ∙ ap (option_map (λ (s : MarkedSession). s.session)) (there_is_none (lookup (nat_eq id) es) (sym found))
+none_where_none id es (Some i) found = tt
+
+pub one_where_some : (id : ℕ) (es : MarkedEntries) (r : Option ℕ) → IsDistinct nat_eq (keys_of es) → r ≡ position (nat_eq id) (keys_of es) → IfSome r (λ i. i < length es) → IfSome r (λ i. slice_get (values_of es) i ≡ lookup (nat_eq id) es) → IfSome r (λ i. LiesAt id i (unmarked es))
+one_where_some id es None distinct index within value = tt
+one_where_some id es (Some i) distinct index within value =
+    record {
+      distinct = rw (keys_unmarked es) distinct;
+      index = rw (keys_unmarked es) (cond_some _ _ i (sym index)).1;
+      within = rw (length-map es unmarked_entry) within;
+      found = unmarked_looked_up id es ∙ ap (option_map (λ (s : MarkedSession). s.session)) (sym value) ∙ sym (value_unmarked es i);
+    }
+
+-- ---- changed
+
+-- a value written at an index
+pub written_at_index : (f : SessionValue → SessionValue) (es : Entries) (i : ℕ) (s : SessionValue) → slice_get (values_of es) i ≡ Some s → set_value_at es i (f s) ≡ changed_at i f es
+unfolding changed_at
+written_at_index f [] i s at = refl
+written_at_index f (e ∷ es) zero s at = ap (λ v. (e.0, f v) ∷ es) (let is : e.1 ≡ s = cc in sym is)
+written_at_index f (e ∷ es) (suc i) s at = ap (λ rest. e ∷ rest) (written_at_index f es i s at)
+
+-- a value written at an index, where its connection became what a function makes of it
+pub written_unmarked : (f : SessionValue → SessionValue) (es : MarkedEntries) (i : ℕ) (s after : MarkedSession) → slice_get (values_of es) i ≡ Some s → after.session ≡ f s.session → unmarked (set_value_at es i after) ≡ changed_at i f (unmarked es)
+written_unmarked f es i s after at is =
+    unmarked_written es i after ∙ ap (set_value_at (unmarked es) i) is ∙ written_at_index f (unmarked es) i s.session (unmarked_at es i s at)
+
+-- where the value that is there is written, all stays
+pub same_written : {S : Type 0} (es : List (ℕ × S)) (i : ℕ) (s : S) → slice_get (values_of es) i ≡ Some s → set_value_at es i s ≡ es
+same_written [] i s at = refl
+same_written (e ∷ es) zero s at = ap (λ v. (e.0, v) ∷ es) (let is : e.1 ≡ s = cc in sym is)
+same_written (e ∷ es) (suc i) s at = ap (λ rest. e ∷ rest) (same_written es i s at)
+
+pub length-written : {S : Type 0} (es : List (ℕ × S)) (i : ℕ) (s : S) → length (set_value_at es i s) ≡ length es
+length-written [] i s = refl
+length-written (e ∷ es) zero s = refl
+length-written (e ∷ es) (suc i) s = ap suc (length-written es i s)
+
+-- a write and a change at one index
+pub changed_written : (i : ℕ) (f : SessionValue → SessionValue) (es : Entries) (s : SessionValue) → changed_at i f (set_value_at es i s) ≡ changed_at i (λ _. f s) es
+unfolding changed_at
+changed_written i f [] s = refl
+changed_written zero f (e ∷ es) s = refl
+changed_written (suc i) f (e ∷ es) s = ap (λ (rest : Entries). e ∷ rest) (changed_written i f es s)
+
+-- what was there, written again
+pub written_back : {S : Type 0} (es : List (ℕ × S)) (i : ℕ) (s back : S) → slice_get (values_of es) i ≡ Some s → back ≡ s → set_value_at es i back ≡ es
+written_back [] i s back at is = refl
+written_back (e ∷ es) zero s back at is = ap (λ v. (e.0, v) ∷ es) (let same : back ≡ e.1 = cc in same)
+written_back (e ∷ es) (suc i) s back at is = ap (λ rest. e ∷ rest) (written_back es i s back at is)
+
+-- connections with other numbers stay
+pub others_same : (id : ℕ) (f : SessionValue → SessionValue) (es : Entries) → AllByRecursion (λ k. nat_eq id k ≡ false) (keys_of es) → map (session_becomes id f) es ≡ es
+others_same id f [] apart = refl
+others_same id f (e ∷ es) apart = rw (nat_eq_equiv.symm e.0 id ∙ apart.0) (ap (λ (rest : Entries). e ∷ rest) (others_same id f es apart.1))
+
+-- what is so of entries from the one with a number on, at its index, is shown by going there from the first one
+at_number : (P : Entries → ℕ → Type 0) (id : ℕ) → ((e : ℕ × SessionValue) (es : Entries) → nat_eq e.0 id ≡ true → AllByRecursion (λ k. nat_eq id k ≡ false) (keys_of es) → P (e ∷ es) 0)
+    → ((e : ℕ × SessionValue) (es : Entries) (i : ℕ) → nat_eq e.0 id ≡ false → P es i → P (e ∷ es) (suc i)) → (es : Entries) (i : ℕ) → IsDistinct nat_eq (keys_of es) → position_or_len (nat_eq id) (keys_of es) ≡ i → i < length es → P es i
+unfolding IsDistinct
+at_number P id here behind [] i distinct index within = absurd (omega arith)
+at_number P id here behind (e ∷ es) zero distinct index within =
+    let there : nat_eq id e.0 ≡ true = grind arith in
+    here e es (nat_eq_equiv.symm e.0 id ∙ there) (subst (λ n. AllByRecursion (λ k. nat_eq n k ≡ false) (keys_of es)) (sym (eqb-true id e.0 there)) distinct.0)
+at_number P id here behind (e ∷ es) (suc i) distinct index within =
+    let later : (nat_eq id e.0 ≡ false) × (position_or_len (nat_eq id) (keys_of es) ≡ i) = grind arith in
+    behind e es i (nat_eq_equiv.symm e.0 id ∙ later.0) (at_number P id here behind es i distinct.1 later.1 (omega arith))
+
+-- what happens at its index happens to it alone
+pub changed_one : (id : ℕ) (f : SessionValue → SessionValue) (es : Entries) (i : ℕ) → IsDistinct nat_eq (keys_of es) → position_or_len (nat_eq id) (keys_of es) ≡ i → i < length es → changed_at i f es ≡ map (session_becomes id f) es
+unfolding changed_at
+changed_one id f =
+    at_number (λ es i. changed_at i f es ≡ map (session_becomes id f) es) id (λ e es here apart. cc (here, others_same id f es apart))
+    (λ e es i other rest. cc (other, rest))
+
+-- ---- settled
+
+abbrev pub settling : Host → (SessionValue → SessionValue) → SessionValue → SessionValue
+settling host f s = session_settled host (f s)
+
+entry_settles : (host : Host) (f : SessionValue → SessionValue) (b : Bool) (e : ℕ × SessionValue) → IsSettled host e.1 → cond b (e.0, settling host f e.1) e ≡ settled_entry host (cond b (e.0, f e.1) e)
+entry_settles host f true e settled = refl
+entry_settles host f false e settled = ap (λ (v : SessionValue). (e.0, v)) (sym (settled_stays host e.1 settled))
+
+-- where all were settled, only the one to which something happened has to settle
+pub one_settles : (host : Host) (id : ℕ) (f : SessionValue → SessionValue) (es : Entries) → AreSettled host es → map (session_becomes id (settling host f)) es ≡ map (settled_entry host) (map (session_becomes id f) es)
+one_settles host id f [] all = refl
+one_settles host id f (e ∷ es) all = cc (entry_settles host f (nat_eq e.0 id) e all.0, one_settles host id f es all.1)
+
+pub all_are_settled : (host : Host) (es : Entries) → AreSettled host (map (settled_entry host) es)
+all_are_settled host [] = tt
+all_are_settled host (e ∷ es) = (settled_is_settled host e.1, all_are_settled host es)
+
+pub all_settled_stay : (host : Host) (es : Entries) → AreSettled host es → map (settled_entry host) es ≡ es
+all_settled_stay host [] all = refl
+all_settled_stay host (e ∷ es) all = cc (ap {B = ℕ × SessionValue} (λ (v : SessionValue). (e.0, v)) (settled_stays host e.1 all.0), all_settled_stay host es all.1)
+
+-- what holds of each still holds where one changes so that it holds of it
+pub all_still : (P : ℕ × SessionValue → Type 0) (id : ℕ) (f : SessionValue → SessionValue) → ((e : ℕ × SessionValue) → P e → P (e.0, f e.1)) → (es : Entries) → AllByRecursion P es → AllByRecursion P (map (session_becomes id f) es)
+all_still P id f to = all_map P P (session_becomes id f) (λ e holds. cond_both (nat_eq e.0 id) (e.0, f e.1) e P (λ _. to e holds) (λ _. holds))
+
+-- ---- a server of which every connection settles, and before it one may have changed
+
+pub settled_server : (v : ServerValue) (entries : Entries) → entries ≡ map (settled_entry v.host) v.sessions → AllByRecursion (λ e. e.0 ≤ v.ids) v.sessions → length v.sessions ≤ v.config.connections → IsServer (record v { sessions = entries })
+settled_server v entries is numbered few = rw is (record {
+  settled = all_are_settled v.host v.sessions;
+  numbered = all_map (λ e. e.0 ≤ v.ids) (λ e. e.0 ≤ v.ids) (settled_entry v.host) (λ e low. low) v.sessions numbered;
+  few = rw (length-map v.sessions (settled_entry v.host)) few;
+})
+
+pub taken_server_with : (v : ServerValue) (id : ℕ) (f : SessionValue → SessionValue) (host : Host) → IsServer v → IsServer (record v { host = host; sessions = map (settled_entry host) (map (session_becomes id f) v.sessions) })
+taken_server_with v id f host server =
+    let few : length (map (session_becomes id f) v.sessions) ≤ v.config.connections = rw (length-map v.sessions (session_becomes id f)) server.few in
+    settled_server (record (on_session id f v) { host = host }) _ refl (all_still (λ e. e.0 ≤ v.ids) id f (λ e low. low) v.sessions server.numbered) few
+
+-- numbers stay where they are
+keys_where_one_changed : (id : ℕ) (f : SessionValue → SessionValue) (es : Entries) → keys_of (map (session_becomes id f) es) ≡ keys_of es
+keys_where_one_changed id f [] = refl
+keys_where_one_changed id f (e ∷ es) = cc (cond_both (nat_eq e.0 id) (e.0, f e.1) e (λ x. x.0 ≡ e.0) (λ _. refl) (λ _. refl), keys_where_one_changed id f es)
+
+pub lies_where_taken : (id i : ℕ) (f : SessionValue → SessionValue) (host : Host) (es : Entries) → LiesAt id i es → LiesAt id i (map (settled_entry host) (map (session_becomes id f) es))
+unfolding session_of
+lies_where_taken id i f host es lies =
+    let now : Entries = map (settled_entry host) (map (session_becomes id f) es) in
+    let keys : keys_of now ≡ keys_of es = keys_of-map_values (session_settled host) (map (session_becomes id f) es) ∙ keys_where_one_changed id f es in
+    let distinct : IsDistinct nat_eq (keys_of now) = rw keys lies.distinct in
+    let index = ap (position_or_len (nat_eq id)) keys ∙ lies.index in
+    let within : i < length now = omega (arith, lies.within, length-keys_of now, length-keys_of es, ap length keys) in
+    let found = at_number (λ es i. session_of id es ≡ slice_get (values_of es) i) id (λ e es here apart. rw here refl) (λ e es i other rest. rw other rest) now i distinct index within in
+    record { distinct = distinct; index = index; within = within; found = found }
+
+module _ (v : ServerValue) (id i : ℕ) (f : SessionValue → SessionValue) (entries : Entries) (server : IsServer v) (lies : LiesAt id i v.sessions) (is : entries ≡ changed_at i (settling v.host f) v.sessions) where
+  entries_changed : entries ≡ map (settled_entry v.host) (map (session_becomes id f) v.sessions)
+  entries_changed = is ∙ changed_one id (settling v.host f) v.sessions i lies.distinct lies.index lies.within ∙ one_settles v.host id f v.sessions server.settled
+
+  pub changed_value : record v { sessions = entries } ≡ server_settled (on_session id f v)
+  changed_value = ap (λ (es : Entries). record v { sessions = es }) entries_changed
+
+  pub changed_server : IsServer (record v { sessions = entries })
+  changed_server = rw entries_changed (taken_server_with v id f v.host server)
+
+  pub changed_lies : LiesAt id i entries
+  changed_lies = rw entries_changed (lies_where_taken id i f v.host v.sessions lies)
+
+-- the same of a call that may be refused, and changes nothing then
+pub changed_server_or_not : {T E : Type 0} (r : Result T E) (v : ServerValue) (id i : ℕ) (f : SessionValue → SessionValue) (entries : Entries) → IsServer v → LiesAt id i v.sessions
+    → OnOk r (entries ≡ changed_at i (settling v.host f) v.sessions) → OnErr r (entries ≡ v.sessions) → IsServer (record v { sessions = entries })
+changed_server_or_not (Ok x) v id i f entries server lies ok err = changed_server v id i f entries server lies ok
+changed_server_or_not (Err e) v id i f entries server lies ok err = rw err server
+
+pub changed_value_or_not : {T E : Type 0} (r : Result T E) (v w : ServerValue) (id i : ℕ) (f : SessionValue → SessionValue) (entries : Entries) → IsServer v → LiesAt id i v.sessions → v ≡ w
+    → OnOk r (entries ≡ changed_at i (settling v.host f) v.sessions) → OnOk r (record v { sessions = entries } ≡ server_settled (on_session id f w))
+changed_value_or_not (Ok x) v w id i f entries server lies same ok = changed_value v id i f entries server lies ok ∙ ap (λ u. server_settled (on_session id f u)) same
+changed_value_or_not (Err e) v w id i f entries server lies same ok = tt
+
+-- a tick to the same moment changes nothing
+pub same_moment : (v : ServerValue) (now : ℕ) → IsServer v → now ≡ v.host.now → v ≡ server_ticked v now
+same_moment v now server same =
+    ap (λ (es : Entries). record v { sessions = es }) (sym (all_settled_stay v.host v.sessions server.settled)) ∙ ap (server_ticked v) (sym same)
+
+-- ---- every connection settles, one after the other
+
+-- the first so many have
+unfoldable pub settled_up_to : ℕ → Host → Entries → Entries
+settled_up_to zero host es = es
+settled_up_to (suc n) host [] = []
+settled_up_to (suc n) host (e ∷ es) = settled_entry host e ∷ settled_up_to n host es
+
+pub none_settled : (host : Host) (es : Entries) → es ≡ settled_up_to 0 host es
+unfolding settled_up_to
+none_settled host es = refl
+
+pub length-settled_up_to : (n : ℕ) (host : Host) (es : Entries) → length (settled_up_to n host es) ≡ length es
+unfolding settled_up_to
+length-settled_up_to zero host es = refl
+length-settled_up_to (suc n) host [] = refl
+length-settled_up_to (suc n) host (e ∷ es) = ap suc (length-settled_up_to n host es)
+
+pub as_many_settled : (n : ℕ) (host : Host) (es now : MarkedEntries) → unmarked now ≡ settled_up_to n host (unmarked es) → length now ≡ length es
+as_many_settled n host es now is =
+    sym (length-map now unmarked_entry) ∙ ap length is ∙ length-settled_up_to n host (unmarked es) ∙ length-map es unmarked_entry
+
+next_settles : (n : ℕ) (host : Host) (es : Entries) → changed_at n (session_settled host) (settled_up_to n host es) ≡ settled_up_to (suc n) host es
+unfolding settled_up_to changed_at
+next_settles zero host [] = refl
+next_settles zero host (e ∷ es) = refl
+next_settles (suc n) host [] = refl
+next_settles (suc n) host (e ∷ es) = ap (λ (rest : Entries). settled_entry host e ∷ rest) (next_settles n host es)
+
+-- the next one settles
+pub one_more_settled : (n : ℕ) (host : Host) (es now : Entries) (s after : SessionValue) → now ≡ settled_up_to n host es → slice_get (values_of now) n ≡ Some s → after ≡ session_settled host s → set_value_at now n after ≡ settled_up_to (n + 1) host es
+one_more_settled n host es now s after is at settles =
+    let next : suc n ≡ n + 1 = omega arith in
+    cc (written_at_index (session_settled host) now n s at, next_settles n host es)
+
+settled_to_the_end : (host : Host) (es : Entries) → settled_up_to (length es) host es ≡ map (settled_entry host) es
+unfolding settled_up_to
+settled_to_the_end host [] = refl
+settled_to_the_end host (e ∷ es) = ap (λ (rest : Entries). settled_entry host e ∷ rest) (settled_to_the_end host es)
+
+-- all have
+pub all_settled : (n : ℕ) (host : Host) (es now : Entries) → now ≡ settled_up_to n host es → n ≡ length es → now ≡ map (settled_entry host) es
+all_settled n host es now is end = cc (settled_to_the_end host es)
+
+-- ---- a connection goes
+
+abbrev pub is_other : ℕ → ℕ × SessionValue → Bool
+is_other id e = not (e.0 == id)
+
+-- where none has the number, all stay
+others_are_kept : (id : ℕ) (es : Entries) → AllByRecursion (λ k. nat_eq id k ≡ false) (keys_of es) → filter (is_other id) es ≡ es
+others_are_kept id [] apart = refl
+others_are_kept id (e ∷ es) apart = rw (nat_eq_equiv.symm e.0 id ∙ apart.0) (ap (λ (rest : Entries). e ∷ rest) (others_are_kept id es apart.1))
+
+-- the one at the index of its number goes
+module _ (v : ServerValue) (id i : ℕ) (entries : Entries) (server : IsServer v) (lies : LiesAt id i v.sessions) (is : entries ≡ remove v.sessions i) where
+  one_gone : entries ≡ map (settled_entry v.host) (filter (is_other id) v.sessions)
+  one_gone =
+      is
+      ∙ at_number (λ es i. remove es i ≡ filter (is_other id) es) id (λ e es here apart. cc (here, others_are_kept id es apart))
+      (λ e es i other rest. cc (other, rest)) v.sessions i lies.distinct lies.index lies.within
+      ∙ sym (all_settled_stay v.host (filter (is_other id) v.sessions) (all_filter (λ e. IsSettled v.host e.1) (is_other id) v.sessions server.settled))
+
+  pub dropped_value : record v { sessions = entries } ≡ server_dropped v id
+  dropped_value = ap (λ (es : Entries). record v { sessions = es }) one_gone
+
+  pub dropped_server : IsServer (record v { sessions = entries })
+  dropped_server =
+      settled_server (record v { sessions = filter (is_other id) v.sessions }) entries one_gone (all_filter (λ e. e.0 ≤ v.ids) (is_other id) v.sessions server.numbered)
+      (omega (arith, length-filter (is_other id) v.sessions, count_by-le-length (is_other id) v.sessions, server.few))
+
+-- ---- a connection comes
+
+-- a number that was not given goes last
+goes_last : (n : ℕ) (s : SessionValue) (es : Entries) → AllByRecursion (λ e. e.0 ≤ n) es → insert_entry nat_eq es (n + 1) s ≡ es ++ (n + 1, s) ∷ []
+goes_last n s [] all = refl
+goes_last n s (e ∷ es) all = rw (ne_eqb (n + 1) e.0 (λ is. omega (arith, all.0))) (ap (λ (rest : Entries). e ∷ rest) (goes_last n s es all.1))
+
+module _ (v : ServerValue) (entries : Entries) (server : IsServer v) (is : entries ≡ insert_entry nat_eq v.sessions (v.ids + 1) (new_session v.config.limits)) where
+  abbrev with_new : Entries
+  with_new = v.sessions ++ (v.ids + 1, new_session v.config.limits) ∷ []
+
+  one_more_last : entries ≡ map (settled_entry v.host) with_new
+  one_more_last =
+      let quiet = settled_quiet v.host (new_session v.config.limits) (none_held v.host.now [] (omega arith)) refl in
+      is
+      ∙ goes_last v.ids (new_session v.config.limits) v.sessions server.numbered
+      ∙ sym (all_settled_stay v.host with_new (all_append (λ e. IsSettled v.host e.1) v.sessions _ server.settled (quiet, tt)))
+
+  pub opened_value : record v { ids = v.ids + 1; sessions = entries } ≡ server_opened v
+  opened_value = ap (λ (es : Entries). record v { ids = v.ids + 1; sessions = es }) one_more_last
+
+  pub opened_server : length v.sessions < v.config.connections → IsServer (record v { ids = v.ids + 1; sessions = entries })
+  opened_server room =
+      let lower = all_to (λ e. e.0 ≤ v.ids) (λ e. e.0 ≤ v.ids + 1) (λ e low. omega (arith, low)) v.sessions server.numbered in
+      settled_server (record v { ids = v.ids + 1; sessions = with_new }) entries one_more_last (all_append (λ e. e.0 ≤ v.ids + 1) v.sessions _ lower (omega arith, tt))
+      (omega (arith, length_push v.sessions (v.ids + 1, new_session v.config.limits)))
+
+-- ---- what calls answer
+
+pub opens : (v : ServerValue) → length v.sessions < v.config.connections → (v.ids ≡ 18446744073709551615 → ⊥) → open_refusal v ≡ None
+opens v few left = grind (arith, few, left)
+
+pub enough_waits : {E : Type 0} (fault : E) (waiting count : ℕ) → count ≤ waiting → (if nat_lt waiting count then Some fault else None) ≡ None
+enough_waits fault waiting count enough = grind (arith, enough)
+
+pub is_there_at : (id i : ℕ) (es : Entries) → LiesAt id i es → true ≡ is_there (session_of id es)
+is_there_at id i es lies = cc (lies.found, (there_at (values_of es) i (rw (length-values_of es) lies.within)).1)

@@ -1,0 +1,102 @@
+-- A piece that changes no resource leaves no connection of a server to settle but the one that took it, if that holds something.
+use Rattle.std.proofs.Common.{◌≡◌, ℕ, Bool, false, cond, List, take, Option, Some, sym, ap, subst, ◌∙◌, map, slice_get}
+use Rattle.coap_server_engine.specs.Prelude.{values_of, set_value_at, stop_of, Reason, changes, Host, SessionValue, Taking}
+use Rattle.coap_server_engine.specs.Prelude.{session_takes, taking, host_changed, IsSettled, RefusesPiece, settled_held}
+use Rattle.coap_server_engine.specs.Prelude.{ServerValue, LiesAt, session_of, changed_at, session_becomes, settled_entry}
+use Rattle.coap_server_engine.specs.Prelude.{AreSettled, server_taken_on, server_taken, count_on, count_taken, handled_so}
+use Rattle.coap_server_engine.specs.Prelude.{handled_by, RefusesPieceOn, IsServer}
+use Rattle.std.proofs.lemmas.Bool.{cond_both}
+use Rattle.coap_server_engine.proofs.values.ServerLemmas.{Entries, one_of_all, written_at_index, changed_one, changed_written, settling, one_settles, all_settled_stay, all_still, taken_server_with, lies_where_taken}
+use Rattle.coap_server_session.proofs.values.TakenLemmas.{host_stays, refused_changes_nothing, refused_stays_settled, taking_settles_held}
+
+-- ---- the server
+
+module _ (v : ServerValue) (id i : ℕ) (s : SessionValue) (piece : List ℕ) (server : IsServer v) (lies : LiesAt id i v.sessions) (here : slice_get (values_of v.sessions) i ≡ Some s) where
+  abbrev taking_here : Taking
+  taking_here = taking v.host s piece
+
+  abbrev host_after : Host
+  host_after = host_changed v.host taking_here.change
+
+  abbrev with_it : Entries
+  with_it = map (session_becomes id (λ _. taking_here.session)) v.sessions
+
+  pub count_is : count_taken v id piece ≡ taking_here.count
+  unfolding count_taken
+  count_is = ap (count_on v piece) (lies.found ∙ here)
+
+  written_is : set_value_at v.sessions i taking_here.session ≡ with_it
+  written_is =
+      written_at_index (λ _. taking_here.session) v.sessions i s here ∙ changed_one id (λ _. taking_here.session) v.sessions i lies.distinct lies.index lies.within
+
+  -- where no resource changed, the others are settled
+  quiet_is : changes taking_here.change ≡ false → changed_at i (settled_held host_after) (set_value_at v.sessions i taking_here.session) ≡ map (settled_entry host_after) with_it
+  quiet_is quiet =
+      let last : SessionValue → SessionValue = λ _. taking_here.session in
+      rw (host_stays v.host taking_here.change quiet)
+      (changed_written i (settled_held v.host) v.sessions taking_here.session
+      ∙ ap (λ (to : SessionValue). changed_at i (λ _. to) v.sessions)
+      (taking_settles_held v.host s piece (one_of_all (IsSettled v.host) i v.sessions s server.settled here))
+      ∙ changed_one id (settling v.host last) v.sessions i lies.distinct lies.index lies.within
+      ∙ one_settles v.host id last v.sessions server.settled)
+
+  -- the same where it holds still
+  pub still_is : changes taking_here.change ≡ false → IsSettled v.host taking_here.session → set_value_at v.sessions i taking_here.session ≡ map (settled_entry host_after) with_it
+  still_is quiet still =
+      let settled : AreSettled host_after with_it =
+      rw (host_stays v.host taking_here.change quiet)
+      (all_still (λ e. IsSettled v.host e.1) id (λ _. taking_here.session) (λ e _. still) v.sessions server.settled) in
+      written_is ∙ sym (all_settled_stay host_after with_it settled)
+
+  -- all settle where a resource changed, and else the one, where it holds something
+  abbrev left_so : Host → SessionValue → Bool → Entries
+  left_so host after changed = cond changed (map (settled_entry host) (set_value_at v.sessions i after)) (changed_at i (settled_held host) (set_value_at v.sessions i after))
+
+  -- a server with these connections
+  module _ (host : Host) (entries : Entries) (host_is : host ≡ host_after) (all : entries ≡ map (settled_entry host_after) with_it) where
+    pub becomes : IsServer (record v { host = host; sessions = entries }) × (record v { host = host; sessions = entries } ≡ server_taken v id piece)
+    unfolding server_taken
+    becomes = rw (host_is, all) (taken_server_with v id (λ _. taking_here.session) host_after server, sym (ap (server_taken_on v id piece) (lies.found ∙ here)))
+
+  module _ (host : Host) (after : SessionValue) (changed : Bool) (entries : Entries) (after_is : after ≡ taking_here.session) (host_is : host ≡ host_after) (changed_is : changed ≡ changes taking_here.change) (entries_are : entries ≡ left_so host after changed) where
+    all_are : entries ≡ map (settled_entry host_after) with_it
+    all_are =
+        let left : left_so host_after taking_here.session (changes taking_here.change) ≡ map (settled_entry host_after) with_it =
+        cond_both (changes taking_here.change) _ _ (λ es. es ≡ map (settled_entry host_after) with_it) (λ _. ap (map (settled_entry host_after)) written_is) quiet_is in
+        cc left
+
+    pub taken_value : record v { host = host; sessions = entries } ≡ server_taken v id piece
+    taken_value = (becomes host entries host_is all_are).1
+
+    pub taken_server : IsServer (record v { host = host; sessions = entries })
+    taken_server = (becomes host entries host_is all_are).0
+
+    pub taken_lies : LiesAt id i entries
+    taken_lies = rw all_are (lies_where_taken id i (λ _. taking_here.session) host_after v.sessions lies)
+
+    -- what was handled, where the connection stands so afterwards
+    pub taken_handled : (takes message : Bool) (stop : Option Reason) (now : SessionValue) → takes ≡ session_takes s → message ≡ taking_here.handled → slice_get (values_of entries) i ≡ Some now → stop ≡ stop_of now.link.phase → handled_so takes message stop ≡ handled_by v id piece
+    unfolding handled_by
+    taken_handled takes message stop now takes_is message_is there stop_is = cc (taken_lies.found, taken_value, lies.found)
+
+-- ---- the server where memory was refused
+
+module _ (v : ServerValue) (id i : ℕ) (s : SessionValue) (piece : List ℕ) (count : ℕ) (server : IsServer v) (lies : LiesAt id i v.sessions) (here : slice_get (values_of v.sessions) i ≡ Some s) (refuses : RefusesPiece v.host s piece count) where
+  pub refuses_on : RefusesPieceOn v piece count (session_of id v.sessions)
+  refuses_on = subst (RefusesPieceOn v piece count) (sym (lies.found ∙ here)) refuses
+
+  module _ (host : Host) (after : SessionValue) (after_is : after ≡ (taking v.host s (take count piece)).session) (host_is : host ≡ v.host) where
+    host_after_is : host ≡ host_changed v.host (taking v.host s (take count piece)).change
+    host_after_is = host_is ∙ sym (ap (host_changed v.host) (refused_changes_nothing v.host s piece count refuses))
+
+    still_all : set_value_at v.sessions i after ≡ map (settled_entry (host_changed v.host (taking v.host s (take count piece)).change)) (map (session_becomes id (λ _. (taking v.host s (take count piece)).session)) v.sessions)
+    still_all =
+        ap (set_value_at v.sessions i) after_is
+        ∙ still_is v id i s (take count piece) server lies here (ap changes (refused_changes_nothing v.host s piece count refuses))
+        (refused_stays_settled v.host s piece count refuses (one_of_all (IsSettled v.host) i v.sessions s server.settled here))
+
+    pub refused_value : record v { host = host; sessions = set_value_at v.sessions i after } ≡ server_taken v id (take count piece)
+    refused_value = (becomes v id i s (take count piece) server lies here host _ host_after_is still_all).1
+
+    pub refused_server : IsServer (record v { host = host; sessions = set_value_at v.sessions i after })
+    refused_server = (becomes v id i s (take count piece) server lies here host _ host_after_is still_all).0

@@ -1,0 +1,6 @@
+pub mod WorkedRefusals
+pub mod SameServers
+pub mod ShowLaws
+pub mod CallLaws
+pub mod HandledLaws
+pub mod RefusedLaws

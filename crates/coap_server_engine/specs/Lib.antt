@@ -1,0 +1,5 @@
+pub mod values
+pub mod world
+pub mod script
+pub mod views
+pub mod Prelude

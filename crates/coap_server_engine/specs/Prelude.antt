@@ -1,0 +1,148 @@
+-- What the contracts and the proofs of the crate name, passed on from one place. Declares nothing.
+
+-- ---- std and the kit's crates
+pub use Rattle.indexmap.specs.IndexMap.{values, insert_entry, set_value_at}
+pub use Rattle.std.specs.Borrow.{sem, follows_so}
+pub use Rattle.std.specs.Cmp.{nat_eq_equiv}
+pub use Rattle.std.specs.List.{AllByRecursion, concat}
+pub use Rattle.std.specs.List.{position, position_or_len}
+unfoldable pub use Rattle.std.specs.List.{IsDistinct}
+pub use Rattle.std.specs.Map.{keys_of, lookup, values_of}
+pub use Rattle.std.specs.Prelude.{map, nat_lt, slice_get}
+pub use Rattle.std.specs.Result.{IsErr}
+pub use Rattle.std.specs.declared.alloc.AllocError.{AllocError}
+pub use mathlib.Core.Option.{none}
+-- ---- coap_wire
+pub use Rattle.coap_wire.specs.Beginning.{Beginning, Faulty, Unfinished, fault_bytes}
+unfoldable pub use Rattle.coap_wire.specs.Beginning.{beginning}
+pub use Rattle.coap_wire.specs.Message.{Message}
+unfoldable pub use Rattle.coap_wire.specs.Reading.{message_of}
+pub use Rattle.coap_wire.specs.Refusal.{RefusedBy}
+pub use Rattle.coap_wire.specs.Stream.{StreamFault, Format, OfFrame, Stream, frame_then, split_on}
+unfoldable pub use Rattle.coap_wire.specs.Stream.{split}
+pub use Rattle.coap_wire.specs.declared.fault.FormatFault.{FormatFault}
+-- ---- coap_frame
+pub use Rattle.coap_frame.specs.Framing.{AFault, AFrame, Finding, Framing}
+pub use Rattle.coap_frame.specs.Framing.{framing_at}
+unfoldable pub use Rattle.coap_frame.specs.Framing.{framing}
+-- ---- coap_conn
+pub use Rattle.coap_conn.specs.Fit.{fits}
+pub use Rattle.coap_conn.specs.History.{after, IsHistory}
+pub use Rattle.coap_conn.specs.Limits.{LimitValues, AreInRange}
+pub use Rattle.coap_conn.specs.LinkValue.{LinkValue}
+pub use Rattle.coap_conn.specs.LinkValue.{new_link}
+pub use Rattle.coap_conn.specs.Phases.{takes_messages, stop_of}
+pub use Rattle.coap_conn.specs.Rejects.{reject_of, reject_reason}
+pub use Rattle.coap_conn.specs.Release.{release_refusal}
+pub use Rattle.coap_conn.specs.declared.phase.Role.TheVariants.{Server}
+pub use Rattle.coap_conn.specs.declared.phase.SendFault.{SendFault}
+pub use Rattle.coap_conn.specs.declared.reason.Reason.{Reason}
+-- ---- coap_io
+pub use Rattle.coap_io.specs.streams.Device.{AddsBytes, WritesPart}
+-- ---- coap_store
+pub use Rattle.coap_store.specs.Answer.{changed, Change, Delete, Nothing, Put}
+pub use Rattle.coap_store.specs.Changes.{IsPut, changes}
+pub use Rattle.coap_store.specs.Invariant.{IsStore}
+pub use Rattle.coap_store.specs.Paths.{Path}
+pub use Rattle.coap_store.specs.Refusals.{RefusedOrMemory, refusal_in}
+unfoldable pub use Rattle.coap_store.specs.Refusals.{put_refusal, remove_refusal}
+pub use Rattle.coap_store.specs.Store.{StoreValue, put_in, removed_in}
+pub use Rattle.coap_store.specs.declared.fault.StoreFault.{StoreFault}
+pub use Rattle.coap_store.specs.declared.fault.StoreFault.TheVariants.{NoSuch}
+-- ---- coap_script
+pub use Rattle.coap_script.specs.script.EventViews.{event_value}
+pub use Rattle.coap_script.specs.script.Events.{EventValue, Drain, Drop, In, Open, Release, Remove, Status, Tick}
+pub use Rattle.coap_script.specs.script.Lines.{open_line, put_line, remove_line, tick_line, word_line}
+-- ---- coap_model
+pub use Rattle.coap_model.specs.Answers.{release_fault}
+pub use Rattle.coap_model.specs.Configs.{ConfigValues}
+pub use Rattle.coap_model.specs.declared.answers.AnnounceFault.{AnnounceFault}
+pub use Rattle.coap_model.specs.declared.answers.OpenFault.{OpenFault}
+pub use Rattle.coap_model.specs.declared.answers.ReleaseFault.{ReleaseFault}
+pub use Rattle.coap_model.specs.declared.answers.TakeFault.{TakeFault}
+pub use Rattle.coap_model.specs.declared.answers.Taken.{Taken}
+pub use Rattle.coap_model.specs.declared.answers.WrittenFault.{WrittenFault}
+pub use Rattle.coap_model.specs.world.Events.{Event, Ticked, Stored, Removed, Opened, Ended, Took, stream_on}
+pub use Rattle.coap_model.specs.world.Events.{AreAccepted, Wrote, Released, Announced, Dropped, IfSide, OnSide}
+pub use Rattle.coap_model.specs.world.Events.{beyond, taken_in, takes_of}
+unfoldable pub use Rattle.coap_model.specs.world.Events.{size_on, steps_of, world_after, takes, AreAcceptedBehind}
+unfoldable pub use Rattle.coap_model.specs.world.Events.{IsAccepted, steps_by}
+pub use Rattle.coap_model.specs.world.Handling.{count_of, handled_in, handled_between}
+pub use Rattle.coap_model.specs.world.Heard.{heard_step, kept_at}
+unfoldable pub use Rattle.coap_model.specs.world.Heard.{steps_heard}
+pub use Rattle.coap_model.specs.world.Memory.{IsRefusedStored, StoresNothing, IsRefusedFor}
+pub use Rattle.coap_model.specs.world.Sides.{Side, HearsAll, handles}
+pub use Rattle.coap_model.specs.world.Sides.{is_cut}
+pub use Rattle.coap_model.specs.world.Sides.{new_side}
+pub use Rattle.coap_model.specs.world.Sides.{kept_on}
+unfoldable pub use Rattle.coap_model.specs.world.Sides.{side_after, side_faulted, side_written, side_ended}
+unfoldable pub use Rattle.coap_model.specs.world.Sides.{side_released, side_announced}
+pub use Rattle.coap_model.specs.world.View.{change_made}
+pub use Rattle.coap_model.specs.world.World.{World, Step, new_world, Handled, Place, all_settled, on_side}
+pub use Rattle.coap_model.specs.world.World.{settled_place, stored_after, ticks}
+unfoldable pub use Rattle.coap_model.specs.world.World.{side_of, after_steps, acted}
+-- ---- coap_serve, declared
+pub use Rattle.coap_server_session.specs.declared.cause.Cause.{Cause}
+pub use Rattle.coap_server_session.specs.declared.host.Host.{Host}
+pub use Rattle.coap_server_engine.specs.declared.replay.Drained.{Drained}
+pub use Rattle.coap_server_engine.specs.declared.replay.Line.{Line}
+-- ---- coap_serve, script
+pub use Rattle.coap_server_engine.specs.script.Cuts.{DifferInCuts, AreInTime, other_lines, IsInTime}
+unfoldable pub use Rattle.coap_server_engine.specs.script.Cuts.{lines_of, in_before, joined}
+pub use Rattle.coap_server_engine.specs.script.Replay.{stop_number, drained, Ran, comes_to, drain_ran}
+pub use Rattle.coap_server_engine.specs.script.Replay.{in_ran, on_connection, open_number, release_number}
+pub use Rattle.coap_server_engine.specs.script.Replay.{status_ran, store_number, tick_refusal, unless_refused}
+unfoldable pub use Rattle.coap_server_engine.specs.script.Replay.{replayed, event_ran}
+pub use Rattle.coap_server_engine.specs.script.Replayed.{replay_number, IsReplayed, fails_write, IsCutAt, IsRefusedAt}
+pub use Rattle.coap_server_engine.specs.script.Replayed.{IsUnrun}
+pub use Rattle.coap_server_engine.specs.script.Shown.{ShowsRun, IsShownReplay, ShowsPart, IsPartlyMade, ShowsRefusedAt}
+unfoldable pub use Rattle.coap_server_engine.specs.script.Shown.{events_made, events_ran}
+-- ---- coap_serve, values
+pub use Rattle.coap_server_session.specs.values.Causes.{change_hash, path_hash}
+pub use Rattle.coap_server_session.specs.values.Causes.{IsUntouched}
+pub use Rattle.coap_server_session.specs.values.Causes.{ConcernsNone, IsMarkedBut}
+pub use Rattle.coap_server_session.specs.values.Dues.{due_on, IsBefore}
+pub use Rattle.coap_server_session.specs.values.Entries.{settled_held}
+pub use Rattle.coap_server_engine.specs.values.Fed.{Fed, IsPartlyFed, ShowsMore, ShowsPartlyFed, fed, fed_more, fed_once}
+pub use Rattle.coap_server_engine.specs.values.Fed.{took, unfed, where_there}
+unfoldable pub use Rattle.coap_server_engine.specs.values.Fed.{fed_turns, took_turns}
+pub use Rattle.coap_server_engine.specs.values.Flushes.{IsFlushed, IsPartFlushed, waiting_at, more_at, IsFlushedOnce}
+pub use Rattle.coap_server_engine.specs.values.Flushes.{IsFlushedAt, flush_once}
+unfoldable pub use Rattle.coap_server_engine.specs.values.Flushes.{flush_turns}
+pub use Rattle.coap_server_engine.specs.values.ServerAnswers.{stop_on, open_refusal, IsNotTaken, open_refusal_in}
+pub use Rattle.coap_server_engine.specs.values.ServerAnswers.{release_fault, can_take_on, written_refusal, front_of}
+pub use Rattle.coap_server_engine.specs.values.ServerAnswers.{OpenedOrMemory, released_refusal, status_of}
+pub use Rattle.coap_server_engine.specs.values.ServerAnswers.{released_refusal_on, handled_so, RefusesPieceOn}
+pub use Rattle.coap_server_engine.specs.values.ServerAnswers.{handled_on}
+pub use Rattle.coap_server_engine.specs.values.ServerAnswers.{session_status, written_refusal_on}
+unfoldable pub use Rattle.coap_server_engine.specs.values.ServerAnswers.{handled_by}
+pub use Rattle.coap_server_session.specs.values.SessionAnswers.{IsAnnounced, announced_refusal_on, session_refusal}
+pub use Rattle.coap_server_engine.specs.values.ServerCauses.{AreSettledUntouched, AreOthersSettled, AreUntouched}
+pub use Rattle.coap_server_engine.specs.values.ServerCauses.{AreMarkedBut, AreMarkedAfter}
+pub use Rattle.coap_server_engine.specs.values.ServerDues.{stamp_of, WaitsForWhatIsDue, outlook_of}
+pub use Rattle.coap_server_engine.specs.values.Servers.{new_server, server_put, server_removed, server_ticked, AreSettled}
+pub use Rattle.coap_server_engine.specs.values.Servers.{server_dropped, ServerValue, LiesAt, server_opened}
+pub use Rattle.coap_server_engine.specs.values.Servers.{is_there, server_written, server_ended, server_released}
+pub use Rattle.coap_server_engine.specs.values.Servers.{server_announced, settled_entry, count_on, on_session, server_settled}
+pub use Rattle.coap_server_engine.specs.values.Servers.{server_taken_on, server_taken_so, session_becomes, unmarked_entry}
+pub use Rattle.coap_server_engine.specs.values.Servers.{unmarked, AreAllMarked}
+unfoldable pub use Rattle.coap_server_engine.specs.values.Servers.{session_of, count_taken, server_taken, changed_at}
+pub use Rattle.coap_server_session.specs.values.Sessions.{host_changed}
+pub use Rattle.coap_server_session.specs.values.Sessions.{SessionValue}
+pub use Rattle.coap_server_session.specs.values.Sessions.{session_written, session_ended, session_released, session_announced}
+pub use Rattle.coap_server_session.specs.values.Sessions.{change_by, new_session}
+pub use Rattle.coap_server_session.specs.values.Sessions.{session_takes, IsSettled, RefusesPiece}
+pub use Rattle.coap_server_session.specs.values.Sessions.{Taking}
+pub use Rattle.coap_server_session.specs.values.Sessions.{session_raises}
+pub use Rattle.coap_server_session.specs.values.Sessions.{session_rejected}
+pub use Rattle.coap_server_session.specs.values.Sessions.{taking_found, taking_read, MarkedSession, IsMarked}
+unfoldable pub use Rattle.coap_server_session.specs.values.Sessions.{changed_mark}
+unfoldable pub use Rattle.coap_server_session.specs.values.Sessions.{session_settled, session_handled}
+unfoldable pub use Rattle.coap_server_session.specs.values.Sessions.{taking}
+-- ---- coap_serve, views
+pub use Rattle.coap_server_engine.specs.views.LineViews.{line_bytes, IsRun, IsDrainable}
+pub use Rattle.coap_server_engine.specs.views.ServerViews.{IsServer, server_value}
+pub use Rattle.coap_server_session.specs.views.SessionShows.{session_shown}
+-- ---- coap_serve, world
+pub use Rattle.coap_server_engine.specs.world.Shows.{Shows, ShowsRefused, place_shown, server_shown}
+unfoldable pub use Rattle.coap_server_engine.specs.world.Shows.{server_of}

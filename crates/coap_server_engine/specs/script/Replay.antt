@@ -1,0 +1,114 @@
+-- What the events of a script do to a server, and the lines that they write (our definition).
+use Rattle.std.specs.Prelude.{ℕ, ◌+◌, List, [], ◌∷◌, ◌++◌, length, take, Option, Some, None, option_map, nat_le, codes, if◌then◌else◌}
+use Rattle.coap_conn.specs.Phases.{stop_of}
+use Rattle.coap_conn.specs.Reasons.{reason_number}
+use Rattle.coap_store.specs.Refusals.{put_refusal, remove_refusal}
+use Rattle.coap_store.specs.declared.fault.StoreFault.{StoreFault}
+use Rattle.coap_store.specs.declared.fault.StoreFault.TheVariants as storing
+use Rattle.coap_script.specs.script.Events.{EventValue, Open, In, Drain, Tick, Put, Remove, End, Release, Drop, Status}
+use Rattle.coap_script.specs.script.Lines.{open_line, in_line, out_line, tick_line, put_line, remove_line, word_line, status_line, fault_line}
+use Rattle.coap_server_engine.specs.values.Fed.{Fed, fed}
+use Rattle.coap_server_session.specs.values.Sessions.{SessionValue}
+use Rattle.coap_server_engine.specs.values.Servers.{ServerValue, session_of, server_opened, server_written, server_ticked, server_put, server_removed, server_ended, server_released, server_dropped}
+use Rattle.coap_server_engine.specs.values.ServerAnswers.{open_refusal, released_refusal}
+use Rattle.coap_model.specs.declared.answers.OpenFault.{OpenFault}
+use Rattle.coap_model.specs.declared.answers.OpenFault.TheVariants as opening
+use Rattle.coap_model.specs.declared.answers.ReleaseFault.{ReleaseFault}
+use Rattle.coap_model.specs.declared.answers.ReleaseFault.TheVariants as releasing
+
+-- what events come to: the server after them, and what they write
+pub record Ran : Type 0 where
+  pub server : ServerValue
+  pub text : List ℕ
+
+abbrev pub comes_to : ServerValue → List ℕ → Ran
+comes_to v line = record { server = v; text = line }
+
+-- ---- the numbers of refusals
+
+abbrev pub open_number : OpenFault → ℕ
+open_number opening.Full = 1
+open_number opening.IdsSpent = 2
+open_number opening.Memory = 3
+
+abbrev pub store_number : StoreFault → ℕ
+store_number storing.NoSuch = 1
+store_number storing.TooLarge = 2
+store_number storing.Limit = 3
+store_number storing.BadPath = 4
+store_number storing.VersionsSpent = 5
+store_number storing.Memory = 6
+
+abbrev pub release_number : ReleaseFault → ℕ
+release_number releasing.NoSuch = 1
+release_number releasing.NotOpen = 2
+release_number releasing.NoRoom = 3
+release_number releasing.PeerTooSmall = 4
+
+-- the moment does not go back
+abbrev pub tick_refusal : ServerValue → ℕ → Option ℕ
+tick_refusal v now = if nat_le v.host.now now then None else Some 1
+
+-- ---- refusals
+
+-- a refusal changes nothing
+abbrev pub refused : ServerValue → List ℕ → Option ℕ → ℕ → Ran
+refused v word id number = comes_to v (fault_line word id number)
+
+-- what an event comes to, or its refusal with a number
+abbrev pub unless_refused : ServerValue → List ℕ → Option ℕ → Ran → Option ℕ → Ran
+unless_refused v word id does None = does
+unless_refused v word id does (Some number) = refused v word id number
+
+-- what an event comes to on a connection, which is refused with 1 where none has the number
+abbrev pub on_connection : ServerValue → List ℕ → ℕ → (SessionValue → Ran) → Option SessionValue → Ran
+on_connection v word id does None = refused v word (Some id) 1
+on_connection v word id does (Some s) = does s
+
+-- ---- `in`
+
+-- the number of the reason for which a connection takes no message any more
+abbrev pub stop_number : Option SessionValue → Option ℕ
+stop_number None = None
+stop_number (Some s) = option_map reason_number (stop_of s.link.phase)
+
+abbrev pub in_ran : ℕ → Fed → Ran
+in_ran id f = comes_to f.server (in_line id f.count (stop_number (session_of id f.server.sessions)))
+
+-- ---- `drain` and `status`
+
+-- the bytes that are written of those that wait: all, or at most so many
+abbrev pub drained : Option ℕ → List ℕ → List ℕ
+drained None waiting = waiting
+drained (Some most) waiting = take most waiting
+
+abbrev pub drain_ran : ServerValue → ℕ → List ℕ → Ran
+drain_ran v id bytes = comes_to (server_written v id (length bytes)) (out_line id bytes)
+
+abbrev pub status_ran : ServerValue → ℕ → SessionValue → Ran
+status_ran v id s = comes_to v (status_line id s.link.phase (length s.frame) (length s.link.waiting) (length s.link.held) (length s.observers))
+
+-- ---- events
+
+-- what an event does to a server, and its line
+unfoldable pub event_ran : ServerValue → EventValue → Ran
+event_ran v Open = unless_refused v (codes "open") None (comes_to (server_opened v) (open_line (v.ids + 1))) (option_map open_number (open_refusal v))
+event_ran v (In id bytes) = on_connection v (codes "in") id (λ s. in_ran id (fed v id bytes)) (session_of id v.sessions)
+event_ran v (Drain id most) = on_connection v (codes "drain") id (λ s. drain_ran v id (drained most s.link.waiting)) (session_of id v.sessions)
+event_ran v (Tick now) = unless_refused v (codes "tick") None (comes_to (server_ticked v now) (tick_line now)) (tick_refusal v now)
+event_ran v (Put path format bytes) =
+    unless_refused v (codes "put") None (comes_to (server_put v path format bytes) (put_line (v.host.store.versions + 1))) (option_map store_number (put_refusal v.host.store path bytes))
+event_ran v (Remove path text) = unless_refused v (codes "remove") None (comes_to (server_removed v path) (remove_line text)) (option_map store_number (remove_refusal v.host.store path))
+event_ran v (End id) = on_connection v (codes "end") id (λ s. comes_to (server_ended v id) (word_line (codes "end") id)) (session_of id v.sessions)
+event_ran v (Release id) = unless_refused v (codes "release") (Some id) (comes_to (server_released v id) (word_line (codes "release") id)) (option_map release_number (released_refusal v id))
+event_ran v (Drop id) = on_connection v (codes "drop") id (λ s. comes_to (server_dropped v id) (word_line (codes "drop") id)) (session_of id v.sessions)
+event_ran v (Status id) = on_connection v (codes "status") id (status_ran v id) (session_of id v.sessions)
+
+-- what stands before what more events write
+abbrev pub behind : List ℕ → Ran → Ran
+behind before r = comes_to r.server (before ++ r.text)
+
+-- the server after all events, one after the other, and all their lines
+unfoldable pub replayed : ServerValue → List EventValue → Ran
+replayed v [] = comes_to v []
+replayed v (e ∷ es) = behind (event_ran v e).text (replayed (event_ran v e).server es)

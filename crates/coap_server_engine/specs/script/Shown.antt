@@ -1,0 +1,83 @@
+-- Which world a server shows after the events of a script: that of the calls which they make.
+use Rattle.std.specs.Prelude.{◌≡◌, ℕ, ◌+◌, List, [], ◌∷◌, ◌++◌, length, Option, Some, None, Result, Ok, Err}
+use Rattle.std.specs.declared.alloc.AllocError.{AllocError}
+use Rattle.coap_store.specs.Refusals.{put_refusal, remove_refusal}
+use Rattle.coap_script.specs.script.Events.{EventValue, Open, In, Drain, Tick, Put, Remove, End, Release, Drop, Status}
+use Rattle.coap_server_engine.specs.script.Replay.{drained, tick_refusal, event_ran, replayed}
+use Rattle.coap_server_engine.specs.values.Fed.{where_there, took, ShowsMore, IsPartlyTaken}
+use Rattle.coap_server_engine.specs.values.Servers.{ServerValue, session_of}
+use Rattle.coap_server_engine.specs.values.ServerAnswers.{open_refusal, released_refusal}
+use Rattle.coap_model.specs.world.Events.{Event, Opened, Wrote, Ticked, Stored, Removed, Ended, Released, Dropped}
+use Rattle.coap_server_engine.specs.world.Shows.{Shows}
+use Rattle.coap_server_engine.specs.declared.replay.ReplayFault.{ReplayFault}
+use Rattle.coap_server_engine.specs.declared.replay.ReplayFault.TheVariants.{Write, Memory}
+
+-- ---- the calls of one event
+
+-- a call that has no refusal
+abbrev pub unless : {F : Type 0} → Option F → Event → List Event
+unless None e = e ∷ []
+unless (Some refusal) e = []
+
+-- what an event of a script is to the world of a server: the calls that it makes and that are not refused
+unfoldable pub events_made : ServerValue → EventValue → List Event
+events_made v Open = unless (open_refusal v) (Opened (v.ids + 1))
+events_made v (In id bytes) = took v id bytes
+events_made v (Drain id most) = where_there (session_of id v.sessions) (λ s. Wrote id (length (drained most s.link.waiting)))
+events_made v (Tick now) = unless (tick_refusal v now) (Ticked now)
+events_made v (Put path format bytes) = unless (put_refusal v.host.store path bytes) (Stored path format bytes)
+events_made v (Remove path text) = unless (remove_refusal v.host.store path) (Removed path)
+events_made v (End id) = where_there (session_of id v.sessions) (λ s. Ended id)
+events_made v (Release id) = unless (released_refusal v id) (Released id)
+events_made v (Drop id) = where_there (session_of id v.sessions) (λ s. Dropped id)
+events_made v (Status id) = []
+
+-- each on the server that the ones before it left
+unfoldable pub events_ran : ServerValue → List EventValue → List Event
+events_ran v [] = []
+events_ran v (e ∷ es) = events_made v e ++ events_ran (event_ran v e).server es
+
+-- ---- one event
+
+-- what an event made before memory was refused for it: none, but for an `in`
+abbrev pub IsPartlyMade : ServerValue → EventValue → ServerValue → List Event → Type 0
+IsPartlyMade v Open after more = more ≡ []
+IsPartlyMade v (In id bytes) after more = IsPartlyTaken v id bytes after more
+IsPartlyMade v (Drain id most) after more = more ≡ []
+IsPartlyMade v (Tick now) after more = more ≡ []
+IsPartlyMade v (Put path format bytes) after more = more ≡ []
+IsPartlyMade v (Remove path text) after more = more ≡ []
+IsPartlyMade v (End id) after more = more ≡ []
+IsPartlyMade v (Release id) after more = more ≡ []
+IsPartlyMade v (Drop id) after more = more ≡ []
+IsPartlyMade v (Status id) after more = more ≡ []
+
+-- memory was refused for an event, and the server shows what it made before
+pub record ShowsPart (v : ServerValue) (e : EventValue) (after : ServerValue) : Type 0 where
+  pub more : List Event
+  pub part : IsPartlyMade v e after more
+  pub shows : ShowsMore v after more
+
+-- an event was run, or memory was refused for it
+abbrev pub ShowsRun : {T : Type 0} → ServerValue → EventValue → ServerValue → Result T AllocError → Type 0
+ShowsRun v e after (Ok line) = ShowsMore v after (events_made v e)
+ShowsRun v e after (Err fault) = ShowsPart v e after
+
+-- ---- a replay
+
+-- memory was refused for the event with this number, from 1: the server shows those before it, and what this one made before
+pub record ShowsRefusedAt (before : List Event) (v : ServerValue) (es : List EventValue) (number : ℕ) (after : ServerValue) : Type 0 where
+  pub ran : List EventValue
+  pub event : EventValue
+  pub others : List EventValue
+  pub all : es ≡ ran ++ event ∷ others
+  pub counted : number ≡ length ran + 1
+  pub more : List Event
+  pub part : IsPartlyMade (replayed v ran).server event after more
+  pub shows : Shows after ((before ++ events_ran v ran) ++ more)
+
+-- the world that a server shows after a replay, where it showed that of these events; where a write failed `IsCutAt` tells it
+abbrev pub IsShownReplay : {T : Type 0} → List Event → ServerValue → List EventValue → ServerValue → Result T ReplayFault → Type 0
+IsShownReplay before v es after (Ok x) = Shows after (before ++ events_ran v es)
+IsShownReplay before v es after (Err Write) = Unit {0}
+IsShownReplay before v es after (Err (Memory number)) = ShowsRefusedAt before v es number after

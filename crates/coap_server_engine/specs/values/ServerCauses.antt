@@ -1,0 +1,33 @@
+-- The connections of a server that a cause does not touch, and the changed marks of all of them.
+use Rattle.std.specs.Prelude.{◌≡◌, ◌≤◌, ◌<◌, slice_get, ℕ, List, Option, Some, None}
+use Rattle.std.specs.List.{AllByRecursion}
+use Rattle.std.specs.Map.{values_of}
+use Rattle.coap_server_session.specs.declared.host.Host.{Host}
+use Rattle.coap_server_session.specs.declared.cause.Cause.{Cause}
+use Rattle.coap_server_session.specs.declared.cause.Cause.TheVariants as cause
+use Rattle.coap_server_session.specs.values.Sessions.{SessionValue, MarkedSession, IsSettled}
+use Rattle.coap_server_session.specs.values.Causes.{IsUntouched, ConcernsNone, IsMarkedBut}
+use Rattle.coap_server_engine.specs.values.Servers.{changed_at, AreAllMarked}
+
+-- every connection that it does not touch is settled
+abbrev pub AreSettledUntouched : Cause → Host → List (ℕ × SessionValue) → Type 0
+AreSettledUntouched why host sessions = AllByRecursion (λ e. IsUntouched why host.now e.1 → IsSettled host e.1) sessions
+
+-- the same of a change of the path with this hash, where the connection at an index is settled too
+abbrev pub AreOthersSettled : Option ℕ → ℕ → Host → List (ℕ × SessionValue) → Type 0
+AreOthersSettled None at host sessions = Unit {0}
+AreOthersSettled (Some hash) at host sessions =
+    (s : SessionValue) → IsSettled host s → AreSettledUntouched (cause.Path hash) host (changed_at at (λ _. s) sessions)
+
+-- no connection from one index up to another one is touched
+abbrev pub AreUntouched : Cause → ℕ → ℕ → ℕ → List (ℕ × MarkedSession) → Type 0
+AreUntouched why now from to sessions =
+    (i : ℕ) (s : MarkedSession) → from ≤ i → i < to → slice_get (values_of sessions) i ≡ Some s → IsUntouched why now s.session × ConcernsNone why s.session.observers
+
+abbrev pub AreMarkedBut : Cause → Host → List (ℕ × MarkedSession) → Type 0
+AreMarkedBut why host sessions = AllByRecursion (λ e. IsMarkedBut why host e.1) sessions
+
+-- the same of a change of the path with this hash, if there was any
+abbrev pub AreMarkedAfter : Option ℕ → Host → List (ℕ × MarkedSession) → Type 0
+AreMarkedAfter None host sessions = AreAllMarked host sessions
+AreMarkedAfter (Some hash) host sessions = AreMarkedBut (cause.Path hash) host sessions

@@ -1,0 +1,2 @@
+pub mod ServerViews
+pub mod LineViews

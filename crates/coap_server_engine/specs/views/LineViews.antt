@@ -1,0 +1,28 @@
+-- How an event that was run, and its line, are seen in contracts.
+use Rattle.std.specs.Prelude.{◌≡◌, ℕ, List, length, Option, Some, None, Result, Ok, Err}
+use Rattle.std.specs.declared.alloc.AllocError.{AllocError}
+use Rattle.coap_script.specs.script.Events.{EventValue}
+use Rattle.coap_script.specs.script.Lines.{out_line}
+use Rattle.coap_server_engine.specs.script.Replay.{event_ran, drained}
+use Rattle.coap_server_engine.specs.script.Replayed.{IsUnrun}
+use Rattle.coap_server_session.specs.values.Sessions.{SessionValue}
+use Rattle.coap_server_engine.specs.values.Servers.{ServerValue}
+use Rattle.coap_server_engine.specs.declared.replay.Line.{Line}
+use Rattle.coap_server_engine.specs.declared.replay.Line.TheVariants.{Short, Long}
+use Rattle.coap_server_engine.specs.declared.replay.Drained.{Drained}
+
+abbrev pub line_bytes : Line → List ℕ
+line_bytes (Short line) = line.items
+line_bytes (Long line) = line.items
+
+-- an event was run and has this line, or memory was refused for it
+abbrev pub IsRun : ServerValue → EventValue → ServerValue → Result Line AllocError → Type 0
+IsRun v e after (Ok line) = (after ≡ (event_ran v e).server) × (line_bytes line ≡ (event_ran v e).text)
+IsRun v e after (Err fault) = IsUnrun v e after
+
+-- the line with the bytes that are drained from a connection, and how many there are
+abbrev pub IsDrainable : ℕ → Option ℕ → Option Drained → Option SessionValue → Type 0
+IsDrainable id most None None = Unit {0}
+IsDrainable id most None (Some s) = ⊥
+IsDrainable id most (Some d) None = ⊥
+IsDrainable id most (Some d) (Some s) = (d.line.items ≡ out_line id (drained most s.link.waiting)) × (d.count ≡ length (drained most s.link.waiting))

@@ -1,0 +1,354 @@
+//! Runs the events of a script on a server, and writes what comes of each.
+
+ghost use Rattle.std.specs.Prelude.{◌≡◌, option_map, true, false, List, map, IfOk, OnErr};
+ghost use Rattle.coap_server_engine.specs.Prelude.{refusal_in, open_refusal_in, replay_number, line_bytes, event_value, event_ran, stop_number, drained, IsReplayed, fails_write, events_made, ShowsMore, ShowsRun, IsShownReplay, AddsBytes, session_of, is_there, IsRun, IsDrainable, Shows};
+ghost use Rattle.coap_server_engine.specs.script.Replay as spec;
+ghost use Rattle.coap_script.specs.script.Events as event;
+ghost use Rattle.coap_script.specs.script.Lines as lines;
+ghost use Rattle.coap_model.specs.world.Events as world;
+
+use crate::server::Server;
+use coap_io::{Outlet, write_all};
+use coap_model::{ConnId, OpenFault, ReleaseFault};
+use coap_script::{
+    Event, ShortLine, fault_line, in_line, open_line, out_line, put_line, remove_line, status_line,
+    tick_line, word_line,
+};
+use coap_store::{PathKey, StoreFault};
+use std::alloc::AllocError;
+use thiserror::Error;
+
+/// Why a replay stopped short.
+#[derive(Clone, Copy, Debug, PartialEq, Eq, Error)]
+pub enum ReplayFault {
+    /// A write failed.
+    #[error("cannot write")]
+    Write,
+    /// Memory was refused at the event with this number, from 1.
+    #[error("no memory: event {0}")]
+    Memory(u64),
+}
+
+impl ReplayFault {
+    /// Its number, 1 or 2.
+    pub const fn number(self) -> u8
+        ensures { result ≡ replay_number self }
+    {
+        match self {
+            ReplayFault::Write => 1,
+            ReplayFault::Memory(_) => 2,
+        }
+    }
+}
+
+/// The line of an event.
+#[derive(Drop)]
+enum Line {
+    /// Built without memory.
+    Short(ShortLine),
+    /// Built with memory, before the event was run.
+    Long(Vec<u8>),
+}
+
+impl Line {
+    /// Its bytes.
+    fn as_slice(&self) -> &[u8]
+        ensures { result.now ≡ line_bytes self.now }
+    {
+        match self {
+            Line::Short(line) => line.as_slice(),
+            Line::Long(line) => line.as_slice(),
+        }
+    }
+}
+
+/// A line with bytes that wait on a connection, and how many of these it has.
+#[derive(Drop)]
+struct Drained {
+    line: Vec<u8>,
+    count: usize,
+}
+
+/// The number of the refusal that a fault tells; none where memory was refused.
+fn open_refused(fault: OpenFault) -> Option<u8>
+    ensures { result ≡ option_map spec.open_number (open_refusal_in fault) }
+{
+    match fault {
+        OpenFault::Full => Some(1),
+        OpenFault::IdsSpent => Some(2),
+        OpenFault::Memory => None,
+    }
+}
+
+/// The number of the refusal that a fault tells; none where memory was refused.
+fn store_refused(fault: StoreFault) -> Option<u8>
+    ensures { result ≡ option_map spec.store_number (refusal_in fault) }
+{
+    match fault {
+        StoreFault::NoSuch => Some(1),
+        StoreFault::TooLarge => Some(2),
+        StoreFault::Limit => Some(3),
+        StoreFault::BadPath => Some(4),
+        StoreFault::VersionsSpent => Some(5),
+        StoreFault::Memory => None,
+    }
+}
+
+/// The number of a fault.
+fn release_number(fault: ReleaseFault) -> u8
+    ensures { result ≡ spec.release_number fault }
+{
+    fault as u8
+}
+
+/// The number of a fault.
+fn store_number(fault: StoreFault) -> u8
+    ensures { result ≡ spec.store_number fault }
+{
+    fault as u8
+}
+
+impl Server {
+    /// Runs events, one after the other, and writes what comes of each before the next one is run.
+    ///
+    /// # Errors
+    ///
+    /// `Write` where a write failed: the event whose line was not written whole was the last one that was run. `Memory`
+    /// where memory was refused for an event, with its number from 1: the events before it were run and their lines
+    /// written, and of this one, where it brings bytes in, what stands before the message that memory was refused for
+    /// is taken.
+    pub fn replay<W: Outlet>(&mut self, events: &[Event], out: &mut W) -> Result<(), ReplayFault>
+        requires { W.is_failed out.old ≡ false }
+        ensures replayed { IsReplayed self.old (map event_value events.now) self.new
+            (AddsBytes (W.written out.old) (W.written out.new)) result }
+        ensures failure { W.is_failed out.new ≡ fails_write result }
+        ensures shows { (before : List world.Event) → Shows self.old before →
+            IsShownReplay before self.old (map event_value events.now) self.new result }
+    {
+        for (index, event) in events.iter().enumerate() {
+            let Ok(line) = self.run_event(event) else {
+                return Err(ReplayFault::Memory(index as u64 + 1));
+            };
+            let Ok(()) = write_all(out, line.as_slice()) else {
+                return Err(ReplayFault::Write);
+            };
+        }
+        Ok(())
+    }
+
+    /// Runs an event, and gives its line.
+    ///
+    /// # Errors
+    ///
+    /// Where memory is refused for it.
+    fn run_event(&mut self, event: &Event) -> Result<Line, AllocError>
+        ensures run { IsRun self.old (event_value event.now) self.new result }
+        ensures shows { ShowsRun self.old (event_value event.now) self.new result }
+    {
+        match event {
+            Event::Open => self.run_open(),
+            Event::In { connection, bytes } => self.run_in(*connection, bytes),
+            Event::Drain { connection, most } => self.run_drain(*connection, *most),
+            Event::Tick { moment } => Ok(self.run_tick(*moment)),
+            Event::Put {
+                path,
+                format,
+                payload,
+            } => self.run_put(path, *format, payload),
+            Event::Remove { path, text } => self.run_remove(path, text),
+            Event::End { connection } => Ok(self.run_end(*connection)),
+            Event::Release { connection } => Ok(self.run_release(*connection)),
+            Event::Drop { connection } => Ok(self.run_drop(*connection)),
+            Event::Status { connection } => self.run_status(*connection),
+        }
+    }
+
+    /// `open`.
+    fn run_open(&mut self) -> Result<Line, AllocError>
+        ensures run { IsRun self.old event.Open self.new result }
+        ensures shows { ShowsRun self.old event.Open self.new result }
+    {
+        match self.open() {
+            Ok(id) => Ok(Line::Short(open_line(id))),
+            Err(fault) => match open_refused(fault) {
+                Some(number) => Ok(Line::Short(fault_line("open", None, number))),
+                None => Err(AllocError),
+            },
+        }
+    }
+
+    /// `in`.
+    fn run_in(&mut self, id: ConnId, bytes: &[u8]) -> Result<Line, AllocError>
+        ensures run { IsRun self.old (event.In id bytes.now) self.new result }
+        ensures shows { ShowsRun self.old (event.In id bytes.now) self.new result }
+    {
+        if self.status(id).is_none() {
+            return Ok(Line::Short(fault_line("in", Some(id), 1)));
+        }
+        let taken = self.take_all(id, bytes)?;
+        let stop = self.stop_number(id);
+        Ok(Line::Short(in_line(id, taken as u64, stop)))
+    }
+
+    /// The number of the reason for which a connection takes no message any more, where there is one.
+    fn stop_number(&self, id: ConnId) -> Option<u8>
+        ensures { result ≡ stop_number (session_of id self.now.sessions) }
+    {
+        let status = self.status(id)?;
+        let reason = status.phase.stop()?;
+        Some(reason.number())
+    }
+
+    /// `drain`.
+    fn run_drain(&mut self, id: ConnId, most: Option<u64>) -> Result<Line, AllocError>
+        ensures run { IsRun self.old (event.Drain id most) self.new result }
+        ensures shows { ShowsRun self.old (event.Drain id most) self.new result }
+    {
+        let Some(drained) = self.drain(id, most)? else {
+            return Ok(Line::Short(fault_line("drain", Some(id), 1)));
+        };
+        let Ok(()) = self.written(id, drained.count) else {
+            unreachable!()
+        };
+        Ok(Line::Long(drained.line))
+    }
+
+    /// The line with what waits on a connection, at most so many bytes, where one has the number.
+    ///
+    /// # Errors
+    ///
+    /// Where memory is refused for the line.
+    fn drain(&mut self, id: ConnId, most: Option<u64>) -> Result<Option<Drained>, AllocError>
+        ensures unchanged { self.new ≡ self.old }
+        ensures ok { IfOk result (λ found. IsDrainable id most found (session_of id self.old.sessions)) }
+        ensures err { OnErr result (is_there (session_of id self.old.sessions) ≡ true) }
+    {
+        let alloc = self.alloc();
+        let Some(waiting) = self.front(id) else {
+            return Ok(None);
+        };
+        let bytes = at_most(waiting, most);
+        let line = out_line(alloc, id, bytes)?;
+        let count = bytes.len();
+        Ok(Some(Drained { line, count }))
+    }
+
+    /// `tick`.
+    fn run_tick(&mut self, moment: u64) -> Line
+        ensures server { self.new ≡ (event_ran self.old (event.Tick moment)).server }
+        ensures line { line_bytes result ≡ (event_ran self.old (event.Tick moment)).text }
+        ensures shows { ShowsMore self.old self.new (events_made self.old (event.Tick moment)) }
+    {
+        match self.tick(moment) {
+            Ok(()) => Line::Short(tick_line(moment)),
+            Err(_) => Line::Short(fault_line("tick", None, 1)),
+        }
+    }
+
+    /// `put`.
+    fn run_put(
+        &mut self,
+        path: &PathKey,
+        format: Option<u16>,
+        payload: &[u8],
+    ) -> Result<Line, AllocError>
+        ensures run { IsRun self.old (event.Put path.now format payload.now) self.new result }
+        ensures shows { ShowsRun self.old (event.Put path.now format payload.now) self.new result }
+    {
+        match self.put(path, format, payload) {
+            Ok(version) => Ok(Line::Short(put_line(version))),
+            Err(fault) => match store_refused(fault) {
+                Some(number) => Ok(Line::Short(fault_line("put", None, number))),
+                None => Err(AllocError),
+            },
+        }
+    }
+
+    /// `remove`.
+    fn run_remove(&mut self, path: &PathKey, text: &[u8]) -> Result<Line, AllocError>
+        ensures run { IsRun self.old (event.Remove path.now text.now) self.new result }
+        ensures shows { ShowsRun self.old (event.Remove path.now text.now) self.new result }
+    {
+        if !self.can_remove(path) {
+            let number = store_number(StoreFault::NoSuch);
+            return Ok(Line::Short(fault_line("remove", None, number)));
+        }
+        let line = remove_line(self.alloc(), text)?;
+        let Ok(()) = self.remove(path) else {
+            unreachable!()
+        };
+        Ok(Line::Long(line))
+    }
+
+    /// `end`.
+    fn run_end(&mut self, id: ConnId) -> Line
+        ensures server { self.new ≡ (event_ran self.old (event.End id)).server }
+        ensures line { line_bytes result ≡ (event_ran self.old (event.End id)).text }
+        ensures shows { ShowsMore self.old self.new (events_made self.old (event.End id)) }
+    {
+        match self.ended(id) {
+            Ok(()) => Line::Short(word_line("end", id)),
+            Err(_) => Line::Short(fault_line("end", Some(id), 1)),
+        }
+    }
+
+    /// `release`.
+    fn run_release(&mut self, id: ConnId) -> Line
+        ensures server { self.new ≡ (event_ran self.old (event.Release id)).server }
+        ensures line { line_bytes result ≡ (event_ran self.old (event.Release id)).text }
+        ensures shows { ShowsMore self.old self.new (events_made self.old (event.Release id)) }
+    {
+        match self.release(id) {
+            Ok(()) => Line::Short(word_line("release", id)),
+            Err(fault) => Line::Short(fault_line("release", Some(id), release_number(fault))),
+        }
+    }
+
+    /// `drop`.
+    fn run_drop(&mut self, id: ConnId) -> Line
+        ensures server { self.new ≡ (event_ran self.old (event.Drop id)).server }
+        ensures line { line_bytes result ≡ (event_ran self.old (event.Drop id)).text }
+        ensures shows { ShowsMore self.old self.new (events_made self.old (event.Drop id)) }
+    {
+        match self.drop_conn(id) {
+            Ok(()) => Line::Short(word_line("drop", id)),
+            Err(_) => Line::Short(fault_line("drop", Some(id), 1)),
+        }
+    }
+
+    /// `status`.
+    fn run_status(&mut self, id: ConnId) -> Result<Line, AllocError>
+        ensures run { IsRun self.old (event.Status id) self.new result }
+        ensures shows { ShowsRun self.old (event.Status id) self.new result }
+    {
+        let Some(status) = self.status(id) else {
+            return Ok(Line::Short(fault_line("status", Some(id), 1)));
+        };
+        let line = status_line(
+            self.alloc(),
+            id,
+            status.phase,
+            status.kept,
+            status.waiting,
+            status.pending,
+            status.observers,
+        )?;
+        Ok(Line::Long(line))
+    }
+}
+
+/// The bytes at the front, at most so many.
+fn at_most(bytes: &[u8], most: Option<u64>) -> &[u8]
+    ensures { result.now ≡ spec.drained most bytes.now }
+{
+    match most {
+        None => bytes,
+        Some(most) => {
+            if most < bytes.len() as u64 {
+                &bytes[..most as usize]
+            } else {
+                bytes
+            }
+        }
+    }
+}

@@ -1,0 +1,212 @@
+//! The bytes of a server's connections: taken, and written.
+
+use super::sessions::{find, flush_at, settle_after, what_was_handled, written_at};
+use super::{Flushed, Server};
+use coap_io::{Outlet, WriteFailed};
+use coap_model::{ConnId, TakeFault, Taken, WrittenFault};
+use std::alloc::AllocError;
+
+impl Server {
+    ghost use Rattle.std.specs.Prelude.{◌≡◌, ◌+◌, ◌≤◌, ◌++◌, ◌∷◌, ⊤, List, [], length, take, true, false, is_err, is_some, IfOk, IfErr, IfSome, OnOk, OnErr, option_copied};
+    ghost use Rattle.coap_server_engine.specs.Prelude.{sem, follows_so, none, RefusedBy, IsPartlyFed, fed, took, ShowsMore, ShowsPartlyFed, AddsBytes, WritesPart, waiting_at, more_at, IsFlushedOnce, session_of, is_there, count_taken, server_taken, server_written, can_take_on, handled_by, IsNotTaken, written_refusal, front_of, stop_on, LiesAt, Event, Took, Wrote, takes, handled_in, Shows, ShowsRefused, IsRefusedFor};
+    ghost use Rattle.coap_server_engine.specs.contracts.server.Server.{the_row};
+
+    /// Whether a connection takes bytes: it is there, has neither stopped nor been released, and has room in its queue
+    /// for the greatest message sent.
+    #[tactic(auto, using(crate::proofs::values::ServerLemmas::unmarked_at, crate::proofs::values::ServerLemmas::within_unmarked))]
+    pub fn can_take(&self, id: ConnId) -> bool
+        ensures { result ≡ can_take_on (session_of id self.now.sessions) }
+    {
+        let Some(at) = find(&self.sessions, id) else {
+            return false;
+        };
+        self.sessions[at].takes()
+    }
+
+    /// Takes bytes of what came on a connection: up to the end of the first message, to the byte of a fault, or all of
+    /// them; none where there is no room in its queue for the greatest message sent, or where it takes no message any
+    /// more. The caller offers the others again.
+    ///
+    /// # Errors
+    ///
+    /// `NoSuch` where no connection has the number: nothing has changed then. `Memory` where memory was refused for a
+    /// representation that the message stores: the bytes before its last one are taken then, and nothing of it was
+    /// handled.
+    #[tactic(auto, using(crate::proofs::values::ServerLemmas::unmarked_at, crate::proofs::values::ServerLemmas::within_unmarked))]
+    pub fn take(&mut self, id: ConnId, piece: &[u8]) -> Result<Taken, TakeFault>
+        ensures within { IfOk result (λ t. t.bytes ≤ length piece.now) }
+        ensures count { IfOk result (λ t. t.bytes ≡ count_taken self.old id piece.now) }
+        ensures takes { IfOk result (λ t. (events : List Event) → Shows self.old events →
+            t.bytes ≡ takes self.old.config events id piece.now) }
+        ensures handled { IfOk result (λ t. t.handled ≡ handled_by self.old id piece.now) }
+        ensures says { IfOk result (λ t. (events : List Event) → Shows self.old events →
+            t.handled ≡ handled_in self.old.config events (Took id (take t.bytes piece.now)) id) }
+        ensures there { OnOk result (is_there (session_of id self.old.sessions) ≡ true) }
+        ensures ok { OnOk result (self.new ≡ server_taken self.old id piece.now) }
+        ensures shows { IfOk result (λ t. (events : List Event) → Shows self.old events →
+            Shows self.new (events ++ Took id (take t.bytes piece.now) ∷ [])) }
+        ensures refused { IfErr result (λ fault. IsNotTaken self.old id piece.now fault self.new) }
+        ensures shows_refused { IfErr result (λ fault. (events : List Event) → Shows self.old events →
+            ShowsRefused events id piece.now fault self.new) }
+        ensures refused_for { IfErr result (λ fault.
+            (events : List Event) → Shows self.old events → IsRefusedFor self.old.config events id piece.now fault) }
+    {
+        let Some(at) = find(&self.sessions, id) else {
+            return Err(TakeFault::NoSuch);
+        };
+        self.take_at(at, id, piece)
+    }
+
+    /// Takes bytes as `take`, on the connection with this number, whose index is known.
+    ///
+    /// # Errors
+    ///
+    /// `Memory` as `take`.
+    #[inline(always)]
+    fn take_at(&mut self, at: usize, _id: ConnId, piece: &[u8]) -> Result<Taken, TakeFault>
+        requires { LiesAt _id at self.old.sessions }
+        ensures within { IfOk result (λ t. t.bytes ≤ length piece.now) }
+        ensures count { IfOk result (λ t. t.bytes ≡ count_taken self.old _id piece.now) }
+        ensures takes { IfOk result (λ t. (events : List Event) → Shows self.old events →
+            t.bytes ≡ takes self.old.config events _id piece.now) }
+        ensures handled { IfOk result (λ t. t.handled ≡ handled_by self.old _id piece.now) }
+        ensures says { IfOk result (λ t. (events : List Event) → Shows self.old events →
+            t.handled ≡ handled_in self.old.config events (Took _id (take t.bytes piece.now)) _id) }
+        ensures there { OnOk result (is_there (session_of _id self.old.sessions) ≡ true) }
+        ensures ok { OnOk result (self.new ≡ server_taken self.old _id piece.now) }
+        ensures shows { IfOk result (λ t. (events : List Event) → Shows self.old events →
+            Shows self.new (events ++ Took _id (take t.bytes piece.now) ∷ [])) }
+        ensures refused { IfErr result (λ fault. IsNotTaken self.old _id piece.now fault self.new) }
+        ensures shows_refused { IfErr result (λ fault. (events : List Event) → Shows self.old events →
+            ShowsRefused events _id piece.now fault self.new) }
+        ensures refused_for { IfErr result (λ fault.
+            (events : List Event) → Shows self.old events → IsRefusedFor self.old.config events _id piece.now fault) }
+        ensures lies { OnOk result (LiesAt _id at self.new.sessions) }
+    {
+        let takes = self.sessions[at].takes();
+        match self.sessions[at].take(&mut self.host, piece) {
+            Err(bytes) => Err(TakeFault::Memory { bytes }),
+            Ok(taking) => {
+                settle_after(taking.changed, &mut self.sessions, at, &self.host);
+                let stop = self.sessions[at].phase().stop();
+                Ok(Taken {
+                    bytes: taking.count,
+                    handled: what_was_handled(takes, taking.handled, stop),
+                })
+            }
+        }
+    }
+
+    /// Takes bytes until they are used up, or none is taken, and answers how many were.
+    ///
+    /// # Errors
+    ///
+    /// Where memory is refused.
+    pub fn take_all(&mut self, id: ConnId, bytes: &[u8]) -> Result<usize, AllocError>
+        ensures count { IfOk result (λ n. n ≡ (fed self.old id bytes.now).count) }
+        ensures within { IfOk result (λ n. n ≤ length bytes.now) }
+        ensures after { OnOk result (self.new ≡ (fed self.old id bytes.now).server) }
+        ensures shows { OnOk result (ShowsMore self.old self.new (took self.old id bytes.now)) }
+        ensures err { OnErr result (IsPartlyFed self.old id bytes.now self.new) }
+        ensures shows_refused { OnErr result (ShowsPartlyFed self.old id bytes.now self.new) }
+    {
+        let Some(at) = find(&self.sessions, id) else {
+            return Ok(0);
+        };
+        let mut taken = 0;
+        while taken < bytes.len() {
+            match self.take_at(at, id, &bytes[taken..]) {
+                Ok(piece) => {
+                    if piece.bytes == 0 {
+                        return Ok(taken);
+                    }
+                    taken += piece.bytes;
+                }
+                Err(TakeFault::NoSuch) => return Ok(taken),
+                Err(TakeFault::Memory { bytes: _ }) => return Err(AllocError),
+            }
+        }
+        Ok(taken)
+    }
+
+    /// Returns all queued bytes of a connection in one slice, or `None` if no connection has the number. If they wrap
+    /// around the end of the queue's ring, they are moved first: `parts` moves none.
+    #[tactic(auto, using(crate::proofs::values::ServerLemmas::unmarked_at, crate::proofs::values::ServerLemmas::within_unmarked))]
+    pub fn front<'a>(&'a mut self, id: ConnId) -> Option<&'a [u8]>
+        ensures* unchanged { sem 𝓛 (follows_so the_row the_row self.entry.ghost_name none (λ _ _. ⊤)
+            (λ s. s ≡ self.old)) }
+        ensures front { option_copied result ≡ front_of self.old id }
+    {
+        let at = find(&self.sessions, id)?;
+        Some(self.sessions[at].front())
+    }
+
+    /// Returns the queued bytes of a connection in the two slices that they occupy, the first ones and those after them,
+    /// or `None` if no connection has the number. Unlike `front`, it moves no bytes.
+    #[tactic(auto, using(crate::proofs::values::ServerLemmas::unmarked_at, crate::proofs::values::ServerLemmas::within_unmarked))]
+    pub fn parts(&self, id: ConnId) -> Option<(&[u8], &[u8])>
+        ensures there { is_some result ≡ is_there (session_of id self.now.sessions) }
+        ensures parts { IfSome result (λ parts. parts.0.now ++ parts.1.now ≡ waiting_at id self.now) }
+    {
+        let at = find(&self.sessions, id)?;
+        Some(self.sessions[at].parts())
+    }
+
+    /// The first so many bytes of a connection were written, and wait no more.
+    ///
+    /// # Errors
+    ///
+    /// In this order: `NoSuch` where no connection has the number, `TooMany` where fewer bytes wait. Nothing has
+    /// changed then.
+    #[tactic(auto, using(crate::proofs::values::ServerLemmas::unmarked_at, crate::proofs::values::ServerLemmas::within_unmarked))]
+    pub fn written(&mut self, id: ConnId, count: usize) -> Result<(), WrittenFault>
+        ensures answer { RefusedBy result (written_refusal self.old id count) }
+        ensures ok { OnOk result (self.new ≡ server_written self.old id count) }
+        ensures shows { OnOk result ((events : List Event) → Shows self.old events →
+            Shows self.new (events ++ Wrote id count ∷ [])) }
+        ensures err { OnErr result (self.new ≡ self.old) }
+    {
+        let Some(at) = find(&self.sessions, id) else {
+            return Err(WrittenFault::NoSuch);
+        };
+        if self.sessions[at].waiting() < count {
+            return Err(WrittenFault::TooMany);
+        }
+        written_at(&mut self.sessions, at, &self.host, count);
+        Ok(())
+    }
+
+    /// Writes all that waits on a connection, where anything does, and settles then. Answers whether anything waited,
+    /// how much was held and how many observers there were, and why the connection takes no message any more.
+    ///
+    /// # Errors
+    ///
+    /// Where a write failed.
+    #[tactic(auto, using(crate::proofs::values::ServerLemmas::unmarked_at, crate::proofs::values::ServerLemmas::within_unmarked))]
+    pub fn flush_once<W: Outlet>(
+        &mut self,
+        id: ConnId,
+        writer: &mut W,
+    ) -> Result<Flushed, WriteFailed>
+        requires { W.is_failed writer.old ≡ false }
+        ensures ok { IfOk result (λ f. IsFlushedOnce id self.old self.new
+            (AddsBytes (W.written writer.old) (W.written writer.new)) f.waited) }
+        ensures more { IfOk result (λ f. f.more ≡ more_at id self.old) }
+        ensures stop { IfOk result (λ f. f.stop ≡ stop_on (session_of id self.new.sessions)) }
+        ensures part { OnErr result (WritesPart (W.written writer.old) (W.written writer.new)
+            (waiting_at id self.old)) }
+        ensures failure { W.is_failed writer.new ≡ is_err result }
+    {
+        let Some(at) = find(&self.sessions, id) else {
+            return Ok(Flushed {
+                waited: false,
+                more: 0,
+                stop: None,
+            });
+        };
+        let more = self.sessions[at].more();
+        let waited = flush_at(&mut self.sessions, at, &self.host, writer)?;
+        let stop = self.sessions[at].phase().stop();
+        Ok(Flushed { waited, more, stop })
+    }
+}

@@ -1,0 +1,213 @@
+//! What is done to the connections that a server holds, each by its index.
+
+ghost use Rattle.std.specs.Prelude.{◌≡◌, ◌<◌, ◌≤◌, ◌+◌, ◌^◌, false, None, Some, length, map, slice_get, if◌then◌else◌, is_err, is_some, IfNone, IfSome, IfOk, OnOk, OnErr};
+ghost use Rattle.coap_server_engine.specs.Prelude.{values, values_of, SessionValue, IsMarked, unmarked, AreAllMarked, AreMarkedBut, AreMarkedAfter, RefusedBy, AddsBytes, WritesPart, IsFlushedAt, session_written, session_ended, session_released, session_announced, session_settled, LiesAt, session_of, changed_at, settled_entry, AreSettled, AreSettledUntouched, AreUntouched, AreOthersSettled, settled_held, released_refusal_on, IsAnnounced, handled_so};
+
+use super::Sessions;
+use coap_conn::Reason;
+use coap_io::{Outlet, WriteFailed, write_parts};
+use coap_model::{AnnounceFault, ConnId, Handled, ReleaseFault};
+use coap_server_session::{Cause, Host};
+
+/// The index of a connection.
+pub(super) fn find(sessions: &Sessions, id: ConnId) -> Option<usize>
+    ensures none { IfNone result (session_of id (unmarked sessions.now.entries) ≡ None) }
+    ensures some { IfSome result (λ at. LiesAt id at (unmarked sessions.now.entries)) }
+{
+    sessions.get_index_of(&id)
+}
+
+/// Returns the index of the first connection, from an index on, that a change may touch. A connection that it passes
+/// costs a look at one or two bytes.
+pub(super) fn next_touched(
+    sessions: &Sessions,
+    from: usize,
+    cause: Cause,
+    now: u64,
+) -> Option<usize>
+    ensures none { IfNone result (AreUntouched cause now from (length sessions.now.entries) sessions.now.entries) }
+    ensures some { IfSome result (λ at. AreUntouched cause now from at sessions.now.entries) }
+    ensures within { IfSome result (λ at. at < length sessions.now.entries) }
+    ensures from { IfSome result (λ at. from ≤ at) }
+    ensures next { IfSome result (λ at. at + 1 < 2 ^ 64) }
+{
+    for at in from..sessions.len() {
+        if sessions[at].is_touched(cause, now) {
+            return Some(at);
+        }
+    }
+    None
+}
+
+/// Every connection that a change may touch marks the observers that it concerns, and settles. The others are settled
+/// already.
+pub(super) fn settle_touched(sessions: &mut Sessions, host: &Host, cause: Cause)
+    requires settled { AreSettledUntouched cause host.now (unmarked sessions.old.entries) }
+    requires marked { AreMarkedBut cause host.now sessions.old.entries }
+    ensures after { unmarked sessions.new.entries
+        ≡ map (settled_entry host.entry.now) (unmarked sessions.old.entries) }
+    ensures marked { AreAllMarked host.entry.now sessions.new.entries }
+{
+    let mut from = 0;
+    while let Some(at) = next_touched(sessions, from, cause, host.now) {
+        sessions[at].mark_and_settle(host, cause);
+        from = at + 1;
+    }
+}
+
+/// Every connection settles where the one at an index changed the resource at a path with this hash, and else that one
+/// alone, where it holds something.
+pub(super) fn settle_after(changed: Option<u8>, sessions: &mut Sessions, at: usize, host: &Host)
+    requires within { at < length sessions.old.entries }
+    requires others { AreOthersSettled changed at host.now (unmarked sessions.old.entries) }
+    requires marked { AreMarkedAfter changed host.now sessions.old.entries }
+    requires own { IfSome (slice_get (values sessions.old) at) (IsMarked host.now) }
+    ensures after { unmarked sessions.new.entries ≡ (if is_some changed then map (settled_entry host.entry.now)
+        (unmarked sessions.old.entries) else changed_at at (settled_held host.entry.now)
+        (unmarked sessions.old.entries)) }
+    ensures marked { AreAllMarked host.entry.now sessions.new.entries }
+{
+    match changed {
+        None => sessions[at].settle_held(host),
+        Some(hash) => {
+            sessions[at].settle(host);
+            settle_touched(sessions, host, Cause::Path(hash));
+        }
+    }
+}
+
+/// What was handled where a connection took bytes or not, handled a message or not, and then takes no message any more,
+/// if so.
+pub(super) fn what_was_handled(takes: bool, message: bool, stop: Option<Reason>) -> Handled
+    ensures { result ≡ handled_so takes message stop }
+{
+    if !takes {
+        return Handled::Nothing;
+    }
+    match stop {
+        Some(reason) => Handled::Stopped(reason),
+        None => {
+            if message {
+                Handled::Message
+            } else {
+                Handled::Nothing
+            }
+        }
+    }
+}
+
+/// The first so many bytes of the connection at an index were written. It settles.
+pub(super) fn written_at(sessions: &mut Sessions, at: usize, host: &Host, count: usize)
+    requires within { at < length sessions.old.entries }
+    requires waiting { IfSome (slice_get (values_of (unmarked sessions.old.entries)) at)
+        (λ s. count ≤ length s.link.waiting) }
+    requires settled { AreSettled host.now (unmarked sessions.old.entries) }
+    requires marked { AreAllMarked host.now sessions.old.entries }
+    ensures after { unmarked sessions.new.entries ≡ changed_at at
+        (λ s. session_settled host.entry.now (session_written s count)) (unmarked sessions.old.entries) }
+    ensures marked { AreAllMarked host.entry.now sessions.new.entries }
+{
+    sessions[at].written_and_settled(host, count);
+}
+
+/// The input of the connection at an index ended. It settles.
+pub(super) fn end_at(sessions: &mut Sessions, at: usize, host: &Host)
+    requires within { at < length sessions.old.entries }
+    requires marked { AreAllMarked host.now sessions.old.entries }
+    ensures after { unmarked sessions.new.entries ≡ changed_at at
+        (λ s. session_settled host.entry.now (session_ended s)) (unmarked sessions.old.entries) }
+    ensures marked { AreAllMarked host.entry.now sessions.new.entries }
+{
+    let session = &mut sessions[at];
+    session.end();
+    session.settle(host);
+}
+
+/// Releases the connection at an index. It settles.
+///
+/// # Errors
+///
+/// As `Session::release`. Nothing has changed then.
+#[tactic(auto, using(crate::proofs::values::ServerLemmas::unmarked_at))]
+pub(super) fn release_at(
+    sessions: &mut Sessions,
+    at: usize,
+    host: &Host,
+) -> Result<(), ReleaseFault>
+    requires within { at < length sessions.old.entries }
+    requires marked { AreAllMarked host.now sessions.old.entries }
+    ensures answer { RefusedBy result (released_refusal_on (slice_get (values_of (unmarked sessions.old.entries)) at)) }
+    ensures ok { OnOk result (unmarked sessions.new.entries ≡ changed_at at
+        (λ s. session_settled host.entry.now (session_released s)) (unmarked sessions.old.entries)) }
+    ensures marked { AreAllMarked host.entry.now sessions.new.entries }
+    ensures err { OnErr result (sessions.new.entries ≡ sessions.old.entries) }
+{
+    let session = &mut sessions[at];
+    session.release()?;
+    session.settle(host);
+    Ok(())
+}
+
+/// Announces a size on the connection at an index. It settles.
+///
+/// # Errors
+///
+/// As `Session::announce`. Nothing has changed then.
+#[tactic(auto, using(crate::proofs::values::ServerLemmas::unmarked_at))]
+pub(super) fn announce_at(
+    sessions: &mut Sessions,
+    at: usize,
+    host: &Host,
+    size: u32,
+) -> Result<(), AnnounceFault>
+    requires within { at < length sessions.old.entries }
+    requires marked { AreAllMarked host.now sessions.old.entries }
+    ensures answer { IsAnnounced size (slice_get (values_of (unmarked sessions.old.entries)) at) result }
+    ensures ok { OnOk result (unmarked sessions.new.entries ≡ changed_at at
+        (λ s. session_settled host.entry.now (session_announced s size)) (unmarked sessions.old.entries)) }
+    ensures marked { AreAllMarked host.entry.now sessions.new.entries }
+    ensures err { OnErr result (sessions.new.entries ≡ sessions.old.entries) }
+{
+    let session = &mut sessions[at];
+    session.announce(size)?;
+    session.settle(host);
+    Ok(())
+}
+
+/// Writes all that waits on the connection at an index, where anything does, and answers whether it did. It settles
+/// then.
+///
+/// # Errors
+///
+/// Where a write failed. The connection is then as before.
+pub(super) fn flush_at<W: Outlet>(
+    sessions: &mut Sessions,
+    at: usize,
+    host: &Host,
+    writer: &mut W,
+) -> Result<bool, WriteFailed>
+    requires within { at < length sessions.old.entries }
+    requires works { W.is_failed writer.old ≡ false }
+    requires marked { AreAllMarked host.now sessions.old.entries }
+    ensures ok { IfOk result (λ waited. (s : SessionValue) →
+        slice_get (values_of (unmarked sessions.old.entries)) at ≡ Some s →
+        IsFlushedAt at host.entry.now s (unmarked sessions.old.entries) (unmarked sessions.new.entries)
+        (AddsBytes (W.written writer.old) (W.written writer.new)) waited) }
+    ensures part { OnErr result ((s : SessionValue) →
+        slice_get (values_of (unmarked sessions.old.entries)) at ≡ Some s →
+        WritesPart (W.written writer.old) (W.written writer.new) s.link.waiting) }
+    ensures marked { AreAllMarked host.entry.now sessions.new.entries }
+    ensures err { OnErr result (sessions.new.entries ≡ sessions.old.entries) }
+    ensures failure { W.is_failed writer.new ≡ is_err result }
+{
+    let session = &mut sessions[at];
+    let count = session.waiting();
+    if count == 0 {
+        return Ok(false);
+    }
+    let (first, second) = session.parts();
+    write_parts(writer, first, second)?;
+    session.written(count);
+    session.settle(host);
+    Ok(true)
+}
