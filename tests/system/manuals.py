@@ -40,7 +40,8 @@ LIBRARIES = ["coap_io/src/*.rt", "coap_program/src/*.rt", "coap_sockets/src/*.rt
 
 SOURCES = {
     # where a program has its lines and statuses
-    "coap-server": ["coap_server/src/*.rt", "coap_serve/src/*.rt", "coap_script/src/*.rt", "coap_model/src/*.rt"] + LIBRARIES,
+    "coap-server": ["coap_server/src/*.rt", "coap_serve/src/*.rt", "coap_script/src/*.rt", "coap_model/src/*.rt",
+                    "coap_server_engine/src/*.rt"] + LIBRARIES,
     "coap-client": ["coap_client_main/src/*.rt", "coap_client_engine/src/run.rt", "coap_client_engine/src/run/*.rt",
                     "coap_client_engine/src/say.rt"] + LIBRARIES,
 }

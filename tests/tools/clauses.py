@@ -6,9 +6,9 @@
 
 A clause is a `requires` or an `ensures` with its name and its text, white space made one. A function is known by its
 crate, its type and its name. One that is no longer there is followed: to a new function of another crate with its type
-and name, else to one of its crate with its name, else to one of any crate with its name, if there is exactly one. What
-is told is for reading: a clause that went must have another one which says as much, and a `requires` that came must be
-asked for.
+and name, else to one of its crate with its name, else to one of any crate with its name, if there is exactly one, or
+exactly one with the same clauses. What is told is for reading: a clause that went must have another one which says as
+much, and a `requires` that came must be asked for.
 The last line counts the functions: those with equal clauses, with more, with others, and those that went or came.
 """
 
@@ -84,7 +84,8 @@ def libraries(revision):
 
 
 def moved(crate, name, before, now):
-    """The crate and the name of a function that is no longer where it was, if exactly one new function can be it."""
+    """The crate and the name of a function that is no longer where it was, if exactly one new function can be it: of several,
+    the one with the same clauses."""
     new = [(other, it) for other in now for it in now[other] if it not in before[other]]
     for is_it in (
         lambda other, it: other != crate and it == name,
@@ -92,6 +93,8 @@ def moved(crate, name, before, now):
         lambda other, it: it[1] == name[1],
     ):
         found = [it for it in new if is_it(*it)]
+        if len(found) > 1:
+            found = [(other, it) for other, it in found if now[other][it] == before[crate][name]]
         if found:
             return found[0] if len(found) == 1 else None
     return None

@@ -3,6 +3,7 @@
 
     tests/tools/crate_limits.py          a line for each limit that is exceeded; the last line is 'N passed, M failed'
     tests/tools/crate_limits.py --all    and a table of all crates
+    tests/tools/crate_limits.py --split  first splits each ghost import that is too long into several of the same module
 
 The limits: 160 functions and 2,600 lines of source for a crate, 450 lines for a source file, 120 columns for a line of a
 ghost import. Modules of a crate that import each other, directly or through others, form a circle.
@@ -18,6 +19,7 @@ from rooms import ROOT, listed  # noqa: E402
 FUNCTIONS, LINES, FILE_LINES, COLUMNS = 160, 2_600, 450, 120
 
 FUNCTION = re.compile(r"^ *(?:pub(?:\([a-z ]+\))? )?(?:const )?fn \w+", re.M)
+GHOST = re.compile(r"^( *)(ghost use [\w.]+)\.\{(.*)\};$")
 IMPORT = re.compile(r"^ *(?:pub(?:\([a-z ]+\))? )?use crate::([\w:]+)", re.M)
 
 
@@ -73,11 +75,50 @@ def exceeded(crate, modules):
         yield f"modules that import each other: {', '.join(group)}"
 
 
+def split(indent, module, names):
+    """A ghost import as lines of at most as many columns as there may be, each of the same module."""
+    lines, some = [], []
+    for name in names:
+        if some and len(f"{indent}{module}.{{{', '.join([*some, name])}}};") > COLUMNS:
+            lines.append(some)
+            some = []
+        some.append(name)
+    return [f"{indent}{module}.{{{', '.join(it)}}};" for it in [*lines, some]]
+
+
+def shorter(text):
+    """The text with the ghost imports of one module that follow each other joined, and split where they are too long."""
+    out, parts = [], []
+    for line in [*text.split("\n"), None]:
+        found = GHOST.match(line) if line is not None else None
+        if parts and (not found or parts[0][:2] != found.groups()[:2]):
+            out += split(*parts[0][:2], [name for it in parts for name in it[2].split(", ")])
+            parts = []
+        if found:
+            parts.append(found.groups())
+        elif line is not None:
+            out.append(line)
+    return "\n".join(out)
+
+
+def split_all(crate):
+    """Splits the ghost imports of a crate that are too long."""
+    for at, _, files in os.walk(f"{ROOT}/crates/{crate}/src"):
+        for name in files:
+            with open(f"{at}/{name}", encoding="utf-8") as it:
+                text = it.read()
+            if any(len(line) > COLUMNS and GHOST.match(line) for line in text.split("\n")):
+                with open(f"{at}/{name}", "w", encoding="utf-8") as it:
+                    it.write(shorter(text))
+
+
 def main(words):
     passed = failed = 0
     if "--all" in words:
         print(f"{'crate':<20} functions  lines  longest file")
     for crate in listed():
+        if "--split" in words:
+            split_all(crate)
         modules = sources(crate)
         if "--all" in words:
             print(f"{crate:<20} {sum(len(FUNCTION.findall(it)) for it in modules.values()):>9} "

@@ -1,7 +1,16 @@
 //! A client of one connection.
 
-ghost use Rattle.std.specs.Prelude.{◌≡◌, ◌≤◌, Ok, length, take, option_map, ◌++◌, ◌∷◌, ⊤, ℕ, List, [], IfOk, OnOk, OnErr};
-ghost use Rattle.coap_client_engine.specs.Prelude.{message_of, first_critical, IsFramer, framing_of, framer_after, frame_back, IsLive, react, reject_reason, standing_in, link_after, answer_told, event_told, event_value, answer_read, pong_read, heard_value, taken_event, taking_framed, sem, follows_so, none, RefusedBy, next_token, extras_value, ClientValue, taking, client_takes, new_client, client_written, client_ended, client_sent, client_cancelled, client_pinged, send_refusal, cancelling_refusal, ping_refusal, ClientCall, ClientShows, Took, Sent, Cancelled, Pinged, Wrote, Ended, takes, event_of};
+ghost use Rattle.std.specs.Prelude.{◌≡◌, ◌≤◌, Ok, length, take, option_map, ◌++◌, ◌∷◌, ⊤, ℕ, List, [], IfOk, OnOk};
+ghost use Rattle.std.specs.Prelude.{OnErr};
+ghost use Rattle.coap_client_engine.specs.Prelude.{message_of, first_critical, IsFramer, framing_of, framer_after};
+ghost use Rattle.coap_client_engine.specs.Prelude.{frame_back, IsLive, react, reject_reason, standing_in, link_after};
+ghost use Rattle.coap_client_engine.specs.Prelude.{answer_told, event_told, event_value, answer_read, pong_read};
+ghost use Rattle.coap_client_engine.specs.Prelude.{heard_value, taken_event, taking_framed, sem, follows_so, none};
+ghost use Rattle.coap_client_engine.specs.Prelude.{RefusedBy, next_token, extras_value, ClientValue, taking};
+ghost use Rattle.coap_client_engine.specs.Prelude.{client_takes, new_client, client_written, client_ended, client_sent};
+ghost use Rattle.coap_client_engine.specs.Prelude.{client_cancelled, client_pinged, send_refusal, cancelling_refusal};
+ghost use Rattle.coap_client_engine.specs.Prelude.{ping_refusal, ClientCall, ClientShows, Took, Sent, Cancelled};
+ghost use Rattle.coap_client_engine.specs.Prelude.{Pinged, Wrote, Ended, takes, event_of};
 ghost use Rattle.coap_conn.specs.LinkValue.{IsReady};
 ghost use Rattle.coap_conn.specs.Calls as call;
 ghost use Rattle.coap_client_engine.specs.declared.client.Heard.TheVariants as heard;

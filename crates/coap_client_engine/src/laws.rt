@@ -1,7 +1,10 @@
 //! What holds of every client, each as the contract of a function that does nothing.
 
 ghost use Rattle.std.specs.Prelude.{◌≡◌, ℕ, ◌≤◌, ◌<◌, List, [], ◌∷◌, ◌++◌, length, None, Some};
-ghost use Rattle.coap_client_engine.specs.Prelude.{AllFit, History, limit_now, waiting_of, LimitValues, AreInRange, reject_of, reject_reason, Message, StreamFault, ClientCall, ClientStep, AreAccepted, Took, client_after, client_of, steps_by, steps_of, step, stream_in, AreDifferent, tokens_given};
+ghost use Rattle.coap_client_engine.specs.Prelude.{AllFit, History, limit_now, waiting_of, LimitValues, AreInRange};
+ghost use Rattle.coap_client_engine.specs.Prelude.{reject_of, reject_reason, Message, StreamFault, ClientCall};
+ghost use Rattle.coap_client_engine.specs.Prelude.{ClientStep, AreAccepted, Took, client_after, client_of, steps_by};
+ghost use Rattle.coap_client_engine.specs.Prelude.{steps_of, step, stream_in, AreDifferent, tokens_given};
 ghost use Rattle.coap_conn.specs.declared.phase.Phase.TheVariants.{Stopped};
 
 /// After all calls that a client accepts, no limit is passed: kept input, waiting bytes, and what is outstanding; and

@@ -1,7 +1,11 @@
 //! What a connection asked and has no answer to yet.
 
-ghost use Rattle.std.specs.Prelude.{◌≡◌, ◌≤◌, length, map, find, option_map, vec_capacity, ◌<◌, ◌++◌, ◌∷◌, [], not, nat_lt, IfOk};
-ghost use Rattle.coap_conn.specs.Prelude.{list_any, is_asked as asks, is_pinged as pings, may_cancel as cancellable, is_last as is_last_of, is_notification as notifies, has_observe as observe_in, without_asked, without_pinged, with_cancelled, outstanding_value, cancelled_by};
+ghost use Rattle.std.specs.Prelude.{◌≡◌, ◌≤◌, length, map, find, option_map, vec_capacity, ◌<◌, ◌++◌, ◌∷◌, [], not};
+ghost use Rattle.std.specs.Prelude.{nat_lt, IfOk};
+ghost use Rattle.coap_conn.specs.Prelude.{list_any, is_asked as asks, is_pinged as pings, may_cancel as cancellable};
+ghost use Rattle.coap_conn.specs.Prelude.{is_last as is_last_of, is_notification as notifies};
+ghost use Rattle.coap_conn.specs.Prelude.{has_observe as observe_in, without_asked, without_pinged, with_cancelled};
+ghost use Rattle.coap_conn.specs.Prelude.{outstanding_value, cancelled_by};
 
 use coap_wire::option_numbers::OBSERVE;
 use coap_wire::{MessageRef, Token, TokenRef};

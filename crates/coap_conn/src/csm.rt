@@ -1,7 +1,10 @@
 //! The options of Signalling Messages (RFC 8323 section 5).
 
 ghost use Rattle.std.specs.Prelude.{◌≡◌, Some, None, option_map, find, IfOk, IfErr, OnOk};
-ghost use Rattle.coap_conn.specs.Prelude.{uint_of, coap_option, is_bad, first_size as first_size_in, has_critical_option as critical_option_in, bad_csm_option as bad_option_in, first_token_length as first_token_length_in, token_length as told_length, token_told, asks_custody as custody_asked};
+ghost use Rattle.coap_conn.specs.Prelude.{uint_of, coap_option, is_bad, first_size as first_size_in};
+ghost use Rattle.coap_conn.specs.Prelude.{has_critical_option as critical_option_in, bad_csm_option as bad_option_in};
+ghost use Rattle.coap_conn.specs.Prelude.{first_token_length as first_token_length_in, token_length as told_length};
+ghost use Rattle.coap_conn.specs.Prelude.{token_told, asks_custody as custody_asked};
 
 use coap_wire::{MAX_EXTENDED_LENGTH, MessageRef, OptionRef, uint_value};
 

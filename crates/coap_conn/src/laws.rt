@@ -1,8 +1,18 @@
 //! What holds of every connection, each as the contract of a function that does nothing.
 
-ghost use Rattle.std.specs.Prelude.{◌≡◌, ℕ, ◌+◌, ◌<◌, ◌≤◌, ◌&&◌, List, [], ◌∷◌, ◌++◌, length, Bool, true, false, Option, Some, None};
-ghost use Rattle.coap_conn.specs.Prelude.{BASE_MESSAGE_SIZE};
-ghost use Rattle.coap_conn.specs.Prelude.{AllByRecursion, list_any, Message, own_csm, bad_csm_option, has_critical_option, announcement, announced, token_announcement, announced_token, AllFit, LimitValues, AreInRange, History, AnnouncedFirst, link_of, new_history, limit_now, standing_now, after, after_send, asking_now, after_asking, Call, release, may_announce, needs_live, gives_token, announces, asking_refusal, cancel_refusal, next_token, OutstandingValue, is_asked, is_pinged, is_notification, is_request_entry, without_asked, without_pinged, stop_of, HeldValue, Answer, Pong, HoldsNothingDue, IsDueFirst, come, first_due, without_due, Standing, react, send, abort, stay, due_effect, is_custody_pong, asks_custody, is_reserved, is_signal, is_method, Request, Reject, Role, Reason};
+ghost use Rattle.std.specs.Prelude.{◌≡◌, ℕ, ◌+◌, ◌<◌, ◌≤◌, ◌&&◌, List, [], ◌∷◌, ◌++◌, length, Bool, true, false};
+ghost use Rattle.std.specs.Prelude.{Option, Some, None};
+ghost use Rattle.coap_conn.specs.Prelude.{BASE_MESSAGE_SIZE, AllByRecursion, list_any, Message, own_csm};
+ghost use Rattle.coap_conn.specs.Prelude.{bad_csm_option, has_critical_option, announcement, announced};
+ghost use Rattle.coap_conn.specs.Prelude.{token_announcement, announced_token, AllFit, LimitValues, AreInRange};
+ghost use Rattle.coap_conn.specs.Prelude.{History, AnnouncedFirst, link_of, new_history, limit_now, standing_now};
+ghost use Rattle.coap_conn.specs.Prelude.{after, after_send, asking_now, after_asking, Call, release, may_announce};
+ghost use Rattle.coap_conn.specs.Prelude.{needs_live, gives_token, announces, asking_refusal, cancel_refusal};
+ghost use Rattle.coap_conn.specs.Prelude.{next_token, OutstandingValue, is_asked, is_pinged, is_notification};
+ghost use Rattle.coap_conn.specs.Prelude.{is_request_entry, without_asked, without_pinged, stop_of, HeldValue, Answer};
+ghost use Rattle.coap_conn.specs.Prelude.{Pong, HoldsNothingDue, IsDueFirst, come, first_due, without_due, Standing};
+ghost use Rattle.coap_conn.specs.Prelude.{react, send, abort, stay, due_effect, is_custody_pong, asks_custody};
+ghost use Rattle.coap_conn.specs.Prelude.{is_reserved, is_signal, is_method, Request, Reject, Role, Reason};
 ghost use Rattle.coap_conn.specs.Calls as call;
 ghost use Rattle.coap_wire.specs.Codes as code;
 ghost use Rattle.coap_conn.specs.Verdicts as verdict;

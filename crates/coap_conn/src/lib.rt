@@ -1,5 +1,16 @@
-//! One connection of CoAP over reliable transports: its signalling messages and its output queue (RFC 8323 sections
-//! 3.3, 3.4 and 5).
+//! One side of a CoAP connection over a reliable transport, client or server: its Signalling Messages and its output
+//! queue (RFC 8323 sections 3.3, 3.4 and 5).
+//!
+//! - `Link` is that side. It handles each received message (`Verdict`), queues messages that fit the peer's
+//!   Max-Message-Size, and keeps the requests that wait for a response or for the time of one.
+//! - `OutQueue` has the bytes that are to be written. `Limits` are the limits of a connection.
+//! - `Phase`, `Reason` and the types of `phase.rt` are the states of a link and the results of its calls.
+//! - `laws` has the theorems on all histories of a link.
+//!
+//! The contracts name the definitions of `specs/LinkValue.antt`, `specs/Calls.antt` and `specs/Reaction.antt`.
+//!
+//! This crate performs no I/O, splits no stream into frames (`coap_frame`) and responds to no request (`coap_store`).
+//! `coap_server_session` and `coap_client_engine` have a link each. Continue with `link.rt`.
 #![tactic(auto)]
 
 mod asked;

@@ -44,7 +44,7 @@ const _: () = prove!(LimitFault::Observers as u8 == 5);
 const _: () = prove!(LimitFault::Outstanding as u8 == 6);
 
 /// The limits of one connection. Contracts see its values by name.
-#[derive(Clone, Copy, PartialEq, Eq)]
+#[derive(Clone, Copy, Debug, PartialEq, Eq)]
 pub struct Limits {
     max_message: usize,
     max_sent: usize,

@@ -46,7 +46,9 @@ impl Model for Link {
 
 impl Link {
     ghost use Rattle.std.specs.Prelude.{◌≡◌, ◌≤◌, ◌++◌, ◌↔◌, ⊤, length, IsTrue, IfOk};
-    ghost use Rattle.coap_conn.specs.Prelude.{sem, follows_so, none, next_moment as moment_next, History, new_history, after, LinkShows, IsLink, IsReady, free_in, limit_in, is_finished, new_link, link_after};
+    ghost use Rattle.coap_conn.specs.Prelude.{sem, follows_so, none, next_moment as moment_next, History, new_history};
+    ghost use Rattle.coap_conn.specs.Prelude.{after, LinkShows, IsLink, IsReady, free_in, limit_in, is_finished};
+    ghost use Rattle.coap_conn.specs.Prelude.{new_link, link_after};
     ghost use Rattle.coap_conn.specs.Calls as call;
     ghost use Rattle.coap_conn.specs.contracts.link.Link.{the_row};
 

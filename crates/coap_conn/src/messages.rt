@@ -1,7 +1,10 @@
 //! The messages that a connection sends of itself.
 
 ghost use Rattle.std.specs.Prelude.{◌≡◌, ◌≤◌, ◌∷◌, ◌++◌, [], length, option_copied};
-ghost use Rattle.coap_conn.specs.Prelude.{abort_text as text_for, abort_with as abort_message, number_told, told_options, ping_with, pong_with, bare_response, spelling, encoded_size, bytes_of, csm_with as csm_of, own_csm, first_csm_with as first_csm_of, first_csm, release, free_of};
+ghost use Rattle.coap_conn.specs.Prelude.{abort_text as text_for, abort_with as abort_message, number_told};
+ghost use Rattle.coap_conn.specs.Prelude.{told_options, ping_with, pong_with, bare_response, spelling, encoded_size};
+ghost use Rattle.coap_conn.specs.Prelude.{bytes_of, csm_with as csm_of, own_csm, first_csm_with as first_csm_of};
+ghost use Rattle.coap_conn.specs.Prelude.{first_csm, release, free_of};
 
 use crate::csm::{CUSTODY, EXTENDED_TOKEN_LENGTH, MAX_MESSAGE_SIZE};
 use crate::queue::OutQueue;

@@ -1,7 +1,11 @@
 //! What a connection holds: answers that are sent later, and Pongs that wait for them (RFC 8323 section 5.4.1).
 
-ghost use Rattle.std.specs.Prelude.{◌≡◌, ℕ, List, map, option_map, filter_map, position, ◌≤◌, ◌<◌, ◌++◌, ◌∷◌, [], length, not, nat_lt, IfOk, IfSome, Some, slice_get, ◌==◌, remove};
-ghost use Rattle.coap_conn.specs.Prelude.{reduce, come as moment_come, is_answer_at as is_answer_due_at, least_come as least_moment, answer_index as index_of_answer, due_index as index_due, next_moment as moment_next, pong_index, to_come as moment_to_come, held_value};
+ghost use Rattle.std.specs.Prelude.{◌≡◌, ℕ, List, map, option_map, filter_map, position, ◌≤◌, ◌<◌, ◌++◌, ◌∷◌, []};
+ghost use Rattle.std.specs.Prelude.{length, not, nat_lt, IfOk, IfSome, Some, slice_get, ◌==◌, remove};
+ghost use Rattle.coap_conn.specs.Prelude.{reduce, come as moment_come, is_answer_at as is_answer_due_at};
+ghost use Rattle.coap_conn.specs.Prelude.{least_come as least_moment, answer_index as index_of_answer};
+ghost use Rattle.coap_conn.specs.Prelude.{due_index as index_due, next_moment as moment_next, pong_index};
+ghost use Rattle.coap_conn.specs.Prelude.{to_come as moment_to_come, held_value};
 
 use coap_wire::Token;
 use std::alloc::{AllocError, Global};

@@ -1,8 +1,8 @@
 //! Finds a frame in a piece, and fills a buffer with the bytes of a split one.
 
 ghost use Rattle.std.specs.Prelude.{◌≡◌, ◌+◌, ◌≤◌, ◌<◌, ◌++◌, [], length, take, vec_len, vec_capacity};
-ghost use Rattle.coap_frame.specs.Prelude.{Unfinished, beginning, token_bytes, size_bytes as size_bytes_of, extension_of, IsHead, IsFilled};
-ghost use Rattle.coap_frame.specs.Prelude.{BASE_MESSAGE_SIZE};
+ghost use Rattle.coap_frame.specs.Prelude.{Unfinished, beginning, token_bytes, size_bytes as size_bytes_of};
+ghost use Rattle.coap_frame.specs.Prelude.{extension_of, IsHead, IsFilled, BASE_MESSAGE_SIZE};
 
 use coap_wire::{Declared, FrameFault, declared};
 

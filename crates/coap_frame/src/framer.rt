@@ -1,7 +1,9 @@
 //! A framer: gives the frames of a stream that comes in pieces cut anywhere.
 
 ghost use Rattle.std.specs.Prelude.{◌≡◌, ◌≤◌, ◌<◌, [], OnOk, OnErr, length, take, vec_capacity, max as larger, IfOk, ⊤};
-ghost use Rattle.coap_frame.specs.Prelude.{Unfinished, beginning, framing, framing_of, framer_after, framer_of, kept_in, frame_in, finding_in, finding_of, finding_read, sem, follows_so, none, IsFramer, MayUnread, with_frame_back, IsFramed, raised, IsRaiseAnswer};
+ghost use Rattle.coap_frame.specs.Prelude.{Unfinished, beginning, framing, framing_of, framer_after, framer_of};
+ghost use Rattle.coap_frame.specs.Prelude.{kept_in, frame_in, finding_in, finding_of, finding_read, sem, follows_so};
+ghost use Rattle.coap_frame.specs.Prelude.{none, IsFramer, MayUnread, with_frame_back, IsFramed, raised, IsRaiseAnswer};
 ghost use Rattle.coap_frame.specs.Prelude.{BASE_MESSAGE_SIZE, LARGEST_MESSAGE};
 ghost use Rattle.coap_frame.specs.declared.framer.Held.TheVariants as held_as;
 ghost use Rattle.coap_frame.specs.contracts.framer.Framer.{the_row};

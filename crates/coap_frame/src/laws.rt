@@ -1,7 +1,10 @@
 //! What holds of framers, each as the contract of a function that does nothing.
 
 ghost use Rattle.std.specs.Prelude.{◌≡◌, ℕ, ◌≤◌, List, ◌++◌, length, take};
-ghost use Rattle.coap_frame.specs.Prelude.{Unfinished, Faulty, beginning, fault_bytes, FrameFault, FramerValue, IsFramer, Nothing, AFrame, AFault, MayUnread, framing, framing_of, framer_after, without_last, FramerCall, AreCounted, Handed, IsGiven, given_by, taken_of, unread_after, last_byte};
+ghost use Rattle.coap_frame.specs.Prelude.{Unfinished, Faulty, beginning, fault_bytes, FrameFault, FramerValue};
+ghost use Rattle.coap_frame.specs.Prelude.{IsFramer, Nothing, AFrame, AFault, MayUnread, framing, framing_of};
+ghost use Rattle.coap_frame.specs.Prelude.{framer_after, without_last, FramerCall, AreCounted, Handed, IsGiven};
+ghost use Rattle.coap_frame.specs.Prelude.{given_by, taken_of, unread_after, last_byte};
 
 /// The frames, the fault and the bytes kept are those of the stream that the kept bytes and the taken bytes form. Each
 /// piece is given to one call, up to the first fault, and the maximum size may be raised between pieces. The size of a

@@ -1,6 +1,7 @@
 //! Where bytes come from and go to.
 
-ghost use Rattle.std.specs.Prelude.{◌≡◌, ◌≤◌, ℕ, Bool, List, [], ◌∷◌, length, take, Option, None, is_none, IfSome, IfNone, ◌||◌, false};
+ghost use Rattle.std.specs.Prelude.{◌≡◌, ◌≤◌, ℕ, Bool, List, [], ◌∷◌, length, take, Option, None, is_none, IfSome};
+ghost use Rattle.std.specs.Prelude.{IfNone, ◌||◌, false};
 ghost use Rattle.coap_io.specs.Prelude.{Told, HasGiven, pieces_read, AddsBytes, is_failed_write};
 
 use std::io::{Read, Write};

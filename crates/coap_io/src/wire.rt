@@ -1,7 +1,8 @@
 //! What connections and moments come from: wires, the door that hands them out, and the clock.
 
 ghost use Rattle.std.specs.Prelude.{◌≡◌, ℕ, Bool, List, [], ◌∷◌, length, Option, None};
-ghost use Rattle.coap_io.specs.Prelude.{AddsBytes, TellsMore, DoorCall, Asked, Waited, IsWithin, IsTold, bytes_passed, Got, wait_at_most};
+ghost use Rattle.coap_io.specs.Prelude.{AddsBytes, TellsMore, DoorCall, Asked, Waited, IsWithin, IsTold, bytes_passed};
+ghost use Rattle.coap_io.specs.Prelude.{Got, wait_at_most};
 
 /// What a read or a write of a wire came to.
 #[derive(Clone, Copy, Debug, PartialEq, Eq)]

@@ -66,7 +66,7 @@ impl Starts {
 }
 
 /// The configuration of a server. Contracts see its values by name.
-#[derive(Clone, Copy, PartialEq, Eq)]
+#[derive(Clone, Copy, Debug, PartialEq, Eq)]
 pub struct Config {
     limits: Limits,
     connections: usize,

@@ -10,8 +10,8 @@
 //! connection handled and queued, its observers, the store and the time. `specs/streams/Output.antt` computes what a
 //! server with one connection writes.
 //!
-//! This crate contains no server and no session. `coap_serve` has `Server`, and its contracts say that a call leaves
-//! the server that the events so far determine here. Continue with `specs/world/World.antt` and docs/WORLD.md.
+//! This crate contains no server and no session. `coap_server_engine` has `Server`, and its contracts say that a call
+//! leaves the server that the events so far determine here. Continue with `specs/world/World.antt` and docs/WORLD.md.
 #![tactic(auto)]
 
 mod answers;

@@ -2,7 +2,7 @@
 //! write to standard error, and with which status they end.
 //!
 //! What the words mean is in `coap_command_line`, and sockets are in `coap_sockets`. The programs themselves are in
-//! `coap_server` and `coap_client_main`.
+//! `coap_server` and `coap_client_main`. Continue with `program.rt`.
 #![tactic(auto)]
 
 mod files;

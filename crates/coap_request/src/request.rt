@@ -1,7 +1,9 @@
 //! The message of a request for a target.
 
-ghost use Rattle.std.specs.Prelude.{◌≡◌, ◌≤◌, ◌<◌, ◌+◌, ◌++◌, false, [], ◌∷◌, Some, None, length, option_map, option_copied, IfSome, if◌then◌else◌};
-ghost use Rattle.coap_request.specs.Prelude.{AllByRecursion, last_number, coap_options, with_option, AreFormatsOf, IsRow, extras_value, given_option, IsShort, byte_lists};
+ghost use Rattle.std.specs.Prelude.{◌≡◌, ◌≤◌, ◌<◌, ◌+◌, ◌++◌, false, [], ◌∷◌, Some, None, length, option_map};
+ghost use Rattle.std.specs.Prelude.{option_copied, IfSome, if◌then◌else◌};
+ghost use Rattle.coap_request.specs.Prelude.{AllByRecursion, last_number, coap_options, with_option, AreFormatsOf};
+ghost use Rattle.coap_request.specs.Prelude.{IsRow, extras_value, given_option, IsShort, byte_lists};
 ghost use Rattle.coap_request.specs.Prelude.{MAX_EXTENDED_LENGTH};
 ghost use Rattle.coap_request.specs.Requests as spec;
 

@@ -1,7 +1,8 @@
 //! What a URI of the scheme coap+tcp names.
 
 ghost use Rattle.std.specs.Prelude.{◌≡◌, ◌<◌, true, length, option_copied, IfOk};
-ghost use Rattle.coap_request.specs.Prelude.{list_any, borrowed_host, host_text, parse_url, has_host, host_or_empty, byte_lists, named_value, GivesUnlessMemory, target_of, IsTarget};
+ghost use Rattle.coap_request.specs.Prelude.{list_any, borrowed_host, host_text, parse_url, has_host, host_or_empty};
+ghost use Rattle.coap_request.specs.Prelude.{byte_lists, named_value, GivesUnlessMemory, target_of, IsTarget};
 ghost use Rattle.percent_encoding.specs.Percent as percent;
 ghost use Rattle.coap_request.specs.Targets as spec;
 ghost use Rattle.coap_request.specs.declared.target.TargetFault.TheVariants.{Memory};

@@ -9,7 +9,7 @@
 //! The contracts name the definitions of `specs/script/`: `Script` for what a text says, `Lines` for the lines.
 //!
 //! This crate runs no event and contains no server. `Server::replay` runs the events of a script and writes their lines
-//! (`coap_serve/src/replay.rt`). The functions of `coap_text` read decimal numbers and hexadecimal bytes. Continue with
+//! (`coap_server_engine/src/replay.rt`). The functions of `coap_text` read decimal numbers and hexadecimal bytes. Continue with
 //! `scripts.rt`.
 #![tactic(auto)]
 

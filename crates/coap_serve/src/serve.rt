@@ -1,7 +1,9 @@
 //! Serves one connection over one input and one output.
 
 ghost use Rattle.std.specs.Prelude.{◌≡◌, ◌+◌, ◌<◌, ◌≤◌, ◌^◌, ℕ, false, List, [], ◌++◌, length, Some, IfOk};
-ghost use Rattle.coap_serve.specs.Prelude.{AllByRecursion, end_reason, AreInRange, ConfigValues, session_of, stop_on, count_of, is_cut, HasGiven, AddsBytes, only_id, stream_of, stdio_output, Stands, IsGoing, IsTurn, IsStdioRun, is_read_fault, is_write_fault};
+ghost use Rattle.coap_serve.specs.Prelude.{AllByRecursion, end_reason, AreInRange, ConfigValues, session_of, stop_on};
+ghost use Rattle.coap_serve.specs.Prelude.{count_of, is_cut, HasGiven, AddsBytes, only_id, stream_of, stdio_output};
+ghost use Rattle.coap_serve.specs.Prelude.{Stands, IsGoing, IsTurn, IsStdioRun, is_read_fault, is_write_fault};
 ghost use Rattle.coap_serve.specs.streams.Standing.{IsServed};
 
 use crate::output::flush;

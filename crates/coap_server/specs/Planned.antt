@@ -1,9 +1,9 @@
 -- What a plan asks of a server.
 use Rattle.std.specs.Prelude.{ℕ, ◌*◌, ◌-◌, ◌^◌, min}
 use Rattle.coap_request.specs.declared.plan.ServerPlan.{ServerPlan}
-use Rattle.coap_model.specs.Configs.{ConfigValues, config_of}
+use Rattle.coap_serve.specs.Configs.{ConfigValues, config_of}
 use Rattle.coap_serve.specs.declared.Starts.{Starts}
-use Rattle.coap_model.specs.views.ConfigViews.{start_values}
+use Rattle.coap_serve.specs.views.ConfigViews.{start_values}
 
 -- the bytes of a representation, at most, which no option sets
 abbrev pub rep_max : ℕ

@@ -1,7 +1,7 @@
 //! Listens, and serves what connects.
 
 ghost use Rattle.std.specs.Prelude.{◌≡◌, ◌∷◌, ℕ, [], true, is_some, IfSome, IfNone};
-ghost use Rattle.coap_model.specs.Configs.{config_refusal};
+ghost use Rattle.coap_serve.specs.Configs.{config_refusal};
 ghost use Rattle.coap_serve.specs.Prelude.{TellsMore};
 ghost use Rattle.coap_server.specs.Planned.{planned, starts_of};
 

@@ -7,7 +7,7 @@
 #![tactic(auto)]
 
 ghost use Rattle.std.specs.Prelude.{◌≡◌, true, is_some, IfSome, IfNone};
-ghost use Rattle.coap_model.specs.Configs.{config_refusal};
+ghost use Rattle.coap_serve.specs.Configs.{config_refusal};
 ghost use Rattle.coap_server.specs.Planned.{planned};
 
 mod listening;

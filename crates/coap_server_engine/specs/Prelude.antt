@@ -110,7 +110,7 @@ pub use Rattle.coap_server_engine.specs.values.Flushes.{IsFlushed, IsPartFlushed
 pub use Rattle.coap_server_engine.specs.values.Flushes.{IsFlushedAt, flush_once}
 unfoldable pub use Rattle.coap_server_engine.specs.values.Flushes.{flush_turns}
 pub use Rattle.coap_server_engine.specs.values.ServerAnswers.{stop_on, open_refusal, IsNotTaken, open_refusal_in}
-pub use Rattle.coap_server_engine.specs.values.ServerAnswers.{release_fault, can_take_on, written_refusal, front_of}
+pub use Rattle.coap_server_engine.specs.values.ServerAnswers.{can_take_on, written_refusal, front_of}
 pub use Rattle.coap_server_engine.specs.values.ServerAnswers.{OpenedOrMemory, released_refusal, status_of}
 pub use Rattle.coap_server_engine.specs.values.ServerAnswers.{released_refusal_on, handled_so, RefusesPieceOn}
 pub use Rattle.coap_server_engine.specs.values.ServerAnswers.{handled_on}

@@ -2,12 +2,12 @@
 
 ghost use Rattle.std.specs.Prelude.{◌≡◌, ◌⊎◌, ℕ, Bool, ◌+◌, ◌<◌, ◌^◌, ◌≤◌, List, ◌∷◌, ◌++◌, map, false, Some};
 ghost use Rattle.coap_server_engine.specs.Prelude.{concat, StreamFault, reject_of, reject_reason, takes_messages};
-ghost use Rattle.coap_server_engine.specs.Prelude.{IsStore, ConfigValues, IsNotTaken, ServerValue, AreSettled, WrittenFault};
-ghost use Rattle.coap_server_engine.specs.Prelude.{ReleaseFault, WaitsForWhatIsDue, Side, HearsAll, World, new_world};
-ghost use Rattle.coap_server_engine.specs.Prelude.{side_of, after_steps, Event, Took, stream_on, steps_of, world_after};
-ghost use Rattle.coap_server_engine.specs.Prelude.{AreAccepted, Shows, server_of, heard_step, steps_heard, kept_at};
-ghost use Rattle.coap_server_engine.specs.Prelude.{IsRefusedStored, StoresNothing, EventValue, fed, replayed, DifferInCuts};
-ghost use Rattle.coap_server_engine.specs.Prelude.{AreInTime, lines_of, other_lines};
+ghost use Rattle.coap_server_engine.specs.Prelude.{IsStore, ConfigValues, IsNotTaken, ServerValue, AreSettled};
+ghost use Rattle.coap_server_engine.specs.Prelude.{WrittenFault, ReleaseFault, WaitsForWhatIsDue, Side, HearsAll};
+ghost use Rattle.coap_server_engine.specs.Prelude.{World, new_world, side_of, after_steps, Event, Took, stream_on};
+ghost use Rattle.coap_server_engine.specs.Prelude.{steps_of, world_after, AreAccepted, Shows, server_of, heard_step};
+ghost use Rattle.coap_server_engine.specs.Prelude.{steps_heard, kept_at, IsRefusedStored, StoresNothing, EventValue};
+ghost use Rattle.coap_server_engine.specs.Prelude.{fed, replayed, DifferInCuts, AreInTime, lines_of, other_lines};
 ghost use Rattle.coap_conn.specs.declared.phase.Phase.TheVariants.{Stopped};
 ghost use Rattle.coap_model.specs.declared.answers.TakeFault.TheVariants.{Memory};
 ghost use Rattle.coap_model.specs.declared.answers.WrittenFault.TheVariants as writing;

@@ -1,7 +1,10 @@
 //! Runs the events of a script on a server, and writes what comes of each.
 
 ghost use Rattle.std.specs.Prelude.{◌≡◌, option_map, true, false, List, map, IfOk, OnErr};
-ghost use Rattle.coap_server_engine.specs.Prelude.{refusal_in, open_refusal_in, replay_number, line_bytes, event_value, event_ran, stop_number, drained, IsReplayed, fails_write, events_made, ShowsMore, ShowsRun, IsShownReplay, AddsBytes, session_of, is_there, IsRun, IsDrainable, Shows};
+ghost use Rattle.coap_server_engine.specs.Prelude.{refusal_in, open_refusal_in, replay_number, line_bytes, event_value};
+ghost use Rattle.coap_server_engine.specs.Prelude.{event_ran, stop_number, drained, IsReplayed, fails_write};
+ghost use Rattle.coap_server_engine.specs.Prelude.{events_made, ShowsMore, ShowsRun, IsShownReplay, AddsBytes};
+ghost use Rattle.coap_server_engine.specs.Prelude.{session_of, is_there, IsRun, IsDrainable, Shows};
 ghost use Rattle.coap_server_engine.specs.script.Replay as spec;
 ghost use Rattle.coap_script.specs.script.Events as event;
 ghost use Rattle.coap_script.specs.script.Lines as lines;

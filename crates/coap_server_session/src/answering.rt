@@ -1,8 +1,15 @@
 //! Answers requests and notifies observers.
 
-ghost use Rattle.std.specs.Prelude.{◌≡◌, ◌<◌, ◌≤◌, ◌++◌, ◌∷◌, [], ℕ, Option, map, true, Some, None, is_some, length, slice_get, if◌then◌else◌, IfOk, OnOk, OnErr};
-ghost use Rattle.coap_server_session.specs.Prelude.{IsAnswering, AreMarked, IsTagged, marks_after, is_open, HeldValue, first_due, IsReady, can_hold, link_after, changed, unheld, response_message, change_value, path_of, IsPut, TakesChange, change_hash, MayWatch, asks_entry as asks, is_whole as is_sent_whole, ObserverValue, answer_on, hold_on, held_in, host_changed, link_sent, new_entry, notification_on, without_entry, IsFirstStale, link_replied, entries_replied, entries_notified, observer_value};
-ghost use Rattle.coap_server_session.specs.Prelude.{LARGEST_MESSAGE};
+ghost use Rattle.std.specs.Prelude.{◌≡◌, ◌<◌, ◌≤◌, ◌++◌, ◌∷◌, [], ℕ, Option, map, true, Some, None, is_some, length};
+ghost use Rattle.std.specs.Prelude.{slice_get, if◌then◌else◌, IfOk, OnOk, OnErr};
+ghost use Rattle.coap_server_session.specs.Prelude.{IsAnswering, AreMarked, IsTagged, marks_after, is_open, HeldValue};
+ghost use Rattle.coap_server_session.specs.Prelude.{first_due, IsReady, can_hold, link_after, changed, unheld};
+ghost use Rattle.coap_server_session.specs.Prelude.{response_message, change_value, path_of, IsPut, TakesChange};
+ghost use Rattle.coap_server_session.specs.Prelude.{change_hash, MayWatch, asks_entry as asks};
+ghost use Rattle.coap_server_session.specs.Prelude.{is_whole as is_sent_whole, ObserverValue, answer_on, hold_on};
+ghost use Rattle.coap_server_session.specs.Prelude.{held_in, host_changed, link_sent, new_entry, notification_on};
+ghost use Rattle.coap_server_session.specs.Prelude.{without_entry, IsFirstStale, link_replied, entries_replied};
+ghost use Rattle.coap_server_session.specs.Prelude.{entries_notified, observer_value, LARGEST_MESSAGE};
 ghost use Rattle.coap_conn.specs.Calls as call;
 
 use crate::cause::Cause;

@@ -1,7 +1,8 @@
 //! The observers that a change concerns, found without a look at the others.
 
 ghost use Rattle.std.specs.Prelude.{◌≡◌, ◌≤◌, Some, None, true, false, map, length, vec_capacity, if◌then◌else◌};
-ghost use Rattle.coap_server_session.specs.Prelude.{AllByRecursion, Cause, IsTagged, AreChainedTo, last_in, previous_in, concerns_path, linked, observer_value, mark_in};
+ghost use Rattle.coap_server_session.specs.Prelude.{AllByRecursion, Cause, IsTagged, AreChainedTo, last_in};
+ghost use Rattle.coap_server_session.specs.Prelude.{previous_in, concerns_path, linked, observer_value, mark_in};
 
 use crate::cause::Cause;
 use crate::observer::Observer;

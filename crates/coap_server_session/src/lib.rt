@@ -6,9 +6,9 @@
 //! - `Cause` names a change: of a path, by its hash (`hash_of`), or of the time. `Session::is_touched` tells if a change
 //!   may make something due on a connection.
 //!
-//! This crate holds one connection and performs no I/O. `coap_serve` holds all connections of a server and runs them
-//! over transports. The crate `coap_model` defines the events of a server and the state after them. Continue with
-//! `session.rt`.
+//! This crate holds one connection and performs no I/O. `coap_server_engine` holds all connections of a server, and
+//! `coap_serve` runs them over transports. The crate `coap_model` defines the events of a server and the state after
+//! them. Continue with `session.rt`.
 #![tactic(auto)]
 
 mod answering;

@@ -1,7 +1,11 @@
 //! The observers of a connection (RFC 7641).
 
-ghost use Rattle.std.specs.Prelude.{◌≡◌, ◌<◌, ◌≤◌, None, false, length, map, is_some, IfNone, IfSome, Option, ℕ, vec_capacity, ◌++◌, ◌∷◌, [], not, nat_lt, IfOk, Some, slice_get, slice_set, remove};
-ghost use Rattle.coap_server_session.specs.Prelude.{list_any, tells_time as observes_time, IsFirstMarked, AllByRecursion, AreChainedTo, AreFlagged, linked, IsTagged, mark_in, marks_anew, first_index, without_entry, observer_value, observes_hash, ObserverValue};
+ghost use Rattle.std.specs.Prelude.{◌≡◌, ◌<◌, ◌≤◌, None, false, length, map, is_some, IfNone, IfSome, Option, ℕ};
+ghost use Rattle.std.specs.Prelude.{vec_capacity, ◌++◌, ◌∷◌, [], not, nat_lt, IfOk, Some, slice_get, slice_set, remove};
+ghost use Rattle.coap_server_session.specs.Prelude.{list_any, tells_time as observes_time, IsFirstMarked};
+ghost use Rattle.coap_server_session.specs.Prelude.{AllByRecursion, AreChainedTo, AreFlagged, linked, IsTagged};
+ghost use Rattle.coap_server_session.specs.Prelude.{mark_in, marks_anew, first_index, without_entry, observer_value};
+ghost use Rattle.coap_server_session.specs.Prelude.{observes_hash, ObserverValue};
 
 use crate::cause::Cause;
 use crate::chains::{Chains, chains_of};

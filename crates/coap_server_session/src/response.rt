@@ -1,8 +1,10 @@
 //! Sends the answers to requests.
 
 ghost use Rattle.std.specs.Prelude.{◌≡◌, ◌≤◌, ◌<◌, ◌+◌, ◌++◌, true, [], length, option_map, IfSome};
-ghost use Rattle.coap_server_session.specs.Prelude.{last_number, encoded_size, path_size, with_option, IsAnswering, IsReady, limit_in, link_after, fit, bare_response, is_path, path_or_root, response_with_observe, option_at, empty_at, number_at, each_at};
-ghost use Rattle.coap_server_session.specs.Prelude.{LARGEST_MESSAGE, MAX_EXTENDED_LENGTH};
+ghost use Rattle.coap_server_session.specs.Prelude.{last_number, encoded_size, path_size, with_option, IsAnswering};
+ghost use Rattle.coap_server_session.specs.Prelude.{IsReady, limit_in, link_after, fit, bare_response, is_path};
+ghost use Rattle.coap_server_session.specs.Prelude.{path_or_root, response_with_observe, option_at, empty_at};
+ghost use Rattle.coap_server_session.specs.Prelude.{number_at, each_at, LARGEST_MESSAGE, MAX_EXTENDED_LENGTH};
 ghost use Rattle.coap_wire.specs.OptionNumbers as numbers;
 ghost use Rattle.coap_conn.specs.Calls as call;
 

@@ -1,8 +1,15 @@
-//! The sockets of both programs: what a server's door and a client's wire do over TCP (RFC 8323), and the clocks beside
-//! them.
+//! The TCP sockets of both programs, and their clocks.
 //!
-//! No socket waits by itself: what is ready is learnt from the system's events, and each call on a socket answers at
-//! once. A server's door waits for events of all its wires together, and the wire of a client for those of its own.
+//! - `SocketDoor` is the listener of a server (`coap_io::Door`), `SocketWire` one connection that it accepted.
+//! - `Line` is the connection of a client (`coap_io::Wire`). `ConnectFault` and `Hindrance` are the reasons if there is
+//!   none.
+//! - `RunClock` and `SystemClock` return the time (`coap_io::Clock`).
+//!
+//! No call on a socket blocks. A listener waits for the events of all its connections together, the client's connection
+//! for its own.
+//!
+//! This crate contains no CoAP: it implements the traits of `coap_io`, over which `coap_serve` and `coap_client` run.
+//! Continue with `door.rt` for a server and `line.rt` for a client.
 #![tactic(auto)]
 
 mod answers;

@@ -1,8 +1,13 @@
 //! The answers to requests.
 
 ghost use Rattle.std.specs.Prelude.{◌≡◌, ◌≢◌, true, [], Option, option_map, is_none, ◌≤◌, ℕ, length};
-ghost use Rattle.coap_store.specs.Prelude.{LARGEST_MESSAGE};
-ghost use Rattle.coap_store.specs.Prelude.{Message, is_path, Representation, path_of as path_asked, values_of, is_method as is_known_method, preconditions_hold as hold, get_answer, read_answer, etag_at, max_age_at, is_accepted as accepts, is_among as is_one_of, watch_of, removes_watch as asks_removal, stored as stored_there, delete_answer, found_value, target_value, found_in, place_of, target_of, state_at, answer_of, answer_at, resource_answer, store_answer, needs_resource as needs, TakesChange, changes, IsStore};
+ghost use Rattle.coap_store.specs.Prelude.{LARGEST_MESSAGE, Message, is_path, Representation, path_of as path_asked};
+ghost use Rattle.coap_store.specs.Prelude.{values_of, is_method as is_known_method, preconditions_hold as hold};
+ghost use Rattle.coap_store.specs.Prelude.{get_answer, read_answer, etag_at, max_age_at, is_accepted as accepts};
+ghost use Rattle.coap_store.specs.Prelude.{is_among as is_one_of, watch_of, removes_watch as asks_removal};
+ghost use Rattle.coap_store.specs.Prelude.{stored as stored_there, delete_answer, found_value, target_value, found_in};
+ghost use Rattle.coap_store.specs.Prelude.{place_of, target_of, state_at, answer_of, answer_at, resource_answer};
+ghost use Rattle.coap_store.specs.Prelude.{store_answer, needs_resource as needs, TakesChange, changes, IsStore};
 ghost use Rattle.coap_wire.specs.OptionNumbers as numbers;
 ghost use Rattle.coap_store.specs.declared.place.Place.TheVariants.{Dynamic};
 

@@ -1,7 +1,9 @@
 //! The dynamic resources of a store, with the listing of them.
 
-ghost use Rattle.std.specs.Prelude.{◌≡◌, OnOk, OnErr, IfNone, IfSome, true, false, is_some, is_none, [], IfOk, length, option_map};
-ghost use Rattle.coap_store.specs.Prelude.{found_in, put_at, listing as listing_of, resources_in, has_format, AreListed, IsListed, representation, removed_at};
+ghost use Rattle.std.specs.Prelude.{◌≡◌, OnOk, OnErr, IfNone, IfSome, true, false, is_some, is_none, [], IfOk, length};
+ghost use Rattle.std.specs.Prelude.{option_map};
+ghost use Rattle.coap_store.specs.Prelude.{found_in, put_at, listing as listing_of, resources_in, has_format};
+ghost use Rattle.coap_store.specs.Prelude.{AreListed, IsListed, representation, removed_at};
 
 use crate::path::PathKey;
 use crate::resource::{BUILT_IN_TEXT, Resource, Resources, entry_text, write_listing};

@@ -1,8 +1,14 @@
 //! What holds of every store and every answer, each as the contract of a function that does nothing.
 
-ghost use Rattle.std.specs.Prelude.{◌≡◌, ◌≢◌, ◌↔◌, ℕ, ◌+◌, ◌<◌, ◌≤◌, ◌^◌, List, [], Option, Some, None, IsTrue, IsFalse, IfSome};
-ghost use Rattle.coap_store.specs.Prelude.{LARGEST_MESSAGE};
-ghost use Rattle.coap_store.specs.Prelude.{Message, Path, is_path, Representation, StoreValue, found_in, put_in, removed_in, place_of, state_of, is_get, path_of, etag_of, Change, Nothing, Put, Delete, only, held_response, asks_late, answer_of, prompt_answer, changed, says_change, TakesChange, HasSmallFormat, changed_by, TakesChanges, AreDistinct, IsStore, put_refusal, WasStored, notification_of, MayWatch, plain_get, IsStoredCode, TellsState, TellsEtag, IsElsewhere, content_of, put_by};
+ghost use Rattle.std.specs.Prelude.{◌≡◌, ◌≢◌, ◌↔◌, ℕ, ◌+◌, ◌<◌, ◌≤◌, ◌^◌, List, [], Option, Some, None, IsTrue};
+ghost use Rattle.std.specs.Prelude.{IsFalse, IfSome};
+ghost use Rattle.coap_store.specs.Prelude.{LARGEST_MESSAGE, Message, Path, is_path, Representation, StoreValue};
+ghost use Rattle.coap_store.specs.Prelude.{found_in, put_in, removed_in, place_of, state_of, is_get, path_of, etag_of};
+ghost use Rattle.coap_store.specs.Prelude.{Change, Nothing, Put, Delete, only, held_response, asks_late, answer_of};
+ghost use Rattle.coap_store.specs.Prelude.{prompt_answer, changed, says_change, TakesChange, HasSmallFormat};
+ghost use Rattle.coap_store.specs.Prelude.{changed_by, TakesChanges, AreDistinct, IsStore, put_refusal, WasStored};
+ghost use Rattle.coap_store.specs.Prelude.{notification_of, MayWatch, plain_get, IsStoredCode, TellsState, TellsEtag};
+ghost use Rattle.coap_store.specs.Prelude.{IsElsewhere, content_of, put_by};
 ghost use Rattle.coap_wire.specs.Codes as code;
 ghost use Rattle.coap_store.specs.declared.place.Place.TheVariants.{Listing, Dynamic};
 ghost use Rattle.coap_store.specs.declared.plan.Watch.TheVariants.{Add};

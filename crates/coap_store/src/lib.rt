@@ -1,4 +1,12 @@
-//! The resources of a server, and the answers to requests (RFC 7252 section 5.8).
+//! The resources of a server, and the responses to requests (RFC 7252 section 5.8, RFC 7641, RFC 6690).
+//!
+//! - `Store` has the built-in and the stored resources. `Store::answer` returns the `Plan` for a request: the response,
+//!   the `Change` that the request makes, and what it asks of the observers (`Watch`). `Store::apply` makes the change.
+//! - `Store::put` and `Store::remove` change resources from inside the program (`StoreFault`).
+//! - `PathKey` is the path of a resource. `laws` has the theorems on answers and changes.
+//!
+//! This crate knows no connection and keeps no observer: `coap_server_session` does. Continue with `store.rt`, then
+//! `answer.rt`, whose contracts name the definitions of `specs/Answer.antt`.
 #![tactic(auto)]
 
 mod answer;

@@ -1,7 +1,8 @@
 //! Paths of resources.
 
 ghost use Rattle.std.specs.Prelude.{◌≡◌, ◌≤◌, true, [], Some, None, nat_le, if◌then◌else◌};
-ghost use Rattle.coap_store.specs.Prelude.{list_any, is_dots, is_one_empty, is_path, written_length, segment_list, written, YieldsFirstBy, item_count};
+ghost use Rattle.coap_store.specs.Prelude.{list_any, is_dots, is_one_empty, is_path, written_length, segment_list};
+ghost use Rattle.coap_store.specs.Prelude.{written, YieldsFirstBy, item_count};
 
 use crate::uri_path::UriPath;
 use arrayvec::ArrayVec;

@@ -1,7 +1,8 @@
 //! Which resource a path names.
 
 ghost use Rattle.std.specs.Prelude.{◌≡◌};
-ghost use Rattle.coap_store.specs.Prelude.{place_of as place_named, is_dynamic as is_dynamic_place, is_async as is_async_place, is_observable as is_observable_place};
+ghost use Rattle.coap_store.specs.Prelude.{place_of as place_named, is_dynamic as is_dynamic_place};
+ghost use Rattle.coap_store.specs.Prelude.{is_async as is_async_place, is_observable as is_observable_place};
 
 use crate::path::PathKey;
 

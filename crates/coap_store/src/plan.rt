@@ -1,7 +1,8 @@
 //! What is answered to a request.
 
 ghost use Rattle.std.specs.Prelude.{◌≡◌, ◌≢◌, ◌≤◌, true, [], Some, IfSome, length, option_map};
-ghost use Rattle.coap_store.specs.Prelude.{bytes_in, change_value, says, only, unheld, changes as is_change, is_path, effect_value, IsAtPath, IsToldNamed, path_or_root, location_in};
+ghost use Rattle.coap_store.specs.Prelude.{bytes_in, change_value, says, only, unheld, changes as is_change, is_path};
+ghost use Rattle.coap_store.specs.Prelude.{effect_value, IsAtPath, IsToldNamed, path_or_root, location_in};
 ghost use Rattle.coap_wire.specs.Codes as code;
 
 use crate::found::{Bytes, Found};
@@ -85,8 +86,7 @@ pub enum Watch {
 
 /// The answer to a request: the response, apart from the request's token, what the request changes, what it asks of the
 /// observers, and for how long the response is held. It borrows the bytes of the store and of the request. Contracts
-/// see an `Answer`.
-// A plan is moved often, so its fields stand by size: no byte lies beside an empty place.
+/// see an `Answer`. A plan is moved often, so its fields are in the order of their sizes.
 #[derive(Drop)]
 pub struct Plan<'s, 'r> {
     etag: Option<ArrayVec<u8, 8>>,

@@ -6,7 +6,8 @@ use crate::store::Store;
 
 impl Store {
     ghost use Rattle.std.specs.Prelude.{◌≡◌, ◌+◌, is_none, IfOk, OnOk, OnErr};
-    ghost use Rattle.coap_store.specs.Prelude.{RefusedBy, put_in, removed_in, IsStore, RefusedOrMemory, put_refusal, remove_refusal};
+    ghost use Rattle.coap_store.specs.Prelude.{RefusedBy, put_in, removed_in, IsStore, RefusedOrMemory, put_refusal};
+    ghost use Rattle.coap_store.specs.Prelude.{remove_refusal};
 
     /// Stores a representation with this Content-Format, if any, and these bytes at a path, in the place of the one
     /// that is there, and answers its version: one more than that of the representation stored last, at this path or

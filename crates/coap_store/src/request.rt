@@ -1,7 +1,9 @@
 //! What a request asks for, by its recognised options (RFC 7252 sections 5.4, 5.10).
 
 ghost use Rattle.std.specs.Prelude.{◌≡◌, ◌≤◌, true, Option, length, is_some, IfSome, ◌||◌, option_map};
-ghost use Rattle.coap_store.specs.Prelude.{uint_of, known_options, is_path, digits_mean, path_of as path_asked, path_told, nothing, all_noted, notes_value, first_critical, list_any, same_bytes, Representation, place_of};
+ghost use Rattle.coap_store.specs.Prelude.{uint_of, known_options, is_path, digits_mean, path_of as path_asked};
+ghost use Rattle.coap_store.specs.Prelude.{path_told, nothing, all_noted, notes_value, first_critical, list_any};
+ghost use Rattle.coap_store.specs.Prelude.{same_bytes, Representation, place_of};
 ghost use Rattle.coap_store.specs.Requests as spec;
 ghost use Rattle.coap_wire.specs.OptionNumbers as numbers;
 
@@ -170,7 +172,7 @@ impl<'q, 'r> Asked<'q, 'r> {
         ensures { result ≡ spec.is_good_query (spec.value_of numbers.uri_query self.now) }
     {
         match self.notes.query {
-            Some(bytes) => is_seconds(bytes),
+            Some(bytes) => seconds_in(bytes).is_some(),
             None => true,
         }
     }
@@ -253,11 +255,4 @@ fn seconds_in(bytes: &[u8]) -> Option<u16>
         seconds = 10 * seconds + u16::from(byte - b'0');
     }
     (seconds <= MAX_SECONDS).then_some(seconds)
-}
-
-/// Whether the bytes are 1 to 4 decimal digits of a number of seconds up to 3,600.
-pub(crate) fn is_seconds(bytes: &[u8]) -> bool
-    ensures { result ≡ spec.is_seconds bytes.now }
-{
-    seconds_in(bytes).is_some()
 }

@@ -1,7 +1,8 @@
 //! A dynamic resource, and the listing of all of them.
 
 ghost use Rattle.std.specs.Prelude.{◌≡◌, ◌≤◌, ◌∷◌, ◌++◌, length, IfOk, OnOk, flat_map, vec_capacity, string_bytes};
-ghost use Rattle.coap_store.specs.Prelude.{listing as listing_of, entry_bytes, slash, encoded_byte, path_bytes, format_bytes, resources_in, AreListed};
+ghost use Rattle.coap_store.specs.Prelude.{listing as listing_of, entry_bytes, slash, encoded_byte, path_bytes};
+ghost use Rattle.coap_store.specs.Prelude.{format_bytes, resources_in, AreListed};
 
 use crate::path::PathKey;
 use indexmap::IndexMap;

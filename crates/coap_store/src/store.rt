@@ -1,8 +1,10 @@
 //! The store of a server's resources.
 
-ghost use Rattle.std.specs.Prelude.{◌≡◌, ◌<◌, IfSome, ◌≤◌, [], IfOk, OnOk, OnErr, length, not, nat_le, ◌==◌, option_map, decimal};
-ghost use Rattle.coap_store.specs.Prelude.{LARGEST_MESSAGE};
-ghost use Rattle.coap_store.specs.Prelude.{changed, greatest_version, found_in, put_in, removed_in, listing as listing_of, representation, TakesChange, TakesPut, IsPut, IsStore, change_value, bytes_in};
+ghost use Rattle.std.specs.Prelude.{◌≡◌, ◌<◌, IfSome, ◌≤◌, [], IfOk, OnOk, OnErr, length, not, nat_le, ◌==◌};
+ghost use Rattle.std.specs.Prelude.{option_map, decimal};
+ghost use Rattle.coap_store.specs.Prelude.{LARGEST_MESSAGE, changed, greatest_version, found_in, put_in, removed_in};
+ghost use Rattle.coap_store.specs.Prelude.{listing as listing_of, representation, TakesChange, TakesPut, IsPut};
+ghost use Rattle.coap_store.specs.Prelude.{IsStore, change_value, bytes_in};
 
 use crate::catalogue::Catalogue;
 use crate::decimal::{Decimal, decimal_digits};

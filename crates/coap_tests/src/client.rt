@@ -1,7 +1,7 @@
 //! A run of `run_client` over devices that tell all, where its clause is one of what they tell.
 
 ghost use Rattle.std.specs.Prelude.{◌≡◌, ◌++◌, ◌∷◌, false, [], Some, IfOk};
-ghost use Rattle.coap_client_engine.specs.ClientRun.{IsClientRun, seen};
+ghost use Rattle.coap_client.specs.ClientRun.{IsClientRun, seen};
 
 use crate::devices::Ledger;
 use coap_client::{ClientFault, ClientPlan, client_words, run_client};

@@ -5,6 +5,9 @@
 //! event. Its bytes are hex digits, or nothing. The line of a row is what came of it, and then how the value stands.
 //! What a row asks for against a `requires` is not done, and told by `refused`; a row that nobody understands by
 //! `strange`, a refusal of memory by `memory`.
+//!
+//! This crate knows no layer of CoAP: `coap_probe` and `coap_client_probe` do, and are the programs that play the rows
+//! of `tests/vectors/rows`. Continue with `told.rt`.
 #![tactic(auto)]
 
 mod told;

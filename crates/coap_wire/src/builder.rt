@@ -1,7 +1,9 @@
 //! Builds a message and writes its one spelling.
 
 ghost use Rattle.std.specs.Prelude.{◌≡◌, ◌+◌, ◌≤◌, ◌++◌, [], length, OnOk, OnErr};
-ghost use Rattle.coap_wire.specs.Prelude.{last_number as number_of_last, coap_options, Spells, spelling, front_spelling, body_spelling, HasSpelling, RefusedBy, CanBeBuilt, option_refusal, payload_refusal, with_option};
+ghost use Rattle.coap_wire.specs.Prelude.{last_number as number_of_last, coap_options, Spells, spelling};
+ghost use Rattle.coap_wire.specs.Prelude.{front_spelling, body_spelling, HasSpelling, RefusedBy, CanBeBuilt};
+ghost use Rattle.coap_wire.specs.Prelude.{option_refusal, payload_refusal, with_option};
 
 use crate::code::Code;
 use crate::fault::BuildFault;

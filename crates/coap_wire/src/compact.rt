@@ -1,8 +1,9 @@
 //! Builds a message of few and short options, which are encoded at once.
 
 ghost use Rattle.std.specs.Prelude.{◌≡◌, ◌+◌, ◌≤◌, ◌++◌, [], length};
-ghost use Rattle.coap_wire.specs.Prelude.{last_number, Spells, spelling, front_spelling, body_spelling, HasSpelling, with_option, encoded_size, bytes_of_uint};
-ghost use Rattle.coap_wire.specs.Prelude.{MAX_EXTENDED_LENGTH, LARGEST_MESSAGE};
+ghost use Rattle.coap_wire.specs.Prelude.{last_number, Spells, spelling, front_spelling, body_spelling, HasSpelling};
+ghost use Rattle.coap_wire.specs.Prelude.{with_option, encoded_size, bytes_of_uint, MAX_EXTENDED_LENGTH};
+ghost use Rattle.coap_wire.specs.Prelude.{LARGEST_MESSAGE};
 
 use crate::code::Code;
 use crate::sink::Sink;

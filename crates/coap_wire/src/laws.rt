@@ -1,7 +1,15 @@
 //! What holds of spellings, streams and options, each as the contract of a function that does nothing.
 
 ghost use Rattle.std.specs.Prelude.{◌≡◌, ◌≢◌, ◌↔◌, ℕ, ◌^◌, ◌<◌, ◌≤◌, List, [], ◌∷◌, ◌++◌, length, None, IsTrue};
-ghost use Rattle.coap_wire.specs.Prelude.{Message, CoapOption, AreBytes, AreOrdered, IsLengthForm, length_form, greatest_length, IsOptionForm, option_form, MAX_EXTENDED_LENGTH, IsTokenForm, token_form, greatest_token, Spells, spelling, HasSpelling, IsDeclaredSize, IsFrame, Declares, declared_of, IsFirstFault, IsFrameFault, IsUnfinished, Unfinished, Whole, Faulty, beginning, fault_bytes, Frames, Sizes, FramedAs, always, size_for, sizes_behind, sizes_of_rest, sized_frames, frames_on, Stream, SplitsAs, sized_split, split, stream_then, sized_split_on, split_on, uint_of, bytes_of_uint, IsFirstWithNumber, IsRecognised, is_recognised, Declared, FormatFault, FrameFault};
+ghost use Rattle.coap_wire.specs.Prelude.{Message, CoapOption, AreBytes, AreOrdered, IsLengthForm, length_form};
+ghost use Rattle.coap_wire.specs.Prelude.{greatest_length, IsOptionForm, option_form, MAX_EXTENDED_LENGTH, IsTokenForm};
+ghost use Rattle.coap_wire.specs.Prelude.{token_form, greatest_token, Spells, spelling, HasSpelling, IsDeclaredSize};
+ghost use Rattle.coap_wire.specs.Prelude.{IsFrame, Declares, declared_of, IsFirstFault, IsFrameFault, IsUnfinished};
+ghost use Rattle.coap_wire.specs.Prelude.{Unfinished, Whole, Faulty, beginning, fault_bytes, Frames, Sizes, FramedAs};
+ghost use Rattle.coap_wire.specs.Prelude.{always, size_for, sizes_behind, sizes_of_rest, sized_frames, frames_on};
+ghost use Rattle.coap_wire.specs.Prelude.{Stream, SplitsAs, sized_split, split, stream_then, sized_split_on, split_on};
+ghost use Rattle.coap_wire.specs.Prelude.{uint_of, bytes_of_uint, IsFirstWithNumber, IsRecognised, is_recognised};
+ghost use Rattle.coap_wire.specs.Prelude.{Declared, FormatFault, FrameFault};
 
 /// Each length up to 4,295,033,100 has exactly one form (RFC 8323 section 3.2).
 pub fn length_has_one_form()

@@ -1,5 +1,20 @@
-//! CoAP messages over a reliable transport: what they are, and how bytes spell them (RFC 8323 section 3.2, RFC 7252
-//! section 3.1, RFC 8974 section 2.1).
+//! CoAP messages over reliable transports: their encoding (RFC 8323 section 3.2, RFC 7252 section 3.1, RFC 8974 section
+//! 2.1), and the frames of a stream.
+//!
+//! - `parse` decodes a frame into a `MessageRef`, which borrows the frame's bytes. `Options`, `Known` and
+//!   `CheckedOptions` iterate over its options.
+//! - `Builder` and `CompactBuilder` encode a message into a `Sink`.
+//! - `declared` returns the size that the first bytes of a frame declare, or the fault that they show.
+//! - `Token`, `Code`, `kind` (the table of options), `uint_value` and `uint_bytes` are the parts of messages. Sizes that
+//!   several crates use are constants here, such as `LARGEST_MESSAGE`.
+//! - `laws` has the theorems on encodings and streams.
+//!
+//! The contracts name the definitions of `specs/Spelling.antt` (encoding), `specs/Reading.antt` (decoding) and
+//! `specs/Stream.antt` (the messages of a stream).
+//!
+//! This crate keeps no state and does not know what a message asks for. The crate `coap_frame` collects the bytes of a
+//! frame that arrives in several reads, `coap_conn` handles Signalling Messages, and `coap_store` responds to requests.
+//! Continue with `message.rt`.
 #![tactic(auto)]
 
 mod body;

@@ -1,7 +1,8 @@
 //! A message within the bytes that spell it.
 
 ghost use Rattle.std.specs.Prelude.{◌≡◌, Ok, IfOk, IfErr};
-ghost use Rattle.coap_wire.specs.Prelude.{Message, body_of, Spells, IsFirstFault, message_of, AreOrdered, known_options, checked_options, first_critical};
+ghost use Rattle.coap_wire.specs.Prelude.{Message, body_of, Spells, IsFirstFault, message_of, AreOrdered};
+ghost use Rattle.coap_wire.specs.Prelude.{known_options, checked_options, first_critical};
 
 use crate::body::Body;
 use crate::code::Code;

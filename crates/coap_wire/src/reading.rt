@@ -1,7 +1,9 @@
 //! Reads the parts of a frame from left to right.
 
 ghost use Rattle.std.specs.Prelude.{◌≡◌, ◌≤◌, length, option_map, IfSome, IfOk};
-ghost use Rattle.coap_wire.specs.Prelude.{greatest_length, MAX_EXTENDED_LENGTH, one_byte_at, two_bytes_at, four_bytes_at, length_at, option_number_at, token_length_at, head_at, option_head_at, option_at, body_at, Gives, GivesPayload, coap_option};
+ghost use Rattle.coap_wire.specs.Prelude.{greatest_length, MAX_EXTENDED_LENGTH, one_byte_at, two_bytes_at};
+ghost use Rattle.coap_wire.specs.Prelude.{four_bytes_at, length_at, option_number_at, token_length_at, head_at};
+ghost use Rattle.coap_wire.specs.Prelude.{option_head_at, option_at, body_at, Gives, GivesPayload, coap_option};
 
 use crate::code::Code;
 use crate::fault::FormatFault;

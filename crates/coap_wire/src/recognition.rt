@@ -1,7 +1,8 @@
 //! The recognised options of a message (RFC 7252 section 5.4).
 
 ghost use Rattle.std.specs.Prelude.{◌≡◌};
-ghost use Rattle.coap_wire.specs.Prelude.{AreOrdered, is_recognised, option_before, first_critical, coap_option, known_options, checked_option, checked_options, YieldsFirstBy, item_count};
+ghost use Rattle.coap_wire.specs.Prelude.{AreOrdered, is_recognised, option_before, first_critical, coap_option};
+ghost use Rattle.coap_wire.specs.Prelude.{known_options, checked_option, checked_options, YieldsFirstBy, item_count};
 
 use crate::kinds::kind;
 use crate::option::OptionRef;

@@ -1,7 +1,9 @@
 //! Writes the parts of a frame from left to right.
 
 ghost use Rattle.std.specs.Prelude.{◌≡◌, ℕ, ◌+◌, ◌-◌, ◌≤◌, ◌<◌, List, ◌++◌, length};
-ghost use Rattle.coap_wire.specs.Prelude.{AllByRecursion, AreOrdered, greatest_token, greatest_length, MAX_EXTENDED_LENGTH, HasOptionForm, option_spelling, options_spelling, payload_marker, head_spelling, coap_option, coap_options};
+ghost use Rattle.coap_wire.specs.Prelude.{AllByRecursion, AreOrdered, greatest_token, greatest_length};
+ghost use Rattle.coap_wire.specs.Prelude.{MAX_EXTENDED_LENGTH, HasOptionForm, option_spelling, options_spelling};
+ghost use Rattle.coap_wire.specs.Prelude.{payload_marker, head_spelling, coap_option, coap_options};
 
 use crate::code::Code;
 use crate::form::{

@@ -1,7 +1,9 @@
 //! The words of `coap-client`.
 
 ghost use Rattle.std.specs.Prelude.{◌≡◌, IfOk, MatchOption, None, Some, codes, false, option_map, string_bytes, true};
-ghost use Rattle.coap_command_line.specs.Prelude.{after_first, before_first, list_any, first_of, found_of, rows_of, named, number_within, option_value, TellsClientPlan, client_value, extra_named, extra_value, GivesUnlessMemory, target_of};
+ghost use Rattle.coap_command_line.specs.Prelude.{after_first, before_first, list_any, first_of, found_of, rows_of};
+ghost use Rattle.coap_command_line.specs.Prelude.{named, number_within, option_value, TellsClientPlan, client_value};
+ghost use Rattle.coap_command_line.specs.Prelude.{extra_named, extra_value, GivesUnlessMemory, target_of};
 ghost use Rattle.coap_command_line.specs.ClientWords as spec;
 ghost use Rattle.coap_request.specs.declared.request.Method.TheVariants.{Get};
 

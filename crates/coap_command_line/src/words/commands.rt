@@ -1,7 +1,9 @@
 //! The command lines as `clap` is given them.
 
 ghost use Rattle.std.specs.Prelude.{◌≡◌, IfErr, IfOk, Some, [], map, true};
-ghost use Rattle.coap_command_line.specs.Prelude.{app_of, fault_of, found_of, is_simple, is_simple_and_free, matches_of, new_rule, rows_of, with_rule, client_app, uri_rule, IsTurnedDown, server_app};
+ghost use Rattle.coap_command_line.specs.Prelude.{app_of, fault_of, found_of, is_simple, is_simple_and_free};
+ghost use Rattle.coap_command_line.specs.Prelude.{matches_of, new_rule, rows_of, with_rule, client_app, uri_rule};
+ghost use Rattle.coap_command_line.specs.Prelude.{IsTurnedDown, server_app};
 ghost use Rattle.clap.specs.declared.builder.action.ArgAction.TheVariants.{SetTrue};
 ghost use Rattle.coap_command_line.specs.CommandLines as spec;
 

@@ -1,7 +1,10 @@
 //! What a link asks.
 
 ghost use Rattle.std.specs.Prelude.{◌≡◌, ◌<◌, ◌+◌, ◌++◌, ◌∷◌, [], length, IfOk, OnOk, OnErr};
-ghost use Rattle.coap_conn.specs.Prelude.{bytes_of_uint, spelling, RefusedBy, History, after, LinkShows, bytes_of, asking_in, asking_refusal, cancel_refusal, observation_refusal, new_refusal, size_refusal, next_token, with_token, ping_with, outstanding_value, link_after};
+ghost use Rattle.coap_conn.specs.Prelude.{bytes_of_uint, spelling, RefusedBy, History, after, LinkShows, bytes_of};
+ghost use Rattle.coap_conn.specs.Prelude.{asking_in, asking_refusal, cancel_refusal, observation_refusal, new_refusal};
+ghost use Rattle.coap_conn.specs.Prelude.{size_refusal, next_token, with_token, ping_with, outstanding_value};
+ghost use Rattle.coap_conn.specs.Prelude.{link_after};
 ghost use Rattle.coap_conn.specs.Calls as call;
 
 use super::Link;

@@ -1,7 +1,12 @@
 //! What a link hears: messages, bytes that have a fault, and the end of input.
 
 ghost use Rattle.std.specs.Prelude.{◌≡◌, if◌then◌else◌};
-ghost use Rattle.coap_conn.specs.Prelude.{bad_csm_option, IsLive, IsAnswering, is_waiting as waits, is_reserved as reserved, minds_critical_options as minds_critical, react, csm_reaction, live_reaction, open_reaction, ping_reaction, request_reaction, release_reaction, response_reaction, pong_reaction, History, after, LinkShows, IsReady, standing_in, link_with, link_handled, link_after_csm, link_after, verdict_value};
+ghost use Rattle.coap_conn.specs.Prelude.{bad_csm_option, IsLive, IsAnswering, is_waiting as waits};
+ghost use Rattle.coap_conn.specs.Prelude.{is_reserved as reserved, minds_critical_options as minds_critical, react};
+ghost use Rattle.coap_conn.specs.Prelude.{csm_reaction, live_reaction, open_reaction, ping_reaction, request_reaction};
+ghost use Rattle.coap_conn.specs.Prelude.{release_reaction, response_reaction, pong_reaction, History, after};
+ghost use Rattle.coap_conn.specs.Prelude.{LinkShows, IsReady, standing_in, link_with, link_handled, link_after_csm};
+ghost use Rattle.coap_conn.specs.Prelude.{link_after, verdict_value};
 ghost use Rattle.coap_conn.specs.Verdicts as verdict;
 ghost use Rattle.coap_conn.specs.declared.phase.Phase.TheVariants as phase;
 ghost use Rattle.coap_conn.specs.declared.phase.Role.TheVariants as role;

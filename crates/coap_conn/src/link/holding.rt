@@ -1,7 +1,8 @@
 //! What a link holds, and takes out as it is due.
 
 ghost use Rattle.std.specs.Prelude.{◌≡◌, ℕ, List, true, IsTrue, IsFalse, OnOk, OnErr};
-ghost use Rattle.coap_conn.specs.Prelude.{IsAnswering, is_open, AnAnswer, due_told, first_due, due_value, History, after, LinkShows, IsReady, can_hold, link_after};
+ghost use Rattle.coap_conn.specs.Prelude.{IsAnswering, is_open, AnAnswer, due_told, first_due, due_value, History};
+ghost use Rattle.coap_conn.specs.Prelude.{after, LinkShows, IsReady, can_hold, link_after};
 ghost use Rattle.coap_conn.specs.Calls as call;
 
 use super::Link;

@@ -1,7 +1,10 @@
 //! What a link sends, as it fits the peer, and how it stops.
 
 ghost use Rattle.std.specs.Prelude.{◌≡◌, ◌++◌, false, true, [], OnOk, OnErr};
-ghost use Rattle.coap_conn.specs.Prelude.{Message, RefusedBy, fit, fits, fitted, bare_response, IsAnswering, stop, abort, send, told_of, pong_with, sends, History, after, LinkShows, bytes_of, own_csm, IsReady, limit_in, standing_in, link_with, link_after, verdict_value, release_refusal};
+ghost use Rattle.coap_conn.specs.Prelude.{Message, RefusedBy, fit, fits, fitted, bare_response, IsAnswering, stop};
+ghost use Rattle.coap_conn.specs.Prelude.{abort, send, told_of, pong_with, sends, History, after, LinkShows, bytes_of};
+ghost use Rattle.coap_conn.specs.Prelude.{own_csm, IsReady, limit_in, standing_in, link_with, link_after};
+ghost use Rattle.coap_conn.specs.Prelude.{verdict_value, release_refusal};
 ghost use Rattle.coap_conn.specs.declared.phase.Phase.TheVariants.{Open};
 ghost use Rattle.coap_conn.specs.Verdicts as verdict;
 ghost use Rattle.coap_conn.specs.Calls as call;

@@ -1,7 +1,8 @@
 //! What the connections that were looked at in a turn leave to be done.
 
 ghost use Rattle.std.specs.Prelude.{◌≡◌, ◌≤◌, drop, length, map, slice_get, take, IfSome, false, None};
-ghost use Rattle.coap_serve.specs.Prelude.{AllByRecursion, end_of, agenda_past, IsAtRest, IsInTurn, concerns_earlier, agenda_with, wait_of};
+ghost use Rattle.coap_serve.specs.Prelude.{AllByRecursion, end_of, agenda_past, IsAtRest, IsInTurn, concerns_earlier};
+ghost use Rattle.coap_serve.specs.Prelude.{agenda_with, wait_of};
 
 use super::peer::Peers;
 use coap_io::{Ready, Wait};

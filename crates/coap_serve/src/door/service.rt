@@ -25,8 +25,12 @@ pub struct Service<W> {
 }
 
 impl<W: Wire + Ready + Drop> Service<W> {
-    ghost use Rattle.std.specs.Prelude.{◌+◌, ◌++◌, ◌∷◌, true, List, [], is_none, is_ok, nat_le, IfErr, IfOk, OnErr, OnOk, Err};
-    ghost use Rattle.coap_serve.specs.Prelude.{RefusedBy, RefusedOrMemory, put_refusal, remove_refusal, HasTurned, IsAskedOnce, IsTurnOf, moved_to, TellsMore, trace_by, IsMemory, open_refusal, new_server, server_put, server_removed, server_ticked, Event, Ticked, Stored, Removed, Shows};
+    ghost use Rattle.std.specs.Prelude.{◌+◌, ◌++◌, ◌∷◌, true, List, [], is_none, is_ok, nat_le, IfErr, IfOk, OnErr};
+    ghost use Rattle.std.specs.Prelude.{OnOk, Err};
+    ghost use Rattle.coap_serve.specs.Prelude.{RefusedBy, RefusedOrMemory, put_refusal, remove_refusal, HasTurned};
+    ghost use Rattle.coap_serve.specs.Prelude.{IsAskedOnce, IsTurnOf, moved_to, TellsMore, trace_by, IsMemory};
+    ghost use Rattle.coap_serve.specs.Prelude.{open_refusal, new_server, server_put, server_removed, server_ticked};
+    ghost use Rattle.coap_serve.specs.Prelude.{Event, Ticked, Stored, Removed, Shows};
     ghost use Rattle.coap_serve.specs.declared.serve.IoFault.TheVariants as fault;
 
     /// A server with no connection, that stores nothing, whose counts begin where the configuration says.

@@ -1,7 +1,11 @@
 //! A turn of a door.
 
-ghost use Rattle.std.specs.Prelude.{◌≡◌, ◌<◌, ◌≤◌, ◌+◌, ◌-◌, ◌^◌, ◌||◌, Bool, false, Ok, Some, length, is_none, map, remove, slice_get, take, IfSome, IfOk, IfErr, OnOk, OnErr};
-ghost use Rattle.coap_serve.specs.Prelude.{keys_of, AreNoted, HasServed, HasTurned, HasGoneOn, IsRound, IsOpening, IsAskedOnce, IsTurnOf, asked_by, TellsMore, trace_by, IsServed, IsAgendaOf, concerns_earlier, end_of, wants_of, IsMemory, stamp_of, open_refusal, AreSettled, server_dropped};
+ghost use Rattle.std.specs.Prelude.{◌≡◌, ◌<◌, ◌≤◌, ◌+◌, ◌-◌, ◌^◌, ◌||◌, Bool, false, Ok, Some, length, is_none, map};
+ghost use Rattle.std.specs.Prelude.{remove, slice_get, take, IfSome, IfOk, IfErr, OnOk, OnErr};
+ghost use Rattle.coap_serve.specs.Prelude.{keys_of, AreNoted, HasServed, HasTurned, HasGoneOn, IsRound, IsOpening};
+ghost use Rattle.coap_serve.specs.Prelude.{IsAskedOnce, IsTurnOf, asked_by, TellsMore, trace_by, IsServed, IsAgendaOf};
+ghost use Rattle.coap_serve.specs.Prelude.{concerns_earlier, end_of, wants_of, IsMemory, stamp_of, open_refusal};
+ghost use Rattle.coap_serve.specs.Prelude.{AreSettled, server_dropped};
 ghost use Rattle.coap_serve.specs.declared.door.peer.Course.TheVariants.{Open};
 
 use super::agenda::{Agenda, Seen, concerns_others, pass_over};

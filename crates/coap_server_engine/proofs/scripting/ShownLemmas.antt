@@ -1,5 +1,5 @@
 -- What a server shows after the calls that the events of a script make.
-use Rattle.std.proofs.Common.{[], ◌≡◌, ℕ, false, List, ◌∷◌, ◌++◌, Option, None, Result, Ok, Err, refl, subst, append_assoc, zero, suc, drop, arith}
+use Rattle.std.proofs.Common.{[], ◌≡◌, ℕ, false, List, ◌∷◌, ◌++◌, Option, Some, None, Result, Ok, Err, refl, subst, append_assoc, zero, suc, drop, arith}
 use Rattle.std.proofs.lemmas.List.{append-nil}
 use Rattle.std.proofs.lemmas.Bool.{cond_both}
 use Rattle.coap_server_engine.specs.Prelude.{IsErr, AllocError, EventValue, In, event_ran, replayed, Fed, unfed, fed_more}

@@ -8,6 +8,7 @@ use Rattle.coap_conn.specs.LinkValue.{is_finished}
 use Rattle.coap_conn.specs.Release.{release_refusal}
 use Rattle.coap_server_session.specs.values.Sessions.{SessionValue, session_takes, taking, RefusesPiece}
 use Rattle.coap_server_engine.specs.values.Servers.{ServerValue, session_of, server_taken}
+use Rattle.coap_model.specs.Answers.{release_fault}
 use Rattle.coap_model.specs.declared.answers.Handled.{Handled}
 use Rattle.coap_model.specs.declared.answers.Handled.TheVariants as handled
 use Rattle.coap_model.specs.declared.answers.Status.{Status}

@@ -7,8 +7,15 @@ use coap_model::{ConnId, TakeFault, Taken, WrittenFault};
 use std::alloc::AllocError;
 
 impl Server {
-    ghost use Rattle.std.specs.Prelude.{◌≡◌, ◌+◌, ◌≤◌, ◌++◌, ◌∷◌, ⊤, List, [], length, take, true, false, is_err, is_some, IfOk, IfErr, IfSome, OnOk, OnErr, option_copied};
-    ghost use Rattle.coap_server_engine.specs.Prelude.{sem, follows_so, none, RefusedBy, IsPartlyFed, fed, took, ShowsMore, ShowsPartlyFed, AddsBytes, WritesPart, waiting_at, more_at, IsFlushedOnce, session_of, is_there, count_taken, server_taken, server_written, can_take_on, handled_by, IsNotTaken, written_refusal, front_of, stop_on, LiesAt, Event, Took, Wrote, takes, handled_in, Shows, ShowsRefused, IsRefusedFor};
+    ghost use Rattle.std.specs.Prelude.{◌≡◌, ◌+◌, ◌≤◌, ◌++◌, ◌∷◌, ⊤, List, [], length, take, true, false, is_err};
+    ghost use Rattle.std.specs.Prelude.{is_some, IfOk, IfErr, IfSome, OnOk, OnErr, option_copied};
+    ghost use Rattle.coap_server_engine.specs.Prelude.{sem, follows_so, none, RefusedBy, IsPartlyFed, fed, took};
+    ghost use Rattle.coap_server_engine.specs.Prelude.{ShowsMore, ShowsPartlyFed, AddsBytes, WritesPart, waiting_at};
+    ghost use Rattle.coap_server_engine.specs.Prelude.{more_at, IsFlushedOnce, session_of, is_there, count_taken};
+    ghost use Rattle.coap_server_engine.specs.Prelude.{server_taken, server_written, can_take_on, handled_by};
+    ghost use Rattle.coap_server_engine.specs.Prelude.{IsNotTaken, written_refusal, front_of, stop_on, LiesAt, Event};
+    ghost use Rattle.coap_server_engine.specs.Prelude.{Took, Wrote, takes, handled_in, Shows, ShowsRefused};
+    ghost use Rattle.coap_server_engine.specs.Prelude.{IsRefusedFor};
     ghost use Rattle.coap_server_engine.specs.contracts.server.Server.{the_row};
 
     /// Whether a connection takes bytes: it is there, has neither stopped nor been released, and has room in its queue

@@ -8,7 +8,9 @@ use coap_store::{PathKey, StoreFault};
 
 impl Server {
     ghost use Rattle.std.specs.Prelude.{◌≡◌, ◌+◌, ◌++◌, ◌∷◌, List, [], is_ok, is_none, nat_le, IfOk, OnOk, OnErr};
-    ghost use Rattle.coap_server_engine.specs.Prelude.{RefusedBy, IsStore, RefusedOrMemory, put_refusal, remove_refusal, stamp_of, AreSettled, server_ticked, server_put, server_removed, Event, Ticked, Stored, Removed, Shows};
+    ghost use Rattle.coap_server_engine.specs.Prelude.{RefusedBy, IsStore, RefusedOrMemory, put_refusal};
+    ghost use Rattle.coap_server_engine.specs.Prelude.{remove_refusal, stamp_of, AreSettled, server_ticked, server_put};
+    ghost use Rattle.coap_server_engine.specs.Prelude.{server_removed, Event, Ticked, Stored, Removed, Shows};
 
     /// The moment is now this one, in seconds.
     ///

@@ -7,7 +7,11 @@ use coap_server_session::Session;
 
 impl Server {
     ghost use Rattle.std.specs.Prelude.{◌≡◌, ◌+◌, ◌++◌, ◌∷◌, List, [], is_ok, is_none, IfOk, OnOk, OnErr};
-    ghost use Rattle.coap_server_engine.specs.Prelude.{RefusedBy, AreInRange, AreSettled, session_of, is_there, server_opened, server_ended, server_released, server_announced, server_dropped, OpenedOrMemory, open_refusal, released_refusal, IsAnnounced, status_of, outlook_of, Event, Opened, Ended, Released, Announced, Dropped, Shows};
+    ghost use Rattle.coap_server_engine.specs.Prelude.{RefusedBy, AreInRange, AreSettled, session_of, is_there};
+    ghost use Rattle.coap_server_engine.specs.Prelude.{server_opened, server_ended, server_released, server_announced};
+    ghost use Rattle.coap_server_engine.specs.Prelude.{server_dropped, OpenedOrMemory, open_refusal, released_refusal};
+    ghost use Rattle.coap_server_engine.specs.Prelude.{IsAnnounced, status_of, outlook_of, Event, Opened, Ended};
+    ghost use Rattle.coap_server_engine.specs.Prelude.{Released, Announced, Dropped, Shows};
 
     /// Whether `open` would be refused for want of memory alone.
     pub fn can_open(&self) -> bool

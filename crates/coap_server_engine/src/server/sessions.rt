@@ -1,7 +1,14 @@
 //! What is done to the connections that a server holds, each by its index.
 
-ghost use Rattle.std.specs.Prelude.{◌≡◌, ◌<◌, ◌≤◌, ◌+◌, ◌^◌, false, None, Some, length, map, slice_get, if◌then◌else◌, is_err, is_some, IfNone, IfSome, IfOk, OnOk, OnErr};
-ghost use Rattle.coap_server_engine.specs.Prelude.{values, values_of, SessionValue, IsMarked, unmarked, AreAllMarked, AreMarkedBut, AreMarkedAfter, RefusedBy, AddsBytes, WritesPart, IsFlushedAt, session_written, session_ended, session_released, session_announced, session_settled, LiesAt, session_of, changed_at, settled_entry, AreSettled, AreSettledUntouched, AreUntouched, AreOthersSettled, settled_held, released_refusal_on, IsAnnounced, handled_so};
+ghost use Rattle.std.specs.Prelude.{◌≡◌, ◌<◌, ◌≤◌, ◌+◌, ◌^◌, false, None, Some, length, map, slice_get, if◌then◌else◌};
+ghost use Rattle.std.specs.Prelude.{is_err, is_some, IfNone, IfSome, IfOk, OnOk, OnErr};
+ghost use Rattle.coap_server_engine.specs.Prelude.{values, values_of, SessionValue, IsMarked, unmarked, AreAllMarked};
+ghost use Rattle.coap_server_engine.specs.Prelude.{AreMarkedBut, AreMarkedAfter, RefusedBy, AddsBytes, WritesPart};
+ghost use Rattle.coap_server_engine.specs.Prelude.{IsFlushedAt, session_written, session_ended, session_released};
+ghost use Rattle.coap_server_engine.specs.Prelude.{session_announced, session_settled, LiesAt, session_of, changed_at};
+ghost use Rattle.coap_server_engine.specs.Prelude.{settled_entry, AreSettled, AreSettledUntouched, AreUntouched};
+ghost use Rattle.coap_server_engine.specs.Prelude.{AreOthersSettled, settled_held, released_refusal_on, IsAnnounced};
+ghost use Rattle.coap_server_engine.specs.Prelude.{handled_so};
 
 use super::Sessions;
 use coap_conn::Reason;

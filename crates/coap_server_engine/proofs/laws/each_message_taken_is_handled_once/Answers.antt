@@ -1,5 +1,5 @@
 use Rattle.coap_server_engine.proofs.world.HandledLaws.{handled_agrees}
-use Rattle.coap_model.proofs.laws.engine.each_message_taken_is_handled_once.Goals as goal
+use Rattle.coap_server_engine.proofs.laws.each_message_taken_is_handled_once.Goals as goal
 
 pub returns-clause-messages : goal.returns-clause-messages
 returns-clause-messages c k events id s accepted there = (handled_agrees k events id s accepted there).handled

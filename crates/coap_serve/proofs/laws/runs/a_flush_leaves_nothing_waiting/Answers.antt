@@ -1,7 +1,7 @@
 use Rattle.coap_serve.specs.Prelude.{AddsBytes}
 use Rattle.coap_serve.proofs.streams.FlushShown.{flush_empties}
 use Rattle.coap_serve.proofs.streams.NothingLeft.{run_leaves_nothing}
-use Rattle.coap_model.proofs.laws.runs.a_flush_leaves_nothing_waiting.Goals as goal
+use Rattle.coap_serve.proofs.laws.runs.a_flush_leaves_nothing_waiting.Goals as goal
 
 pub returns : goal.returns
 returns c = record {
