@@ -1,5 +1,5 @@
 -- What the code holds, seen as values: which of them is due first, and what is left without one.
-use Rattle.std.proofs.Common.{◌≡◌, ℕ, suc, ◌+◌, ◌<◌, Bool, true, false, not, cond, List, [], ◌∷◌, ◌++◌, length, map, take, drop, remove, slice_get, position, Option, Some, None, refl, sym, ap, ◌∙◌, arith}
+use Rattle.std.proofs.Common.{◌≡◌, ℕ, suc, ◌+◌, ◌<◌, Bool, true, false, not, cond, List, [], ◌∷◌, ◌++◌, length, map, take, drop, remove, slice_get, position, Option, Some, None, refl, sym, ap, subst, ◌∙◌, arith}
 use Rattle.coap_conn.specs.Prelude.{IfSome, nat_lt, option_map, filter_map, cons_option, position_or_len, Held}
 use Rattle.coap_conn.specs.Prelude.{HeldValue, Answer, Pong, least_come, is_answer_at, answer_index, pong_index}
 use Rattle.coap_conn.specs.Prelude.{else_index, due_index, held_at, without_at, first_due, without_due, held_value}
@@ -51,6 +51,11 @@ else_inside held (Some i) other inside behind = inside
 pub due_inside : (now : ℕ) (held : List HeldValue) → IsIndexOf held (due_index now held)
 unfolding due_index
 due_inside now held = else_inside held (answer_index (least_come now held) held) (pong_index held) (answer_inside (least_come now held) held) (pong_inside held)
+
+-- the same of what the code holds
+pub due_within : (now : ℕ) (held : List Held) → IfSome (due_index now (map held_value held)) (λ i. i < length held)
+due_within now held =
+    subst (λ (n : ℕ). IfSome (due_index now (map held_value held)) (λ i. i < n)) (length-map held held_value) (due_inside now (map held_value held))
 
 -- ---- one is taken out
 

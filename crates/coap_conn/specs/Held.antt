@@ -99,10 +99,3 @@ abbrev pub due_told : Option HeldValue → DueValue
 due_told None = Nothing
 due_told (Some (Answer token moment)) = AnAnswer token
 due_told (Some (Pong token)) = APong
-
--- ---- the room
-
--- what is held, and how much may be
-pub record PendingValue : Type 0 where
-  pub room : ℕ
-  pub held : List HeldValue

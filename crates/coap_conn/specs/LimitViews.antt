@@ -1,6 +1,7 @@
 -- How the code's limits are seen in contracts.
 use Rattle.coap_conn.specs.Limits.{LimitValues, AreInRange}
 use Rattle.coap_conn.specs.declared.limits.Limits.TheInside.{Inside}
+use Rattle.coap_conn.specs.declared.limits.builder.LimitsBuilder.TheInside as builder
 
 abbrev pub limit_values : Inside → LimitValues
 limit_values l = record { max_message = l.max_message; max_sent = l.max_sent; queue = l.queue; pending = l.pending; observers = l.observers; outstanding = l.outstanding }
@@ -10,3 +11,10 @@ are_limits l = AreInRange (limit_values l)
 
 abbrev pub limit_fields : LimitValues → Inside
 limit_fields l = record { max_message = l.max_message; max_sent = l.max_sent; queue = l.queue; pending = l.pending; observers = l.observers; outstanding = l.outstanding }
+
+-- what was set so far
+abbrev pub builder_values : builder.Inside → LimitValues
+builder_values l = record { max_message = l.max_message; max_sent = l.max_sent; queue = l.queue; pending = l.pending; observers = l.observers; outstanding = l.outstanding }
+
+abbrev pub builder_fields : LimitValues → builder.Inside
+builder_fields l = record { max_message = l.max_message; max_sent = l.max_sent; queue = l.queue; pending = l.pending; observers = l.observers; outstanding = l.outstanding }

@@ -1,7 +1,7 @@
 -- The limits of a connection, and why values are refused as limits.
 use Rattle.std.specs.Prelude.{ℕ, ◌≤◌, Bool, ◌&&◌, Option, Some, None, nat_le, if◌then◌else◌}
 use Rattle.coap_wire.specs.declared.sizes.TheConstants.{BASE_MESSAGE_SIZE, LARGEST_MESSAGE, LARGEST_SENT_MESSAGE}
-use Rattle.coap_wire.specs.declared.sizes.TheConstants.{LARGEST_QUEUE}
+use Rattle.coap_wire.specs.declared.sizes.TheConstants.{LARGEST_QUEUE, DEFAULT_QUEUE}
 use Rattle.coap_conn.specs.declared.limits.LimitFault.{LimitFault}
 use Rattle.coap_conn.specs.declared.limits.LimitFault.TheVariants as limit
 
@@ -18,6 +18,10 @@ pub record LimitValues : Type 0 where
 abbrev pub limits_of : (max_message max_sent queue pending observers outstanding : ℕ) → LimitValues
 limits_of max_message max_sent queue pending observers outstanding =
     record { max_message = max_message; max_sent = max_sent; queue = queue; pending = pending; observers = observers; outstanding = outstanding }
+
+-- the limits that both programs have unless they are set
+abbrev pub default_limits : LimitValues
+default_limits = limits_of LARGEST_SENT_MESSAGE LARGEST_SENT_MESSAGE DEFAULT_QUEUE 16 16 16
 
 -- the ranges
 pub record AreInRange (l : LimitValues) : Type 0 where

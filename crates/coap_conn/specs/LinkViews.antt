@@ -1,6 +1,9 @@
 -- How the code's link and its verdicts are seen in contracts.
-use Rattle.std.specs.Prelude.{◌≡◌}
+use Rattle.std.specs.Prelude.{◌≡◌, ◌≤◌, map}
+use Rattle.std.specs.Vec.{vec_capacity}
 use Rattle.coap_conn.specs.LinkValue.{LinkValue, IsLink}
+use Rattle.coap_conn.specs.HeldViews.{held_value}
+use Rattle.coap_conn.specs.OutstandingViews.{outstanding_value}
 use Rattle.coap_conn.specs.Verdicts.{VerdictValue}
 use Rattle.coap_conn.specs.Verdicts as value
 use Rattle.coap_conn.specs.declared.phase.Verdict.{Verdict}
@@ -9,11 +12,12 @@ use Rattle.coap_conn.specs.declared.link.Link.TheInside.{Inside}
 
 abbrev pub link_value : Inside → LinkValue
 link_value l =
-    record { role = l.role; limits = l.limits; waiting = l.queue.waiting; phase = l.phase; own_max = l.own_max; peer_max = l.peer_max; peer_token = l.peer_token; held = l.pending.held; outstanding = l.asked.entries; tokens = l.tokens }
+    record { role = l.role; limits = l.limits; waiting = l.queue.waiting; phase = l.phase; own_max = l.own_max; peer_max = l.peer_max; peer_token = l.peer_token; held = map held_value l.pending.items; outstanding = map outstanding_value l.asked.items; tokens = l.tokens }
 
--- the queue, what is held and what is outstanding have the room that the limits name
+-- the queue, what is held and what is outstanding have the room that the limits name, and it is reserved
 abbrev pub is_link : Inside → Type 0
-is_link l = IsLink (link_value l) × (l.queue.bytes ≡ l.limits.queue) × (l.pending.room ≡ l.limits.pending) × (l.asked.room ≡ l.limits.outstanding)
+is_link l =
+    IsLink (link_value l) × (l.queue.bytes ≡ l.limits.queue) × (l.limits.pending ≤ vec_capacity l.pending) × (l.limits.outstanding ≤ vec_capacity l.asked)
 
 -- a verdict without where its token lies
 abbrev pub verdict_value : Verdict → VerdictValue

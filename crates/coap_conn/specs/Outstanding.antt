@@ -69,12 +69,7 @@ cancelled_by token (Request asked) = Request asked
 cancelled_by token (Observation asked cancelled) = Observation asked (same_token asked token || cancelled)
 cancelled_by token (Ping pinged) = Ping pinged
 
--- ---- the room
-
--- what is outstanding, and how much may be
-pub record AskedValue : Type 0 where
-  pub room : ℕ
-  pub entries : List OutstandingValue
+-- ---- lists
 
 -- what is left without the request or observation with this token
 abbrev pub without_asked : List ℕ → List OutstandingValue → List OutstandingValue

@@ -39,13 +39,13 @@ pub use Rattle.coap_conn.specs.Fit.{AllFit, fit, fits, fitted, bare_response, ab
 pub use Rattle.coap_conn.specs.Fit.{without_payload}
 pub use Rattle.coap_conn.specs.Held.{HeldValue, Answer, Pong, HoldsNothingDue, IsDueFirst, come, next_moment}
 pub use Rattle.coap_conn.specs.Held.{AnAnswer, due_told, is_answer_at, least_come, answer_index, pong_index, to_come}
-pub use Rattle.coap_conn.specs.Held.{PendingValue, else_index, held_at, without_at}
+pub use Rattle.coap_conn.specs.Held.{else_index, held_at, without_at}
 unfoldable pub use Rattle.coap_conn.specs.Held.{first_due, without_due, due_index}
 pub use Rattle.coap_conn.specs.HeldViews.{due_value, held_value}
 pub use Rattle.coap_conn.specs.History.{History, AnnouncedFirst, link_of, new_history, limit_now, standing_now, after}
 pub use Rattle.coap_conn.specs.History.{after_send, asking_now, after_asking, LinkShows, IsHistory, may_hold}
 pub use Rattle.coap_conn.specs.History.{with_deed, with_effect}
-pub use Rattle.coap_conn.specs.Limits.{LimitValues, AreInRange, limits_of, limit_refusal}
+pub use Rattle.coap_conn.specs.Limits.{LimitValues, AreInRange, limits_of, limit_refusal, default_limits}
 pub use Rattle.coap_conn.specs.LinkValue.{own_csm, IsLink, IsReady, free_in, limit_in, is_finished, new_link}
 pub use Rattle.coap_conn.specs.LinkValue.{bytes_of, asking_in, standing_in, link_with, link_handled, link_after_csm}
 pub use Rattle.coap_conn.specs.LinkValue.{can_hold, csm_with, first_csm_with, first_csm, LinkValue, link_heard}
@@ -53,7 +53,7 @@ pub use Rattle.coap_conn.specs.LinkValue.{own_token_length, sizes_of}
 pub use Rattle.coap_conn.specs.LinkViews.{verdict_value, link_value}
 pub use Rattle.coap_conn.specs.Outstanding.{is_asked, is_pinged, may_cancel, is_last, has_observe, without_asked}
 pub use Rattle.coap_conn.specs.Outstanding.{without_pinged, with_cancelled, cancelled_by, OutstandingValue}
-pub use Rattle.coap_conn.specs.Outstanding.{is_request_entry, AskedValue, Observation, Ping}
+pub use Rattle.coap_conn.specs.Outstanding.{is_request_entry, Observation, Ping}
 unfoldable pub use Rattle.coap_conn.specs.Outstanding.{is_notification}
 pub use Rattle.coap_conn.specs.OutstandingViews.{outstanding_value}
 pub use Rattle.coap_conn.specs.Phases.{stop_of, IsLive, IsAnswering, is_waiting, is_open, answers, takes_messages}

@@ -9,8 +9,6 @@ ghost use Rattle.coap_conn.specs.Prelude.{outstanding_value, cancelled_by};
 
 use coap_wire::option_numbers::OBSERVE;
 use coap_wire::{MessageRef, Token, TokenRef};
-use std::alloc::{AllocError, Global};
-use std::marker::Model;
 
 /// Something that was asked. Contracts see an `OutstandingValue`.
 #[derive(Drop)]
@@ -95,118 +93,8 @@ impl Outstanding {
     }
 }
 
-/// At most so many that are outstanding, in room that was reserved once, in the order in which they were asked.
-/// Contracts see an `AskedValue`.
-#[derive(Drop)]
-pub(crate) struct Asked {
-    room: usize,
-    entries: Vec<Outstanding>,
-}
-
-impl Model for Asked {
-    ghost use Rattle.coap_conn.specs.Outstanding.{AskedValue};
-
-    ghost Value = { AskedValue };
-
-    ghost use Rattle.coap_conn.specs.OutstandingViews.{asked_value, is_asked};
-
-    ghost view = { asked_value };
-
-    ghost invariant = { is_asked };
-}
-
-impl Asked {
-    ghost use Rattle.coap_conn.specs.Prelude.{is_pinged};
-
-    /// Nothing outstanding, and room for so many, at most 256.
-    ///
-    /// # Errors
-    ///
-    /// Where the room is refused.
-    pub(crate) fn new(alloc: Global, room: usize) -> Result<Asked, AllocError>
-        ensures { IfOk result (λ a. a ≡ record { room = room; entries = [] }) }
-    {
-        Ok(Asked {
-            room,
-            entries: Vec::with_capacity(alloc, room)?,
-        })
-    }
-
-    /// How many are outstanding.
-    pub(crate) fn len(&self) -> usize
-        ensures count { result ≡ length self.now.entries }
-        ensures within { length self.now.entries ≤ self.now.room }
-    {
-        self.entries.len()
-    }
-
-    /// Whether there is no room for another one.
-    pub(crate) fn is_full(&self) -> bool
-        ensures { result ≡ not (nat_lt (length self.now.entries) self.now.room) }
-    {
-        self.entries.len() >= self.room
-    }
-
-    /// One more is outstanding, for which there must be room.
-    pub(crate) fn enter(&mut self, one: Outstanding)
-        requires { length self.old.entries < self.old.room }
-        ensures { self.new ≡ record self.old { entries = self.old.entries ++ outstanding_value one ∷ [] } }
-    {
-        self.entries.push_reserved(one);
-    }
-
-    /// Whether a response is the last one to the request or observation with its token, `None` where there is none.
-    pub(crate) fn is_last(&self, response: &MessageRef) -> Option<bool>
-        ensures { result ≡ option_map (is_last_of response.now) (find (asks response.now.token) self.now.entries) }
-    {
-        last_in(&self.entries, response)
-    }
-
-    /// Whether a Ping with this token is outstanding.
-    pub(crate) fn has_ping(&self, token: &TokenRef) -> bool
-        ensures { result ≡ list_any (is_pinged token.now) self.now.entries }
-    {
-        has_ping_in(&self.entries, token)
-    }
-
-    /// Whether an observation with this token is outstanding and was not cancelled.
-    pub(crate) fn may_cancel(&self, token: &TokenRef) -> bool
-        ensures { result ≡ list_any (cancellable token.now) self.now.entries }
-    {
-        may_cancel_in(&self.entries, token)
-    }
-
-    /// The observation with this token was cancelled.
-    pub(crate) fn cancel(&mut self, token: &TokenRef)
-        ensures { self.new ≡ record self.old { entries = with_cancelled token.now self.old.entries } }
-    {
-        cancel_in(&mut self.entries, token);
-    }
-
-    /// The request or observation with this token goes.
-    pub(crate) fn forget_asked(&mut self, token: &TokenRef)
-        ensures { self.new ≡ record self.old { entries = without_asked token.now self.old.entries } }
-    {
-        forget_asked_in(&mut self.entries, token);
-    }
-
-    /// The Ping with this token goes.
-    pub(crate) fn forget_pinged(&mut self, token: &TokenRef)
-        ensures { self.new ≡ record self.old { entries = without_pinged token.now self.old.entries } }
-    {
-        forget_pinged_in(&mut self.entries, token);
-    }
-
-    /// All go.
-    pub(crate) fn clear(&mut self)
-        ensures { self.new ≡ record self.old { entries = [] } }
-    {
-        self.entries.clear();
-    }
-}
-
 /// Whether a response is the last one to the first of these that has its token, `None` where there is none.
-fn last_in(entries: &[Outstanding], response: &MessageRef) -> Option<bool>
+pub(crate) fn last_in(entries: &[Outstanding], response: &MessageRef) -> Option<bool>
     ensures { result
         ≡ option_map (is_last_of response.now) (find (asks response.now.token) (map outstanding_value entries.now)) }
 {
@@ -217,21 +105,21 @@ fn last_in(entries: &[Outstanding], response: &MessageRef) -> Option<bool>
 }
 
 /// Whether one of these is a Ping with this token.
-fn has_ping_in(entries: &[Outstanding], token: &TokenRef) -> bool
+pub(crate) fn has_ping_in(entries: &[Outstanding], token: &TokenRef) -> bool
     ensures { result ≡ list_any (pings token.now) (map outstanding_value entries.now) }
 {
     entries.iter().any(|entry| entry.is_pinged(token))
 }
 
 /// Whether one of these is an observation with this token that was not cancelled.
-fn may_cancel_in(entries: &[Outstanding], token: &TokenRef) -> bool
+pub(crate) fn may_cancel_in(entries: &[Outstanding], token: &TokenRef) -> bool
     ensures { result ≡ list_any (cancellable token.now) (map outstanding_value entries.now) }
 {
     entries.iter().any(|entry| entry.may_cancel(token))
 }
 
 /// The observation with this token was cancelled.
-fn cancel_in(entries: &mut Vec<Outstanding>, token: &TokenRef)
+pub(crate) fn cancel_in(entries: &mut Vec<Outstanding>, token: &TokenRef)
     ensures cancelled { map outstanding_value entries.new.items
         ≡ with_cancelled token.now (map outstanding_value entries.old.items) }
     ensures as_many { length entries.new.items ≡ length entries.old.items }
@@ -243,7 +131,7 @@ fn cancel_in(entries: &mut Vec<Outstanding>, token: &TokenRef)
 }
 
 /// All stay but the requests and observations with this token.
-fn forget_asked_in(entries: &mut Vec<Outstanding>, token: &TokenRef)
+pub(crate) fn forget_asked_in(entries: &mut Vec<Outstanding>, token: &TokenRef)
     ensures others { map outstanding_value entries.new.items
         ≡ without_asked token.now (map outstanding_value entries.old.items) }
     ensures fewer { length entries.new.items ≤ length entries.old.items }
@@ -253,7 +141,7 @@ fn forget_asked_in(entries: &mut Vec<Outstanding>, token: &TokenRef)
 }
 
 /// All stay but the Pings with this token.
-fn forget_pinged_in(entries: &mut Vec<Outstanding>, token: &TokenRef)
+pub(crate) fn forget_pinged_in(entries: &mut Vec<Outstanding>, token: &TokenRef)
     ensures others { map outstanding_value entries.new.items
         ≡ without_pinged token.now (map outstanding_value entries.old.items) }
     ensures fewer { length entries.new.items ≤ length entries.old.items }

@@ -25,7 +25,7 @@ mod queue;
 mod reason;
 mod ring;
 
-pub use limits::{LimitFault, Limits};
+pub use limits::{LimitFault, Limits, LimitsBuilder};
 pub use link::Link;
 pub use phase::{Due, Full, Phase, Reject, Reply, RequestFault, Role, SendFault, Verdict};
 pub use queue::{OutQueue, first_part};

@@ -4,6 +4,9 @@ ghost use Rattle.std.specs.Prelude.{◌≡◌, ◌≤◌, IfOk};
 ghost use Rattle.coap_conn.specs.Prelude.{RefusedBy, limits_of, limit_refusal, AreInRange};
 ghost use Rattle.coap_conn.specs.Prelude.{BASE_MESSAGE_SIZE, LARGEST_MESSAGE, LARGEST_SENT_MESSAGE, LARGEST_QUEUE};
 
+mod builder;
+
+pub use builder::LimitsBuilder;
 use coap_wire::{BASE_MESSAGE_SIZE, LARGEST_MESSAGE, LARGEST_QUEUE, LARGEST_SENT_MESSAGE};
 use std::marker::Model;
 use thiserror::Error;

@@ -5,11 +5,11 @@ mod heard;
 mod holding;
 mod sending;
 
-use crate::asked::Asked;
+use crate::asked::Outstanding;
 use crate::csm::BASE_TOKEN;
 use crate::limits::Limits;
 use crate::messages::announce_first;
-use crate::pending::Pending;
+use crate::pending::{Held, next_of};
 use crate::phase::{Phase, Role};
 use crate::queue::OutQueue;
 use coap_wire::BASE_MESSAGE_SIZE;
@@ -27,8 +27,10 @@ pub struct Link {
     own_max: usize,
     peer_max: u32,
     peer_token: u32,
-    pending: Pending,
-    asked: Asked,
+    /// What is sent later. Its room is reserved once.
+    pending: Vec<Held>,
+    /// What is outstanding. Its room is reserved once.
+    asked: Vec<Outstanding>,
     tokens: u64,
 }
 
@@ -68,8 +70,8 @@ impl Link {
         ensures shows { IfOk result (λ l. LinkShows l (new_history role limits tokens_from)) }
     {
         let mut queue = OutQueue::new(alloc, limits.queue())?;
-        let pending = Pending::new(alloc, limits.pending())?;
-        let asked = Asked::new(alloc, limits.outstanding())?;
+        let pending = Vec::with_capacity(alloc, limits.pending())?;
+        let asked = Vec::with_capacity(alloc, limits.outstanding())?;
         announce_first(&mut queue, limits.max_message());
         Ok(Link {
             role,
@@ -175,7 +177,7 @@ impl Link {
     pub fn next_moment(&self, now: u64) -> Option<u64>
         ensures { result ≡ moment_next now self.now.held }
     {
-        self.pending.next_moment(now)
+        next_of(&self.pending, now)
     }
 
     /// How many requests, observations and Pings are outstanding.

@@ -1,9 +1,9 @@
 -- Configurations, and why they are refused.
 use Rattle.std.specs.Prelude.{ℕ, ◌≤◌, Option, Some, None, nat_le, if◌then◌else◌}
-use Rattle.coap_conn.specs.Limits.{LimitValues, is_within}
+use Rattle.coap_conn.specs.Limits.{LimitValues, default_limits, is_within}
 use Rattle.coap_model.specs.declared.config.ConfigFault.{ConfigFault}
 use Rattle.coap_model.specs.declared.config.ConfigFault.TheVariants as config
-use Rattle.coap_wire.specs.declared.sizes.TheConstants.{LARGEST_MESSAGE}
+use Rattle.coap_wire.specs.declared.sizes.TheConstants.{LARGEST_MESSAGE, LARGEST_SENT_MESSAGE}
 
 -- where a server's counts begin: the moment, the version of the last representation, the last connection's number
 pub record StartValues : Type 0 where
@@ -22,6 +22,10 @@ pub record ConfigValues : Type 0 where
 abbrev pub config_of : (limits : LimitValues) (connections dynamic_max rep_max turns : ℕ) (starts : StartValues) → ConfigValues
 config_of limits connections dynamic_max rep_max turns starts =
     record { limits = limits; connections = connections; dynamic_max = dynamic_max; rep_max = rep_max; turns = turns; starts = starts }
+
+-- the configuration that has the limits of both programs, no resource of a client, and all turns
+abbrev pub default_config : ConfigValues
+default_config = config_of default_limits 16 0 LARGEST_SENT_MESSAGE 1000000000000 (record { moment = 0; versions = 0; ids = 0 })
 
 pub record IsConfigInRange (c : ConfigValues) : Type 0 where
   pub connections_low : 1 ≤ c.connections

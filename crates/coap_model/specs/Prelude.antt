@@ -75,7 +75,7 @@ unfoldable pub use Rattle.coap_store.specs.Store.{found_in, put_at, removed_at}
 pub use Rattle.coap_store.specs.declared.place.Place.TheVariants.{Dynamic, Time}
 pub use Rattle.coap_store.specs.declared.plan.Watch.{Watch}
 -- ---- coap_model
-pub use Rattle.coap_model.specs.Configs.{config_of, config_refusal, ConfigValues}
+pub use Rattle.coap_model.specs.Configs.{config_of, config_refusal, ConfigValues, default_config}
 -- ---- coap_model, streams
 pub use Rattle.coap_model.specs.streams.Output.{only_id, stream_of, stdio_output, Outcome, more_of, outcome_on}
 pub use Rattle.coap_model.specs.streams.Output.{side_for, steps_for, waiting_of, written_once}

@@ -4,6 +4,9 @@ ghost use Rattle.std.specs.Prelude.{◌≡◌, ◌≤◌, ◌*◌, ◌-◌, ◌^
 ghost use Rattle.coap_model.specs.Prelude.{RefusedBy, config_of, config_refusal, start_values};
 ghost use Rattle.coap_model.specs.Prelude.{LARGEST_MESSAGE};
 
+mod builder;
+
+pub use builder::ConfigBuilder;
 use coap_conn::Limits;
 use coap_wire::LARGEST_MESSAGE;
 use std::marker::Model;

@@ -22,4 +22,4 @@ pub use answers::{
     AnnounceFault, Backwards, ConnId, Handled, NoSuch, OpenFault, ReleaseFault, Status, TakeFault,
     Taken, WrittenFault,
 };
-pub use config::{Config, ConfigFault, Starts};
+pub use config::{Config, ConfigBuilder, ConfigFault, Starts};

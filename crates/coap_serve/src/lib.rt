@@ -17,13 +17,13 @@ pub mod laws;
 mod output;
 mod serve;
 
-pub use coap_conn::{LimitFault, Limits, Phase, Reason};
+pub use coap_conn::{LimitFault, Limits, LimitsBuilder, Phase, Reason};
 pub use coap_io::{
     Clock, Door, Got, Outlet, Polled, ReadSource, Ready, Rest, Source, Tried, Wait, Wire, Wires,
     WriteFailed, WriteOutlet, write_all,
 };
 pub use coap_model::{
-    AnnounceFault, Backwards, Config, ConfigFault, ConnId, Handled, NoSuch, OpenFault,
+    AnnounceFault, Backwards, Config, ConfigBuilder, ConfigFault, ConnId, Handled, NoSuch, OpenFault,
     ReleaseFault, Starts, Status, TakeFault, Taken, WrittenFault,
 };
 pub use coap_script::{Event, ScriptFault, script, scripts_go_on_behind_whole_lines};

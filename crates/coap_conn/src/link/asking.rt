@@ -8,7 +8,7 @@ ghost use Rattle.coap_conn.specs.Prelude.{link_after};
 ghost use Rattle.coap_conn.specs.Calls as call;
 
 use super::Link;
-use crate::asked::Outstanding;
+use crate::asked::{Outstanding, cancel_in, may_cancel_in};
 use crate::messages::ping_to;
 use crate::phase::{Phase, RequestFault};
 use coap_wire::{Builder, MessageBuilder, Token, TokenRef, copy_of, uint_bytes};
@@ -66,11 +66,11 @@ impl Link {
             return Err(RequestFault::NotOpen);
         };
         let lies = TokenRef::of(token);
-        if !self.asked.may_cancel(&lies) {
+        if !may_cancel_in(&self.asked, &lies) {
             return Err(RequestFault::NoSuchToken);
         }
         self.queue_asked(&message.with_token(token))?;
-        self.asked.cancel(&lies);
+        cancel_in(&mut self.asked, &lies);
         Ok(())
     }
 
@@ -121,7 +121,7 @@ impl Link {
         let Phase::Open = self.phase else {
             return Err(RequestFault::NotOpen);
         };
-        if !self.asked.may_cancel(&TokenRef::of(token)) {
+        if !may_cancel_in(&self.asked, &TokenRef::of(token)) {
             return Err(RequestFault::NoSuchToken);
         }
         Ok(())
@@ -140,7 +140,7 @@ impl Link {
         let Phase::Open = self.phase else {
             return Err(RequestFault::NotOpen);
         };
-        if self.asked.is_full() {
+        if self.asked.len() >= self.limits.outstanding() {
             return Err(RequestFault::TooMany);
         }
         if self.tokens == u64::MAX {
@@ -186,7 +186,7 @@ impl Link {
                   self.old.tokens + 1;
             } }
     {
-        self.asked.enter(one);
+        self.asked.push_reserved(one);
         self.tokens += 1;
     }
 }

@@ -13,6 +13,7 @@ ghost use Rattle.coap_conn.specs.declared.phase.Role.TheVariants as role;
 ghost use Rattle.coap_conn.specs.Calls as call;
 
 use super::Link;
+use crate::asked::{forget_asked_in, forget_pinged_in, has_ping_in, last_in};
 use crate::csm::{announced_size, announced_token, asks_custody, has_critical_option};
 use crate::messages::bare_of;
 use crate::pending::Held;
@@ -154,10 +155,11 @@ impl Link {
         if !custody || self.pending.is_empty() {
             return self.pong(message.token(), custody);
         }
-        if self.pending.is_full() {
+        if self.pending.len() >= self.limits.pending() {
             return self.pong(message.token(), false);
         }
-        self.pending.hold(Held::Pong(message.token().to_token()));
+        self.pending
+            .push_reserved(Held::Pong(message.token().to_token()));
         Verdict::Done
     }
 
@@ -166,10 +168,10 @@ impl Link {
         ensures verdict { verdict_value result ≡ (pong_reaction (standing_in self.old) message.now).verdict }
         ensures after { self.new ≡ link_with self.old (pong_reaction (standing_in self.old) message.now).effect }
     {
-        if !self.asked.has_ping(message.token()) {
+        if !has_ping_in(&self.asked, message.token()) {
             return Verdict::Stranger;
         }
-        self.asked.forget_pinged(message.token());
+        forget_pinged_in(&mut self.asked, message.token());
         Verdict::Pong {
             token: message.token().again(),
             custody: asks_custody(message),
@@ -192,11 +194,11 @@ impl Link {
         ensures verdict { verdict_value result ≡ (response_reaction (standing_in self.old) message.now).verdict }
         ensures after { self.new ≡ link_with self.old (response_reaction (standing_in self.old) message.now).effect }
     {
-        let Some(last) = self.asked.is_last(message) else {
+        let Some(last) = last_in(&self.asked, message) else {
             return Verdict::Stranger;
         };
         if last {
-            self.asked.forget_asked(message.token());
+            forget_asked_in(&mut self.asked, message.token());
         }
         Verdict::Answer {
             token: message.token().again(),

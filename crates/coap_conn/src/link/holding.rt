@@ -6,7 +6,7 @@ ghost use Rattle.coap_conn.specs.Prelude.{after, LinkShows, IsReady, can_hold, l
 ghost use Rattle.coap_conn.specs.Calls as call;
 
 use super::Link;
-use crate::pending::Held;
+use crate::pending::{Held, due_in};
 use crate::phase::{Due, Full};
 use coap_wire::{Token, TokenRef};
 
@@ -25,10 +25,10 @@ impl Link {
             LinkShows self.new (after h (call.Hold token.items moment))) }
         ensures err { OnErr result (self.new ≡ self.old) }
     {
-        if self.pending.is_full() {
+        if self.pending.len() >= self.limits.pending() {
             return Err(Full);
         }
-        self.pending.hold(Held::Answer { token, moment });
+        self.pending.push_reserved(Held::Answer { token, moment });
         Ok(())
     }
 
@@ -45,10 +45,10 @@ impl Link {
         ensures answer { (token : List ℕ) → due_value result ≡ AnAnswer token →
             IsReady self.new × IsAnswering self.new.phase }
     {
-        let Some(index) = self.pending.due(now) else {
+        let Some(index) = due_in(&self.pending, now) else {
             return Due::Nothing;
         };
-        match self.pending.take(index) {
+        match self.pending.remove(index) {
             Held::Answer { token, .. } => Due::Answer(token),
             Held::Pong(token) => {
                 self.pong(&TokenRef::of(&token), true);

@@ -1,6 +1,6 @@
 use Rattle.std.proofs.Common.{◌≡◌, ℕ, true, List, ap, ◌∙◌, rules, tests}
 use Rattle.std.proofs.lemmas.Result.{err_from_is_err_and}
-use Rattle.coap_conn.specs.Prelude.{is_open, AskedValue, with_cancelled, has_observation, LinkValue, asking_in}
+use Rattle.coap_conn.specs.Prelude.{is_open, OutstandingValue, with_cancelled, has_observation, LinkValue, asking_in}
 use Rattle.coap_conn.specs.Prelude.{link_value}
 use Rattle.coap_conn.specs.Calls as call
 use Rattle.coap_conn.proofs.LinkLemmas.{shows}
@@ -23,7 +23,7 @@ returns-clause-answer c =
 
 pub returns-clause-after : goal.returns-clause-after
 returns-clause-after c =
-    ap (λ (a : AskedValue). record (link_value c.self-2.inside) { outstanding = a.entries }) c.cancel.ensures
+    ap (λ (entries : List OutstandingValue). record (link_value c.self-2.inside) { outstanding = entries }) c.cancel_in.ensures.cancelled
     ∙ ap (λ (t : List ℕ). record (link_value c.self-2.inside) { outstanding = with_cancelled t (link_value c.self-2.inside).outstanding }) c.of-lies.ensures
     ∙ ap (λ (v : LinkValue). record v { outstanding = with_cancelled c.args.token.now.items v.outstanding }) c.self-2.view_is
     ∙ cancel_after c.args.self.now c.queue_asked.new.self c.args.token.now.items c.args.message.now c.with_token.result

@@ -1,14 +1,15 @@
-use Rattle.std.proofs.Common.{not, length, ◌≤◌, ap, ◌∙◌, arith}
-use Rattle.coap_conn.specs.Prelude.{AskedValue, is_pinged, link_value}
+use Rattle.std.proofs.Common.{ℕ, not, length, map, ◌≤◌, ap, sym, subst, ◌∙◌, arith}
+use Rattle.std.proofs.lemmas.List.{length-map}
+use Rattle.coap_conn.specs.Prelude.{is_pinged, link_value, outstanding_value}
 use Rattle.coap_conn.proofs.AskedLemmas.{count_left, link_left}
 use Rattle.coap_conn.proofs.link.Link.on_pong.Goals as goal
 
 pub invariant_of-self : goal.invariant_of-self
 invariant_of-self c =
-    let fewer : length c.forget_pinged.new.self.entries ≤ length c.self.inside.asked.entries =
-    omega (arith, ap (λ (a : AskedValue). length a.entries) c.forget_pinged.ensures, count_left (λ e. not (is_pinged c.token-2.result.now e)) c.self.inside.asked.entries) in (
-      link_left (link_value c.self.inside) c.forget_pinged.new.self.entries fewer c.self.invariant.0,
+    let fewer : length (map outstanding_value c.forget_pinged_in.new.entries.items) ≤ length (map outstanding_value c.self.inside.asked.items) =
+    omega (arith, length-map c.forget_pinged_in.new.entries.items outstanding_value, length-map c.self.inside.asked.items outstanding_value, c.forget_pinged_in.ensures.fewer) in (
+      link_left (link_value c.self.inside) (map outstanding_value c.forget_pinged_in.new.entries.items) fewer c.self.invariant.0,
       c.self.invariant.1,
       c.self.invariant.2,
-      ap (λ (a : AskedValue). a.room) c.forget_pinged.ensures ∙ c.self.invariant.3,
+      subst (λ (n : ℕ). c.self.inside.limits.outstanding ≤ n) (sym c.forget_pinged_in.ensures.capacity) c.self.invariant.3,
     )
