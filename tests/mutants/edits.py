@@ -43,6 +43,16 @@ its own, the round is cut in two. An edit that no round refused is tried alone, 
 function's goal and any lemma counts. Rounds run side by side, one for each processor, those of the largest crates first.
 The libraries below a crate are taken from out/rlib, and proved where they are not there or older than their files.
 The last line is 'N passed, M failed', and the status 0 where M is 0.
+
+Costs, in processor time. A round takes some 15 s before its first edit. Each edit adds 3 to 4 s, one of a long function (`fill`) 20 s. Over kept
+work the 26 edits of coap_wire took 117 s, and one alone 19 to 34 s. So the edits of the gate should change different functions: most crates
+then need one or two rounds. All edits of both layers took 51 rounds, those of the gate 17. The gate's took 4,592 s without kept work of
+coap_serve, which then was one crate with its engine, on a machine on which the proof of coap_wire takes 253 s. Those of coap_frame took 70 s,
+and 73 s from nothing. A build for an edit of another layer takes some two minutes. The check of all quotes takes some 2 s, a copy of a crate for
+the type errors some 4 s.
+
+`rt try` keeps 1 MiB of output: what the rows of an edit write must stay below that with the wrong body. A program that it builds is slow: a test
+that measures processor time may fail with it, and then shows nothing of the edit.
 """
 
 import os

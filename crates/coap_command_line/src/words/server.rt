@@ -62,9 +62,21 @@ fn limits(matches: &ArgMatches<'_>) -> Result<Limits, &'static str>
 {
     let base = BASE_MESSAGE_SIZE as u64;
     let usual = LARGEST_SENT_MESSAGE as u64;
-    let message = number(matches, "--max-message", base, LARGEST_MESSAGE as u64, usual)?;
+    let message = number(
+        matches,
+        "--max-message",
+        base,
+        LARGEST_MESSAGE as u64,
+        usual,
+    )?;
     let sent = number(matches, "--max-sent", base, usual, usual)?;
-    let queue = number(matches, "--queue", sent, LARGEST_QUEUE as u64, DEFAULT_QUEUE as u64)?;
+    let queue = number(
+        matches,
+        "--queue",
+        sent,
+        LARGEST_QUEUE as u64,
+        DEFAULT_QUEUE as u64,
+    )?;
     let pending = number(matches, "--pending", 0, 256, 16)?;
     let observers = number(matches, "--observers", 0, 256, 16)?;
     let Ok(limits) = Limits::new(
