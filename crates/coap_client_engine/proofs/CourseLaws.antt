@@ -7,7 +7,7 @@ use Rattle.coap_client_engine.specs.Prelude.{ClientPlan, ClientCall, Took, Sent,
 use Rattle.coap_client_engine.specs.Prelude.{ClientStep, Handles, Faults, Requests, Cancels, Pings, Writes, Ends, taken_by}
 use Rattle.coap_client_engine.specs.Prelude.{stream_in, new_fault, steps_by, step, after_steps, client_after, client_of}
 use Rattle.coap_client_engine.specs.Prelude.{AreAcceptedBehind, AreAccepted, calls_read, calls_written, Course, Begins}
-use Rattle.coap_client_engine.specs.Prelude.{Turns, Reads, Calls, Refuses, GivesUp, Rests, own_limits, calls_in, history_in}
+use Rattle.coap_client_engine.specs.Prelude.{Turns, Reads, Calls, Refuses, GivesUp, Rests, default_limits, calls_in, history_in}
 use Rattle.coap_client_engine.specs.Prelude.{waiting_in, taken_in, given_in, rest_in, written_in, IsPlanned, IsCourse}
 use Rattle.std.proofs.lemmas.List.{append-nil, take-append-drop, take-append-le}
 use Rattle.std.proofs.Math.Seq.{drop-append_seam, take-append-add}
@@ -134,11 +134,11 @@ IsQuietCall (Pinged custody) = Unit {0}
 IsQuietCall (Wrote n) = ⊥
 IsQuietCall Ended = Unit {0}
 
-call_steps : (h : History) (calls : List ClientCall) (c : ClientCall) → IsQuietCall c → Grows h (after_steps h (steps_by own_limits.max_message calls c))
+call_steps : (h : History) (calls : List ClientCall) (c : ClientCall) → IsQuietCall c → Grows h (after_steps h (steps_by default_limits.max_message calls c))
 unfolding steps_by after_steps
 call_steps h calls (Took bytes) quiet =
-    let before : Stream = stream_in own_limits.max_message calls in
-    let after : Stream = stream_in own_limits.max_message (calls ++ Took bytes ∷ []) in
+    let before : Stream = stream_in default_limits.max_message calls in
+    let after : Stream = stream_in default_limits.max_message (calls ++ Took bytes ∷ []) in
     messages_quiet h (drop (length before.messages) after.messages) before.fault after.fault
 call_steps h calls (Sent method target extras) quiet = step_quiet h _ tt
 call_steps h calls (Cancelled token target extras) quiet = step_quiet h _ tt
@@ -147,14 +147,14 @@ call_steps h calls (Wrote n) quiet = absurd quiet
 call_steps h calls Ended quiet = step_quiet h _ tt
 
 abbrev led_to : List ClientCall → History
-led_to calls = client_after own_limits 0 calls
+led_to calls = client_after default_limits 0 calls
 
 -- what of the messages queued was written
 abbrev sent_bytes : History → List ℕ
 sent_bytes h = take h.written (bytes_of h.queued)
 
 call_grows : (calls : List ClientCall) (c : ClientCall) → IsQuietCall c → Grows (led_to calls) (led_to (calls ++ c ∷ []))
-call_grows calls c quiet = subst (λ (k : History). Grows (led_to calls) k) (sym (client_more own_limits 0 calls c)) (call_steps (led_to calls) calls c quiet)
+call_grows calls c quiet = subst (λ (k : History). Grows (led_to calls) k) (sym (client_more default_limits 0 calls c)) (call_steps (led_to calls) calls c quiet)
 
 sent_grown : (h k : History) → IsHistory h → Grows h k → sent_bytes k ≡ sent_bytes h
 sent_grown h k is grows =
@@ -169,20 +169,20 @@ unfolding AreAcceptedBehind
 accepted_front limits tokens earlier [] more all = tt
 accepted_front limits tokens earlier (c ∷ calls) more all = (all.0, accepted_front limits tokens (earlier ++ c ∷ []) calls more all.1)
 
-accepted_before : (calls more : List ClientCall) → AreAccepted own_limits 0 (calls ++ more)
-    → AreAccepted own_limits 0 calls
-accepted_before calls more all = accepted_front own_limits 0 [] calls more all
+accepted_before : (calls more : List ClientCall) → AreAccepted default_limits 0 (calls ++ more)
+    → AreAccepted default_limits 0 calls
+accepted_before calls more all = accepted_front default_limits 0 [] calls more all
 
-history_of : (calls : List ClientCall) → AreAccepted own_limits 0 calls → IsHistory (led_to calls)
-history_of calls all = (accepted_reach own_limits 0 calls all).is_history
+history_of : (calls : List ClientCall) → AreAccepted default_limits 0 calls → IsHistory (led_to calls)
+history_of calls all = (accepted_reach default_limits 0 calls all).is_history
 
-quiet_sent : (calls : List ClientCall) (c : ClientCall) → IsQuietCall c → AreAccepted own_limits 0 (calls ++ c ∷ []) → sent_bytes (led_to (calls ++ c ∷ [])) ≡ sent_bytes (led_to calls)
+quiet_sent : (calls : List ClientCall) (c : ClientCall) → IsQuietCall c → AreAccepted default_limits 0 (calls ++ c ∷ []) → sent_bytes (led_to (calls ++ c ∷ [])) ≡ sent_bytes (led_to calls)
 quiet_sent calls c quiet all = sent_grown (led_to calls) (led_to (calls ++ c ∷ [])) (history_of calls (accepted_before calls (c ∷ []) all)) (call_grows calls c quiet)
 
 no_call_sent : (calls : List ClientCall) → sent_bytes (led_to (calls ++ [])) ≡ sent_bytes (led_to calls)
 no_call_sent calls = ap (λ (cs : List ClientCall). sent_bytes (led_to cs)) (append-nil calls)
 
-read_sent : (calls : List ClientCall) (got : Got) → AreAccepted own_limits 0 (calls ++ calls_read got) → sent_bytes (led_to (calls ++ calls_read got)) ≡ sent_bytes (led_to calls)
+read_sent : (calls : List ClientCall) (got : Got) → AreAccepted default_limits 0 (calls ++ calls_read got) → sent_bytes (led_to (calls ++ calls_read got)) ≡ sent_bytes (led_to calls)
 read_sent calls (Bytes n) all = no_call_sent calls
 read_sent calls Later all = no_call_sent calls
 read_sent calls End all = quiet_sent calls Ended tt all
@@ -198,28 +198,28 @@ front_in_parts n m xs few =
 
 wrote_history : (calls : List ClientCall) (n : ℕ) → led_to (calls ++ Wrote n ∷ []) ≡ step (led_to calls) (Writes n)
 unfolding steps_by after_steps
-wrote_history calls n = client_more own_limits 0 calls (Wrote n)
+wrote_history calls n = client_more default_limits 0 calls (Wrote n)
 
-wrote_sent : (calls : List ClientCall) (n : ℕ) → AreAccepted own_limits 0 (calls ++ Wrote n ∷ []) → sent_bytes (led_to (calls ++ Wrote n ∷ [])) ≡ sent_bytes (led_to calls) ++ take n (drop (led_to calls).written (bytes_of (led_to calls).queued))
+wrote_sent : (calls : List ClientCall) (n : ℕ) → AreAccepted default_limits 0 (calls ++ Wrote n ∷ []) → sent_bytes (led_to (calls ++ Wrote n ∷ [])) ≡ sent_bytes (led_to calls) ++ take n (drop (led_to calls).written (bytes_of (led_to calls).queued))
 unfolding step
 wrote_sent calls n all =
     ap sent_bytes (wrote_history calls n)
     ∙ front_in_parts (led_to calls).written n (bytes_of (led_to calls).queued) (history_of calls (accepted_before calls (Wrote n ∷ []) all))
 
 -- what waits is what is queued behind that
-waits_behind : (calls : List ClientCall) → (client_of own_limits 0 calls).link.waiting ≡ drop (led_to calls).written (bytes_of (led_to calls).queued)
+waits_behind : (calls : List ClientCall) → (client_of default_limits 0 calls).link.waiting ≡ drop (led_to calls).written (bytes_of (led_to calls).queued)
 unfolding client_of
 waits_behind calls = refl
 
-written_sent : (calls : List ClientCall) (got : Got) → AreAccepted own_limits 0 (calls ++ calls_written got)
-    → sent_bytes (led_to (calls ++ calls_written got)) ≡ sent_bytes (led_to calls) ++ bytes_passed (client_of own_limits 0 calls).link.waiting got
+written_sent : (calls : List ClientCall) (got : Got) → AreAccepted default_limits 0 (calls ++ calls_written got)
+    → sent_bytes (led_to (calls ++ calls_written got)) ≡ sent_bytes (led_to calls) ++ bytes_passed (client_of default_limits 0 calls).link.waiting got
 written_sent calls (Bytes n) all = wrote_sent calls n all ∙ ap (λ (w : List ℕ). sent_bytes (led_to calls) ++ take n w) (sym (waits_behind calls))
 written_sent calls Later all = no_call_sent calls ∙ sym (append-nil (sent_bytes (led_to calls)))
 written_sent calls End all = no_call_sent calls ∙ sym (append-nil (sent_bytes (led_to calls)))
 written_sent calls Failed all = no_call_sent calls ∙ sym (append-nil (sent_bytes (led_to calls)))
 
 nothing_sent_at_first : sent_bytes (led_to []) ≡ []
-nothing_sent_at_first = ap sent_bytes (client_first own_limits 0)
+nothing_sent_at_first = ap sent_bytes (client_first default_limits 0)
 
 planned_quiet : (plan : ClientPlan) (before : Course) (call : ClientCall) → IsPlanned plan before call → IsQuietCall call
 planned_quiet plan before (Took bytes) is = tt
@@ -229,7 +229,7 @@ planned_quiet plan before (Pinged custody) is = tt
 planned_quiet plan before (Wrote n) is = is
 planned_quiet plan before Ended is = tt
 
-course_sent : (plan : ClientPlan) (c : Course) → IsCourse plan c → AreAccepted own_limits 0 (calls_in c) → written_in c ≡ sent_bytes (history_in c)
+course_sent : (plan : ClientPlan) (c : Course) → IsCourse plan c → AreAccepted default_limits 0 (calls_in c) → written_in c ≡ sent_bytes (history_in c)
 course_sent plan (Begins moment) is all = sym nothing_sent_at_first
 course_sent plan (Turns before moment) is all = course_sent plan before is.0 all
 course_sent plan (Reads before got bytes) is all = course_sent plan before is.0 (accepted_before (calls_in before) (calls_read got) all) ∙ sym (read_sent (calls_in before) got all)
@@ -242,7 +242,7 @@ course_sent plan (course.Writes before got) is all =
     ap (λ (w : List ℕ). w ++ bytes_passed (waiting_in before) got) (course_sent plan before is.0 (accepted_before (calls_in before) (calls_written got) all)) ∙ sym (written_sent (calls_in before) got all)
 
 -- what was written, and what waits, is what was queued
-pub course_queued : (plan : ClientPlan) (c : Course) → IsCourse plan c → AreAccepted own_limits 0 (calls_in c) → bytes_of (history_in c).queued ≡ written_in c ++ waiting_in c
+pub course_queued : (plan : ClientPlan) (c : Course) → IsCourse plan c → AreAccepted default_limits 0 (calls_in c) → bytes_of (history_in c).queued ≡ written_in c ++ waiting_in c
 course_queued plan c is all =
     sym (take-append-drop (history_in c).written (bytes_of (history_in c).queued))
     ∙ ap (λ (w : List ℕ). w ++ drop (history_in c).written (bytes_of (history_in c).queued)) (sym (course_sent plan c is all))

@@ -10,7 +10,7 @@ use Rattle.coap_client_engine.specs.Prelude.{may_take, is_to_ask, is_to_cancel, 
 use Rattle.coap_client_engine.specs.Prelude.{client_asking, client_cancelling, token_asking, cancelled_at, ended_by}
 use Rattle.coap_client_engine.specs.Prelude.{refusal_text, status_told, first_told, output_told, errors_told, calls_read}
 use Rattle.coap_client_engine.specs.Prelude.{calls_written, client_read, stop_behind, stop_written, unless_refused, Course}
-use Rattle.coap_client_engine.specs.Prelude.{Begins, Turns, Reads, Calls, Refuses, GivesUp, Rests, own_limits, calls_in}
+use Rattle.coap_client_engine.specs.Prelude.{Begins, Turns, Reads, Calls, Refuses, GivesUp, Rests, default_limits, calls_in}
 use Rattle.coap_client_engine.specs.Prelude.{client_in, phase_in, waiting_in, event_in, token_in, moments_in, turns_in}
 use Rattle.coap_client_engine.specs.Prelude.{moment_in, started_in, first_in, cancelled_in, waits_since, since_in}
 use Rattle.coap_client_engine.specs.Prelude.{is_late_since, is_overdue_since, is_overdue, is_cancel_due, answers_in}
@@ -144,7 +144,7 @@ module _ (plan : ClientPlan) (start now : Seen) (r : Run) (c : Course) (stands :
   client_of_course = client_stands stands
 
   -- and accepted its calls
-  accepted_all : AreAccepted own_limits 0 (calls_in c)
+  accepted_all : AreAccepted default_limits 0 (calls_in c)
   accepted_all = subst (λ (l : LimitValues). AreAccepted l 0 (calls_in c)) stands.limits stands.shows.accepted
 
   -- whether it is to ask
@@ -196,7 +196,7 @@ module _ (plan : ClientPlan) (start now : Seen) (r : Run) (c : Course) (stands :
       sym asks_same ∙ (may_parts (length r.rest == 0) (is_to_ask r.client.link.phase r.token) (client_takes r.client) may).1,
       ap (λ (n : ℕ). take n r.rest) (took_takes r.client r.rest (taking r.client r.rest).count refl 0 (calls_in c) stands.shows)
           ∙ ap (λ (l : LimitValues). take (takes l 0 (calls_in c) r.rest) r.rest) stands.limits
-          ∙ ap (λ (xs : List ℕ). take (takes own_limits 0 (calls_in c) xs) xs) stands.rest,
+          ∙ ap (λ (xs : List ℕ). take (takes default_limits 0 (calls_in c) xs) xs) stands.rest,
     )
 
     pub took_stands : Stands plan start (seen now.given now.written now.answers now.moments o e) r' (Calls c (Took taken_of_rest))
@@ -291,7 +291,7 @@ module _ (plan : ClientPlan) (start now : Seen) (r : Run) (c : Course) (stands :
         → r'.client ≡ client_sent r.client plan.method plan.target (planned_extras plan) → token_of r' ≡ Some (next_token r.client.link.tokens) → AddsBytes now.err e []
         → Stands plan start (seen now.given now.written now.answers now.moments now.out e) r' (Calls c (Sent plan.method plan.target (planned_extras plan)))
     sent_stands asks none client token err =
-        let nothing : event_in c (Sent plan.method plan.target (planned_extras plan)) ≡ None = send_tells_none (calls_in c) plan.method plan.target (planned_extras plan) own_limits in
+        let nothing : event_in c (Sent plan.method plan.target (planned_extras plan)) ≡ None = send_tells_none (calls_in c) plan.method plan.target (planned_extras plan) default_limits in
         record {
           follows = (stands.follows, goes, (sym asks_same ∙ asks, refl, refl, refl));
           shows = asked_shown r.client r'.client plan.method plan.target (planned_extras plan) (calls_in c) none client stands.shows;
@@ -323,7 +323,7 @@ module _ (plan : ClientPlan) (start now : Seen) (r : Run) (c : Course) (stands :
     asked_to looked asks None is client token err = record {
       course = Calls c (Sent plan.method plan.target (planned_extras plan));
       stands = sent_stands asks is client token err;
-      ends = ap status_told (send_tells_none (calls_in c) plan.method plan.target (planned_extras plan) own_limits);
+      ends = ap status_told (send_tells_none (calls_in c) plan.method plan.target (planned_extras plan) default_limits);
       holds = record { turns = refl; looked = looked; asked = λ going still. absurd (no_more_asking (phase_in (Calls c (Sent plan.method plan.target (planned_extras plan)))) (next_token (client_in c).link.tokens) still); writes = λ ended. tt };
     }
     asked_to looked asks (Some fault) is client token err = record {
@@ -366,7 +366,7 @@ module _ (plan : ClientPlan) (start now : Seen) (r : Run) (c : Course) (stands :
     read_calls : ClientShows r'.client 0 (calls_in c ++ calls_read got)
     read_calls = read_shown r.client r'.client got (calls_in c) client stands.shows
 
-    read_keeps : r'.client.link.limits ≡ own_limits
+    read_keeps : r'.client.link.limits ≡ default_limits
     read_keeps = ap (λ (v : ClientValue). v.link.limits) client ∙ read_limits r.client got ∙ stands.limits
 
     read_same : r'.client ≡ client_in (Reads c got r'.rest)
@@ -503,7 +503,7 @@ module _ (plan : ClientPlan) (start now : Seen) (r : Run) (c : Course) (stands :
         → r'.client ≡ client_cancelled r.client held plan.target (planned_extras plan) → r'.cancelled ≡ Some r.moment → AddsBytes now.err e []
         → Stands plan start (seen now.given now.written now.answers now.moments now.out e) r' (Calls c (Cancelled held plan.target (planned_extras plan)))
     cancelled_stands held due has none client when err =
-        let nothing : event_in c (Cancelled held plan.target (planned_extras plan)) ≡ None = cancel_tells_none (calls_in c) held plan.target (planned_extras plan) own_limits in
+        let nothing : event_in c (Cancelled held plan.target (planned_extras plan)) ≡ None = cancel_tells_none (calls_in c) held plan.target (planned_extras plan) default_limits in
         record {
           follows = (stands.follows, goes, (due, sym stands.token ∙ has, refl, refl));
           shows = given_up_shown r.client r'.client held plan.target (planned_extras plan) (calls_in c) none client stands.shows;
@@ -561,14 +561,14 @@ module _ (plan : ClientPlan) (start now : Seen) (r : Run) (c : Course) (stands :
     cancels_as held due has early None is client when err = record {
       course = Rests (Calls c (Cancelled held plan.target (planned_extras plan)));
       stands = rests_stand (cancelled_stands held due has is client when err) (record {
-        goes_on = ap status_told (cancel_tells_none (calls_in c) held plan.target (planned_extras plan) own_limits);
+        goes_on = ap status_told (cancel_tells_none (calls_in c) held plan.target (planned_extras plan) default_limits);
         in_time = and_first (nat_lt (moment_in c) (moment_in c)) (has_passed (moment_in c) (moment_in c) plan.wait) (not_below (moment_in c));
         looked = looked;
         taken = cancelled_taken held (cancelled_stands held due has is client when err) has client taken;
         asked = λ still. absurd (no_more_asking (phase_in (Calls c (Cancelled held plan.target (planned_extras plan)))) held (subst (λ (t : Option (List ℕ)). is_to_ask (phase_in (Calls c (Cancelled held plan.target (planned_extras plan)))) t ≡ true) (sym stands.token ∙ has) still));
         cancelled = λ other has again. absurd (false_is_true again);
       });
-      ends = ap status_told (cancel_tells_none (calls_in c) held plan.target (planned_extras plan) own_limits);
+      ends = ap status_told (cancel_tells_none (calls_in c) held plan.target (planned_extras plan) default_limits);
       holds = record { turns = refl; rests = λ still. tt; writes = tt };
     }
     cancels_as held due has early (Some fault) is client when err =
@@ -711,7 +711,7 @@ module _ (plan : ClientPlan) (start now : Seen) (r : Run) (n : ℕ) (led : Leads
 -- ---- the beginning, a turn, and the end
 
 module _ (plan : ClientPlan) (r : Run) (given written out err told moments : Option (List ℕ)) (answers : Option (List Got)) (moment : ℕ)
-    (client : r.client ≡ value.new_client own_limits 0) (shows : ClientShows r.client 0 []) (rest : r.rest ≡ []) (token : r.token ≡ None)
+    (client : r.client ≡ value.new_client default_limits 0) (shows : ClientShows r.client 0 []) (rest : r.rest ≡ []) (token : r.token ≡ None)
     (started : r.started ≡ moment) (now : r.moment ≡ moment) (first : r.first ≡ None) (cancelled : r.cancelled ≡ None)
     (asked : TellsMore told moments (moment ∷ [])) where
   pub began : Stands plan (seen given written answers told out err) (seen given written answers moments out err) r (Begins moment)
@@ -770,7 +770,7 @@ turns_are turns counted same more few = omega arith
 module _ (plan : ClientPlan) (start now : Seen) (r : Run) (c : Course) (stands : Stands plan start now r c) (few : turns_in c ≤ most_turns) where
   pub run_of : (status : ℕ) → IsEnded c status ⊎ IsOutOfTurns c status → IsClientRun plan start now status
   run_of status ends =
-      let accepted : AreAccepted own_limits 0 (calls_in c) = accepted_all plan start now r c stands in
+      let accepted : AreAccepted default_limits 0 (calls_in c) = accepted_all plan start now r c stands in
       record {
         course = c;
         follows = stands.follows;

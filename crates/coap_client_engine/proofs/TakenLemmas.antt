@@ -3,7 +3,7 @@ use Rattle.std.proofs.Common.{◌≡◌, ◌+◌, ◌-◌, ◌≤◌, ◌<◌, �
 use Rattle.coap_client_engine.specs.Prelude.{nat_le, ◌&&◌, framing, History, link_of, LinkValue, free_in, OutstandingValue}
 use Rattle.coap_client_engine.specs.Prelude.{takes_messages, ClientValue, client_takes, client_cancelled, ClientCall}
 use Rattle.coap_client_engine.specs.Prelude.{stream_in, handles, takes, client_after, client_of, AreAccepted, ExtrasValue}
-use Rattle.coap_client_engine.specs.Prelude.{TargetValue, own_limits}
+use Rattle.coap_client_engine.specs.Prelude.{TargetValue, default_limits}
 use Rattle.std.proofs.lemmas.Bool.{leb-false, lt-leb, and_parts}
 use Rattle.std.proofs.lemmas.List.{length-append}
 use Rattle.coap_client_engine.proofs.ClientSteps.{stream_rest_unfinished}
@@ -14,24 +14,24 @@ use Rattle.coap_frame.proofs.FrontLaws.{some_in_front}
 
 module _ (calls : List ClientCall) where
   abbrev history_so_far : History
-  history_so_far = client_after own_limits 0 calls
+  history_so_far = client_after default_limits 0 calls
 
-  takes_same : client_takes (client_of own_limits 0 calls) ≡ handles history_so_far
+  takes_same : client_takes (client_of default_limits 0 calls) ≡ handles history_so_far
   unfolding client_of
   takes_same = refl
 
-  takes_where : (piece : List ℕ) → handles history_so_far ≡ true → takes own_limits 0 calls piece ≡ (framing own_limits.max_message (stream_in own_limits.max_message calls).rest piece).taken
+  takes_where : (piece : List ℕ) → handles history_so_far ≡ true → takes default_limits 0 calls piece ≡ (framing default_limits.max_message (stream_in default_limits.max_message calls).rest piece).taken
   unfolding takes
-  takes_where piece does = ap (λ (b : Bool). cond b (framing own_limits.max_message (stream_in own_limits.max_message calls).rest piece).taken 0) does
+  takes_where piece does = ap (λ (b : Bool). cond b (framing default_limits.max_message (stream_in default_limits.max_message calls).rest piece).taken 0) does
 
   -- a client that takes bytes takes one at least
-  pub client_takes_some : (piece : List ℕ) → AreAccepted own_limits 0 calls → client_takes (client_of own_limits 0 calls) ≡ true → 0 < length piece → 1 ≤ takes own_limits 0 calls piece
+  pub client_takes_some : (piece : List ℕ) → AreAccepted default_limits 0 calls → client_takes (client_of default_limits 0 calls) ≡ true → 0 < length piece → 1 ≤ takes default_limits 0 calls piece
   client_takes_some piece accepted does some =
       let handling : handles history_so_far ≡ true = sym takes_same ∙ does in
-      let live = (accepted_reach own_limits 0 calls accepted).live (and_parts (takes_messages history_so_far.phase) (nat_le history_so_far.limits.max_sent (free_in (link_of history_so_far))) handling).0 in
-      let unfinished = stream_rest_unfinished own_limits.max_message calls live in
+      let live = (accepted_reach default_limits 0 calls accepted).live (and_parts (takes_messages history_so_far.phase) (nat_le history_so_far.limits.max_sent (free_in (link_of history_so_far))) handling).0 in
+      let unfinished = stream_rest_unfinished default_limits.max_message calls live in
       subst (λ (n : ℕ). 1 ≤ n) (sym (takes_where piece handling))
-      (some_in_front own_limits.max_message (stream_in own_limits.max_message calls).rest piece unfinished some)
+      (some_in_front default_limits.max_message (stream_in default_limits.max_message calls).rest piece unfinished some)
 
 -- ---- a client that takes nothing takes nothing behind a cancellation
 

@@ -6,9 +6,10 @@ use Rattle.coap_io.specs.declared.output.WriteFailed.{WriteFailed}
 use Rattle.coap_io.specs.streams.Device.{AddsBytes}
 use Rattle.coap_io.specs.streams.Telling.{TellsMore}
 use Rattle.coap_client_engine.specs.ClientWorld.{AreAccepted, ClientShows}
-use Rattle.coap_client_engine.specs.RunCourse.{Course, Begins, own_limits, calls_in, history_in, token_in, moments_in, turns_in, moment_in, started_in, first_in, cancelled_in, answers_in, taken_in, given_in, rest_in, waiting_in, written_in, status_in, output_in, errors_in, has_looked, IsAskedWhereDue, IsTakenUp, IsResting, IsBetween, MayWrite, HasWritten, IsCourse}
+use Rattle.coap_client_engine.specs.RunCourse.{Course, Begins, calls_in, history_in, token_in, moments_in, turns_in, moment_in, started_in, first_in, cancelled_in, answers_in, taken_in, given_in, rest_in, waiting_in, written_in, status_in, output_in, errors_in, has_looked, IsAskedWhereDue, IsTakenUp, IsResting, IsBetween, MayWrite, HasWritten, IsCourse}
 use Rattle.coap_request.specs.declared.plan.ClientPlan.{ClientPlan}
 use Rattle.coap_client_engine.specs.declared.run.state.Run.{Run}
+use Rattle.coap_conn.specs.Limits.{default_limits}
 
 -- ---- what the devices of a run tell
 
@@ -55,7 +56,7 @@ IsOutOfTurns course status = (status_in course ≡ None) × IsBetween course × 
 pub record IsClientRun (plan : ClientPlan) (start now : Seen) (status : ℕ) : Type 0 where
   pub course : Course
   pub follows : IsCourse plan course
-  pub accepted : AreAccepted own_limits 0 (calls_in course)
+  pub accepted : AreAccepted default_limits 0 (calls_in course)
   pub taken : given_in course ≡ taken_in course ++ rest_in course
   pub queued : bytes_of (history_in course).queued ≡ written_in course ++ waiting_in course
   pub told : IsTold plan start now course
@@ -77,7 +78,7 @@ token_of run = option_map (λ t. t.items) run.token
 pub record Stands (plan : ClientPlan) (start now : Seen) (run : Run) (course : Course) : Type 0 where
   pub follows : IsCourse plan course
   pub shows : ClientShows run.client 0 (calls_in course)
-  pub limits : run.client.link.limits ≡ own_limits
+  pub limits : run.client.link.limits ≡ default_limits
   pub rest : run.rest ≡ rest_in course
   pub token : token_of run ≡ token_in course
   pub started : run.started ≡ started_in course

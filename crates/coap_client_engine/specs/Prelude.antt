@@ -33,7 +33,7 @@ pub use Rattle.coap_conn.specs.Fit.{AllFit, bare_response, fit, without_options}
 pub use Rattle.coap_conn.specs.Held.{HeldValue, Pong}
 pub use Rattle.coap_conn.specs.History.{History, limit_now, waiting_of, IsHistory, after, after_asking, asking_now}
 pub use Rattle.coap_conn.specs.History.{link_of, new_history, standing_now, with_effect}
-pub use Rattle.coap_conn.specs.Limits.{LimitValues, AreInRange}
+pub use Rattle.coap_conn.specs.Limits.{LimitValues, AreInRange, default_limits}
 pub use Rattle.coap_conn.specs.LinkValue.{standing_in, LinkValue, asking_in, bytes_of, free_in}
 pub use Rattle.coap_conn.specs.Outstanding.{Observation, OutstandingValue, Ping, Request, cancelled_by, is_asked}
 pub use Rattle.coap_conn.specs.Outstanding.{is_last, is_pinged, with_cancelled, without_asked, without_pinged}
@@ -98,7 +98,7 @@ unfoldable pub use Rattle.coap_client_engine.specs.ClientWorld.{steps_of, step, 
 unfoldable pub use Rattle.coap_client_engine.specs.ClientWorld.{after_steps, steps_behind}
 pub use Rattle.coap_client_engine.specs.EventViews.{event_value, answer_read, pong_read, heard_value, taken_event}
 pub use Rattle.coap_client_engine.specs.EventViews.{taking_framed, IsClient}
-pub use Rattle.coap_client_engine.specs.RunCourse.{own_limits, IsFresh, Begins, Calls, Course, GivesUp, HasWaited}
+pub use Rattle.coap_client_engine.specs.RunCourse.{IsFresh, Begins, Calls, Course, GivesUp, HasWaited}
 pub use Rattle.coap_client_engine.specs.RunCourse.{IsAskedWhereDue, IsBetween, IsCancelledWhereDue, IsCourse, IsDone}
 pub use Rattle.coap_client_engine.specs.RunCourse.{IsPlanned, IsRefused, IsResting, IsTakenUp, MayWrite, Reads, Refuses}
 pub use Rattle.coap_client_engine.specs.RunCourse.{Rests, Turns, answers_in, calls_in, cancelled_in, client_in}

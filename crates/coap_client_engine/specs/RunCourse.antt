@@ -3,7 +3,7 @@ use Rattle.std.specs.Prelude.{◌≡◌, ◌≢◌, ◌+◌, ℕ, max, nat_lt, B
 use Rattle.std.specs.List.{flat_map}
 use Rattle.coap_conn.specs.Asking.{next_token}
 use Rattle.coap_conn.specs.History.{History}
-use Rattle.coap_conn.specs.Limits.{LimitValues, limits_of}
+use Rattle.coap_conn.specs.Limits.{default_limits}
 use Rattle.coap_conn.specs.declared.phase.Phase.{Phase}
 use Rattle.coap_conn.specs.declared.phase.RequestFault.{RequestFault}
 use Rattle.coap_conn.specs.declared.reason.Reason.{Reason}
@@ -14,7 +14,6 @@ use Rattle.coap_client_engine.specs.ClientWorld.{ClientCall, Took, Sent, Cancell
 use Rattle.coap_client_engine.specs.RunTexts.{stop_line}
 use Rattle.coap_client_engine.specs.RunSteps.{has_passed, is_to_ask, is_to_cancel, planned_extras, asking_refusal, cancelling_refusal, ended_by, refusal_text, status_told, first_told, output_told, errors_told, stop_behind, stop_written, calls_read, calls_written}
 use Rattle.coap_request.specs.declared.plan.ClientPlan.{ClientPlan}
-use Rattle.coap_wire.specs.declared.sizes.TheConstants.{LARGEST_SENT_MESSAGE, DEFAULT_QUEUE}
 
 -- what happens in a run, each behind all that happened before it
 pub data Course : Type 0 where
@@ -37,10 +36,6 @@ pub data Course : Type 0 where
 
 -- ---- the client
 
--- the limits that both programs have where nothing else is said
-abbrev pub own_limits : LimitValues
-own_limits = limits_of LARGEST_SENT_MESSAGE LARGEST_SENT_MESSAGE DEFAULT_QUEUE 16 16 16
-
 -- the calls that it accepted
 abbrev pub calls_in : Course → List ClientCall
 calls_in (Begins moment) = []
@@ -54,10 +49,10 @@ calls_in (Writes before got) = calls_in before ++ calls_written got
 
 -- the client, whose tokens count from 0
 abbrev pub client_in : Course → ClientValue
-client_in course = client_of own_limits 0 (calls_in course)
+client_in course = client_of default_limits 0 (calls_in course)
 
 abbrev pub history_in : Course → History
-history_in course = client_after own_limits 0 (calls_in course)
+history_in course = client_after default_limits 0 (calls_in course)
 
 abbrev pub phase_in : Course → Phase
 phase_in course = (client_in course).link.phase
@@ -68,7 +63,7 @@ waiting_in course = (client_in course).link.waiting
 
 -- what is told of a call
 abbrev pub event_in : Course → ClientCall → Option EventValue
-event_in course call = event_of own_limits 0 (calls_in course) call
+event_in course call = event_of default_limits 0 (calls_in course) call
 
 -- the token of the request, once it was sent
 abbrev pub token_by : ClientCall → ClientValue → Option (List ℕ) → Option (List ℕ)
@@ -344,7 +339,7 @@ has_refused (Writes before got) = has_refused before
 -- request of the plan, where it is to be sent, and cancels it, where that is due.
 abbrev pub IsPlanned : ClientPlan → Course → ClientCall → Type 0
 IsPlanned plan before (Took bytes) =
-    (is_to_ask (phase_in before) (token_in before) ≡ false) × (bytes ≡ take (takes own_limits 0 (calls_in before) (rest_in before)) (rest_in before))
+    (is_to_ask (phase_in before) (token_in before) ≡ false) × (bytes ≡ take (takes default_limits 0 (calls_in before) (rest_in before)) (rest_in before))
 IsPlanned plan before (Sent method target extras) =
     (is_to_ask (phase_in before) (token_in before) ≡ true) × (method ≡ plan.method) × (target ≡ plan.target) × (extras ≡ planned_extras plan)
 IsPlanned plan before (Cancelled token target extras) =

@@ -11,7 +11,7 @@
 //! server with one connection writes.
 //!
 //! This crate contains no server and no session. `coap_server_engine` has `Server`, and its contracts say that a call
-//! leaves the server that the events so far determine here. Continue with `specs/world/World.antt` and docs/WORLD.md.
+//! leaves the server that the events so far determine here. Continue with docs/MODEL.md and `specs/world/World.antt`.
 #![tactic(auto)]
 
 mod answers;

@@ -26,15 +26,18 @@ fn serve(
     file: &str,
 ) -> Result<()> {
     let mut clock = SystemClock::new(rt);
-    let limits = Limits::new(1_152, 1_152, 8_192, 16, 16, 1)?;
-    let config = Config::new(
-        limits,
-        16,
-        1,
-        1_024,
-        1_000_000_000_000,
-        Starts::at(clock.now()),
-    )?;
+    let limits = Limits::builder()
+        .max_message(1_152)
+        .max_sent(1_152)
+        .queue(8_192)
+        .outstanding(1)
+        .build()?;
+    let config = Config::builder()
+        .limits(limits)
+        .dynamic_max(1)
+        .rep_max(1_024)
+        .starts(Starts::at(clock.now()))
+        .build()?;
     let path = PathKey::from_segments(&[b"measured"]).context("no path")?;
     let mut door = SocketDoor::listen(rt, rt.alloc(), address, config.connections())?;
     let mut service = Service::new(rt.alloc(), config)?;

@@ -1,14 +1,14 @@
 //! The state of a run, and the results of its steps.
 
 ghost use Rattle.std.specs.Prelude.{◌≡◌, None, [], IfOk};
-ghost use Rattle.coap_client_engine.specs.Prelude.{ClientShows, own_limits};
+ghost use Rattle.coap_client_engine.specs.Prelude.{ClientShows, default_limits};
 ghost use Rattle.coap_client_engine.specs.ClientValues as value;
 ghost use Rattle.coap_client_engine.specs.declared.run.state.ClientFault.TheVariants as fault;
 
 use crate::client::Client;
 use coap_conn::Limits;
 use coap_io::{Rest, WriteFailed};
-use coap_wire::{DEFAULT_QUEUE, LARGEST_SENT_MESSAGE, Token};
+use coap_wire::Token;
 use std::alloc::{AllocError, Global};
 use thiserror::Error;
 
@@ -81,21 +81,14 @@ pub(super) struct Run {
 impl Run {
     /// A run that begins at this moment, with the limits that both programs have where nothing else is said.
     pub(super) fn open(alloc: Global, started: u64) -> Result<Run, AllocError>
-        ensures client { IfOk result (λ r. r.client ≡ value.new_client own_limits 0) }
+        ensures client { IfOk result (λ r. r.client ≡ value.new_client default_limits 0) }
         ensures shows { IfOk result (λ r. ClientShows r.client 0 []) }
         ensures rest { IfOk result (λ r. r.rest ≡ []) }
         ensures token { IfOk result (λ r. r.token ≡ None) }
         ensures started { IfOk result (λ r. (r.started ≡ started) × (r.moment ≡ started)) }
         ensures moments { IfOk result (λ r. (r.first ≡ None) × (r.cancelled ≡ None)) }
     {
-        let Ok(limits) = Limits::new(
-            LARGEST_SENT_MESSAGE,
-            LARGEST_SENT_MESSAGE,
-            DEFAULT_QUEUE,
-            16,
-            16,
-            16,
-        ) else {
+        let Ok(limits) = Limits::builder().build() else {
             unreachable!()
         };
         Ok(Run {
