@@ -38,8 +38,8 @@ from rooms import ROOT, listed  # noqa: E402
 
 # The findings that a group of files may have at most.
 LIMITS = {
-    "README and docs": 25, "manuals": 37, "scripts": 533, "coap_wire": 343, "coap_frame": 119, "coap_conn": 407,
-    "coap_store": 352, "coap_io": 93, "coap_text": 2, "coap_script": 82, "coap_model": 470,
+    "README and docs": 25, "manuals": 37, "scripts": 533, "coap_wire": 342, "coap_frame": 117, "coap_conn": 406,
+    "coap_store": 346, "coap_io": 93, "coap_text": 2, "coap_script": 82, "coap_model": 470,
     "coap_server_session": 261, "coap_server_engine": 248, "coap_serve": 261, "coap_request": 99,
     "coap_command_line": 100, "coap_client_engine": 340, "coap_client": 0, "coap_sockets": 137, "coap_program": 7,
     "coap_server": 9, "coap_client_main": 5, "example_gateway": 3, "coap_told": 26, "coap_probe": 117,

@@ -89,7 +89,8 @@ impl<'a> Taken<'a> {
     }
 }
 
-/// A client: its framer and its link. Contracts see a `ClientValue`, and which calls it shows.
+/// A client: its framer and its link. Contracts see a `ClientValue`, and which calls it shows. `Client` does not
+/// prevent two registrations for one resource, which RFC 7641 section 3.1 forbids.
 #[derive(Drop)]
 pub struct Client {
     framer: Framer,

@@ -25,7 +25,10 @@ const TURNS: u64 = 1_000_000_000_000;
 /// of the program: 0 where the last response was 2.xx, 2 where it was another one or was rejected for a critical
 /// option, 3 where the connection stopped or the request could not be sent, 4 where no answer came in time. An
 /// observation is cancelled once its seconds have passed. There are 1,000,000,000,000 turns at most; past them it
-/// answers 4.
+/// answers 4. If a message, an error or the time ends the run, its last iteration still writes.
+///
+/// The devices of the programs record nothing; `run_told` in `coap_tests` has the clause `run` for devices that do. The
+/// order of calls across devices is in no clause.
 ///
 /// # Errors
 ///

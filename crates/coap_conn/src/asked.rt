@@ -1,4 +1,5 @@
-//! What a connection asked and has no answer to yet.
+//! Outstanding requests, observations and Pings. This module also decides which entry a response matches, and if the
+//! response is the last one of that entry.
 
 ghost use Rattle.std.specs.Prelude.{◌≡◌, ◌≤◌, length, map, find, option_map, vec_capacity, ◌<◌, ◌++◌, ◌∷◌, [], not};
 ghost use Rattle.std.specs.Prelude.{nat_lt, IfOk};

@@ -1,4 +1,7 @@
 //! One side of a connection.
+//!
+//! Each call that changes a `Link` has two kinds of clauses. The exact ones are `after`, `answer` and `err`. The clause
+//! `shows` has the meaning: the history of messages after the call.
 
 mod asking;
 mod heard;

@@ -1,4 +1,5 @@
-//! The messages that a connection sends of itself.
+//! The messages that a connection sends of itself: the Capabilities and Settings Message (CSM), Ping, Pong, Release,
+//! Abort and bare responses.
 
 ghost use Rattle.std.specs.Prelude.{◌≡◌, ◌≤◌, ◌∷◌, ◌++◌, [], length, option_copied};
 ghost use Rattle.coap_conn.specs.Prelude.{abort_text as text_for, abort_with as abort_message, number_told};

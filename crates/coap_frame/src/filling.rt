@@ -1,4 +1,6 @@
 //! Finds a frame in a piece, and fills a buffer with the bytes of a split one.
+//!
+//! A split frame is copied byte by byte up to the last byte that states its size, then in one copy.
 
 ghost use Rattle.std.specs.Prelude.{◌≡◌, ◌+◌, ◌≤◌, ◌<◌, ◌++◌, [], length, take, vec_len, vec_capacity};
 ghost use Rattle.coap_frame.specs.Prelude.{Unfinished, beginning, token_bytes, size_bytes as size_bytes_of};

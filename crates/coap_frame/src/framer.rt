@@ -207,7 +207,8 @@ impl Framer {
         self.max
     }
 
-    /// How many bytes it has copied into its buffer. The count stays at the greatest number of 64 bits.
+    /// Returns the number of bytes copied into the buffer. The count stays at the maximum of 64 bits. No contract rules
+    /// out an uncounted copy to other memory, or one that is gone from the buffer when the call ends.
     pub fn copied(&self) -> u64
         ensures { result ≡ self.now.copied }
     {

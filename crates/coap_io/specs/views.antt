@@ -1,1 +1,2 @@
+-- The view of a `Rest` in contracts: its bytes and its invariant.
 pub mod RestViews

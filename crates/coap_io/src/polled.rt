@@ -14,7 +14,8 @@ pub trait Wires {
     fn next(&mut self) -> Option<Self::Wire>;
 }
 
-/// A wire whose reads and writes are always tried, since nobody knows whether it is ready.
+/// A wire whose reads and writes are always tried, since nobody knows whether it is ready. `Tried` records what its
+/// wire records, and reports that it is always ready.
 #[derive(Drop)]
 pub struct Tried<W>(pub W);
 
@@ -51,7 +52,7 @@ impl<W> Ready for Tried<W> {
 }
 
 /// A door over a source of wires, which never waits. A server behind it uses a processor all the time; a transport that
-/// can wait has a `Door` of its own.
+/// can wait has a `Door` of its own. `Polled` records no calls, so no clause says which connections it hands out.
 #[derive(Drop)]
 pub struct Polled<D>(pub D);
 

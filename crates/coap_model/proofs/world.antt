@@ -1,3 +1,4 @@
+-- Theorems on the server model with their lemmas, and worked lists of events.
 pub mod Rows
 pub mod Worked
 mod WorkedEvents

@@ -1,1 +1,2 @@
+-- The view of a configuration in contracts.
 pub mod ConfigViews

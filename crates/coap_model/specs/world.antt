@@ -1,3 +1,4 @@
+-- The server model: one connection, all connections, events with their steps, and the definitions that theorems name.
 pub mod Observers
 pub mod Sides
 pub mod World

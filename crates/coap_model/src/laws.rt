@@ -106,7 +106,7 @@ pub fn observers_were_told_last()
 /// events what is held stands in the order of the messages that asked for it, and such a Pong is queued at once only
 /// where nothing is held, later only where it is the first that is held, and by nothing else that happens to a
 /// connection. An answer that a message asks to be held is held behind the others, where there is room, and when it is
-/// due first it is sent.
+/// due first it is sent. If a client reuses a token, the order may be matched in several ways.
 pub fn custody_comes_last()
     ensures order { (c : ConfigValues) (events : List Event) (id : ℕ) (s : Side) →
         side_of id (world_after c events).sides ≡ Some s → StandFor s.history.handled s.history.held }
@@ -131,7 +131,8 @@ pub fn custody_comes_last()
 /// A Pong with Custody follows all answers (RFC 8323 section 5.4.1), after any events, on connections that have stopped
 /// too: wherever one stands in what a connection has queued, it answers a Ping that was handled and asked for it, and
 /// each request handled before that Ping has an answer of its own among the messages queued before the Pong. An answer
-/// is a response with the request's token, one sent bare and a 5.03 too; no two requests have the same one.
+/// is a response with the request's token, one sent bare and a 5.03 too; no two requests have the same one. Responses
+/// with one token are not distinguished, so a notification may count as an answer.
 pub fn a_pong_with_custody_follows_all_answers()
     ensures { (c : ConfigValues) (events : List Event) (id : ℕ) (s : Side) (before : List Message) (pong : Message)
         (behind : List Message) →

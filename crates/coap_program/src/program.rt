@@ -60,7 +60,7 @@ impl Program<'_> {
     }
 
     /// Writes help or the version to standard output if the words ask for it, and else why they are refused to standard
-    /// error. Returns the status with which the program is to end.
+    /// error. Returns the status with which the program is to end, which is 3 if standard output takes no text.
     pub fn refuse(&self, rt: &(impl Print + Eprint), fault: &WordsFault) -> u8
         ensures within { result ≤ 3 }
         ensures refused { is_help_or_version fault.now ≡ false →

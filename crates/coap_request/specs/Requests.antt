@@ -1,4 +1,5 @@
--- The message of a request for a target (RFC 7252 section 6.4, RFC 8323 section 8.1).
+-- The message of a request for a target (RFC 7252 section 6.4, RFC 8323 section 8.1). The extra option (`-O`) can
+-- duplicate an option that is not repeatable, or add Proxy-Uri beside Uri-Host, Uri-Path and Uri-Query.
 use Rattle.std.specs.Prelude.{ℕ, Bool, false, ◌||◌, List, [], ◌∷◌, ◌++◌, length, map, nat_lt, Option, Some, None, option_map, if◌then◌else◌}
 use Rattle.coap_wire.specs.Message.{CoapOption, Message}
 use Rattle.coap_wire.specs.Uint.{bytes_of_uint}

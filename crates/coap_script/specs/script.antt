@@ -1,3 +1,4 @@
+-- Scripts: the values of words, the events of lines, the meaning of a text, output lines, and the views of events.
 pub mod Words
 pub mod Events
 pub mod Script

@@ -1,3 +1,4 @@
+-- Lemmas on runs: on flushes, chunks and turns, on recorded interests, and on a service.
 pub mod NothingLeft
 pub mod FlushShown
 pub mod TakeLemmas

@@ -1,3 +1,4 @@
+-- Runs of `serve_one` and `serve_door`: their errors, progress, turns, recorded interests, and the promise of each run.
 pub mod StdioRun
 pub mod Standing
 pub mod Faults

@@ -30,6 +30,9 @@ use std::alloc::Global;
 /// to be told the moment, or as soon as a wire is ready. A connection on which nothing can be done is passed over as
 /// long as neither the moment nor what is stored changes.
 ///
+/// The server and its wires are gone at the end, so the clause `run` says that fitting ones exist. The contract of
+/// `Service::turn` states the part of each connection, and so rejects a body that serves nobody.
+///
 /// # Errors
 ///
 /// It ends with an error always: `Memory` where memory was refused, and `Turns` where one more turn would be needed. A

@@ -9,7 +9,8 @@ use coap_model::ConnId;
 use coap_server_engine::Server;
 
 /// Writes all that waits on a connection, until nothing waits: what is written makes room, and what there is room for
-/// then comes to wait. Answers why the connection takes no message any more.
+/// then comes to wait. The number of iterations is at most the pending entries plus the observers plus one. Answers why
+/// the connection takes no message any more.
 pub(crate) fn flush<W: Outlet>(
     writer: &mut W,
     server: &mut Server,

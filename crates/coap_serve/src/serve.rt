@@ -69,7 +69,9 @@ struct Turn {
 /// moment at which the configuration starts (RFC 7252 section 5.8), and observers are notified (RFC 7641).
 ///
 /// It ends at the end of input or with the first message or fault that stops the connection. Every read is a turn, the
-/// one that finds the end too.
+/// one that finds the end too. Bytes after a stop in the same chunk are read but not processed. When the run ends,
+/// responses that are delayed by one second or more are discarded. Only at time 2^64 - 1 are they sent at once. The
+/// order of the writes within one read is in no clause.
 ///
 /// # Errors
 ///

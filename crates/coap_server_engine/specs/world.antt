@@ -1,1 +1,2 @@
+-- The server that represents the server model after events.
 pub mod Shows

@@ -55,7 +55,8 @@ pub fn cuts_do_not_matter()
 /// stand one right behind the other, leave the same server, so that the last one tells the same stop; and as many of
 /// them are taken, be it all or not. So scripts that differ only in such cuts, however many, leave the same server, and
 /// each event but the `in`s writes the same line, in the same order: so the `out` lines of each connection are the
-/// same. All lines, one after the other, are the text that is written.
+/// same. All lines, one after the other, are the text that is written. Moving an `in` past an `in` of another
+/// connection is not covered.
 pub fn where_a_script_cuts_does_not_matter()
     ensures taken { (v : ServerValue) (before : List Event) (id : ℕ) (xs ys : List ℕ) → Shows v before →
         (fed v id (xs ++ ys)).count ≡ (fed v id xs).count + (fed (fed v id xs).server id ys).count }

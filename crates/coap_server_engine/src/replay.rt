@@ -1,4 +1,7 @@
 //! Runs the events of a script on a server, and writes what comes of each.
+//!
+//! If the line of an event needs memory, the line is built before the event runs. An event that was run therefore does
+//! not lose its line. `remove` asks `can_remove` first, so that a refused event needs no memory.
 
 ghost use Rattle.std.specs.Prelude.{◌≡◌, option_map, true, false, List, map, IfOk, OnErr};
 ghost use Rattle.coap_server_engine.specs.Prelude.{refusal_in, open_refusal_in, replay_number, line_bytes, event_value};

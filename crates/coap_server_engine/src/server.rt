@@ -1,4 +1,7 @@
 //! A server over several connections.
+//!
+//! Each call that changes a `Server`, except `flush_once`, has two kinds of clauses. The exact ones are `after` or
+//! `answer`, `ok` and `err`. The clause `shows` has the meaning: the history of events after the call.
 
 ghost use Rattle.std.specs.Prelude.{◌≡◌, [], IfOk};
 ghost use Rattle.coap_server_engine.specs.Prelude.{new_server, Shows};

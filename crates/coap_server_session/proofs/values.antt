@@ -1,3 +1,4 @@
+-- Lemmas on the effect of each function of a session on the values that the session holds.
 pub mod ResponseLemmas
 pub mod SettleLemmas
 pub mod EntryLemmas

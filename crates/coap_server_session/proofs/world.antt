@@ -1,3 +1,4 @@
+-- Lemmas: a connection of the server model and the session that represents it change alike.
 pub mod KnownShown
 pub mod EntryShown
 pub mod SideShown

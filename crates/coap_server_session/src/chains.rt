@@ -1,4 +1,5 @@
-//! The observers that a change concerns, found without a look at the others.
+//! The observers that a change concerns, found without a look at the others. There are chains for 256 hashes of paths,
+//! and one chain for the time.
 
 ghost use Rattle.std.specs.Prelude.{◌≡◌, ◌≤◌, Some, None, true, false, map, length, vec_capacity, if◌then◌else◌};
 ghost use Rattle.coap_server_session.specs.Prelude.{AllByRecursion, Cause, IsTagged, AreChainedTo, last_in};

@@ -8,6 +8,9 @@
 //! No call on a socket blocks. A listener waits for the events of all its connections together, the client's connection
 //! for its own.
 //!
+//! No contract says what the system returns, so a listener that never returns a connection would be proved. The test
+//! `tests/system/sockets.py` would fail with it.
+//!
 //! This crate contains no CoAP: it implements the traits of `coap_io`, over which `coap_serve` and `coap_client` run.
 //! Continue with `door.rt` for a server and `line.rt` for a client.
 #![tactic(auto)]

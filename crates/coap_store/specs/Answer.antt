@@ -1,4 +1,5 @@
--- The answer to a request (RFC 7252 sections 5.8 to 5.10 and 12.1, RFC 6690 section 4, RFC 7641 section 4.1).
+-- The answer to a request (RFC 7252 sections 5.8 to 5.10 and 12.1, RFC 6690 section 4, RFC 7641 section 4.1). Error
+-- responses have no payload, although RFC 7252 section 5.5.2 would allow a diagnostic one.
 use Rattle.std.specs.Prelude.{ℕ, Bool, true, false, not, ◌&&◌, ◌||◌, List, [], ◌∷◌, length, Option, Some, None, codes, is_some, is_none, nat_le, nat_lt, ◌==◌, if◌then◌else◌}
 use Rattle.std.specs.List.{list_any}
 use Rattle.coap_wire.specs.Message.{Message}

@@ -1,4 +1,4 @@
-//! The answers to requests.
+//! The answers to requests. One function makes each group of checks.
 
 ghost use Rattle.std.specs.Prelude.{◌≡◌, ◌≢◌, true, [], Option, option_map, is_none, ◌≤◌, ℕ, length};
 ghost use Rattle.coap_store.specs.Prelude.{LARGEST_MESSAGE, Message, is_path, Representation, path_of as path_asked};

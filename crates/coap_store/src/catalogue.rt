@@ -11,8 +11,8 @@ use indexmap::IndexMap;
 use std::alloc::{AllocError, Global};
 use std::marker::Model;
 
-/// The dynamic resources in order of creation, and the bytes of `/.well-known/core`, which are kept ready. Contracts
-/// see the list of the resources.
+/// The dynamic resources in order of creation, and the bytes of `/.well-known/core`, which are kept ready. The hasher's
+/// seed is fixed: at most 1,000 paths bound the cost of a look-up. Contracts see the list of the resources.
 #[derive(Drop)]
 pub(crate) struct Catalogue {
     alloc: Global,
@@ -99,7 +99,7 @@ impl Catalogue {
         }
     }
 
-    /// Takes a resource away; the others keep their order.
+    /// Removes a resource; the others keep their order. Rewrites the listing, at a cost of the listing's length.
     pub(crate) fn remove(&mut self, path: &PathKey)
         ensures { self.new ≡ removed_at self.old path.now }
     {
@@ -108,7 +108,7 @@ impl Catalogue {
     }
 }
 
-/// Adds a resource that is not there, with its text.
+/// Adds a resource that is absent, with its text. Room is reserved first, so the insertion cannot fail.
 fn create(
     resources: &mut Resources,
     listing: &mut Vec<u8>,
@@ -133,8 +133,8 @@ fn create(
     Ok(())
 }
 
-/// Replaces the representation of a resource that has this format, and so keeps its text. Gives the bytes back where
-/// there is none.
+/// Replaces the version and the bytes of a resource that has this format, and so keeps its text. Gives the bytes back
+/// if there is none.
 fn replace_alike(
     resources: &mut Resources,
     path: &PathKey,
@@ -163,7 +163,7 @@ fn replace_alike(
     None
 }
 
-/// Replaces a resource that is there, and has another format. The listing is written anew.
+/// Replaces a resource that is present and has another format. Rewrites the listing, at a cost of its length.
 fn replace(
     resources: &mut Resources,
     listing: &mut Vec<u8>,

@@ -273,7 +273,7 @@ impl<'s, 'r> Plan<'s, 'r> {
         self.payload.as_slice()
     }
 
-    /// What the request changes.
+    /// Returns the change that the request makes. Its key is made only if the change is asked for, not with the plan.
     pub fn change(&self) -> Change<'r>
         ensures { change_value result ≡ self.now.change }
     {
@@ -305,8 +305,7 @@ impl<'s, 'r> Plan<'s, 'r> {
         self.watch
     }
 
-    /// For how many seconds the response is held, at most 3,600, where it is held. (Own: no RFC says when a separate
-    /// response comes.)
+    /// Returns the seconds for which a separate response is held, at most 3,600. (Own: no RFC says when it comes.)
     pub fn hold(&self) -> Option<u32>
         ensures seconds { result ≡ self.now.hold }
     {

@@ -1,4 +1,5 @@
-//! What a request asks for, by its recognised options (RFC 7252 sections 5.4, 5.10).
+//! The recognised options of a request (RFC 7252 sections 5.4, 5.10). One pass reads them. Only If-Match, ETag or a
+//! path key needs a second pass over them.
 
 ghost use Rattle.std.specs.Prelude.{◌≡◌, ◌≤◌, true, Option, length, is_some, IfSome, ◌||◌, option_map};
 ghost use Rattle.coap_store.specs.Prelude.{uint_of, known_options, is_path, digits_mean, path_of as path_asked};

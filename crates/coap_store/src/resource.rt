@@ -13,7 +13,7 @@ use std::alloc::{AllocError, Global};
 /// The resources in order of creation.
 pub(crate) type Resources = IndexMap<PathKey, Resource>;
 
-/// What is stored at a path.
+/// A resource at a path. A replacement at the same format changes only `version` and `bytes`.
 #[derive(Drop)]
 pub(crate) struct Resource {
     /// The number of the representation among all that were stored.
@@ -22,7 +22,7 @@ pub(crate) struct Resource {
     pub format: Option<u16>,
     /// The representation.
     pub bytes: Vec<u8>,
-    /// Its text in the listing.
+    /// Its text in the listing, stored so that the listing is rewritten without formatting.
     pub listed: String,
 }
 

@@ -1,4 +1,4 @@
-//! Where the segments of a path lead.
+//! The state of matching a path: by it a built-in resource is found without a key.
 
 ghost use Rattle.std.specs.Prelude.{◌≡◌};
 ghost use Rattle.coap_store.specs.Prelude.{first_trail, trail_with, place_at};

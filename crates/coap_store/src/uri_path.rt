@@ -8,7 +8,7 @@ use coap_wire::{Body, Known};
 use std::marker::Model;
 
 /// The segments of the path that a request asks for, in order: the values of its Uri-Path options (RFC 7252 section
-/// 5.10.1). Contracts see the list of those that are left.
+/// 5.10.1). The query does not distinguish resources. Contracts see the list of those that are left.
 #[derive(Drop)]
 pub struct UriPath<'r> {
     /// The recognised options that are left.

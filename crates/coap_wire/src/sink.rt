@@ -1,4 +1,4 @@
-//! Where a message is written.
+//! The sinks that a message is written to: a `Vec<u8>` with reserved room, an `ArrayVec`, and `SliceSink`.
 
 ghost use Rattle.std.specs.Prelude.{◌≡◌, ℕ, ◌+◌, ◌-◌, ◌<◌, ◌≤◌, List, [], ◌∷◌, ◌++◌, length, take, drop, vec_len};
 ghost use Rattle.std.specs.Prelude.{vec_capacity};

@@ -24,7 +24,9 @@ server_shown c events w = record {
 unfoldable pub server_of : ConfigValues → List Event → ServerValue
 server_of c events = server_shown c events (world_after c events)
 
--- a server shows the world after events: calls accepted them, and all that the server holds is what they leave
+-- a server shows the world after events: calls accepted them, and all that the server holds is what they leave. `Shows`
+-- does not ask that a path names a resource, that a format has 16 bits or that a byte is below 256. No call can be
+-- given others.
 pub record Shows (v : ServerValue) (events : List Event) : Type 0 where
   pub accepted : AreAccepted v.config events
   pub same : v ≡ server_of v.config events
