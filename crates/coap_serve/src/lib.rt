@@ -23,8 +23,8 @@ pub use coap_io::{
     WriteFailed, WriteOutlet, write_all,
 };
 pub use coap_model::{
-    AnnounceFault, Backwards, Config, ConfigBuilder, ConfigFault, ConnId, Handled, NoSuch, OpenFault,
-    ReleaseFault, Starts, Status, TakeFault, Taken, WrittenFault,
+    AnnounceFault, Backwards, Config, ConfigBuilder, ConfigFault, ConnId, Handled, NoSuch,
+    OpenFault, ReleaseFault, Starts, Status, TakeFault, Taken, WrittenFault,
 };
 pub use coap_script::{Event, ScriptFault, script, scripts_go_on_behind_whole_lines};
 pub use coap_server_engine::{ReplayFault, Server};
