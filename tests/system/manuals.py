@@ -214,14 +214,23 @@ def check_ranges(checks, manual, program, more):
     return len(ranges)
 
 
+def number_in(word, source):
+    """The number that a word of a source is: digits, a size of coap_wire, or a local name of one."""
+    word = word.removesuffix(" as u64")
+    if named := re.search(r"let %s = (\w+) as u64;" % re.escape(word), source):
+        word = named[1]
+    sizes = dict(re.findall(r"pub const (\w+): usize = ([\d_]+);", source_of(["coap_wire/src/sizes.rt"])))
+    return sizes.get(word, word).replace("_", "")
+
+
 def check_defaults(checks, manual, source):
     """That the default of each option with a number is that of the source."""
-    rows = re.findall(r'number\(matches, "(-[\w-]+)", \w+, [\d_]+, ([\d_]+)\)', source)
+    rows = re.findall(r'number\(\s*matches,\s*"(-[\w-]+)",\s*[\w ]+,\s*[\w ]+,\s*([\w ]+?),?\s*\)', source)
     checks.same("%s: options with numbers are found" % manual.name, bool(rows), True)
     texts = {name: text for name, _, text in manual.options()}
-    for name, value in rows:
+    for name, word in rows:
         found = re.search(r"default is ([\d,]*\d)", texts[name])
-        checks.same("%s: default of %s" % (manual.name, name), found and found[1].replace(",", ""), value.replace("_", ""))
+        checks.same("%s: default of %s" % (manual.name, name), found and found[1].replace(",", ""), number_in(word, source))
 
 
 def check_formats(checks, manual, program, more):
