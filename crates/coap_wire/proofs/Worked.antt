@@ -5,6 +5,28 @@ use Rattle.coap_wire.specs.Prelude.{one_byte_at, two_bytes_at, four_bytes_at, le
 use Rattle.coap_wire.specs.Prelude.{option_head_at, option_at, body_within, body_at, Unknown, Size, BadToken}
 use Rattle.coap_wire.specs.Prelude.{TokenLength, OptionDelta, OptionLength, OptionCut, OptionNumber, EmptyPayload}
 use Rattle.coap_wire.specs.Prelude.{NotOneFrame}
+use Rattle.coap_wire.specs.Prelude.{BASE_MESSAGE_SIZE, MAX_EXTENDED_LENGTH, LARGEST_MESSAGE, LARGEST_SENT_MESSAGE}
+use Rattle.coap_wire.specs.Prelude.{LARGEST_QUEUE, DEFAULT_QUEUE}
+
+-- the sizes, which code and definitions share: the base value of Max-Message-Size (RFC 8323 section 5.3.1), the largest
+-- number with two extension bytes (RFC 7252 section 3.1), and the limits and the default of this implementation
+base_message_size : BASE_MESSAGE_SIZE ≡ 1152
+base_message_size = refl
+
+max_extended_length : MAX_EXTENDED_LENGTH ≡ 65804
+max_extended_length = refl
+
+largest_message : LARGEST_MESSAGE ≡ 1048576
+largest_message = refl
+
+largest_sent_message : LARGEST_SENT_MESSAGE ≡ 65536
+largest_sent_message = refl
+
+largest_queue : LARGEST_QUEUE ≡ 4194304
+largest_queue = refl
+
+default_queue : DEFAULT_QUEUE ≡ 131072
+default_queue = refl
 
 -- a length of 1,147 is Len 14 with 03 6E
 length_1147 : length_form 1147 ≡ (14, 0x03 ∷ 0x6e ∷ [])

@@ -47,7 +47,8 @@ impl Limits {
     }
 }
 
-impl LimitsBuilder { /// Sets the largest message that is accepted at first, in bytes: 1,152 to 1,048,576, by default 65,536. It is the
+impl LimitsBuilder {
+    /// Sets the largest message that is accepted at first, in bytes: 1,152 to 1,048,576, by default 65,536. It is the
     /// Max-Message-Size of the first CSM (RFC 8323 section 5.3.1).
     pub fn max_message(self, bytes: usize) -> LimitsBuilder
         ensures { result ≡ record self { max_message = bytes } }

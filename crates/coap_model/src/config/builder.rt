@@ -58,7 +58,8 @@ impl Config {
     }
 }
 
-impl ConfigBuilder { /// Sets the limits of each connection, by default those of `Limits::builder`.
+impl ConfigBuilder {
+    /// Sets the limits of each connection, by default those of `Limits::builder`.
     pub fn limits(self, limits: Limits) -> ConfigBuilder
         ensures { result ≡ record self { limits = limits } }
     {
