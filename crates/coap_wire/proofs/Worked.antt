@@ -8,8 +8,8 @@ use Rattle.coap_wire.specs.Prelude.{NotOneFrame}
 use Rattle.coap_wire.specs.Prelude.{BASE_MESSAGE_SIZE, MAX_EXTENDED_LENGTH, LARGEST_MESSAGE, LARGEST_SENT_MESSAGE}
 use Rattle.coap_wire.specs.Prelude.{LARGEST_QUEUE, DEFAULT_QUEUE}
 
--- the sizes, which code and definitions share: the base value of Max-Message-Size (RFC 8323 section 5.3.1), the largest
--- number with two extension bytes (RFC 7252 section 3.1), and the limits and the default of this implementation
+-- The sizes that code and definitions share. The first is the base value of Max-Message-Size (RFC 8323 section 5.3.1),
+-- the second the largest number with two extension bytes (RFC 7252 section 3.1).
 base_message_size : BASE_MESSAGE_SIZE ≡ 1152
 base_message_size = refl
 
