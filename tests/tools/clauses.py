@@ -12,6 +12,7 @@ much, and a `requires` that came must be asked for.
 The last line counts the functions: those with equal clauses, with more, with others, and those that went or came.
 """
 
+import glob
 import os
 import re
 import subprocess
@@ -26,15 +27,17 @@ CLAUSE = re.compile(r"(?:ensures|requires)\b")
 
 
 def files_at(revision, crate):
-    """The texts of the code of a crate, as it is in the folder or at a commit."""
+    """The texts of the code of a crate, as it is in the folder or at a commit. The folder is read without git, so that a copy
+    of the repository without its history is read too."""
     folder = f"crates/{crate}/src"
-    words = ["git", "-C", ROOT, "ls-tree", "-r", "--name-only", revision, folder] if revision else ["git", "-C", ROOT, "ls-files", folder]
-    for name in subprocess.run(words, capture_output=True, text=True, check=True).stdout.split():
-        if revision:
-            yield subprocess.run(["git", "-C", ROOT, "show", f"{revision}:{name}"], capture_output=True, text=True, check=True).stdout
-        else:
-            with open(f"{ROOT}/{name}", encoding="utf-8") as it:
+    if revision is None:
+        for name in sorted(glob.glob(f"{ROOT}/{folder}/**/*.rt", recursive=True)):
+            with open(name, encoding="utf-8") as it:
                 yield it.read()
+        return
+    listing = ["git", "-C", ROOT, "ls-tree", "-r", "--name-only", revision, folder]
+    for name in subprocess.run(listing, capture_output=True, text=True, check=True).stdout.split():
+        yield subprocess.run(["git", "-C", ROOT, "show", f"{revision}:{name}"], capture_output=True, text=True, check=True).stdout
 
 
 def type_of(head):
