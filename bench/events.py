@@ -114,7 +114,7 @@ def notified():
     return met
 
 
-def told_on_one(observers_of, path, changes):
+def cost_on_one(observers_of, path, changes):
     """Returns the instructions of all notifications of this path with their drains, when these lines change it. `observers_of` returns the
     observers that one connection registers, where some of them observe the path that it is given."""
     totals = []
@@ -125,32 +125,32 @@ def told_on_one(observers_of, path, changes):
     return totals[0] - totals[1]
 
 
-def told_together(count, path, changes):
+def cost_together(count, path, changes):
     """Returns the instructions of a notification with its drain, when one connection has `count` observers of the path that changes."""
 
     def observers_of(observed):
         return [observation(it, observed) for it in range(1, count + 1)]
 
-    return round(told_on_one(observers_of, path, changes) / (count * len(changes)))
+    return round(cost_on_one(observers_of, path, changes) / (count * len(changes)))
 
 
-def told_beside(count, path, changes):
+def cost_beside(count, path, changes):
     """Returns the same for one observer, when `count` other observers of its connection observe something else."""
 
     def observers_of(observed):
         return [observation(0, observed), *(observation(it) for it in range(1, count + 1))]
 
-    return round(told_on_one(observers_of, path, changes) / len(changes))
+    return round(cost_on_one(observers_of, path, changes) / len(changes))
 
 
-def on_one_connection(title, counts, told, judge):
-    """Prints the cost of a notification by the number of observers, and returns `True` if it is within its limits. `told` returns one cost;
+def on_one_connection(title, counts, cost, judge):
+    """Prints the cost of a notification by the number of observers, and returns `True` if it is within its limits. `cost` returns one of them;
     `judge` returns whether a column of costs is within its limits, and the words for it."""
     print(f"\n| {title} | a notification after a tick | after a PUT |\n|---|---|---|")
     rows = []
     for count in counts:
-        ticked = told(count, MOMENT, [f"tick {it}" for it in range(1, CHANGES + 1)])
-        rows.append((ticked, told(count, ASKED, [f"in 2 {PUT}"] * CHANGES)))
+        ticked = cost(count, MOMENT, [f"tick {it}" for it in range(1, CHANGES + 1)])
+        rows.append((ticked, cost(count, ASKED, [f"in 2 {PUT}"] * CHANGES)))
         print(f"| {count} | {rows[-1][0]:,} | {rows[-1][1]:,} |", flush=True)
     all_met = True
     for kind, costs_of in zip(("a tick", "a PUT"), zip(*rows)):
@@ -168,7 +168,7 @@ def together():
         return met, (f"{max(costs_of):,} instructions, at most {TOGETHER_EACH:,}, and "
                      f"{costs_of[-1] / costs_of[0]:.2f} times with {TOGETHER[-1]} observers, at most {TOGETHER_TIMES}")
 
-    return on_one_connection("observers of one connection", TOGETHER, told_together, judge)
+    return on_one_connection("observers of one connection", TOGETHER, cost_together, judge)
 
 
 def beside():
@@ -179,7 +179,7 @@ def beside():
         return (costs_of[-1] <= BESIDE_TIMES * costs_of[0],
                 f"{costs_of[-1] / costs_of[0]:.2f} times with {BESIDE[-1]} others, at most {BESIDE_TIMES}")
 
-    return on_one_connection("other observers of the connection", BESIDE, told_beside, judge)
+    return on_one_connection("other observers of the connection", BESIDE, cost_beside, judge)
 
 
 def over_settings():

@@ -1,4 +1,4 @@
--- What the words behind the name of the program `coap-client` ask for (our definition). `-e` or `-f` with GET or DELETE
+-- The plan that the arguments of `coap-client` ask for (project-defined). `-e` or `-f` with GET or DELETE
 -- sends a payload, although these methods define none (RFC 7252 section 5.5).
 use Rattle.std.specs.Prelude.{◌≡◌, ◌∷◌, [], ◌==◌, ◌&&◌, ◌||◌, ℕ, Bool, true, false, not, List, drop, length, nat_eq, nat_le, Option, Some, None, is_some, option_map, unwrap_or, Result, Ok, Err, codes, bytes_eq, if◌then◌else◌}
 use Rattle.std.specs.List.{after_first, before_first, list_any, starts_with}

@@ -3,8 +3,8 @@
 //! - `Session` accepts chunks of input, handles one message at a time and queues everything that is due: delayed
 //!   responses, Pongs with Custody, and the notifications of its observers (RFC 7641).
 //! - `Host` is what all connections of a server share: the store of resources, and the time.
-//! - `Cause` names a change: of a path, by its hash (`hash_of`), or of the time. `Session::is_touched` tells if a change
-//!   may make something due on a connection.
+//! - `Cause` names a change: of a path, by its hash (`hash_of`), or of the time. `Session::is_touched` returns `true` if a
+//!   change may make something due on a connection.
 //!
 //! This crate holds one connection and performs no I/O. `coap_server_engine` holds all connections of a server, and
 //! `coap_serve` runs them over transports. The crate `coap_model` defines the events of a server and the state after

@@ -1,4 +1,4 @@
--- Words of a text, and the numbers and bytes that they mean (our definition).
+-- Words of a text, and the numbers and bytes that they mean (project-defined).
 use Rattle.std.specs.Prelude.{ℕ, Bool, ◌&&◌, ◌==◌, List, [], ◌∷◌, length, nat_le, nat_eq, Option, Some, None, if◌then◌else◌, codes}
 use Rattle.std.specs.Char.{is_ascii_digit}
 use Rattle.std.specs.List.{list_all, slice_split}

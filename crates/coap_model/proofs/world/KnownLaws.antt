@@ -1,4 +1,4 @@
--- Known facts of an observer: the state that it was told last is a state that its path had.
+-- Known facts of an observer: the state that it was sent last is a state that its path had.
 use Rattle.std.proofs.Common.{◌≡◌, ℕ, ◌+◌, ◌<◌, ◌≤◌, true, false, List, Option, Some, None, refl, sym, ap, ◌∙◌, arith, ◌==◌, nat_eq, not, ◌&&◌, inl, inr, ◌⊎◌}
 use Rattle.coap_model.specs.Prelude.{decimal, option_eq, Message, Path, same_bytes}
 use Rattle.coap_model.specs.Prelude.{Representation, StoreValue, found_in, place_of, key_for, state_at, state_of}

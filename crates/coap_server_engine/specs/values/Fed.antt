@@ -1,4 +1,5 @@
--- The takes of all bytes that a connection is handed, one after the other, and where memory is refused within them (our definition).
+-- The calls of `take` that consume all bytes that a connection received, and those before an allocation fails
+-- (project-defined).
 use Rattle.std.specs.Prelude.{◌≡◌, ℕ, zero, suc, ◌+◌, Bool, true, false, not, ◌&&◌, List, [], ◌∷◌, ◌++◌, length, take, drop}
 use Rattle.std.specs.Prelude.{Option, Some, None, nat_lt, ◌==◌, if◌then◌else◌}
 use Rattle.coap_server_session.specs.values.Sessions.{SessionValue}

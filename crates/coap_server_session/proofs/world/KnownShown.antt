@@ -1,4 +1,4 @@
--- The mark in an observer's value decides whether the observer was told the state now.
+-- The mark in an observer's value decides whether the observer was sent the current state.
 use Rattle.std.proofs.Common.{◌≡◌, ℕ, ◌≤◌, true, [], Option, Some, None, refl, sym, ap, ◌∙◌, arith, ◌==◌, not, if◌then◌else◌}
 use Rattle.coap_server_session.specs.Prelude.{decimal, digits_value, both_ways, Path, same_bytes}
 use Rattle.coap_server_session.specs.Prelude.{Representation, StoreValue, found_in, place_of, state_at, state_of}

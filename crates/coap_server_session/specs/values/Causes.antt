@@ -44,8 +44,8 @@ abbrev pub has_come : ℕ → Option ℕ → Bool
 has_come now None = false
 has_come now (Some due) = nat_le due now
 
--- A cause may make something due on a connection: an observer has a path with its hash; or, as the moment moves on, an observer tells the
--- moment, or something came due after the moment before.
+-- A cause may make something due on a connection in three cases: an observer has a path with the cause's hash; the time
+-- moves on and an observer observes it; or the time of a delayed response has come.
 abbrev pub may_touch : Cause → ℕ → SessionValue → Bool
 may_touch (cause.Path hash) now s = list_any (observes_hash hash) s.observers
 may_touch (cause.Moment before) now s = list_any tells_time s.observers || has_come now (due_on before s)
